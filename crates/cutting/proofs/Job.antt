@@ -1,0 +1,62 @@
+-- What document 01 asks of a job, its weights and its trees, from the general theory.
+-- Assumes nothing.
+use mathlib.Core.Path.{_≡_, _∙_}
+use mathlib.Core.Bool.{_&&_}
+use Prim.Native.Nat.{ℕ, suc, _+_, _-_, _≤_, max}
+use native.Mathlib.Nat.{sub-zero}
+use native.Mathlib.Omega.{arith}
+use lib.Dec.{leb}
+use Rattle.cutting.specs.declared.Direction.the-variants.{Length, Width}
+use Rattle.cutting.specs.Lists.{range, greatest, only}
+use Rattle.cutting.specs.Tree.{total, Rect, Tree, waste, cut, Guillotine, piece}
+use Rattle.cutting.specs.Figure.{leaf, best, step}
+use Rattle.cutting.specs.Pieces.{fits-in, sized}
+use Rattle.cutting.specs.Saws.{saw}
+use Rattle.cutting.specs.Shares.{by-weight}
+use Rattle.cutting.specs.Job.{figure-of, pieces, GuillotineTree, capacity, Job, KeepsDemands, profit}
+use Rattle.cutting.proofs.Lists.{mem-range, range-mem}
+use Rattle.cutting.proofs.Greatest.{greatest-map}
+use Rattle.cutting.proofs.Recursion.{figure-eq}
+use Rattle.cutting.proofs.Exact.{figure-attained, figure-upper}
+use Rattle.cutting.proofs.Saws.{saw-proper, cut-saw, saw-cut}
+use Rattle.cutting.proofs.Pieces.{fits-in-true, true-fits-in}
+use Rattle.cutting.proofs.Weights.{weight-within, within-weight, kept-upper}
+
+module _ (J : Job) where
+  -- the plain trees are those of the theory, both ways
+  pub plain : (t : Tree ℕ) (r : Rect) → Guillotine (pieces J) (saw 0) r t → GuillotineTree J (r .0) (r .1) t
+  unfolding pieces sized saw
+  plain waste r g = tt
+  plain (piece i) r g = let h = mem-range 0 (J .count) i (g .0) in let l = true-fits-in (J .size i) r (g .1) in (omega arith, l .0, l .1)
+  plain (cut Length x a b) r g = let h = cut-saw 0 Length (r .0) x (g .0) in (omega arith, omega arith, plain a (x, r .1) (g .1), rw sub-zero at (plain b (r .0 - x - 0, r .1) (g .2)))
+  plain (cut Width x a b) r g = let h = cut-saw 0 Width (r .1) x (g .0) in (omega arith, omega arith, plain a (r .0, x) (g .1), rw sub-zero at (plain b (r .0, r .1 - x - 0) (g .2)))
+
+  pub unplain : (t : Tree ℕ) (r : Rect) → GuillotineTree J (r .0) (r .1) t → Guillotine (pieces J) (saw 0) r t
+  unfolding pieces sized saw
+  unplain waste r g = tt
+  unplain (piece i) r g = (range-mem 0 (J .count) i (omega arith) (omega arith), fits-in-true (J .size i) r (g .1, g .2))
+  unplain (cut Length x a b) r g = (saw-cut 0 Length (r .0) x (g .0) (omega arith), unplain a (x, r .1) (g .2), unplain b (r .0 - x - 0, r .1) (rw sub-zero (g .3)))
+  unplain (cut Width x a b) r g = (saw-cut 0 Width (r .1) x (g .0) (omega arith), unplain a (r .0, x) (g .2), unplain b (r .0, r .1 - x - 0) (rw sub-zero (g .3)))
+
+module _ (J : Job) (weight : ℕ → ℕ) where
+  -- the recursion, as document 01 has it
+  pub figure-recursion : (l w c : ℕ) → figure-of J weight l w c ≡
+      max (greatest (λ i. only (fits-in (J .size i) (l, w) && leb (weight i) c) (J .price i)) (range 0 (J .count)))
+      (max (greatest (λ x. greatest (λ a. figure-of J weight x w a + figure-of J weight (l - x) w (c - a)) (range 0 (suc c))) (range 1 (l - 1)))
+      (greatest (λ x. greatest (λ a. figure-of J weight l x a + figure-of J weight l (w - x) (c - a)) (range 0 (suc c))) (range 1 (w - 1))))
+  unfolding figure-of step leaf best pieces sized saw by-weight
+  figure-recursion l w c = figure-eq (pieces J) (saw 0) (by-weight weight) (saw-proper 0) (l, w) c ∙ simp (greatest-map, sub-zero)
+
+  -- no tree within the share earns more, and some tree earns it
+  pub figure-most : (t : Tree ℕ) (l w c : ℕ) → GuillotineTree J l w t → total weight t ≤ c → profit J t ≤ figure-of J weight l w c
+  unfolding figure-of pieces sized
+  figure-most t l w c g h = figure-upper (pieces J) (saw 0) (by-weight weight) (saw-proper 0) t (l, w) c (unplain J t (l, w) g) (weight-within weight t c h)
+
+  pub figure-earned : (l w c : ℕ) → (t : Tree ℕ) × GuillotineTree J l w t × (total weight t ≤ c) × (profit J t ≡ figure-of J weight l w c)
+  unfolding figure-of pieces sized
+  figure-earned l w c = let e = figure-attained (pieces J) (saw 0) (by-weight weight) (l, w) c in (e .0, plain J (e .0) (l, w) (e .1), within-weight weight (e .0) c (e .2), e .3)
+
+  -- no tree that keeps the demands earns more than the bound
+  pub bound-holds : (t : Tree ℕ) → GuillotineTree J (J .plate .0) (J .plate .1) t → KeepsDemands J t → profit J t ≤ figure-of J weight (J .plate .0) (J .plate .1) (capacity J weight)
+  unfolding figure-of pieces sized
+  bound-holds t g k = kept-upper (λ k. k) (pieces J) (saw 0) (J .count) (λ p m. (let h = mem-range 0 (J .count) p m in omega arith)) weight (saw-proper 0) (J .demand) t (J .plate) (unplain J t (J .plate) g) k

@@ -1,0 +1,133 @@
+-- Laws of the lists of specs/Lists: who is a member of a range, of a filtered list, of a list of pairs, and what a first member is.
+-- Assumes nothing.
+use mathlib.Core.Path.{_≡_, refl, sym, _∙_, ap, subst}
+use mathlib.Core.Logic.{_⊎_, inl, inr}
+use mathlib.Core.Bool.{Bool, true, false, _&&_, _||_}
+use mathlib.Core.Option.{Option, none, some}
+use mathlib.Core.List.{List, [], _∷_, map, List·Memᴰ, List·Memᴰ·head, List·Memᴰ·tail, List·Memᴰ·not-nil, List·Memᴰ·cases-cons, List·Memᴰ·append-cases, Memᴰ·append-left, Memᴰ·append-right, Memᴰ·cast}
+use Prim.Native.Nat.{ℕ, zero, suc, _+_, _≤_, _<_}
+use native.Mathlib.Decide.{ℕ-discrete}
+use native.Mathlib.Omega.{arith}
+use lib.Dec.{T}
+use Rattle.cutting.specs.Lists.{range, keep, filter, first, any, pairs}
+
+pub and-T : (a b : Bool) → T a → T b → T (a && b)
+and-T true b t u = u
+and-T false b t u = t
+
+pub T-and : (a b : Bool) → T (a && b) → T a × T b
+T-and true b t = (tt, t)
+T-and false b t = absurd t
+
+pub range-mem : (a n x : ℕ) → a ≤ x → x < a + n → List·Memᴰ x (range a n)
+unfolding range
+range-mem a zero x h l = absurd (omega arith)
+range-mem a (suc n) x h l = go (ℕ-discrete x a) (λ (k : suc a ≤ x). range-mem (suc a) n x k (omega arith))
+  where
+    go : Dec (x ≡ a) → (suc a ≤ x → List·Memᴰ x (range (suc a) n)) → List·Memᴰ x (a ∷ range (suc a) n)
+    go (yes e) f = List·Memᴰ·head e
+    go (no e) f = List·Memᴰ·tail (f (omega arith))
+
+pub mem-range : (a n x : ℕ) → List·Memᴰ x (range a n) → (a ≤ x) × (x < a + n)
+unfolding range
+mem-range a zero x m = absurd (List·Memᴰ·not-nil m)
+mem-range a (suc n) x m = go (List·Memᴰ·cases-cons m) (λ (k : List·Memᴰ x (range (suc a) n)). mem-range (suc a) n x k)
+  where
+    go : (x ≡ a) ⊎ List·Memᴰ x (range (suc a) n) → (List·Memᴰ x (range (suc a) n) → (suc a ≤ x) × (x < suc a + n)) → (a ≤ x) × (x < a + suc n)
+    go (inl e) f = omega arith
+    go (inr k) f = let h = f k in omega arith
+
+module _ {A : Type 0} where
+  pub filter-mem : (f : A → Bool) {x : A} (xs : List A) → List·Memᴰ x xs → T (f x) → List·Memᴰ x (filter f xs)
+  unfolding filter
+  filter-mem f [] m t = absurd (List·Memᴰ·not-nil m)
+  filter-mem f {x} (y ∷ ys) m t = go (f y) refl (List·Memᴰ·cases-cons m) (λ (k : List·Memᴰ x ys). filter-mem f ys k t)
+    where
+      go : (b : Bool) → f y ≡ b → (x ≡ y) ⊎ List·Memᴰ x ys → (List·Memᴰ x ys → List·Memᴰ x (filter f ys)) → List·Memᴰ x (keep b y (filter f ys))
+      go true e (inl p) h = List·Memᴰ·head p
+      go true e (inr k) h = List·Memᴰ·tail (h k)
+      go false e (inl p) h = absurd (subst T (ap f p ∙ e) t)
+      go false e (inr k) h = h k
+
+  pub mem-filter : (f : A → Bool) {x : A} (xs : List A) → List·Memᴰ x (filter f xs) → List·Memᴰ x xs × T (f x)
+  unfolding filter
+  mem-filter f [] m = absurd (List·Memᴰ·not-nil m)
+  mem-filter f {x} (y ∷ ys) m = go (f y) refl m (λ (k : List·Memᴰ x (filter f ys)). mem-filter f ys k)
+    where
+      go : (b : Bool) → f y ≡ b → List·Memᴰ x (keep b y (filter f ys)) → (List·Memᴰ x (filter f ys) → List·Memᴰ x ys × T (f x)) → List·Memᴰ x (y ∷ ys) × T (f x)
+      go true e k h = more (List·Memᴰ·cases-cons k)
+        where
+          more : (x ≡ y) ⊎ List·Memᴰ x (filter f ys) → List·Memᴰ x (y ∷ ys) × T (f x)
+          more (inl p) = (List·Memᴰ·head p, subst T (sym (ap f p ∙ e)) tt)
+          more (inr k) = let r = h k in (List·Memᴰ·tail (r .0), r .1)
+      go false e k h = let r = h k in (List·Memᴰ·tail (r .0), r .1)
+
+  pub any-mem : (f : A → Bool) {x : A} (xs : List A) → List·Memᴰ x xs → T (f x) → T (any f xs)
+  unfolding any
+  any-mem f [] m t = absurd (List·Memᴰ·not-nil m)
+  any-mem f {x} (y ∷ ys) m t = go (f y) refl (List·Memᴰ·cases-cons m) (λ (k : List·Memᴰ x ys). any-mem f ys k t)
+    where
+      go : (b : Bool) → f y ≡ b → (x ≡ y) ⊎ List·Memᴰ x ys → (List·Memᴰ x ys → T (any f ys)) → T (b || any f ys)
+      go true e k h = tt
+      go false e (inl p) h = absurd (subst T (ap f p ∙ e) t)
+      go false e (inr k) h = h k
+
+  pub mem-any : (f : A → Bool) (xs : List A) → T (any f xs) → (x : A) × List·Memᴰ x xs × T (f x)
+  unfolding any
+  mem-any f [] t = absurd t
+  mem-any f (y ∷ ys) t = go (f y) refl t (λ (k : T (any f ys)). mem-any f ys k)
+    where
+      go : (b : Bool) → f y ≡ b → T (b || any f ys) → (T (any f ys) → (x : A) × List·Memᴰ x ys × T (f x)) → (x : A) × List·Memᴰ x (y ∷ ys) × T (f x)
+      go true e k h = (y, List·Memᴰ·head refl, subst T (sym e) tt)
+      go false e k h = let r = h k in (r .0, List·Memᴰ·tail (r .1), r .2)
+
+module _ {A B : Type 0} where
+  pub map-mem : (f : A → B) {x : A} {xs : List A} → List·Memᴰ x xs → List·Memᴰ (f x) (map f xs)
+  map-mem f (List·Memᴰ·head e) = List·Memᴰ·head (ap f e)
+  map-mem f (List·Memᴰ·tail m) = List·Memᴰ·tail (map-mem f m)
+
+  pub mem-map : (f : A → B) (y : B) (xs : List A) → List·Memᴰ y (map f xs) → (x : A) × List·Memᴰ x xs × (y ≡ f x)
+  mem-map f y [] m = absurd (List·Memᴰ·not-nil m)
+  mem-map f y (x ∷ xs) m = go (List·Memᴰ·cases-cons m) (λ (k : List·Memᴰ y (map f xs)). mem-map f y xs k)
+    where
+      go : (y ≡ f x) ⊎ List·Memᴰ y (map f xs) → (List·Memᴰ y (map f xs) → (z : A) × List·Memᴰ z xs × (y ≡ f z)) → (z : A) × List·Memᴰ z (x ∷ xs) × (y ≡ f z)
+      go (inl e) h = (x, List·Memᴰ·head refl, e)
+      go (inr k) h = let t = h k in (t .0, List·Memᴰ·tail (t .1), t .2)
+
+module _ {A B : Type 0} where
+  pub pairs-mem : {x : A} {y : B} {xs : List A} {ys : List B} → List·Memᴰ x xs → List·Memᴰ y ys → List·Memᴰ (x, y) (pairs xs ys)
+  unfolding pairs
+  pairs-mem {y = y} {ys = ys} (List·Memᴰ·head {x = z} {xs = zs} e) k = Memᴰ·cast (ap (λ u. (u, y)) e) (Memᴰ·append-left (pairs zs ys) (map-mem (λ y. (z, y)) k))
+  pairs-mem {ys = ys} (List·Memᴰ·tail {x = z} m) k = Memᴰ·append-right (map (λ y. (z, y)) ys) (pairs-mem m k)
+
+  pub mem-pairs : (u : A × B) (xs : List A) (ys : List B) → List·Memᴰ u (pairs xs ys) → List·Memᴰ (u .0) xs × List·Memᴰ (u .1) ys
+  unfolding pairs
+  mem-pairs u [] ys m = absurd (List·Memᴰ·not-nil m)
+  mem-pairs u (x ∷ xs) ys m = go (List·Memᴰ·append-cases (map (λ y. (x, y)) ys) m) (λ (k : List·Memᴰ u (pairs xs ys)). mem-pairs u xs ys k)
+    where
+      go : List·Memᴰ u (map (λ y. (x, y)) ys) ⊎ List·Memᴰ u (pairs xs ys) → (List·Memᴰ u (pairs xs ys) → List·Memᴰ (u .0) xs × List·Memᴰ (u .1) ys) → List·Memᴰ (u .0) (x ∷ xs) × List·Memᴰ (u .1) ys
+      go (inl k) h = let t = mem-map (λ y. (x, y)) u ys k in (List·Memᴰ·head (ap (λ v. v .0) (t .2)), Memᴰ·cast (ap (λ v. v .1) (t .2)) (t .1))
+      go (inr k) h = let t = h k in (List·Memᴰ·tail (t .0), t .1)
+
+-- what first answers: a member that passes, or that none does
+pub data Found {A : Type 0} (f : A → Bool) (xs : List A) : Option A → Type 0 where
+  found : {x : A} → List·Memᴰ x xs → T (f x) → Found f xs (some x)
+  missing : ((x : A) → List·Memᴰ x xs → T (f x) → ⊥) → Found f xs none
+
+module _ {A : Type 0} where
+  later : {f : A → Bool} {x : A} {xs : List A} {o : Option A} → f x ≡ false → Found f xs o → Found f (x ∷ xs) o
+  later e (found m t) = found (List·Memᴰ·tail m) t
+  later {f} {x} {xs} e (missing n) = missing (λ y m t. go y (List·Memᴰ·cases-cons m) t)
+    where
+      go : (y : A) → (y ≡ x) ⊎ List·Memᴰ y xs → T (f y) → ⊥
+      go y (inl p) t = subst T (ap f p ∙ e) t
+      go y (inr k) t = n y k t
+
+  pub first-found : (f : A → Bool) (xs : List A) → Found f xs (first f xs)
+  unfolding first
+  first-found f [] = missing (λ x m t. List·Memᴰ·not-nil m)
+  first-found f (x ∷ xs) = go (f x) refl (first-found f xs)
+    where
+      go : (b : Bool) → f x ≡ b → Found f xs (first f xs) → Found f (x ∷ xs) (elim b [ true ↦ some x | false ↦ first f xs ])
+      go true e r = found (List·Memᴰ·head refl) (subst T (sym e) tt)
+      go false e r = later e r

@@ -1,0 +1,69 @@
+-- Two share systems at a time, and as many as there are kinds: the remaining copies.
+-- Assumes nothing.
+use mathlib.Core.Path.{_≡_, refl}
+use mathlib.Core.List.{List·Memᴰ·head}
+use Prim.Native.Nat.{ℕ, zero, suc, _≤_, _<_}
+use native.Mathlib.Decide.{ℕ-discrete}
+use native.Mathlib.Omega.{arith}
+use lib.Dec.{eqb}
+use Rattle.cutting.specs.Lists.{pairs, only}
+use Rattle.cutting.specs.Tree.{Within, Tree, Keeps, waste, Monotone, Shares, copies, cut, piece}
+use Rattle.cutting.specs.Shares.{free, exact, paired, by-weight, state, across}
+use Rattle.cutting.proofs.Lists.{map-mem, and-T, pairs-mem, mem-pairs, T-and, mem-map}
+use Rattle.cutting.proofs.Weights.{weight-within, within-weight}
+
+module _ {P S S′ : Type 0} (H : Shares P S) (H′ : Shares P S′) where
+  pub paired-within : (t : Tree P) (s : S × S′) → Within (paired H H′) s t → Within H (s .0) t × Within H′ (s .1) t
+  unfolding paired
+  paired-within waste s w = (tt, tt)
+  paired-within (piece p) s w = T-and (H .admits (s .0) p) (H′ .admits (s .1) p) w
+  paired-within (cut d x a b) s w =
+      let m = mem-map (λ u. across u) (w .0) (pairs (H .splits d (s .0)) (H′ .splits d (s .1))) (w .1) in
+      let k = mem-pairs (m .0) (H .splits d (s .0)) (H′ .splits d (s .1)) (m .1) in
+      let l = paired-within a (across (m .0) .0) (rw (m .2) at (w .2)) in
+      let r = paired-within b (across (m .0) .1) (rw (m .2) at (w .3)) in
+      ((m .0 .0, k .0, l .0, r .0), (m .0 .1, k .1, l .1, r .1))
+
+  pub within-paired : (t : Tree P) (s : S × S′) → Within H (s .0) t → Within H′ (s .1) t → Within (paired H H′) s t
+  unfolding paired
+  within-paired waste s w v = tt
+  within-paired (piece p) s w v = and-T (H .admits (s .0) p) (H′ .admits (s .1) p) w v
+  within-paired (cut d x a b) s w v = (
+    across (w .0, v .0),
+    map-mem (λ u. across u) (pairs-mem (w .1) (v .1)),
+    within-paired a _ (w .2) (v .2),
+    within-paired b _ (w .3) (v .3),
+  )
+
+  pub paired-monotone : Monotone H → Monotone H′ → Monotone (paired H H′)
+  unfolding paired
+  paired-monotone l l′ d s q m t =
+      let k = mem-map (λ u. across u) q (pairs (H .splits d (s .0)) (H′ .splits d (s .1))) m in
+      let j = mem-pairs (k .0) (H .splits d (s .0)) (H′ .splits d (s .1)) (k .1) in (
+        λ w. (let v = paired-within t (across (k .0) .0) (rw (k .2) at w) in within-paired t s (l d (s .0) (k .0 .0) (j .0) t .0 (v .0)) (l′ d (s .1) (k .0 .1) (j .1) t .0 (v .1))),
+        λ w. (let v = paired-within t (across (k .0) .1) (rw (k .2) at w) in within-paired t s (l d (s .0) (k .0 .0) (j .0) t .1 (v .0)) (l′ d (s .1) (k .0 .1) (j .1) t .1 (v .1))),
+      )
+
+pub free-within : {P : Type 0} (t : Tree P) → Within free tt t
+unfolding free
+free-within waste = tt
+free-within (piece p) = tt
+free-within (cut d x a b) = ((tt, tt), List·Memᴰ·head refl, free-within a, free-within b)
+
+module _ {P : Type 0} (kind : P → ℕ) where
+  pub exact-within : (n : ℕ) (f : ℕ → ℕ) (t : Tree P) → Keeps kind n f t → Within (exact kind n) (state n f) t
+  unfolding exact state
+  exact-within zero f t k = free-within t
+  exact-within (suc n) f t k = within-paired _ _ t (f n, state n f) (weight-within _ t (f n) (k n (omega arith))) (exact-within n f t (λ i l. k i (omega arith)))
+
+  pub within-exact : (n : ℕ) (f : ℕ → ℕ) (t : Tree P) → Within (exact kind n) (state n f) t → Keeps kind n f t
+  unfolding exact state
+  within-exact zero f t w i l = absurd (omega arith)
+  within-exact (suc n) f t w i l = go (ℕ-discrete i n) (λ (j : i < n). within-exact n f t (v .1) i j)
+    where
+      v : Within (by-weight (λ p. only (eqb (kind p) n) 1)) (f n) t × Within (exact kind n) (state n f) t
+      v = paired-within _ _ t (f n, state n f) w
+
+      go : Dec (i ≡ n) → (i < n → copies kind i t ≤ f i) → copies kind i t ≤ f i
+      go (yes e) h = rw e (within-weight _ t (f n) (v .0))
+      go (no e) h = h (omega arith)

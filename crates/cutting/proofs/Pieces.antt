@@ -1,0 +1,29 @@
+-- Laws of pieces with a size.
+-- Assumes nothing.
+use mathlib.Core.List.{List}
+use Prim.Native.Nat.{ℕ}
+use native.Mathlib.Omega.{arith}
+use lib.Dec.{T, leb, leb→le, le→leb}
+use Rattle.cutting.specs.Tree.{Rect}
+use Rattle.cutting.specs.Pieces.{fits-in, _⊑_, Solid, sized}
+use Rattle.cutting.specs.Saws.{saw}
+use Rattle.cutting.proofs.Lists.{and-T, T-and}
+use Rattle.cutting.proofs.Transfer.{Enlarges}
+use Rattle.cutting.proofs.Saws.{saw-proper, cut-saw, saw-cut}
+
+pub fits-in-true : (q r : Rect) → q ⊑ r → T (fits-in q r)
+fits-in-true q r h = and-T (leb (q .0) (r .0)) (leb (q .1) (r .1)) (le→leb (q .0) (r .0) (h .0)) (le→leb (q .1) (r .1) (h .1))
+
+pub true-fits-in : (q r : Rect) → T (fits-in q r) → q ⊑ r
+true-fits-in q r t = let h = T-and (leb (q .0) (r .0)) (leb (q .1) (r .1)) t in (leb→le (q .0) (r .0) (h .0), leb→le (q .1) (r .1) (h .1))
+
+module _ {P : Type 0} where
+  pub sized-enlarges : (ps : List P) (price : P → ℕ) (size : P → Rect) → Solid ps size → (k : ℕ) → Enlarges (sized ps price size) (saw k)
+  unfolding sized saw
+  sized-enlarges ps price size solid k = record {
+    fits-mono = λ p q r h t. fits-in-true (size p) r (let l = true-fits-in (size p) q t in omega arith);
+    fits-solid = λ p r m t. (let l = true-fits-in (size p) r t in let z = solid p m in omega arith);
+    cuts-mono = λ d m n x h c. (let l = cut-saw k d m x c in saw-cut k d n x (l .0) (omega arith));
+    rest-mono = λ d m n x h c. omega arith;
+    proper = saw-proper k;
+  }

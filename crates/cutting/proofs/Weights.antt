@@ -1,0 +1,97 @@
+-- Shares by weight: a tree is within a share exactly when its weight is at most the share; a tree that keeps every demand is within
+-- the capacity.
+-- Assumes nothing.
+use mathlib.Core.Path.{_≡_, refl, ap}
+use mathlib.Core.Bool.{Bool, true, false}
+use mathlib.Core.List.{List·Memᴰ}
+use Prim.Native.Nat.{ℕ, zero, suc, _+_, _-_, _*_, _≤_, _<_}
+use native.Mathlib.Nat.{mul-le-mul-right, one-mul}
+use native.Mathlib.Decide.{ℕ-discrete}
+use native.Mathlib.Omega.{arith}
+use lib.Dec.{T, eqb, leb→le, le→leb, eqb-refl}
+use Rattle.cutting.specs.Lists.{range, sum, only}
+use Rattle.cutting.specs.Tree.{Within, Pieces, total, beyond, Rect, Tree, Proper, Keeps, waste, Monotone, copies, cut, part, earns, Guillotine, Saw, piece}
+use Rattle.cutting.specs.Figure.{figure}
+use Rattle.cutting.specs.Shares.{by-weight}
+use Rattle.cutting.proofs.Lists.{mem-range, map-mem, range-mem, mem-map}
+use Rattle.cutting.proofs.Exact.{figure-upper}
+
+module _ {P : Type 0} where
+  pub within-weight : (q : P → ℕ) (t : Tree P) (c : ℕ) → Within (by-weight q) c t → total q t ≤ c
+  unfolding by-weight total
+  within-weight q waste c w = omega arith
+  within-weight q (piece p) c w = leb→le (q p) c w
+  within-weight q (cut d x a b) c w =
+      let m = mem-map (λ a. (a, c - a)) (w .0) (range 0 (suc c)) (w .1) in
+      let h = mem-range 0 (suc c) (m .0) (m .1) in
+      omega (arith, ap (λ u. u .0) (m .2), ap (λ u. u .1) (m .2), within-weight q a (w .0 .0) (w .2), within-weight q b (w .0 .1) (w .3))
+
+  pub weight-within : (q : P → ℕ) (t : Tree P) (c : ℕ) → total q t ≤ c → Within (by-weight q) c t
+  unfolding by-weight total
+  weight-within q waste c h = tt
+  weight-within q (piece p) c h = le→leb (q p) c h
+  weight-within q (cut d x a b) c h = (
+    (total q a, c - total q a),
+    map-mem (λ a. (a, c - a)) (range-mem 0 (suc c) (total q a) (omega arith) (omega arith)),
+    weight-within q a (total q a) (omega arith),
+    weight-within q b (c - total q a) (omega arith),
+  )
+
+  pub by-weight-monotone : (q : P → ℕ) → Monotone (by-weight q)
+  unfolding by-weight
+  by-weight-monotone q d s u m t =
+      let k = mem-map (λ a. (a, s - a)) u (range 0 (suc s)) m in
+      let h = mem-range 0 (suc s) (k .0) (k .1) in (
+        λ w. weight-within q t s (omega (arith, ap (λ u. u .0) (k .2), within-weight q t (u .0) w)),
+        λ w. weight-within q t s (omega (arith, ap (λ u. u .1) (k .2), within-weight q t (u .1) w)),
+      )
+
+sum-ge : (n : ℕ) (f : ℕ → ℕ) (i : ℕ) → i < n → f i ≤ sum n f
+unfolding sum
+sum-ge zero f i h = absurd (omega arith)
+sum-ge (suc n) f i h = go (ℕ-discrete i n) (λ (l : i < n). sum-ge n f i l)
+  where
+    go : Dec (i ≡ n) → (i < n → f i ≤ sum n f) → f i ≤ sum n f + f n
+    go (yes e) g = rw e (omega arith)
+    go (no e) g = omega (arith, g (omega arith))
+
+sum-add : (n : ℕ) (f g h : ℕ → ℕ) → ((i : ℕ) → h i ≡ f i + g i) → sum n h ≡ sum n f + sum n g
+unfolding sum
+sum-add zero f g h e = refl
+sum-add (suc n) f g h e = omega (arith, e n, sum-add n f g h e)
+
+sum-le : (n : ℕ) (f g : ℕ → ℕ) → ((i : ℕ) → i < n → f i ≤ g i) → sum n f ≤ sum n g
+unfolding sum
+sum-le zero f g h = omega arith
+sum-le (suc n) f g h = omega (arith, h n (omega arith), sum-le n f g (λ i l. h i (omega arith)))
+
+one : (i : ℕ) → only (eqb i i) 1 ≡ 1
+one i = go (eqb i i) (eqb-refl i)
+  where
+    go : (b : Bool) → T b → only b 1 ≡ 1
+    go true t = refl
+    go false t = absurd t
+
+module _ {P : Type 0} (kind : P → ℕ) (K : Pieces P) (C : Saw) (n : ℕ) (known : (p : P) → List·Memᴰ p (K .members) → kind p < n) (weight : ℕ → ℕ) where
+  by-copies : (t : Tree P) (r : Rect) → Guillotine K C r t → total (λ p. weight (kind p)) t ≤ sum n (λ i. copies kind i t * weight i)
+  unfolding total
+  by-copies waste r g = omega arith
+  by-copies (piece p) r g =
+      let e : only (eqb (kind p) (kind p)) 1 * weight (kind p) ≡ weight (kind p) = rw (one (kind p)) (one-mul _) in
+      omega (arith, e, sum-ge n (λ i. only (eqb (kind p) i) 1 * weight i) (kind p) (known p (g .0)))
+  by-copies (cut d x a b) r g = omega (
+    arith,
+    by-copies a (part d x r) (g .1),
+    by-copies b (beyond C d x r) (g .2),
+    sum-add n (λ i. copies kind i a * weight i) (λ i. copies kind i b * weight i) (λ i. (copies kind i a + copies kind i b) * weight i) (λ i. omega arith),
+  )
+
+  -- a tree that keeps the demands weighs at most the capacity
+  pub keeps-weight : (demand : ℕ → ℕ) (t : Tree P) (r : Rect) → Guillotine K C r t → Keeps kind n demand t → total (λ p. weight (kind p)) t ≤ sum n (λ i. demand i * weight i)
+  keeps-weight demand t r g k = omega (arith, by-copies t r g, sum-le n (λ i. copies kind i t * weight i) (λ i. demand i * weight i) (λ i l. mul-le-mul-right (weight i) (k i l)))
+
+  -- no tree that keeps the demands earns more than the bound
+  pub kept-upper : Proper C → (demand : ℕ → ℕ) (t : Tree P) (r : Rect) → Guillotine K C r t → Keeps kind n demand t
+      → earns K t ≤ figure K C (by-weight (λ p. weight (kind p))) r (sum n (λ i. demand i * weight i))
+  kept-upper proper demand t r g k = figure-upper K C (by-weight (λ p. weight (kind p))) proper t r (sum n (λ i. demand i * weight i)) g
+      (weight-within (λ p. weight (kind p)) t (sum n (λ i. demand i * weight i)) (keeps-weight demand t r g k))
