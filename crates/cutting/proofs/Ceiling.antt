@@ -7,9 +7,9 @@ use native.Mathlib.Omega.{arith}
 use lib.Dec.{T}
 use Rattle.cutting.specs.declared.Direction.{Direction}
 use Rattle.cutting.specs.declared.Direction.the-variants.{Length, Width}
-use Rattle.cutting.specs.Tree.{Pieces, total, beyond, Rect, Tree, waste, Shares, cut, part, Guillotine, Saw, piece}
+use Rattle.cutting.specs.Tree.{Rect, part, Tree, waste, piece, cut, Pieces, Saw, Shares, beyond, total, Guillotine}
 use Rattle.cutting.specs.Figure.{figure}
-use Rattle.cutting.specs.Pieces.{Solid, sized}
+use Rattle.cutting.specs.Pieces.{sized, Solid}
 use Rattle.cutting.specs.Saws.{saw}
 use Rattle.cutting.proofs.Exact.{figure-attained}
 use Rattle.cutting.proofs.Saws.{cut-saw}

@@ -8,13 +8,14 @@ use native.Mathlib.Omega.{arith}
 use lib.Dec.{T}
 use Rattle.cutting.specs.declared.Direction.{Direction}
 use Rattle.cutting.specs.declared.Direction.the-variants.{Length, Width}
-use Rattle.cutting.specs.Tree.{Rect, Monotone, Shares, part, side}
-use Rattle.cutting.specs.Figure.{figure, step}
-use Rattle.cutting.specs.Pieces.{_⊑_, Solid, sized}
-use Rattle.cutting.specs.Saws.{saw-normal, floor, saw}
+use Rattle.cutting.specs.Tree.{Rect, side, part, Shares, Monotone}
+use Rattle.cutting.specs.Figure.{step, figure}
+use Rattle.cutting.specs.Pieces.{_⊑_, sized, Solid}
+use Rattle.cutting.specs.Saws.{saw, floor, saw-normal}
 use Rattle.cutting.specs.Normal.{normal}
 use Rattle.cutting.proofs.Recursion.{step-parts, figure-eq}
-use Rattle.cutting.proofs.Normal.{floor-le, figure-normal, normal-proper, floor-ge, cut-normal, Additive, floor-passes}
+use Rattle.cutting.proofs.Transfer.{through}
+use Rattle.cutting.proofs.Normal.{floor-le, floor-passes, floor-ge, Additive, cut-normal, normal-proper, figure-normal}
 
 pub floor-fixed : (N : ℕ → Bool) (n : ℕ) → T (N n) → floor N n ≡ n
 floor-fixed N n t = omega (arith, floor-le N n, floor-ge N n n t (omega arith))
@@ -28,6 +29,11 @@ module _ (N : Direction → ℕ → Bool) (c : (d : Direction) → Additive (N d
   fixed : (r : Rect) (s : S) → r ⊑ plate → Normal r → figure (sized ps price size) (saw 0) H r s ≡ figure (sized ps price size) (saw-normal N) H r s
   fixed r s h n = figure-normal N c ps price size solid H mono plate normal r s h
       ∙ ap (λ (q : Rect). figure (sized ps price size) (saw-normal N) H q s) (λ i. (floor-fixed (N Length) (r .0) (n .0) i, floor-fixed (N Width) (r .1) (n .1) i))
+
+  -- the figure of a rectangle on the plate is that of the largest normal sides not above its own
+  pub figure-floor : (r : Rect) (s : S) → r ⊑ plate → figure (sized ps price size) (saw 0) H r s ≡ figure (sized ps price size) (saw 0) H (through (λ d. floor (N d)) r) s
+  figure-floor r s h = figure-normal N c ps price size solid H mono plate normal r s h ∙ sym (fixed (through (λ d. floor (N d)) r) s
+      (omega (arith, floor-le (N Length) (r .0), floor-le (N Width) (r .1))) (floor-passes (N Length) (c Length .0) (r .0), floor-passes (N Width) (c Width .0) (r .1)))
 
   part-normal : (d : Direction) (r : Rect) (x : ℕ) → r ⊑ plate → Normal r → x ≤ side d r → T (N d x) → (part d x r ⊑ plate) × Normal (part d x r)
   part-normal Length r x h n l t = (omega arith, (t, n .1))

@@ -10,12 +10,12 @@ use native.Mathlib.Omega.{arith}
 use lib.Dec.{T, eqb, eqb→eq, eqb-refl}
 use Rattle.cutting.specs.declared.Direction.{Direction}
 use Rattle.cutting.specs.declared.Direction.the-variants.{Length, Width}
-use Rattle.cutting.specs.Lists.{first, greatest, pairs, only}
-use Rattle.cutting.specs.Tree.{Within, Pieces, total, beyond, Rect, Tree, Proper, Shares, cut, part, earns, Guillotine, Saw, side}
-use Rattle.cutting.specs.Figure.{figure, leaf, half-perimeter, best, step}
-use Rattle.cutting.specs.Choice.{cut-earns, plan-within, follow, as-cut, piece-earns, or-length, as-waste, written, or-waste, or-zero, Choice, as-piece, first-cut, choice, or-piece}
-use Rattle.cutting.proofs.Lists.{and-T, pairs-mem, missing, mem-pairs, T-and, Found, first-found, found}
-use Rattle.cutting.proofs.Greatest.{greatest-is, max-is}
+use Rattle.cutting.specs.Lists.{only, first, greatest, pairs}
+use Rattle.cutting.specs.Tree.{Rect, side, part, Tree, cut, Pieces, Saw, Shares, beyond, Proper, total, earns, Guillotine, Within}
+use Rattle.cutting.specs.Figure.{half-perimeter, leaf, best, step, figure}
+use Rattle.cutting.specs.Choice.{Choice, as-waste, as-piece, as-cut, or-waste, or-length, or-piece, or-zero, piece-earns, cut-earns, first-cut, choice, follow, plan-within, written}
+use Rattle.cutting.proofs.Lists.{and-T, T-and, pairs-mem, mem-pairs, Found, found, missing, first-found}
+use Rattle.cutting.proofs.Greatest.{max-is, greatest-is}
 use Rattle.cutting.proofs.Recursion.{smaller, figure-eq}
 use Rattle.cutting.proofs.Exact.{only-is}
 

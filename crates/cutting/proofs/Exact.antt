@@ -9,10 +9,10 @@ use native.Mathlib.Omega.{arith}
 use lib.Dec.{T}
 use Rattle.cutting.specs.declared.Direction.{Direction}
 use Rattle.cutting.specs.declared.Direction.the-variants.{Length, Width}
-use Rattle.cutting.specs.Lists.{greatest, only}
-use Rattle.cutting.specs.Tree.{Within, Pieces, total, beyond, Rect, Tree, Proper, waste, Shares, cut, part, earns, Guillotine, Saw, side, piece}
-use Rattle.cutting.specs.Figure.{figure, leaf, half-perimeter, best, step, after}
-use Rattle.cutting.proofs.Greatest.{greatest-is, greatest-ge, max-is}
+use Rattle.cutting.specs.Lists.{only, greatest}
+use Rattle.cutting.specs.Tree.{Rect, side, part, Tree, waste, piece, cut, Pieces, Saw, Shares, beyond, Proper, total, earns, Guillotine, Within}
+use Rattle.cutting.specs.Figure.{half-perimeter, leaf, best, step, after, figure}
+use Rattle.cutting.proofs.Greatest.{max-is, greatest-ge, greatest-is}
 use Rattle.cutting.proofs.Recursion.{figure-eq}
 
 only-open : (a b : Bool) (n : ℕ) → T a → T b → only (a && b) n ≡ n
@@ -27,11 +27,11 @@ only-is true false n = inr refl
 only-is false b n = inr refl
 
 module _ {P S : Type 0} (K : Pieces P) (C : Saw) (H : Shares P S) where
-  leaf-ge : (p : P) (r : Rect) (s : S) → List·Memᴰ p (K .members) → T (K .fits p r) → T (H .admits s p) → K .price p ≤ leaf K H r s
+  pub leaf-ge : (p : P) (r : Rect) (s : S) → List·Memᴰ p (K .members) → T (K .fits p r) → T (H .admits s p) → K .price p ≤ leaf K H r s
   unfolding leaf
   leaf-ge p r s m f c = rw (only-open (K .fits p r) (H .admits s p) (K .price p) f c) at (greatest-ge (λ p. only (K .fits p r && H .admits s p) (K .price p)) m)
 
-  best-ge : (F : Rect → S → ℕ) (d : Direction) (r : Rect) (s : S) (x : ℕ) (q : S × S) → List·Memᴰ x (C .cuts d (side d r)) → List·Memᴰ q (H .splits d s)
+  pub best-ge : (F : Rect → S → ℕ) (d : Direction) (r : Rect) (s : S) (x : ℕ) (q : S × S) → List·Memᴰ x (C .cuts d (side d r)) → List·Memᴰ q (H .splits d s)
       → F (part d x r) (q .0) + F (beyond C d x r) (q .1) ≤ best C H F d r s
   unfolding best
   best-ge F d r s x q m k = omega (
@@ -40,7 +40,7 @@ module _ {P S : Type 0} (K : Pieces P) (C : Saw) (H : Shares P S) where
     greatest-ge (λ x. greatest (λ q. F (part d x r) (q .0) + F (beyond C d x r) (q .1)) (H .splits d s)) m,
   )
 
-  step-ge : (F : Rect → S → ℕ) (d : Direction) (r : Rect) (s : S) → best C H F d r s ≤ step K C H F r s
+  pub step-ge : (F : Rect → S → ℕ) (d : Direction) (r : Rect) (s : S) → best C H F d r s ≤ step K C H F r s
   unfolding step
   step-ge F Length r s = omega arith
   step-ge F Width r s = omega arith

@@ -7,20 +7,20 @@ use native.Mathlib.Nat.{sub-zero}
 use native.Mathlib.Omega.{arith}
 use lib.Dec.{leb}
 use Rattle.cutting.specs.declared.Direction.the-variants.{Length, Width}
-use Rattle.cutting.specs.Lists.{range, greatest, only}
-use Rattle.cutting.specs.Tree.{total, Rect, Tree, waste, cut, Guillotine, piece}
+use Rattle.cutting.specs.Lists.{range, only, greatest}
+use Rattle.cutting.specs.Tree.{Rect, Tree, waste, piece, cut, total, Guillotine}
 use Rattle.cutting.specs.Figure.{leaf, best, step}
 use Rattle.cutting.specs.Pieces.{fits-in, sized}
 use Rattle.cutting.specs.Saws.{saw}
 use Rattle.cutting.specs.Shares.{by-weight}
-use Rattle.cutting.specs.Job.{figure-of, pieces, GuillotineTree, capacity, Job, KeepsDemands, profit}
-use Rattle.cutting.proofs.Lists.{mem-range, range-mem}
+use Rattle.cutting.specs.Job.{Job, GuillotineTree, profit, KeepsDemands, capacity, pieces, figure-of}
+use Rattle.cutting.proofs.Lists.{range-mem, mem-range}
 use Rattle.cutting.proofs.Greatest.{greatest-map}
 use Rattle.cutting.proofs.Recursion.{figure-eq}
-use Rattle.cutting.proofs.Exact.{figure-attained, figure-upper}
-use Rattle.cutting.proofs.Saws.{saw-proper, cut-saw, saw-cut}
+use Rattle.cutting.proofs.Exact.{figure-upper, figure-attained}
+use Rattle.cutting.proofs.Saws.{saw-cut, cut-saw, saw-proper}
 use Rattle.cutting.proofs.Pieces.{fits-in-true, true-fits-in}
-use Rattle.cutting.proofs.Weights.{weight-within, within-weight, kept-upper}
+use Rattle.cutting.proofs.Weights.{within-weight, weight-within, kept-upper}
 
 module _ (J : Job) where
   -- the plain trees are those of the theory, both ways

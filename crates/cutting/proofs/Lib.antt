@@ -11,6 +11,7 @@ pub mod Stages
 pub mod Normal
 pub mod Positions
 pub mod Cells
+pub mod Half
 pub mod Choice
 pub mod Written
 pub mod Areas

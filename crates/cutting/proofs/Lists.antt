@@ -9,7 +9,7 @@ use Prim.Native.Nat.{ℕ, zero, suc, _+_, _≤_, _<_}
 use native.Mathlib.Decide.{ℕ-discrete}
 use native.Mathlib.Omega.{arith}
 use lib.Dec.{T}
-use Rattle.cutting.specs.Lists.{range, keep, filter, first, any, pairs}
+use Rattle.cutting.specs.Lists.{range, keep, filter, any, first, pairs}
 
 pub and-T : (a b : Bool) → T a → T b → T (a && b)
 and-T true b t u = u

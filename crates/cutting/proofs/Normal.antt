@@ -13,15 +13,15 @@ use lib.Dec.{T, leb, eqb, leb→le, le→leb, eqb→eq}
 use Rattle.cutting.specs.declared.Direction.{Direction}
 use Rattle.cutting.specs.declared.Direction.the-variants.{Length, Width}
 use Rattle.cutting.specs.Lists.{range, any}
-use Rattle.cutting.specs.Tree.{Rect, Proper, Monotone, Shares, Saw, side}
+use Rattle.cutting.specs.Tree.{Rect, side, Saw, Shares, Proper, Monotone}
 use Rattle.cutting.specs.Figure.{figure}
-use Rattle.cutting.specs.Pieces.{fits-in, _⊑_, Solid, sized}
-use Rattle.cutting.specs.Saws.{saw-normal, floor, saw}
-use Rattle.cutting.specs.Normal.{more, Sum, normal, sides, normal?, summed, none}
-use Rattle.cutting.proofs.Lists.{any-mem, mem-range, map-mem, and-T, range-mem, filter-mem, mem-filter, T-and, mem-any}
-use Rattle.cutting.proofs.Transfer.{figure-mono, both-parts, cut-image, through, CutImage, figure-transfer, Transfer, Enlarges}
-use Rattle.cutting.proofs.Saws.{saw-proper, cut-saw, saw-cut}
-use Rattle.cutting.proofs.Pieces.{fits-in-true, sized-enlarges, true-fits-in}
+use Rattle.cutting.specs.Pieces.{_⊑_, fits-in, sized, Solid}
+use Rattle.cutting.specs.Saws.{saw, floor, saw-normal}
+use Rattle.cutting.specs.Normal.{Sum, none, more, summed, normal?, sides, normal}
+use Rattle.cutting.proofs.Lists.{and-T, T-and, range-mem, mem-range, filter-mem, mem-filter, any-mem, mem-any, map-mem}
+use Rattle.cutting.proofs.Transfer.{through, Enlarges, CutImage, both-parts, cut-image, Transfer, figure-mono, figure-transfer}
+use Rattle.cutting.proofs.Saws.{saw-cut, cut-saw, saw-proper}
+use Rattle.cutting.proofs.Pieces.{fits-in-true, true-fits-in, sized-enlarges}
 
 module _ (N : ℕ → Bool) where
   pub floor-le : (n : ℕ) → floor N n ≤ n

@@ -6,11 +6,11 @@ use Prim.Native.Nat.{ℕ, zero, suc, _≤_, _<_}
 use native.Mathlib.Decide.{ℕ-discrete}
 use native.Mathlib.Omega.{arith}
 use lib.Dec.{eqb}
-use Rattle.cutting.specs.Lists.{pairs, only}
-use Rattle.cutting.specs.Tree.{Within, Tree, Keeps, waste, Monotone, Shares, copies, cut, piece}
-use Rattle.cutting.specs.Shares.{free, exact, paired, by-weight, state, across}
-use Rattle.cutting.proofs.Lists.{map-mem, and-T, pairs-mem, mem-pairs, T-and, mem-map}
-use Rattle.cutting.proofs.Weights.{weight-within, within-weight}
+use Rattle.cutting.specs.Lists.{only, pairs}
+use Rattle.cutting.specs.Tree.{Tree, waste, piece, cut, Shares, copies, Keeps, Within, Monotone, Symmetric}
+use Rattle.cutting.specs.Shares.{by-weight, free, across, paired, state, exact}
+use Rattle.cutting.proofs.Lists.{and-T, T-and, map-mem, mem-map, pairs-mem, mem-pairs}
+use Rattle.cutting.proofs.Weights.{within-weight, weight-within, by-weight-monotone, by-weight-symmetric}
 
 module _ {P S S′ : Type 0} (H : Shares P S) (H′ : Shares P S′) where
   pub paired-within : (t : Tree P) (s : S × S′) → Within (paired H H′) s t → Within H (s .0) t × Within H′ (s .1) t
@@ -44,6 +44,13 @@ module _ {P S S′ : Type 0} (H : Shares P S) (H′ : Shares P S′) where
         λ w. (let v = paired-within t (across (k .0) .1) (rw (k .2) at w) in within-paired t s (l d (s .0) (k .0 .0) (j .0) t .1 (v .0)) (l′ d (s .1) (k .0 .1) (j .1) t .1 (v .1))),
       )
 
+  pub paired-symmetric : Symmetric H → Symmetric H′ → Symmetric (paired H H′)
+  unfolding paired
+  paired-symmetric l l′ d s q m =
+      let k = mem-map (λ u. across u) q (pairs (H .splits d (s .0)) (H′ .splits d (s .1))) m in
+      let j = mem-pairs (k .0) (H .splits d (s .0)) (H′ .splits d (s .1)) (k .1) in
+      rw (k .2) (map-mem (λ u. across u) (pairs-mem (l d (s .0) (k .0 .0) (j .0)) (l′ d (s .1) (k .0 .1) (j .1))))
+
 pub free-within : {P : Type 0} (t : Tree P) → Within free tt t
 unfolding free
 free-within waste = tt
@@ -67,3 +74,13 @@ module _ {P : Type 0} (kind : P → ℕ) where
       go : Dec (i ≡ n) → (i < n → copies kind i t ≤ f i) → copies kind i t ≤ f i
       go (yes e) h = rw e (within-weight _ t (f n) (v .0))
       go (no e) h = h (omega arith)
+
+  pub exact-monotone : (n : ℕ) → Monotone (exact kind n)
+  unfolding exact
+  exact-monotone zero = λ d s q m t. (λ w. free-within t, λ w. free-within t)
+  exact-monotone (suc n) = paired-monotone _ _ (by-weight-monotone _) (exact-monotone n)
+
+  pub exact-symmetric : (n : ℕ) → Symmetric (exact kind n)
+  unfolding exact free
+  exact-symmetric zero = λ d s q m. List·Memᴰ·head refl
+  exact-symmetric (suc n) = paired-symmetric _ _ (by-weight-symmetric _) (exact-symmetric n)

@@ -12,8 +12,8 @@ use lib.ListN.{length, getD, take, drop}
 use lib.Seq.{getD-take, length-take-le}
 use Rattle.cutting.specs.Lists.{range, keep, filter}
 use Rattle.cutting.specs.Saws.{floor}
-use Rattle.cutting.proofs.Lists.{mem-range, range-mem, filter-mem, mem-filter}
-use Rattle.cutting.proofs.Normal.{floor-le, floor-ge, floor-passes}
+use Rattle.cutting.proofs.Lists.{range-mem, mem-range, filter-mem, mem-filter}
+use Rattle.cutting.proofs.Normal.{floor-le, floor-passes, floor-ge}
 
 pub getD-mem : {A : Type 0} (xs : List A) (i : ℕ) (d : A) → i < length xs → List·Memᴰ (getD xs i d) xs
 getD-mem [] i d h = absurd (omega arith)

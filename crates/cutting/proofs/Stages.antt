@@ -8,13 +8,13 @@ use native.Mathlib.Omega.{arith}
 use Rattle.cutting.specs.declared.Direction.{Direction}
 use Rattle.cutting.specs.declared.Direction.the-variants.{Length, Width}
 use Rattle.cutting.specs.Lists.{greatest}
-use Rattle.cutting.specs.Tree.{Within, Pieces, beyond, Rect, Tree, Proper, waste, Monotone, Shares, cut, part, earns, Guillotine, Saw, side, piece}
-use Rattle.cutting.specs.Figure.{figure, leaf, best, step}
-use Rattle.cutting.specs.Shares.{staged-splits, stages-below, turn, stages, staged}
+use Rattle.cutting.specs.Tree.{Rect, side, part, Tree, waste, piece, cut, Pieces, Saw, Shares, beyond, Proper, earns, Guillotine, Within, Monotone, Symmetric}
+use Rattle.cutting.specs.Figure.{leaf, best, step, figure}
+use Rattle.cutting.specs.Shares.{turn, staged-splits, staged, stages-below, stages}
 use Rattle.cutting.proofs.Lists.{map-mem, mem-map}
-use Rattle.cutting.proofs.Greatest.{greatest-map, max-is}
+use Rattle.cutting.proofs.Greatest.{max-is, greatest-map}
 use Rattle.cutting.proofs.Recursion.{figure-eq}
-use Rattle.cutting.proofs.Exact.{figure-attained, figure-upper}
+use Rattle.cutting.proofs.Exact.{figure-upper, figure-attained}
 
 module _ {S : Type 0} where
   staged-splits-mem : (e : Direction) (k : ℕ) (qs : List (S × S)) (q : S × S) → 0 < k → List·Memᴰ q qs → List·Memᴰ ((e, k, q .0), (e, k, q .1)) (staged-splits e k qs)
@@ -79,6 +79,13 @@ module _ {P S : Type 0} (H : Shares P S) where
         λ w. (let v = staged-within t e (s .1 - turn (s .0) e) (u .0 .1) (rw (u .3) at w) in
             within-staged t (s .0) (s .1) (s .2) (omega (arith, change (s .0) e t, u .2, v .0)) (l .1 (v .1))),
       )
+
+  pub staged-symmetric : Symmetric H → Symmetric (staged H)
+  unfolding staged
+  staged-symmetric swap e s q m =
+      let k = s .1 - turn (s .0) e in
+      let u = mem-staged-splits e k (H .splits e (s .2)) q m in
+      rw (u .3) (staged-splits-mem e k (H .splits e (s .2)) (u .0 .1, u .0 .0) (u .2) (swap e (s .2) (u .0) (u .1)))
 
 -- the direction of a tree's first cut
 unfoldable pub root : {P : Type 0} → Tree P → Direction

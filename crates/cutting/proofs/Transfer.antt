@@ -10,10 +10,10 @@ use lib.Dec.{T}
 use Rattle.cutting.specs.declared.Direction.{Direction}
 use Rattle.cutting.specs.declared.Direction.the-variants.{Length, Width}
 use Rattle.cutting.specs.Lists.{sum}
-use Rattle.cutting.specs.Tree.{Within, Pieces, total, beyond, Rect, Tree, Proper, waste, Monotone, Shares, cut, part, earns, Guillotine, Saw, side, piece}
+use Rattle.cutting.specs.Tree.{Rect, side, part, Tree, waste, piece, cut, Pieces, Saw, Shares, beyond, Proper, total, earns, Guillotine, Within, Monotone}
 use Rattle.cutting.specs.Figure.{figure}
 use Rattle.cutting.specs.Pieces.{_⊑_}
-use Rattle.cutting.proofs.Exact.{figure-attained, Earned, figure-upper}
+use Rattle.cutting.proofs.Exact.{figure-upper, Earned, figure-attained}
 
 -- both sides of a rectangle through a map
 abbrev pub through : (Direction → ℕ → ℕ) → Rect → Rect
@@ -83,15 +83,19 @@ figure-mono K C H G q r s h =
     let e = figure-attained K C H q s in
     omega (arith, figure-upper K C H (G .proper) (e .0) r s (enlarge K C G (e .0) q r h (e .1)) (e .2))
 
-part-grow : (d : Direction) (x y : ℕ) (r : Rect) → x ≤ y → part d x r ⊑ part d y r
+-- a rectangle with a side of 0 has figure 0
+pub figure-degenerate : {P S : Type 0} (K : Pieces P) (C : Saw) (H : Shares P S) → Enlarges K C → (d : Direction) (r : Rect) (s : S) → side d r ≡ 0 → figure K C H r s ≡ 0
+figure-degenerate K C H G d r s z = let e = figure-attained K C H r s in sym (e .3) ∙ degenerate-earns K C G (e .0) r d z (e .1)
+
+pub part-grow : (d : Direction) (x y : ℕ) (r : Rect) → x ≤ y → part d x r ⊑ part d y r
 part-grow Length x y r h = omega arith
 part-grow Width x y r h = omega arith
 
-part-whole : (d : Direction) (x : ℕ) (r : Rect) → x ≤ side d r → part d x r ⊑ r
+pub part-whole : (d : Direction) (x : ℕ) (r : Rect) → x ≤ side d r → part d x r ⊑ r
 part-whole Length x r h = omega arith
 part-whole Width x r h = omega arith
 
-side-part : (d : Direction) (x : ℕ) (r : Rect) → side d (part d x r) ≡ x
+pub side-part : (d : Direction) (x : ℕ) (r : Rect) → side d (part d x r) ≡ x
 side-part Length x r = refl
 side-part Width x r = refl
 
@@ -99,7 +103,7 @@ through-side : (φ : Direction → ℕ → ℕ) (d : Direction) (r : Rect) → s
 through-side φ Length r = refl
 through-side φ Width r = refl
 
-through-part : (φ : Direction → ℕ → ℕ) (d : Direction) (x : ℕ) (r : Rect) → through φ (part d x r) ≡ part d (φ d x) (through φ r)
+pub through-part : (φ : Direction → ℕ → ℕ) (d : Direction) (x : ℕ) (r : Rect) → through φ (part d x r) ≡ part d (φ d x) (through φ r)
 through-part φ Length x r = refl
 through-part φ Width x r = refl
 
@@ -122,7 +126,7 @@ module _ {P S : Type 0} (K K′ : Pieces P) (C C′ : Saw) (H : Shares P S) (φ 
     omega (arith, degenerate-earns K′ C′ G (b .0) _ d (side-part d _ (through φ r) ∙ z) (b .1)),
   )
 
-  inside : (d : Direction) (x : ℕ) (r : Rect) → r ⊑ plate → x < side d r → part d x r ⊑ plate
+  pub inside : (d : Direction) (x : ℕ) (r : Rect) → r ⊑ plate → x < side d r → part d x r ⊑ plate
   inside Length x r h l = omega arith
   inside Width x r h l = omega arith
 

@@ -9,42 +9,50 @@ use native.Mathlib.Nat.{mul-le-mul-right, one-mul}
 use native.Mathlib.Decide.{ℕ-discrete}
 use native.Mathlib.Omega.{arith}
 use lib.Dec.{T, eqb, leb→le, le→leb, eqb-refl}
+use Rattle.cutting.specs.declared.Direction.{Direction}
 use Rattle.cutting.specs.Lists.{range, sum, only}
-use Rattle.cutting.specs.Tree.{Within, Pieces, total, beyond, Rect, Tree, Proper, Keeps, waste, Monotone, copies, cut, part, earns, Guillotine, Saw, piece}
+use Rattle.cutting.specs.Tree.{Rect, part, Tree, waste, piece, cut, Pieces, Saw, beyond, Proper, total, copies, Keeps, earns, Guillotine, Within, Monotone, Symmetric}
 use Rattle.cutting.specs.Figure.{figure}
 use Rattle.cutting.specs.Shares.{by-weight}
-use Rattle.cutting.proofs.Lists.{mem-range, map-mem, range-mem, mem-map}
+use Rattle.cutting.proofs.Lists.{range-mem, mem-range, map-mem, mem-map}
 use Rattle.cutting.proofs.Exact.{figure-upper}
 
-module _ {P : Type 0} where
-  pub within-weight : (q : P → ℕ) (t : Tree P) (c : ℕ) → Within (by-weight q) c t → total q t ≤ c
-  unfolding by-weight total
-  within-weight q waste c w = omega arith
-  within-weight q (piece p) c w = leb→le (q p) c w
-  within-weight q (cut d x a b) c w =
-      let m = mem-map (λ a. (a, c - a)) (w .0) (range 0 (suc c)) (w .1) in
-      let h = mem-range 0 (suc c) (m .0) (m .1) in
-      omega (arith, ap (λ u. u .0) (m .2), ap (λ u. u .1) (m .2), within-weight q a (w .0 .0) (w .2), within-weight q b (w .0 .1) (w .3))
+module _ {P : Type 0} (q : P → ℕ) where
+  -- a share is divided into any two that sum to it
+  by-weight-split : (d : Direction) (c a b : ℕ) → a + b ≡ c → List·Memᴰ (a, b) (by-weight q .splits d c)
+  unfolding by-weight
+  by-weight-split d c a b e = let k : b ≡ c - a = omega arith in rw k (map-mem (λ a. (a, c - a)) (range-mem 0 (suc c) a (omega arith) (omega arith)))
 
-  pub weight-within : (q : P → ℕ) (t : Tree P) (c : ℕ) → total q t ≤ c → Within (by-weight q) c t
+  split-by-weight : (d : Direction) (c : ℕ) (u : ℕ × ℕ) → List·Memᴰ u (by-weight q .splits d c) → u .0 + u .1 ≡ c
+  unfolding by-weight
+  split-by-weight d c u m =
+      let k = mem-map (λ a. (a, c - a)) u (range 0 (suc c)) m in
+      omega (arith, mem-range 0 (suc c) (k .0) (k .1), ap (λ u. u .0) (k .2), ap (λ u. u .1) (k .2))
+
+  pub within-weight : (t : Tree P) (c : ℕ) → Within (by-weight q) c t → total q t ≤ c
   unfolding by-weight total
-  weight-within q waste c h = tt
-  weight-within q (piece p) c h = le→leb (q p) c h
-  weight-within q (cut d x a b) c h = (
+  within-weight waste c w = omega arith
+  within-weight (piece p) c w = leb→le (q p) c w
+  within-weight (cut d x a b) c w = omega (arith, split-by-weight d c (w .0) (w .1), within-weight a (w .0 .0) (w .2), within-weight b (w .0 .1) (w .3))
+
+  pub weight-within : (t : Tree P) (c : ℕ) → total q t ≤ c → Within (by-weight q) c t
+  unfolding by-weight total
+  weight-within waste c h = tt
+  weight-within (piece p) c h = le→leb (q p) c h
+  weight-within (cut d x a b) c h = (
     (total q a, c - total q a),
-    map-mem (λ a. (a, c - a)) (range-mem 0 (suc c) (total q a) (omega arith) (omega arith)),
-    weight-within q a (total q a) (omega arith),
-    weight-within q b (c - total q a) (omega arith),
+    by-weight-split d c (total q a) (c - total q a) (omega arith),
+    weight-within a (total q a) (omega arith),
+    weight-within b (c - total q a) (omega arith),
   )
 
-  pub by-weight-monotone : (q : P → ℕ) → Monotone (by-weight q)
-  unfolding by-weight
-  by-weight-monotone q d s u m t =
-      let k = mem-map (λ a. (a, s - a)) u (range 0 (suc s)) m in
-      let h = mem-range 0 (suc s) (k .0) (k .1) in (
-        λ w. weight-within q t s (omega (arith, ap (λ u. u .0) (k .2), within-weight q t (u .0) w)),
-        λ w. weight-within q t s (omega (arith, ap (λ u. u .1) (k .2), within-weight q t (u .1) w)),
-      )
+  pub by-weight-monotone : Monotone (by-weight q)
+  by-weight-monotone d c u m t =
+      let e = split-by-weight d c u m in
+      (λ w. weight-within t c (omega (arith, within-weight t (u .0) w)), λ w. weight-within t c (omega (arith, within-weight t (u .1) w)))
+
+  pub by-weight-symmetric : Symmetric (by-weight q)
+  by-weight-symmetric d c u m = by-weight-split d c (u .1) (u .0) (omega (arith, split-by-weight d c u m))
 
 sum-ge : (n : ℕ) (f : ℕ → ℕ) (i : ℕ) → i < n → f i ≤ sum n f
 unfolding sum

@@ -9,16 +9,16 @@ use lib.Dec.{T}
 use Rattle.cutting.specs.declared.Direction.{Direction}
 use Rattle.cutting.specs.declared.Direction.the-variants.{Length, Width}
 use Rattle.cutting.specs.Lists.{range}
-use Rattle.cutting.specs.Tree.{Pieces, Rect, Tree, Proper, Monotone, Shares, Guillotine, side}
+use Rattle.cutting.specs.Tree.{Rect, side, Tree, Pieces, Shares, Proper, Guillotine, Monotone}
 use Rattle.cutting.specs.Figure.{figure}
-use Rattle.cutting.specs.Pieces.{_⊑_, Solid, sized}
-use Rattle.cutting.specs.Saws.{floor, saw-written, saw}
+use Rattle.cutting.specs.Pieces.{_⊑_, sized, Solid}
+use Rattle.cutting.specs.Saws.{saw, floor, saw-written}
 use Rattle.cutting.specs.Normal.{normal}
-use Rattle.cutting.proofs.Lists.{mem-range, range-mem, filter-mem, mem-filter}
-use Rattle.cutting.proofs.Transfer.{figure-mono, both-parts, cut-image, through, CutImage, recut, figure-transfer, Transfer, Enlarges}
-use Rattle.cutting.proofs.Saws.{saw-proper, saw-cut}
+use Rattle.cutting.proofs.Lists.{range-mem, mem-range, filter-mem, mem-filter}
+use Rattle.cutting.proofs.Transfer.{through, Enlarges, CutImage, both-parts, cut-image, Transfer, figure-mono, figure-transfer, recut}
+use Rattle.cutting.proofs.Saws.{saw-cut, saw-proper}
 use Rattle.cutting.proofs.Pieces.{sized-enlarges}
-use Rattle.cutting.proofs.Normal.{floor-transfer, floor-le, floor-grow, floor-ge, floor-parts, Additive, floor-passes}
+use Rattle.cutting.proofs.Normal.{floor-le, floor-passes, floor-ge, Additive, floor-grow, floor-parts, floor-transfer}
 
 module _ (N : Direction → ℕ → Bool) where
   pub written-cut : (d : Direction) (n x : ℕ) → 1 ≤ x → x < floor (N d) n → T (N d x) → List·Memᴰ x (saw-written N .cuts d n)

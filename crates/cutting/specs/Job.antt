@@ -7,14 +7,14 @@ use Prim.Native.Nat.{ℕ, suc, _-_, _*_, _≤_, _<_}
 use Rattle.cutting.specs.declared.Direction.{Direction}
 use Rattle.cutting.specs.declared.Direction.the-variants.{Length, Width}
 use Rattle.cutting.specs.Lists.{range, sum, filter}
-use Rattle.cutting.specs.Tree.{Pieces, total, Rect, Tree, waste, copies, cut, side, piece}
+use Rattle.cutting.specs.Tree.{Rect, side, Tree, waste, piece, cut, Pieces, total, copies}
 use Rattle.cutting.specs.Figure.{figure}
 use Rattle.cutting.specs.Pieces.{sized}
-use Rattle.cutting.specs.Saws.{floor, saw-written, saw}
+use Rattle.cutting.specs.Saws.{saw, floor, saw-written}
 use Rattle.cutting.specs.Shares.{by-weight}
 use Rattle.cutting.specs.Normal.{normal}
 use Rattle.cutting.specs.Choice.{written}
-use Rattle.cutting.specs.Areas.{trim-area, waste-area, pieces-area}
+use Rattle.cutting.specs.Areas.{pieces-area, waste-area, trim-area}
 
 -- a job: the plate, and kinds numbered from 0 with their sizes, prices and demands
 pub record Job : Type 0 where
