@@ -31,8 +31,8 @@ module _ (N : Direction → ℕ → Bool) (c : (d : Direction) → Additive (N d
       ∙ ap (λ (q : Rect). figure (sized ps price size) (saw-normal N) H q s) (λ i. (floor-fixed (N Length) (r .0) (n .0) i, floor-fixed (N Width) (r .1) (n .1) i))
 
   -- the figure of a rectangle on the plate is that of the largest normal sides not above its own
-  pub figure-floor : (r : Rect) (s : S) → r ⊑ plate → figure (sized ps price size) (saw 0) H r s ≡ figure (sized ps price size) (saw 0) H (through (λ d. floor (N d)) r) s
-  figure-floor r s h = figure-normal N c ps price size solid H mono plate normal r s h ∙ sym (fixed (through (λ d. floor (N d)) r) s
+  pub cell-floor : (r : Rect) (s : S) → r ⊑ plate → figure (sized ps price size) (saw 0) H r s ≡ figure (sized ps price size) (saw 0) H (through (λ d. floor (N d)) r) s
+  cell-floor r s h = figure-normal N c ps price size solid H mono plate normal r s h ∙ sym (fixed (through (λ d. floor (N d)) r) s
       (omega (arith, floor-le (N Length) (r .0), floor-le (N Width) (r .1))) (floor-passes (N Length) (c Length .0) (r .0), floor-passes (N Width) (c Width .0) (r .1)))
 
   part-normal : (d : Direction) (r : Rect) (x : ℕ) → r ⊑ plate → Normal r → x ≤ side d r → T (N d x) → (part d x r ⊑ plate) × Normal (part d x r)

@@ -3,9 +3,9 @@
 use mathlib.Core.Path.{_≡_, refl, _∙_, ap, ap₂}
 use mathlib.Core.Logic.{_⊎_, inl, inr}
 use mathlib.Core.List.{List, [], _∷_, map, List·Memᴰ, List·Memᴰ·head, List·Memᴰ·tail}
-use Prim.Native.Nat.{ℕ, zero, suc, _≤_, max}
+use Prim.Native.Nat.{ℕ, zero, suc, _≤_, _<_, max}
 use native.Mathlib.Nat.{le-max-left, le-max-right, max-le}
-use native.Mathlib.Decide.{decLe}
+use native.Mathlib.Decide.{ℕ-discrete, decLe}
 use native.Mathlib.Omega.{arith}
 use lib.ListN.{length, getD}
 use Rattle.cutting.specs.Lists.{greatest}
@@ -55,6 +55,20 @@ greatest-map f g (x ∷ xs) = ap (max (f (g x))) (greatest-map f g xs)
 unfoldable pub most : ℕ → (ℕ → ℕ) → ℕ
 most zero f = 0
 most (suc n) f = max (most n f) (f n)
+
+pub most-ge : (n : ℕ) (f : ℕ → ℕ) (i : ℕ) → i < n → f i ≤ most n f
+unfolding most
+most-ge zero f i h = absurd (omega arith)
+most-ge (suc n) f i h = go (ℕ-discrete i n) (λ (l : i < n). most-ge n f i l)
+  where
+    go : Dec (i ≡ n) → (i < n → f i ≤ most n f) → f i ≤ max (most n f) (f n)
+    go (yes e) g = rw e (le-max-right (most n f) (f n))
+    go (no e) g = omega (arith, g (omega arith))
+
+pub most-le : (n : ℕ) (f : ℕ → ℕ) (b : ℕ) → ((i : ℕ) → i < n → f i ≤ b) → most n f ≤ b
+unfolding most
+most-le zero f b h = omega arith
+most-le (suc n) f b h = max-le (most-le n f b (λ i l. h i (omega arith))) (h n (omega arith))
 
 most-first : (n : ℕ) (f : ℕ → ℕ) → most (suc n) f ≡ max (f 0) (most n (λ i. f (suc i)))
 unfolding most

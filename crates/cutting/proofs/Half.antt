@@ -25,7 +25,7 @@ use Rattle.cutting.proofs.Transfer.{through, Enlarges, enlarge, figure-
 use Rattle.cutting.proofs.Saws.{saw-cut, cut-saw, saw-proper}
 use Rattle.cutting.proofs.Pieces.{sized-enlarges}
 use Rattle.cutting.proofs.Normal.{floor-le, floor-passes, Additive}
-use Rattle.cutting.proofs.Cells.{figure-floor}
+use Rattle.cutting.proofs.Cells.{cell-floor}
 
 module _ (N : Direction → ℕ → Bool) where
   half-cut : (d : Direction) (n x : ℕ) → 1 ≤ x → 2 * x ≤ n → T (N d x) → List·Memᴰ x (saw-half N .cuts d n)
@@ -55,12 +55,12 @@ module _ (N : Direction → ℕ → Bool) (c : (d : Direction) → Additive (N d
   part-floor : (d : Direction) (x : ℕ) (r : Rect) (s : S) → r ⊑ plate → x ≤ side d r → F (part d x r) s ≤ F (part d (floor (N d) x) r) s
   part-floor Length x r s h l = omega (
     arith,
-    figure-floor N c ps price size solid H mono plate normal (x, r .1) s (omega arith),
+    cell-floor N c ps price size solid H mono plate normal (x, r .1) s (omega arith),
     larger (through (λ d. floor (N d)) (x, r .1)) (floor (N Length) x, r .1) s (omega (arith, floor-le (N Width) (r .1))),
   )
   part-floor Width x r s h l = omega (
     arith,
-    figure-floor N c ps price size solid H mono plate normal (r .0, x) s (omega arith),
+    cell-floor N c ps price size solid H mono plate normal (r .0, x) s (omega arith),
     larger (through (λ d. floor (N d)) (r .0, x)) (r .0, floor (N Width) x) s (omega (arith, floor-le (N Length) (r .0))),
   )
 
@@ -135,8 +135,8 @@ module _ (N : Direction → ℕ → Bool) (c : (d : Direction) → Additive (N d
       ))))
 
   -- the figure of a rectangle on the plate, from the cuts up to half of its sides
-  pub figure-half : Symmetric H → (r : Rect) (s : S) → r ⊑ plate → F r s ≡ step K (saw-half N) H F r s
+  pub cell-half : Symmetric H → (r : Rect) (s : S) → r ⊑ plate → F r s ≡ step K (saw-half N) H F r s
   unfolding step
-  figure-half swap r s h =
+  cell-half swap r s h =
       let e = figure-attained K (saw 0) H r s in
       omega (arith, half-upper swap (e .0) r s h (e .1) (e .2), e .3, half-lower Length r s, half-lower Width r s, figure-eq K (saw 0) H (saw-proper 0) r s)

@@ -1,26 +1,29 @@
--- What document 01 asks of a job, its weights and its trees, from the general theory.
+-- What document 01 asks of a job, its weights and its trees, from the general theory: the recursion, exactness, the bound over the trees
+-- that keep every demand, the ceiling, and the three areas.
 -- Assumes nothing.
 use mathlib.Core.Path.{_≡_, _∙_}
 use mathlib.Core.Bool.{_&&_}
-use Prim.Native.Nat.{ℕ, suc, _+_, _-_, _≤_, max}
-use native.Mathlib.Nat.{sub-zero}
+use Prim.Native.Nat.{ℕ, suc, _+_, _-_, _*_, _≤_, max}
+use native.Mathlib.Nat.{sub-zero, mul-le-mul}
 use native.Mathlib.Omega.{arith}
 use lib.Dec.{leb}
 use Rattle.cutting.specs.declared.Direction.the-variants.{Length, Width}
 use Rattle.cutting.specs.Lists.{range, only, greatest}
-use Rattle.cutting.specs.Tree.{Rect, Tree, waste, piece, cut, total, Guillotine}
+use Rattle.cutting.specs.Tree.{Rect, Tree, waste, piece, cut, Guillotine}
 use Rattle.cutting.specs.Figure.{leaf, best, step}
-use Rattle.cutting.specs.Pieces.{fits-in, sized}
+use Rattle.cutting.specs.Pieces.{fits-in, sized, Solid}
 use Rattle.cutting.specs.Saws.{saw}
 use Rattle.cutting.specs.Shares.{by-weight}
-use Rattle.cutting.specs.Job.{Job, GuillotineTree, profit, KeepsDemands, capacity, pieces, figure-of}
+use Rattle.cutting.specs.Job.{Job, GuillotineTree, OnPlate, profit, weight-of, KeepsDemands, capacity, pieces, figure-of, bound-of, pieces-area-of, waste-area-of, trim-area-of, InRange}
 use Rattle.cutting.proofs.Lists.{range-mem, mem-range}
 use Rattle.cutting.proofs.Greatest.{greatest-map}
 use Rattle.cutting.proofs.Recursion.{figure-eq}
 use Rattle.cutting.proofs.Exact.{figure-upper, figure-attained}
 use Rattle.cutting.proofs.Saws.{saw-cut, cut-saw, saw-proper}
 use Rattle.cutting.proofs.Pieces.{fits-in-true, true-fits-in}
-use Rattle.cutting.proofs.Weights.{within-weight, weight-within, kept-upper}
+use Rattle.cutting.proofs.Weights.{within-weight, weight-within, keeps-weight}
+use Rattle.cutting.proofs.Areas.{areas}
+use Rattle.cutting.proofs.Ceiling.{figure-area}
 
 module _ (J : Job) where
   -- the plain trees are those of the theory, both ways
@@ -47,16 +50,56 @@ module _ (J : Job) (weight : ℕ → ℕ) where
   unfolding figure-of step leaf best pieces sized saw by-weight
   figure-recursion l w c = figure-eq (pieces J) (saw 0) (by-weight weight) (saw-proper 0) (l, w) c ∙ simp (greatest-map, sub-zero)
 
-  -- no tree within the share earns more, and some tree earns it
-  pub figure-most : (t : Tree ℕ) (l w c : ℕ) → GuillotineTree J l w t → total weight t ≤ c → profit J t ≤ figure-of J weight l w c
+  -- no tree of weight at most the share earns more
+  pub figure-most : (t : Tree ℕ) (l w c : ℕ) → GuillotineTree J l w t → weight-of weight t ≤ c → profit J t ≤ figure-of J weight l w c
   unfolding figure-of pieces sized
   figure-most t l w c g h = figure-upper (pieces J) (saw 0) (by-weight weight) (saw-proper 0) t (l, w) c (unplain J t (l, w) g) (weight-within weight t c h)
 
-  pub figure-earned : (l w c : ℕ) → (t : Tree ℕ) × GuillotineTree J l w t × (total weight t ≤ c) × (profit J t ≡ figure-of J weight l w c)
+  -- and some such tree earns it
+  pub figure-earned : (l w c : ℕ) → (t : Tree ℕ) × GuillotineTree J l w t × (weight-of weight t ≤ c) × (profit J t ≡ figure-of J weight l w c)
   unfolding figure-of pieces sized
   figure-earned l w c = let e = figure-attained (pieces J) (saw 0) (by-weight weight) (l, w) c in (e .0, plain J (e .0) (l, w) (e .1), within-weight weight (e .0) c (e .2), e .3)
 
-  -- no tree that keeps the demands earns more than the bound
-  pub bound-holds : (t : Tree ℕ) → GuillotineTree J (J .plate .0) (J .plate .1) t → KeepsDemands J t → profit J t ≤ figure-of J weight (J .plate .0) (J .plate .1) (capacity J weight)
-  unfolding figure-of pieces sized
-  bound-holds t g k = kept-upper (λ k. k) (pieces J) (saw 0) (J .count) (λ p m. (let h = mem-range 0 (J .count) p m in omega arith)) weight (saw-proper 0) (J .demand) t (J .plate) (unplain J t (J .plate) g) k
+  -- the same of the bound: no tree on the plate of weight at most the capacity earns more
+  pub bound-most : (t : Tree ℕ) → OnPlate J t → weight-of weight t ≤ capacity J weight → profit J t ≤ bound-of J weight
+  bound-most t g h = figure-most t (J .plate .0) (J .plate .1) (capacity J weight) g h
+
+  -- and some such tree earns it
+  pub bound-earned : (t : Tree ℕ) × OnPlate J t × (weight-of weight t ≤ capacity J weight) × (profit J t ≡ bound-of J weight)
+  bound-earned = figure-earned (J .plate .0) (J .plate .1) (capacity J weight)
+
+  -- a tree on the plate that keeps every demand weighs at most the capacity
+  pub demands-weight : (t : Tree ℕ) → OnPlate J t → KeepsDemands J t → weight-of weight t ≤ capacity J weight
+  unfolding pieces sized
+  demands-weight t g k = keeps-weight (λ i. i) (pieces J) (saw 0) (J .count) (λ p m. (let h = mem-range 0 (J .count) p m in omega arith)) weight (J .demand) t (J .plate) (unplain J t (J .plate) g) k
+
+  -- so it earns at most the bound
+  pub bound-holds : (t : Tree ℕ) → OnPlate J t → KeepsDemands J t → profit J t ≤ bound-of J weight
+  bound-holds t g k = bound-most t g (demands-weight t g k)
+
+-- a job in range has no kind with a side of 0
+pub kinds-solid : (J : Job) → InRange J → Solid (range 0 (J .count)) (J .size)
+kinds-solid J h i m = let l = mem-range 0 (J .count) i m in (h .lengths i (omega arith) .0, h .widths i (omega arith) .0)
+
+module _ (J : Job) (weight : ℕ → ℕ) (h : InRange J) where
+  -- no figure is above the area times the greatest price
+  pub figure-ceiling : (l w c : ℕ) → figure-of J weight l w c ≤ l * w * 1000000
+  unfolding figure-of pieces
+  figure-ceiling l w c = figure-area (range 0 (J .count)) (J .price) (J .size) (kinds-solid J h) 1000000
+      (λ i m. (let l = mem-range 0 (J .count) i m in h .prices i (omega arith))) (by-weight weight) (l, w) c
+
+  -- so the bound is at most 1,000,000,000,000
+  pub bound-ceiling : bound-of J weight ≤ 1000000000000
+  bound-ceiling = omega (arith, figure-ceiling (J .plate .0) (J .plate .1) (capacity J weight), mul-le-mul (h .plate-length .1) (h .plate-width .1))
+
+  -- a rectangle without length or without width has figure 0
+  pub figure-no-length : (w c : ℕ) → figure-of J weight 0 w c ≡ 0
+  figure-no-length w c = omega (arith, figure-ceiling 0 w c)
+
+  pub figure-no-width : (l c : ℕ) → figure-of J weight l 0 c ≡ 0
+  figure-no-width l c = omega (arith, figure-ceiling l 0 c)
+
+-- the three areas of a tree sum to the rectangle's
+pub areas-sum : (J : Job) (t : Tree ℕ) (l w : ℕ) → GuillotineTree J l w t → pieces-area-of J t + waste-area-of l w t + trim-area-of J l w t ≡ l * w
+unfolding pieces
+areas-sum J t l w g = areas (range 0 (J .count)) (J .price) (J .size) t (l, w) (unplain J t (l, w) g)

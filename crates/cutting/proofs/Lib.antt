@@ -17,3 +17,4 @@ pub mod Written
 pub mod Areas
 pub mod Ceiling
 pub mod Job
+pub mod Table

@@ -9,6 +9,7 @@ use Prim.Native.Nat.{ℕ, zero, suc, _+_, _≤_, _<_}
 use native.Mathlib.Decide.{ℕ-discrete}
 use native.Mathlib.Omega.{arith}
 use lib.Dec.{T}
+use lib.ListN.{length}
 use Rattle.cutting.specs.Lists.{range, keep, filter, any, first, pairs}
 
 pub and-T : (a b : Bool) → T a → T b → T (a && b)
@@ -37,7 +38,21 @@ mem-range a (suc n) x m = go (List·Memᴰ·cases-cons m) (λ (k : List·Memᴰ 
     go (inl e) f = omega arith
     go (inr k) f = let h = f k in omega arith
 
+pub range-length : (a n : ℕ) → length (range a n) ≡ n
+unfolding range
+range-length a zero = refl
+range-length a (suc n) = ap suc (range-length (suc a) n)
+
 module _ {A : Type 0} where
+  pub filter-length : (f : A → Bool) (xs : List A) → length (filter f xs) ≤ length xs
+  unfolding filter
+  filter-length f [] = omega arith
+  filter-length f (x ∷ xs) = go (f x) (filter-length f xs)
+    where
+      go : (b : Bool) → length (filter f xs) ≤ length xs → length (keep b x (filter f xs)) ≤ suc (length xs)
+      go true h = omega arith
+      go false h = omega arith
+
   pub filter-mem : (f : A → Bool) {x : A} (xs : List A) → List·Memᴰ x xs → T (f x) → List·Memᴰ x (filter f xs)
   unfolding filter
   filter-mem f [] m t = absurd (List·Memᴰ·not-nil m)

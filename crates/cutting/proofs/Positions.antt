@@ -3,16 +3,17 @@
 use mathlib.Core.Path.{_≡_, refl, sym, _∙_, ap, ap₂}
 use mathlib.Core.Bool.{Bool, true, false}
 use mathlib.Core.List.{List, [], _∷_, List·Memᴰ, List·Memᴰ·head, List·Memᴰ·tail}
-use Prim.Native.Nat.{ℕ, zero, suc, _-_, _≤_, _<_}
+use Prim.Native.Nat.{ℕ, zero, suc, _-_, _*_, _/_, _≤_, _<_}
 use native.Mathlib.Nat.{sub-zero}
 use native.Mathlib.Decide.{ℕ-discrete, decLe}
 use native.Mathlib.Omega.{arith}
 use lib.Dec.{T}
 use lib.ListN.{length, getD, take, drop}
 use lib.Seq.{getD-take, length-take-le}
-use Rattle.cutting.specs.Lists.{range, keep, filter}
+use Rattle.cutting.specs.Lists.{range, keep, filter, greatest}
 use Rattle.cutting.specs.Saws.{floor}
 use Rattle.cutting.proofs.Lists.{range-mem, mem-range, filter-mem, mem-filter}
+use Rattle.cutting.proofs.Greatest.{greatest-ge, greatest-le, most, most-ge, most-le}
 use Rattle.cutting.proofs.Normal.{floor-le, floor-passes, floor-ge}
 
 pub getD-mem : {A : Type 0} (xs : List A) (i : ℕ) (d : A) → i < length xs → List·Memᴰ (getD xs i d) xs
@@ -56,6 +57,12 @@ module _ (N : ℕ → Bool) where
   pub below : (m a : ℕ) → a < length (filter N (range 0 m)) → filter N (range 0 (getD (filter N (range 0 m)) a 0)) ≡ take a (filter N (range 0 m))
   below m a h = rw sub-zero at (before 0 m a h)
 
+  -- the first entry is 0
+  pub first-zero : T (N 0) → (m : ℕ) → getD (filter N (range 0 m)) 0 0 ≡ 0
+  unfolding range filter
+  first-zero z zero = refl
+  first-zero z (suc m) = rw (T-true (N 0) z) refl
+
   -- the entries rise
   pub rising : (m i j : ℕ) → i < j → j < length (filter N (range 0 m)) → getD (filter N (range 0 m)) i 0 < getD (filter N (range 0 m)) j 0
   rising m i j h l =
@@ -70,6 +77,22 @@ module _ (N : ℕ → Bool) where
       go : Dec (i ≡ j) → getD (filter N (range 0 m)) i 0 ≤ getD (filter N (range 0 m)) j 0
       go (yes e) = rw e (omega arith)
       go (no e) = omega (arith, rising m i j (omega arith) l)
+
+  -- a number from 1 that passes and is below entry k stands at an index from 1 to k less 1
+  pub entry-below : T (N 0) → (m k x : ℕ) → 1 ≤ x → x < m → T (N x) → (k < length (filter N (range 0 m)) → x < getD (filter N (range 0 m)) k 0)
+      → (i : ℕ) × (1 ≤ i) × (i < k) × (i < length (filter N (range 0 m))) × (getD (filter N (range 0 m)) i 0 ≡ x)
+  entry-below z m k x h l t above = go (e .0) (e .1) (e .2) (decLe k (e .0))
+    where
+      ns : List ℕ
+      ns = filter N (range 0 m)
+
+      e : (i : ℕ) × (i < length ns) × (getD ns i 0 ≡ x)
+      e = mem-getD ns x 0 (filter-mem N (range 0 m) (range-mem 0 m x (omega arith) (omega arith)) t)
+
+      go : (i : ℕ) → i < length ns → getD ns i 0 ≡ x → Dec (k ≤ i) → (i : ℕ) × (1 ≤ i) × (i < k) × (i < length ns) × (getD ns i 0 ≡ x)
+      go i a b (yes c) = absurd (omega (arith, above (omega arith), not-above m k i c a))
+      go zero a b (no c) = absurd (omega (arith, first-zero z m))
+      go (suc i) a b (no c) = (suc i, omega arith, omega arith, a, b)
 
   -- without the 0 at the head: the cuts of a side that is an entry are the entries between
   pub between : T (N 0) → (m a : ℕ) → 0 < a → a < length (filter N (range 0 m)) → filter N (range 1 (getD (filter N (range 0 m)) a 0 - 1)) ≡ drop 1 (take a (filter N (range 0 m)))
@@ -96,3 +119,33 @@ module _ (N : ℕ → Bool) where
       go : Dec (k .0 ≤ a) → floor N x ≡ getD ns a 0
       go (yes e) = omega (arith, up, k .2, not-above m (k .0) a e l)
       go (no e) = absurd (omega (arith, f (omega (arith, k .1)), not-above m (suc a) (k .0) (omega arith) (k .1), k .2, floor-le N x))
+
+  -- the greatest over the numbers from 1 to half of l that pass, as a loop over the entries from 1 finds it: k is where it stops
+  pub greatest-half : T (N 0) → (m l k : ℕ) (f : ℕ → ℕ) → l < m → 1 ≤ k → k ≤ length (filter N (range 0 m))
+      → ((i : ℕ) → 1 ≤ i → i < k → 2 * getD (filter N (range 0 m)) i 0 ≤ l) → (k < length (filter N (range 0 m)) → l < 2 * getD (filter N (range 0 m)) k 0)
+      → greatest f (filter N (range 1 (l / 2))) ≡ most (k - 1) (λ i. f (getD (filter N (range 0 m)) (suc i) 0))
+  greatest-half z m l k f h p q below above = omega (arith, greatest-le f top (filter N (range 1 (l / 2))) up, most-le (k - 1) at (greatest f (filter N (range 1 (l / 2)))) down)
+    where
+      ns : List ℕ
+      ns = filter N (range 0 m)
+
+      at : ℕ → ℕ
+      at i = f (getD ns (suc i) 0)
+
+      top : ℕ
+      top = most (k - 1) at
+
+      here : (i : ℕ) → 1 ≤ i → i < k → f (getD ns i 0) ≤ top
+      here i a b = let e : suc (i - 1) ≡ i = omega arith in rw e at (most-ge (k - 1) at (i - 1) (omega arith))
+
+      up : (x : ℕ) → List·Memᴰ x (filter N (range 1 (l / 2))) → f x ≤ top
+      up x e =
+          let s = mem-filter N (range 1 (l / 2)) e in
+          let r = mem-range 1 (l / 2) x (s .0) in
+          let t = entry-below z m k x (omega arith) (omega arith) (s .1) (λ a. omega (arith, above a)) in
+          rw (t .4) at (here (t .0) (t .1) (t .2))
+
+      down : (i : ℕ) → i < k - 1 → at i ≤ greatest f (filter N (range 1 (l / 2)))
+      down i e = greatest-ge f (filter-mem N (range 1 (l / 2))
+          (range-mem 1 (l / 2) (getD ns (suc i) 0) (omega (arith, rising m 0 (suc i) (omega arith) (omega arith))) (omega (arith, below (suc i) (omega arith) (omega arith))))
+          (mem-filter N (range 0 m) (getD-mem ns (suc i) 0 (omega arith)) .1))

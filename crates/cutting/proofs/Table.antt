@@ -1,0 +1,92 @@
+-- The table in plain words: its cells stand at the normal lengths and widths, each cell has the figure of every rectangle that falls to
+-- it, and its loops find the figure from cuts at normal positions up to half of a side.
+-- Assumes nothing.
+use mathlib.Core.Path.{_≡_, _∙_}
+use mathlib.Core.Bool.{_&&_}
+use Prim.Native.Nat.{ℕ, suc, _+_, _-_, _*_, _/_, _≤_, _<_, max}
+use native.Mathlib.Omega.{arith}
+use lib.Dec.{T, leb}
+use lib.ListN.{length, getD}
+use Rattle.cutting.specs.declared.Direction.{Direction}
+use Rattle.cutting.specs.declared.Direction.the-variants.{Length, Width}
+use Rattle.cutting.specs.Lists.{range, only, filter, greatest}
+use Rattle.cutting.specs.Tree.{side}
+use Rattle.cutting.specs.Figure.{leaf, best, step}
+use Rattle.cutting.specs.Pieces.{fits-in, sized}
+use Rattle.cutting.specs.Saws.{saw-half}
+use Rattle.cutting.specs.Shares.{by-weight}
+use Rattle.cutting.specs.Normal.{sides}
+use Rattle.cutting.specs.Job.{Job, pieces, figure-of, normal-side, normal-positions, normal-floor, InRange}
+use Rattle.cutting.proofs.Lists.{range-mem, mem-range, range-length, filter-length, filter-mem, mem-filter}
+use Rattle.cutting.proofs.Greatest.{greatest-map, most}
+use Rattle.cutting.proofs.Weights.{by-weight-monotone, by-weight-symmetric}
+use Rattle.cutting.proofs.Normal.{normal-additive, side-normal}
+use Rattle.cutting.proofs.Positions.{getD-mem, mem-getD, below, first-zero, rising, floor-at, greatest-half}
+use Rattle.cutting.proofs.Cells.{cell-floor}
+use Rattle.cutting.proofs.Half.{cell-half}
+use Rattle.cutting.proofs.Job.{kinds-solid}
+
+module _ (J : Job) (d : Direction) where
+  -- 0 is a normal position
+  pub normal-zero : T (normal-side J d 0)
+  normal-zero = normal-additive (sides (range 0 (J .count)) (J .size) (J .plate) d) .0
+
+  -- the list of normal positions begins with 0
+  pub positions-first : getD (normal-positions J d) 0 0 ≡ 0
+  unfolding normal-positions
+  positions-first = first-zero (normal-side J d) normal-zero (suc (side d (J .plate)))
+
+  -- it rises
+  pub positions-rise : (i j : ℕ) → i < j → j < length (normal-positions J d) → getD (normal-positions J d) i 0 < getD (normal-positions J d) j 0
+  unfolding normal-positions
+  positions-rise i j h l = rising (normal-side J d) (suc (side d (J .plate))) i j h l
+
+  -- its entries are normal and not above the plate's side
+  pub positions-normal : (i : ℕ) → i < length (normal-positions J d) → T (normal-side J d (getD (normal-positions J d) i 0)) × (getD (normal-positions J d) i 0 ≤ side d (J .plate))
+  unfolding normal-positions
+  positions-normal i l =
+      let m = mem-filter (normal-side J d) (range 0 (suc (side d (J .plate)))) (getD-mem (normal-positions J d) i 0 l) in
+      (m .1, (let k = mem-range 0 (suc (side d (J .plate))) (getD (normal-positions J d) i 0) (m .0) in omega arith))
+
+  -- every normal number up to the plate's side is an entry
+  pub positions-entry : (x : ℕ) → x ≤ side d (J .plate) → T (normal-side J d x) → (i : ℕ) × (i < length (normal-positions J d)) × (getD (normal-positions J d) i 0 ≡ x)
+  unfolding normal-positions
+  positions-entry x h t = mem-getD (normal-positions J d) x 0 (filter-mem (normal-side J d) (range 0 (suc (side d (J .plate)))) (range-mem 0 (suc (side d (J .plate))) x (omega arith) (omega arith)) t)
+
+  -- it has an entry, and at most one for each number from 0 to the plate's side
+  pub positions-some : 0 < length (normal-positions J d)
+  positions-some = let e = positions-entry 0 (omega arith) normal-zero in omega (arith, e .1)
+
+  pub positions-length : length (normal-positions J d) ≤ suc (side d (J .plate))
+  unfolding normal-positions
+  positions-length = omega (arith, filter-length (normal-side J d) (range 0 (suc (side d (J .plate)))), range-length 0 (suc (side d (J .plate))))
+
+  -- the largest normal position not above x is the last entry not above it
+  pub positions-floor : (a x : ℕ) → x ≤ side d (J .plate) → a < length (normal-positions J d) → getD (normal-positions J d) a 0 ≤ x
+      → (suc a < length (normal-positions J d) → x < getD (normal-positions J d) (suc a) 0) → normal-floor J d x ≡ getD (normal-positions J d) a 0
+  unfolding normal-positions
+  positions-floor a x h l g f = floor-at (normal-side J d) normal-zero (suc (side d (J .plate))) a x (omega arith) l g f
+
+  -- the greatest over the normal positions from 1 to half of l, as a loop over the entries from 1 finds it: it stops at entry k, the first
+  -- that is past the half, or at the list's end
+  pub positions-half : (l k : ℕ) (f : ℕ → ℕ) → l ≤ side d (J .plate) → 1 ≤ k → k ≤ length (normal-positions J d)
+      → ((i : ℕ) → 1 ≤ i → i < k → 2 * getD (normal-positions J d) i 0 ≤ l) → (k < length (normal-positions J d) → l < 2 * getD (normal-positions J d) k 0)
+      → greatest f (filter (normal-side J d) (range 1 (l / 2))) ≡ most (k - 1) (λ i. f (getD (normal-positions J d) (suc i) 0))
+  unfolding normal-positions
+  positions-half l k f h p q below above = greatest-half (normal-side J d) normal-zero (suc (side d (J .plate))) l k f (omega arith) p q below above
+
+module _ (J : Job) (weight : ℕ → ℕ) (h : InRange J) (l w c : ℕ) (on-length : l ≤ J .plate .0) (on-width : w ≤ J .plate .1) where
+  -- the figure of a rectangle on the plate is that of the largest normal length and width not above its sides
+  pub figure-floor : figure-of J weight l w c ≡ figure-of J weight (normal-floor J Length l) (normal-floor J Width w) c
+  unfolding figure-of pieces
+  figure-floor = cell-floor (normal-side J) (λ d. normal-additive (sides (range 0 (J .count)) (J .size) (J .plate) d)) (range 0 (J .count)) (J .price) (J .size) (kinds-solid J h)
+      (by-weight weight) (by-weight-monotone weight) (J .plate) (side-normal (range 0 (J .count)) (J .size) (J .plate)) (l, w) c (on-length, on-width)
+
+  -- the recursion over cuts at normal positions up to half of a side, the remainder counted down to a normal position
+  pub figure-half : figure-of J weight l w c ≡
+      max (greatest (λ i. only (fits-in (J .size i) (l, w) && leb (weight i) c) (J .price i)) (range 0 (J .count)))
+      (max (greatest (λ x. greatest (λ k. figure-of J weight x w k + figure-of J weight (normal-floor J Length (l - x)) w (c - k)) (range 0 (suc c))) (filter (normal-side J Length) (range 1 (l / 2))))
+      (greatest (λ x. greatest (λ k. figure-of J weight l x k + figure-of J weight l (normal-floor J Width (w - x)) (c - k)) (range 0 (suc c))) (filter (normal-side J Width) (range 1 (w / 2)))))
+  unfolding figure-of step leaf best pieces sized saw-half by-weight
+  figure-half = cell-half (normal-side J) (λ d. normal-additive (sides (range 0 (J .count)) (J .size) (J .plate) d)) (range 0 (J .count)) (J .price) (J .size) (kinds-solid J h)
+      (by-weight weight) (by-weight-monotone weight) (J .plate) (side-normal (range 0 (J .count)) (J .size) (J .plate)) (by-weight-symmetric weight) (l, w) c (on-length, on-width) ∙ simp greatest-map
