@@ -1,0 +1,40 @@
+-- The weights of a job: when they are refused, the capacity, and which jobs and weights are accepted.
+-- Assumes nothing.
+use mathlib.Core.Path.{_≡_}
+use mathlib.Core.Bool.{not}
+use mathlib.Core.List.{List, [], _∷_, _++_}
+use Prim.Native.Nat.{ℕ}
+use lib.Dec.{ltb, eqb}
+use lib.ListN.{length, getD}
+use Rattle.cutting.specs.Job.{Job, capacity}
+use Rattle.refusal.specs.Refusals.{Check, first-refusal}
+use Rattle.refusal.specs.declared.Checked.{Checked}
+use Rattle.refusal.specs.declared.Checked.the-variants.{Passed, Refused}
+use Rattle.refusal.specs.declared.Refusal.the-variants as refusal
+use Rattle.job.specs.Block.{job-checks, record-of, job-of}
+use Rattle.job.specs.declared.WeightsAnswer.{WeightsAnswer}
+use Rattle.job.specs.declared.WeightsAnswer.the-variants as answer
+
+-- the weight of each kind, from the list of weights
+abbrev pub weight-in : List ℕ → ℕ → ℕ
+weight-in ws i = getD ws i 0
+
+-- checks 8 and 9
+abbrev pub weight-checks : Job → List ℕ → List Check
+weight-checks J ws = (not (eqb (length ws) (J .count)), refusal.WeightCount) ∷ (ltb 4095 (capacity J (weight-in ws)), refusal.Capacity) ∷ []
+
+abbrev pub weights-by : Checked → ℕ → WeightsAnswer
+weights-by Passed q = answer.Capacity q
+weights-by (Refused r) q = answer.Refused r
+
+-- what the weights of a job answer: the first refusal, or the capacity
+abbrev pub weights-answer : Job → List ℕ → WeightsAnswer
+weights-answer J ws = weights-by (first-refusal (weight-checks J ws)) (capacity J (weight-in ws))
+
+-- the job of a block
+abbrev pub block-job : List ℕ → Job
+block-job s = job-of (record-of s)
+
+-- a job block and weights that no check before the plan's refuses
+abbrev pub Accepted : List ℕ → List ℕ → Type 0
+Accepted s ws = first-refusal (job-checks s ++ weight-checks (block-job s) ws) ≡ Passed

@@ -1,0 +1,76 @@
+-- Document 01's table of refusals: the number and the place of each case, and the rule that the first condition that holds decides.
+-- Assumes nothing.
+use mathlib.Core.Bool.{Bool, true, false}
+use mathlib.Core.List.{List, [], _∷_}
+use Prim.Native.Nat.{ℕ}
+use Rattle.refusal.specs.declared.Refusal.{Refusal}
+use Rattle.refusal.specs.declared.Refusal.the-variants.{ShortHeader, PlateSide, KindCount, BlockLength, KindSide, Price, Demand, WeightCount, Capacity, PlanLength, NodeCount, NodeKind, PieceNumber, Operand, Misfit, Excess, NodeMissing, NodeLeft, ListShort, TableShort, PlanLong}
+use Rattle.refusal.specs.declared.Checked.{Checked}
+use Rattle.refusal.specs.declared.Checked.the-variants.{Passed, Refused}
+
+-- the table's number of a refusal
+abbrev pub number-of : Refusal → ℕ
+number-of ShortHeader = 1
+number-of PlateSide = 2
+number-of KindCount = 3
+number-of BlockLength = 4
+number-of (KindSide k) = 5
+number-of (Price k) = 6
+number-of (Demand k) = 7
+number-of WeightCount = 8
+number-of Capacity = 9
+number-of PlanLength = 10
+number-of NodeCount = 11
+number-of (NodeKind k) = 12
+number-of (PieceNumber k) = 13
+number-of (Operand k) = 14
+number-of (Misfit k) = 15
+number-of (Excess k) = 16
+number-of (NodeMissing k) = 17
+number-of (NodeLeft k) = 18
+number-of ListShort = 19
+number-of (TableShort n) = 20
+number-of (PlanLong n) = 21
+
+-- the table's place of a refusal: a kind, a node, a count of words or nodes, or 0
+abbrev pub place-of : Refusal → ℕ
+place-of ShortHeader = 0
+place-of PlateSide = 0
+place-of KindCount = 0
+place-of BlockLength = 0
+place-of (KindSide k) = k
+place-of (Price k) = k
+place-of (Demand k) = k
+place-of WeightCount = 0
+place-of Capacity = 0
+place-of PlanLength = 0
+place-of NodeCount = 0
+place-of (NodeKind k) = k
+place-of (PieceNumber k) = k
+place-of (Operand k) = k
+place-of (Misfit k) = k
+place-of (Excess k) = k
+place-of (NodeMissing k) = k
+place-of (NodeLeft k) = k
+place-of ListShort = 0
+place-of (TableShort n) = n
+place-of (PlanLong n) = n
+
+-- one line of the table: whether its condition holds, and the refusal that it then draws
+abbrev pub Check : Type 0
+Check = Bool × Refusal
+
+-- refused where the condition holds
+abbrev pub refuse-when : Bool → Refusal → Checked
+refuse-when true r = Refused r
+refuse-when false r = Passed
+
+-- a check, and where it passes what follows
+abbrev pub next : Checked → Checked → Checked
+next Passed b = b
+next (Refused r) b = Refused r
+
+-- checks run down the list; the first condition that holds decides
+unfoldable pub first-refusal : List Check → Checked
+first-refusal [] = Passed
+first-refusal (c ∷ cs) = next (refuse-when (c .0) (c .1)) (first-refusal cs)
