@@ -10,7 +10,7 @@ use native.Mathlib.Decide.{ℕ-discrete}
 use native.Mathlib.Omega.{arith}
 use lib.Dec.{T}
 use lib.ListN.{length}
-use Rattle.cutting.specs.Lists.{range, keep, filter, any, first, pairs}
+use Rattle.cutting.specs.Lists.{first, range, filter, any, keep, pairs}
 
 pub and-T : (a b : Bool) → T a → T b → T (a && b)
 and-T true b t u = u

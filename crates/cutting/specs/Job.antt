@@ -6,15 +6,15 @@ use mathlib.Core.List.{List}
 use Prim.Native.Nat.{ℕ, suc, _-_, _*_, _≤_, _<_}
 use Rattle.cutting.specs.declared.Direction.{Direction}
 use Rattle.cutting.specs.declared.Direction.the-variants.{Length, Width}
-use Rattle.cutting.specs.Lists.{range, sum, filter}
-use Rattle.cutting.specs.Tree.{Rect, side, Tree, waste, piece, cut, Pieces, total, copies}
+use Rattle.cutting.specs.Lists.{sum, range, filter}
+use Rattle.cutting.specs.Tree.{cut, piece, Tree, side, copies, waste, Pieces, Rect, total}
 use Rattle.cutting.specs.Figure.{figure}
 use Rattle.cutting.specs.Pieces.{sized}
-use Rattle.cutting.specs.Saws.{saw, floor, saw-written}
+use Rattle.cutting.specs.Saws.{saw, saw-written, floor}
 use Rattle.cutting.specs.Shares.{by-weight}
 use Rattle.cutting.specs.Normal.{normal}
 use Rattle.cutting.specs.Choice.{written}
-use Rattle.cutting.specs.Areas.{pieces-area, waste-area, trim-area}
+use Rattle.cutting.specs.Areas.{trim-area, pieces-area, waste-area}
 
 -- a job: the plate, and kinds numbered from 0 with their sizes, prices and demands
 pub record Job : Type 0 where

@@ -4,6 +4,7 @@ use mathlib.Core.Bool.{Bool, true, false, _||_}
 use mathlib.Core.Option.{Option, none, some}
 use mathlib.Core.List.{List, [], _∷_, _++_, map}
 use Prim.Native.Nat.{ℕ, zero, suc, _+_, max}
+use lib.ListN.{length, drop}
 
 -- a, a + 1, and on: n numbers, rising
 unfoldable pub range : ℕ → ℕ → List ℕ
@@ -50,3 +51,7 @@ module _ {A : Type 0} where
 unfoldable pub pairs : {A B : Type 0} → List A → List B → List (A × B)
 pairs [] ys = []
 pairs (x ∷ xs) ys = map (λ y. (x, y)) ys ++ pairs xs ys
+
+-- a lent array after its first entries were written: every later entry keeps its old contents
+abbrev pub over : {A : Type 0} → List A → List A → List A
+over xs old = xs ++ drop (length xs) old
