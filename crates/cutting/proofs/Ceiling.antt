@@ -7,7 +7,7 @@ use native.Mathlib.Omega.{arith}
 use lib.Dec.{T}
 use Rattle.cutting.specs.declared.Direction.{Direction}
 use Rattle.cutting.specs.declared.Direction.the-variants.{Length, Width}
-use Rattle.cutting.specs.Tree.{cut, piece, Tree, waste, Pieces, Rect, Shares, Saw, beyond, Guillotine, part, total}
+use Rattle.cutting.specs.Tree.{Rect, part, Tree, waste, piece, cut, Pieces, Saw, Shares, beyond, total, Guillotine}
 use Rattle.cutting.specs.Figure.{figure}
 use Rattle.cutting.specs.Pieces.{sized, Solid}
 use Rattle.cutting.specs.Saws.{saw}

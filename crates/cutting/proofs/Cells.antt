@@ -8,14 +8,14 @@ use native.Mathlib.Omega.{arith}
 use lib.Dec.{T}
 use Rattle.cutting.specs.declared.Direction.{Direction}
 use Rattle.cutting.specs.declared.Direction.the-variants.{Length, Width}
-use Rattle.cutting.specs.Tree.{Monotone, side, Rect, Shares, part}
-use Rattle.cutting.specs.Figure.{figure, step}
-use Rattle.cutting.specs.Pieces.{sized, Solid, _⊑_}
+use Rattle.cutting.specs.Tree.{Rect, side, part, Shares, Monotone}
+use Rattle.cutting.specs.Figure.{step, figure}
+use Rattle.cutting.specs.Pieces.{_⊑_, sized, Solid}
 use Rattle.cutting.specs.Saws.{saw, floor, saw-normal}
 use Rattle.cutting.specs.Normal.{normal}
-use Rattle.cutting.proofs.Recursion.{figure-eq, step-parts}
+use Rattle.cutting.proofs.Recursion.{step-parts, figure-eq}
 use Rattle.cutting.proofs.Transfer.{through}
-use Rattle.cutting.proofs.Normal.{Additive, figure-normal, normal-proper, floor-ge, floor-le, floor-passes, cut-normal}
+use Rattle.cutting.proofs.Normal.{floor-le, floor-passes, floor-ge, Additive, cut-normal, normal-proper, figure-normal}
 
 pub floor-fixed : (N : ℕ → Bool) (n : ℕ) → T (N n) → floor N n ≡ n
 floor-fixed N n t = omega (arith, floor-le N n, floor-ge N n n t (omega arith))

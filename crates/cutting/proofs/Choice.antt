@@ -10,11 +10,11 @@ use native.Mathlib.Omega.{arith}
 use lib.Dec.{T, eqb, eqb→eq, eqb-refl}
 use Rattle.cutting.specs.declared.Direction.{Direction}
 use Rattle.cutting.specs.declared.Direction.the-variants.{Length, Width}
-use Rattle.cutting.specs.Lists.{first, only, greatest, pairs}
-use Rattle.cutting.specs.Tree.{cut, Tree, side, Proper, Pieces, Rect, Shares, earns, Within, Saw, beyond, Guillotine, part, total}
-use Rattle.cutting.specs.Figure.{leaf, figure, best, half-perimeter, step}
-use Rattle.cutting.specs.Choice.{or-zero, choice, as-piece, written, or-piece, follow, cut-earns, plan-within, or-waste, piece-earns, as-cut, or-length, Choice, first-cut, as-waste}
-use Rattle.cutting.proofs.Lists.{mem-pairs, found, Found, and-T, pairs-mem, first-found, missing, T-and}
+use Rattle.cutting.specs.Lists.{only, first, greatest, pairs}
+use Rattle.cutting.specs.Tree.{Rect, side, part, Tree, cut, Pieces, Saw, Shares, beyond, Proper, total, earns, Guillotine, Within}
+use Rattle.cutting.specs.Figure.{half-perimeter, leaf, best, step, figure}
+use Rattle.cutting.specs.Choice.{Choice, as-waste, as-piece, as-cut, or-waste, or-length, or-piece, or-zero, piece-earns, cut-earns, first-cut, choice, follow, plan-within, written}
+use Rattle.cutting.proofs.Lists.{and-T, T-and, pairs-mem, mem-pairs, Found, found, missing, first-found}
 use Rattle.cutting.proofs.Greatest.{max-is, greatest-is}
 use Rattle.cutting.proofs.Recursion.{smaller, figure-eq}
 use Rattle.cutting.proofs.Exact.{only-is}

@@ -10,9 +10,9 @@ use lib.Dec.{T}
 use Rattle.cutting.specs.declared.Direction.{Direction}
 use Rattle.cutting.specs.declared.Direction.the-variants.{Length, Width}
 use Rattle.cutting.specs.Lists.{only, greatest}
-use Rattle.cutting.specs.Tree.{cut, piece, Tree, side, Proper, waste, Pieces, Rect, Shares, earns, Within, Saw, beyond, Guillotine, part, total}
-use Rattle.cutting.specs.Figure.{after, leaf, figure, best, half-perimeter, step}
-use Rattle.cutting.proofs.Greatest.{max-is, greatest-is, greatest-ge}
+use Rattle.cutting.specs.Tree.{Rect, side, part, Tree, waste, piece, cut, Pieces, Saw, Shares, beyond, Proper, total, earns, Guillotine, Within}
+use Rattle.cutting.specs.Figure.{half-perimeter, leaf, best, step, after, figure}
+use Rattle.cutting.proofs.Greatest.{max-is, greatest-ge, greatest-is}
 use Rattle.cutting.proofs.Recursion.{figure-eq}
 
 only-open : (a b : Bool) (n : ℕ) → T a → T b → only (a && b) n ≡ n

@@ -12,19 +12,19 @@ use lib.Dec.{T}
 use Rattle.cutting.specs.declared.Direction.{Direction}
 use Rattle.cutting.specs.declared.Direction.the-variants.{Length, Width}
 use Rattle.cutting.specs.Lists.{range}
-use Rattle.cutting.specs.Tree.{Symmetric, cut, Monotone, piece, Tree, side, waste, Pieces, Rect, Shares, earns, Within, Guillotine, part, total}
-use Rattle.cutting.specs.Figure.{figure, best, step}
-use Rattle.cutting.specs.Pieces.{sized, Solid, _⊑_}
-use Rattle.cutting.specs.Saws.{saw, saw-half, floor}
+use Rattle.cutting.specs.Tree.{Rect, side, part, Tree, waste, piece, cut, Pieces, Shares, total, earns, Guillotine, Within, Monotone, Symmetric}
+use Rattle.cutting.specs.Figure.{best, step, figure}
+use Rattle.cutting.specs.Pieces.{_⊑_, sized, Solid}
+use Rattle.cutting.specs.Saws.{saw, floor, saw-half}
 use Rattle.cutting.specs.Normal.{normal}
-use Rattle.cutting.proofs.Lists.{mem-range, filter-mem, mem-filter, range-mem}
+use Rattle.cutting.proofs.Lists.{range-mem, mem-range, filter-mem, mem-filter}
 use Rattle.cutting.proofs.Greatest.{greatest-le}
 use Rattle.cutting.proofs.Recursion.{figure-eq}
-use Rattle.cutting.proofs.Exact.{best-ge, figure-upper, figure-attained, step-ge, leaf-ge}
-use Rattle.cutting.proofs.Transfer.{figure-degenerate, part-grow, side-part, figure-mono, enlarge, through, part-whole, Enlarges}
-use Rattle.cutting.proofs.Saws.{cut-saw, saw-proper, saw-cut}
+use Rattle.cutting.proofs.Exact.{leaf-ge, best-ge, step-ge, figure-upper, figure-attained}
+use Rattle.cutting.proofs.Transfer.{through, Enlarges, enlarge, figure-mono, figure-degenerate, part-grow, part-whole, side-part}
+use Rattle.cutting.proofs.Saws.{saw-cut, cut-saw, saw-proper}
 use Rattle.cutting.proofs.Pieces.{sized-enlarges}
-use Rattle.cutting.proofs.Normal.{Additive, floor-le, floor-passes}
+use Rattle.cutting.proofs.Normal.{floor-le, floor-passes, Additive}
 use Rattle.cutting.proofs.Cells.{cell-floor}
 
 module _ (N : Direction → ℕ → Bool) where

@@ -9,18 +9,18 @@ use native.Mathlib.Omega.{arith}
 use lib.Dec.{leb}
 use Rattle.cutting.specs.declared.Direction.the-variants.{Length, Width}
 use Rattle.cutting.specs.Lists.{range, only, greatest}
-use Rattle.cutting.specs.Tree.{cut, piece, Tree, waste, Rect, Guillotine}
+use Rattle.cutting.specs.Tree.{Rect, Tree, waste, piece, cut, Guillotine}
 use Rattle.cutting.specs.Figure.{leaf, best, step}
-use Rattle.cutting.specs.Pieces.{sized, Solid, fits-in}
+use Rattle.cutting.specs.Pieces.{fits-in, sized, Solid}
 use Rattle.cutting.specs.Saws.{saw}
 use Rattle.cutting.specs.Shares.{by-weight}
-use Rattle.cutting.specs.Job.{Job, weight-of, OnPlate, pieces, waste-area-of, bound-of, GuillotineTree, capacity, figure-of, pieces-area-of, InRange, trim-area-of, KeepsDemands, profit}
-use Rattle.cutting.proofs.Lists.{mem-range, range-mem}
+use Rattle.cutting.specs.Job.{Job, GuillotineTree, OnPlate, profit, weight-of, KeepsDemands, capacity, pieces, figure-of, bound-of, pieces-area-of, waste-area-of, trim-area-of, InRange}
+use Rattle.cutting.proofs.Lists.{range-mem, mem-range}
 use Rattle.cutting.proofs.Greatest.{greatest-map}
 use Rattle.cutting.proofs.Recursion.{figure-eq}
 use Rattle.cutting.proofs.Exact.{figure-upper, figure-attained}
-use Rattle.cutting.proofs.Saws.{cut-saw, saw-proper, saw-cut}
-use Rattle.cutting.proofs.Pieces.{true-fits-in, fits-in-true}
+use Rattle.cutting.proofs.Saws.{saw-cut, cut-saw, saw-proper}
+use Rattle.cutting.proofs.Pieces.{fits-in-true, true-fits-in}
 use Rattle.cutting.proofs.Weights.{within-weight, weight-within, keeps-weight}
 use Rattle.cutting.proofs.Areas.{areas}
 use Rattle.cutting.proofs.Ceiling.{figure-area}

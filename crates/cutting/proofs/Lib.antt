@@ -18,3 +18,4 @@ pub mod Areas
 pub mod Ceiling
 pub mod Job
 pub mod Table
+pub mod Plan

@@ -1,6 +1,6 @@
 -- Laws of the lists of specs/Lists: who is a member of a range, of a filtered list, of a list of pairs, and what a first member is.
 -- Assumes nothing.
-use mathlib.Core.Path.{_≡_, refl, sym, _∙_, ap, subst}
+use mathlib.Core.Path.{_≡_, refl, sym, _∙_, ap, ap₂, subst}
 use mathlib.Core.Logic.{_⊎_, inl, inr}
 use mathlib.Core.Bool.{Bool, true, false, _&&_, _||_}
 use mathlib.Core.Option.{Option, none, some}
@@ -10,7 +10,7 @@ use native.Mathlib.Decide.{ℕ-discrete}
 use native.Mathlib.Omega.{arith}
 use lib.Dec.{T}
 use lib.ListN.{length}
-use Rattle.cutting.specs.Lists.{first, range, filter, any, keep, pairs}
+use Rattle.cutting.specs.Lists.{range, keep, filter, any, first, pairs}
 
 pub and-T : (a b : Bool) → T a → T b → T (a && b)
 and-T true b t u = u
@@ -146,3 +146,9 @@ module _ {A : Type 0} where
       go : (b : Bool) → f x ≡ b → Found f xs (first f xs) → Found f (x ∷ xs) (elim b [ true ↦ some x | false ↦ first f xs ])
       go true e r = found (List·Memᴰ·head refl) (subst T (sym e) tt)
       go false e r = later e r
+
+  -- the first member that passes depends on the test's answers at the members only
+  pub first-cong : (f g : A → Bool) (xs : List A) → ((x : A) → List·Memᴰ x xs → f x ≡ g x) → first f xs ≡ first g xs
+  unfolding first
+  first-cong f g [] h = refl
+  first-cong f g (x ∷ xs) h = ap₂ (λ b o. elim b [ true ↦ some x | false ↦ o ]) (h x (List·Memᴰ·head refl)) (first-cong f g xs (λ y m. h y (List·Memᴰ·tail m)))

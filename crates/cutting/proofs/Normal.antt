@@ -13,15 +13,15 @@ use lib.Dec.{T, leb, eqb, leb→le, le→leb, eqb→eq}
 use Rattle.cutting.specs.declared.Direction.{Direction}
 use Rattle.cutting.specs.declared.Direction.the-variants.{Length, Width}
 use Rattle.cutting.specs.Lists.{range, any}
-use Rattle.cutting.specs.Tree.{Monotone, side, Proper, Rect, Shares, Saw}
+use Rattle.cutting.specs.Tree.{Rect, side, Saw, Shares, Proper, Monotone}
 use Rattle.cutting.specs.Figure.{figure}
-use Rattle.cutting.specs.Pieces.{sized, Solid, _⊑_, fits-in}
+use Rattle.cutting.specs.Pieces.{_⊑_, fits-in, sized, Solid}
 use Rattle.cutting.specs.Saws.{saw, floor, saw-normal}
-use Rattle.cutting.specs.Normal.{Sum, normal, sides, summed, normal?, more, none}
-use Rattle.cutting.proofs.Lists.{map-mem, any-mem, mem-range, and-T, filter-mem, mem-any, mem-filter, range-mem, T-and}
-use Rattle.cutting.proofs.Transfer.{both-parts, figure-mono, CutImage, Transfer, cut-image, figure-transfer, through, Enlarges}
-use Rattle.cutting.proofs.Saws.{cut-saw, saw-proper, saw-cut}
-use Rattle.cutting.proofs.Pieces.{true-fits-in, sized-enlarges, fits-in-true}
+use Rattle.cutting.specs.Normal.{Sum, none, more, summed, normal?, sides, normal}
+use Rattle.cutting.proofs.Lists.{and-T, T-and, range-mem, mem-range, filter-mem, mem-filter, any-mem, mem-any, map-mem}
+use Rattle.cutting.proofs.Transfer.{through, Enlarges, CutImage, both-parts, cut-image, Transfer, figure-mono, figure-transfer}
+use Rattle.cutting.proofs.Saws.{saw-cut, cut-saw, saw-proper}
+use Rattle.cutting.proofs.Pieces.{fits-in-true, true-fits-in, sized-enlarges}
 
 module _ (N : ℕ → Bool) where
   pub floor-le : (n : ℕ) → floor N n ≤ n

@@ -7,10 +7,10 @@ use native.Mathlib.Decide.{ℕ-discrete}
 use native.Mathlib.Omega.{arith}
 use lib.Dec.{eqb}
 use Rattle.cutting.specs.Lists.{only, pairs}
-use Rattle.cutting.specs.Tree.{Symmetric, cut, Monotone, piece, Tree, copies, Keeps, waste, Shares, Within}
-use Rattle.cutting.specs.Shares.{exact, by-weight, state, free, paired, across}
-use Rattle.cutting.proofs.Lists.{mem-pairs, map-mem, mem-map, and-T, pairs-mem, T-and}
-use Rattle.cutting.proofs.Weights.{within-weight, by-weight-monotone, weight-within, by-weight-symmetric}
+use Rattle.cutting.specs.Tree.{Tree, waste, piece, cut, Shares, copies, Keeps, Within, Monotone, Symmetric}
+use Rattle.cutting.specs.Shares.{by-weight, free, across, paired, state, exact}
+use Rattle.cutting.proofs.Lists.{and-T, T-and, map-mem, mem-map, pairs-mem, mem-pairs}
+use Rattle.cutting.proofs.Weights.{within-weight, weight-within, by-weight-monotone, by-weight-symmetric}
 
 module _ {P S S′ : Type 0} (H : Shares P S) (H′ : Shares P S′) where
   pub paired-within : (t : Tree P) (s : S × S′) → Within (paired H H′) s t → Within H (s .0) t × Within H′ (s .1) t

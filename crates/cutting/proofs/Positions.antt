@@ -10,11 +10,11 @@ use native.Mathlib.Omega.{arith}
 use lib.Dec.{T}
 use lib.ListN.{length, getD, take, drop}
 use lib.Seq.{getD-take, length-take-le}
-use Rattle.cutting.specs.Lists.{range, filter, greatest, keep}
+use Rattle.cutting.specs.Lists.{range, keep, filter, greatest}
 use Rattle.cutting.specs.Saws.{floor}
-use Rattle.cutting.proofs.Lists.{mem-range, filter-mem, mem-filter, range-mem}
-use Rattle.cutting.proofs.Greatest.{most-ge, greatest-le, most, greatest-ge, most-le}
-use Rattle.cutting.proofs.Normal.{floor-ge, floor-le, floor-passes}
+use Rattle.cutting.proofs.Lists.{range-mem, mem-range, filter-mem, mem-filter}
+use Rattle.cutting.proofs.Greatest.{greatest-ge, greatest-le, most, most-ge, most-le}
+use Rattle.cutting.proofs.Normal.{floor-le, floor-passes, floor-ge}
 
 pub getD-mem : {A : Type 0} (xs : List A) (i : ℕ) (d : A) → i < length xs → List·Memᴰ (getD xs i d) xs
 getD-mem [] i d h = absurd (omega arith)

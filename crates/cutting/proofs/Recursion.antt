@@ -6,8 +6,8 @@ use Prim.Native.Nat.{ℕ, zero, suc, _+_, _<_, max}
 use native.Mathlib.Omega.{arith}
 use Rattle.cutting.specs.declared.Direction.{Direction}
 use Rattle.cutting.specs.declared.Direction.the-variants.{Length, Width}
-use Rattle.cutting.specs.Tree.{side, Proper, Pieces, Rect, Shares, Saw, beyond, part}
-use Rattle.cutting.specs.Figure.{after, leaf, figure, best, half-perimeter, step}
+use Rattle.cutting.specs.Tree.{Rect, side, part, Pieces, Saw, Shares, beyond, Proper}
+use Rattle.cutting.specs.Figure.{half-perimeter, leaf, best, step, after, figure}
 use Rattle.cutting.proofs.Greatest.{greatest-cong}
 
 -- both parts of a cut are smaller

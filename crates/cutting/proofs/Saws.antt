@@ -6,7 +6,7 @@ use native.Mathlib.Omega.{arith}
 use Rattle.cutting.specs.declared.Direction.{Direction}
 use Rattle.cutting.specs.Tree.{Proper}
 use Rattle.cutting.specs.Saws.{saw}
-use Rattle.cutting.proofs.Lists.{mem-range, range-mem}
+use Rattle.cutting.proofs.Lists.{range-mem, mem-range}
 
 pub saw-cut : (k : ℕ) (d : Direction) (n x : ℕ) → 1 ≤ x → x + k < n → List·Memᴰ x (saw k .cuts d n)
 unfolding saw

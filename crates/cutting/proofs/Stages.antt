@@ -8,9 +8,9 @@ use native.Mathlib.Omega.{arith}
 use Rattle.cutting.specs.declared.Direction.{Direction}
 use Rattle.cutting.specs.declared.Direction.the-variants.{Length, Width}
 use Rattle.cutting.specs.Lists.{greatest}
-use Rattle.cutting.specs.Tree.{Symmetric, cut, Monotone, piece, Tree, side, Proper, waste, Pieces, Rect, Shares, earns, Within, Saw, beyond, Guillotine, part}
-use Rattle.cutting.specs.Figure.{leaf, figure, best, step}
-use Rattle.cutting.specs.Shares.{turn, staged-splits, stages, stages-below, staged}
+use Rattle.cutting.specs.Tree.{Rect, side, part, Tree, waste, piece, cut, Pieces, Saw, Shares, beyond, Proper, earns, Guillotine, Within, Monotone, Symmetric}
+use Rattle.cutting.specs.Figure.{leaf, best, step, figure}
+use Rattle.cutting.specs.Shares.{turn, staged-splits, staged, stages-below, stages}
 use Rattle.cutting.proofs.Lists.{map-mem, mem-map}
 use Rattle.cutting.proofs.Greatest.{max-is, greatest-map}
 use Rattle.cutting.proofs.Recursion.{figure-eq}

@@ -9,19 +9,19 @@ use lib.Dec.{T, leb}
 use lib.ListN.{length, getD}
 use Rattle.cutting.specs.declared.Direction.{Direction}
 use Rattle.cutting.specs.declared.Direction.the-variants.{Length, Width}
-use Rattle.cutting.specs.Lists.{range, filter, only, greatest}
+use Rattle.cutting.specs.Lists.{range, only, filter, greatest}
 use Rattle.cutting.specs.Tree.{side}
 use Rattle.cutting.specs.Figure.{leaf, best, step}
-use Rattle.cutting.specs.Pieces.{sized, fits-in}
+use Rattle.cutting.specs.Pieces.{fits-in, sized}
 use Rattle.cutting.specs.Saws.{saw-half}
 use Rattle.cutting.specs.Shares.{by-weight}
 use Rattle.cutting.specs.Normal.{sides}
-use Rattle.cutting.specs.Job.{Job, pieces, normal-positions, normal-floor, figure-of, normal-side, InRange}
-use Rattle.cutting.proofs.Lists.{range-length, mem-range, filter-length, filter-mem, mem-filter, range-mem}
+use Rattle.cutting.specs.Job.{Job, pieces, figure-of, normal-side, normal-positions, normal-floor, InRange}
+use Rattle.cutting.proofs.Lists.{range-mem, mem-range, range-length, filter-length, filter-mem, mem-filter}
 use Rattle.cutting.proofs.Greatest.{greatest-map, most}
 use Rattle.cutting.proofs.Weights.{by-weight-monotone, by-weight-symmetric}
-use Rattle.cutting.proofs.Normal.{side-normal, normal-additive}
-use Rattle.cutting.proofs.Positions.{rising, floor-at, below, mem-getD, first-zero, getD-mem, greatest-half}
+use Rattle.cutting.proofs.Normal.{normal-additive, side-normal}
+use Rattle.cutting.proofs.Positions.{getD-mem, mem-getD, below, first-zero, rising, floor-at, greatest-half}
 use Rattle.cutting.proofs.Cells.{cell-floor}
 use Rattle.cutting.proofs.Half.{cell-half}
 use Rattle.cutting.proofs.Job.{kinds-solid}

@@ -10,10 +10,10 @@ use lib.Dec.{T}
 use Rattle.cutting.specs.declared.Direction.{Direction}
 use Rattle.cutting.specs.declared.Direction.the-variants.{Length, Width}
 use Rattle.cutting.specs.Lists.{sum}
-use Rattle.cutting.specs.Tree.{cut, Monotone, piece, Tree, side, Proper, waste, Pieces, Rect, Shares, earns, Within, Saw, beyond, Guillotine, part, total}
+use Rattle.cutting.specs.Tree.{Rect, side, part, Tree, waste, piece, cut, Pieces, Saw, Shares, beyond, Proper, total, earns, Guillotine, Within, Monotone}
 use Rattle.cutting.specs.Figure.{figure}
 use Rattle.cutting.specs.Pieces.{_⊑_}
-use Rattle.cutting.proofs.Exact.{Earned, figure-upper, figure-attained}
+use Rattle.cutting.proofs.Exact.{figure-upper, Earned, figure-attained}
 
 -- both sides of a rectangle through a map
 abbrev pub through : (Direction → ℕ → ℕ) → Rect → Rect

@@ -10,11 +10,11 @@ use native.Mathlib.Decide.{ℕ-discrete}
 use native.Mathlib.Omega.{arith}
 use lib.Dec.{T, eqb, leb→le, le→leb, eqb-refl}
 use Rattle.cutting.specs.declared.Direction.{Direction}
-use Rattle.cutting.specs.Lists.{sum, range, only}
-use Rattle.cutting.specs.Tree.{Symmetric, cut, Monotone, piece, Tree, copies, Keeps, Proper, waste, Pieces, Rect, earns, Within, Saw, beyond, Guillotine, part, total}
+use Rattle.cutting.specs.Lists.{range, sum, only}
+use Rattle.cutting.specs.Tree.{Rect, part, Tree, waste, piece, cut, Pieces, Saw, beyond, Proper, total, copies, Keeps, earns, Guillotine, Within, Monotone, Symmetric}
 use Rattle.cutting.specs.Figure.{figure}
 use Rattle.cutting.specs.Shares.{by-weight}
-use Rattle.cutting.proofs.Lists.{map-mem, mem-map, mem-range, range-mem}
+use Rattle.cutting.proofs.Lists.{range-mem, mem-range, map-mem, mem-map}
 use Rattle.cutting.proofs.Exact.{figure-upper}
 
 module _ {P : Type 0} (q : P → ℕ) where

@@ -1,20 +1,22 @@
 -- Document 01 in its own words: a job, its guillotine trees and what they earn, the figure and the bound, the normal positions and
 -- the plan behind the bound. The general definitions stand in the other modules; proofs/Job has what is proved of these.
 -- Assumes nothing.
-use mathlib.Core.Bool.{Bool}
-use mathlib.Core.List.{List}
-use Prim.Native.Nat.{ℕ, suc, _-_, _*_, _≤_, _<_}
+use mathlib.Core.Bool.{Bool, _&&_}
+use mathlib.Core.Option.{Option}
+use mathlib.Core.List.{List, map}
+use Prim.Native.Nat.{ℕ, suc, _+_, _-_, _*_, _≤_, _<_}
+use lib.Dec.{leb, eqb}
 use Rattle.cutting.specs.declared.Direction.{Direction}
 use Rattle.cutting.specs.declared.Direction.the-variants.{Length, Width}
-use Rattle.cutting.specs.Lists.{sum, range, filter}
-use Rattle.cutting.specs.Tree.{cut, piece, Tree, side, copies, waste, Pieces, Rect, total}
+use Rattle.cutting.specs.Lists.{range, sum, filter, first, pairs}
+use Rattle.cutting.specs.Tree.{Rect, side, Tree, waste, piece, cut, Pieces, total, copies}
 use Rattle.cutting.specs.Figure.{figure}
-use Rattle.cutting.specs.Pieces.{sized}
-use Rattle.cutting.specs.Saws.{saw, saw-written, floor}
+use Rattle.cutting.specs.Pieces.{fits-in, sized}
+use Rattle.cutting.specs.Saws.{saw, floor, saw-written}
 use Rattle.cutting.specs.Shares.{by-weight}
 use Rattle.cutting.specs.Normal.{normal}
-use Rattle.cutting.specs.Choice.{written}
-use Rattle.cutting.specs.Areas.{trim-area, pieces-area, waste-area}
+use Rattle.cutting.specs.Choice.{Choice, as-waste, as-piece, as-cut, or-waste, or-length, or-piece, or-zero, written}
+use Rattle.cutting.specs.Areas.{pieces-area, waste-area, trim-area}
 
 -- a job: the plate, and kinds numbered from 0 with their sizes, prices and demands
 pub record Job : Type 0 where
@@ -83,6 +85,33 @@ normal-floor J d n = floor (normal-side J d) n
 -- the plan behind the bound, from a rectangle and a share downward
 unfoldable pub plan-of : Job → (ℕ → ℕ) → ℕ → ℕ → ℕ → Tree ℕ
 plan-of J weight l w c = written (pieces J) (saw-written (normal-side J)) (by-weight weight) (l, w) c
+
+-- whether kind i fits, weighs at most the share, and has the figure as its price
+abbrev pub kind-earns : Job → (ℕ → ℕ) → ℕ → ℕ → ℕ → ℕ → Bool
+kind-earns J weight l w c i = (fits-in (J .size i) (l, w) && leb (weight i) c) && eqb (J .price i) (figure-of J weight l w c)
+
+-- whether a cut at position u .0, with the shares u .1 for its parts, earns the figure
+abbrev pub pair-earns : Job → (ℕ → ℕ) → Direction → ℕ → ℕ → ℕ → ℕ × (ℕ × ℕ) → Bool
+pair-earns J weight Length l w c u = eqb (figure-of J weight (u .0) w (u .1 .0) + figure-of J weight (l - u .0) w (u .1 .1)) (figure-of J weight l w c)
+pair-earns J weight Width l w c u = eqb (figure-of J weight l (u .0) (u .1 .0) + figure-of J weight l (w - u .0) (u .1 .1)) (figure-of J weight l w c)
+
+-- the first pair of position and share that earns it: normal positions from 1 to one less than the tabled side, rising, and for each
+-- the first part's share, rising
+unfoldable pub first-pair : Job → (ℕ → ℕ) → Direction → ℕ → ℕ → ℕ → Option (ℕ × (ℕ × ℕ))
+first-pair J weight d l w c =
+    first (pair-earns J weight d l w c) (pairs (filter (normal-side J d) (range 1 (normal-floor J d (side d (l, w)) - 1))) (map (λ k. (k, c - k)) (range 0 (suc c))))
+
+-- figure 0 gives waste; otherwise the lowest-numbered kind; otherwise a length cut; failing all, a width cut
+unfoldable pub plan-choice : Job → (ℕ → ℕ) → ℕ → ℕ → ℕ → Choice ℕ ℕ
+plan-choice J weight l w c = or-zero (eqb (figure-of J weight l w c) 0)
+    (or-piece (first (kind-earns J weight l w c) (range 0 (J .count))) (or-length (first-pair J weight Length l w c) (or-waste (first-pair J weight Width l w c))))
+
+-- the plan's tree after a choice: the second part of a cut is the true remainder (plan-recursion of proofs/Plan)
+abbrev pub plan-after : Job → (ℕ → ℕ) → ℕ → ℕ → Choice ℕ ℕ → Tree ℕ
+plan-after J weight l w as-waste = waste
+plan-after J weight l w (as-piece i) = piece i
+plan-after J weight l w (as-cut Length x q) = cut Length x (plan-of J weight x w (q .0)) (plan-of J weight (l - x) w (q .1))
+plan-after J weight l w (as-cut Width x q) = cut Width x (plan-of J weight l x (q .0)) (plan-of J weight l (w - x) (q .1))
 
 -- the area of the pieces, of the waste nodes and of the trim of a tree on a rectangle
 abbrev pub pieces-area-of : Job → Tree ℕ → ℕ

@@ -4,7 +4,7 @@ use mathlib.Core.Bool.{Bool, _&&_}
 use mathlib.Core.List.{List, List·Memᴰ}
 use Prim.Native.Nat.{ℕ, _≤_, _<_}
 use lib.Dec.{leb}
-use Rattle.cutting.specs.Tree.{Pieces, Rect}
+use Rattle.cutting.specs.Tree.{Rect, Pieces}
 
 infix 30 _⊑_
 -- a rectangle no larger than another

@@ -6,7 +6,7 @@ use lib.ListN.{length}
 use Rattle.cutting.specs.declared.Direction.the-variants.{Length, Width}
 use Rattle.cutting.specs.declared.Node.{Node}
 use Rattle.cutting.specs.declared.Node.the-variants.{Waste, Piece, Cut}
-use Rattle.cutting.specs.Tree.{cut, piece, Tree, waste}
+use Rattle.cutting.specs.Tree.{Tree, waste, piece, cut}
 
 -- a tree's nodes in preorder
 unfoldable pub preorder : Tree ℕ → List Node

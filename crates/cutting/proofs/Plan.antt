@@ -1,0 +1,77 @@
+-- The plan behind the bound in plain words: it is a guillotine tree within the share that earns the figure, and its recursion reads
+-- figures of the job alone.
+-- Assumes nothing.
+use mathlib.Core.Path.{_≡_, refl, sym, _∙_, ap, ap₂}
+use mathlib.Core.Bool.{_&&_}
+use Prim.Native.Nat.{ℕ, _+_, _-_, _≤_}
+use native.Mathlib.Omega.{arith}
+use lib.Dec.{leb, eqb}
+use Rattle.cutting.specs.declared.Direction.{Direction}
+use Rattle.cutting.specs.declared.Direction.the-variants.{Length, Width}
+use Rattle.cutting.specs.Lists.{range, first}
+use Rattle.cutting.specs.Tree.{Rect}
+use Rattle.cutting.specs.Figure.{figure}
+use Rattle.cutting.specs.Pieces.{_⊑_, fits-in, sized}
+use Rattle.cutting.specs.Saws.{saw-written}
+use Rattle.cutting.specs.Shares.{by-weight}
+use Rattle.cutting.specs.Normal.{sides}
+use Rattle.cutting.specs.Choice.{Choice, as-waste, as-piece, as-cut, or-waste, or-length, or-piece, or-zero, first-cut, choice, follow, written}
+use Rattle.cutting.specs.Job.{Job, GuillotineTree, OnPlate, profit, weight-of, capacity, pieces, figure-of, bound-of, normal-side, plan-of, first-pair, plan-choice, plan-after, InRange}
+use Rattle.cutting.proofs.Lists.{mem-pairs, first-cong}
+use Rattle.cutting.proofs.Weights.{within-weight, by-weight-monotone}
+use Rattle.cutting.proofs.Normal.{floor-le, normal-additive, side-normal}
+use Rattle.cutting.proofs.Choice.{written-earns, written-eq}
+use Rattle.cutting.proofs.Written.{cut-written, written-proper, written-units, figure-written}
+use Rattle.cutting.proofs.Job.{plain, kinds-solid}
+
+module _ (J : Job) (weight : ℕ → ℕ) (h : InRange J) where
+  -- cuts of the written plan have the same figures
+  plan-figure : (r : Rect) (c : ℕ) → r ⊑ J .plate → figure (pieces J) (saw-written (normal-side J)) (by-weight weight) r c ≡ figure-of J weight (r .0) (r .1) c
+  unfolding figure-of pieces
+  plan-figure r c on = sym (figure-written (normal-side J) (λ d. normal-additive (sides (range 0 (J .count)) (J .size) (J .plate) d)) (range 0 (J .count)) (J .price) (J .size)
+      (kinds-solid J h) (by-weight weight) (by-weight-monotone weight) (J .plate) (side-normal (range 0 (J .count)) (J .size) (J .plate)) r c on)
+
+  -- the plan from a rectangle and a share is a guillotine tree on it, weighs at most the share and earns the figure
+  pub plan-tree : (l w c : ℕ) → l ≤ J .plate .0 → w ≤ J .plate .1
+      → GuillotineTree J l w (plan-of J weight l w c) × (weight-of weight (plan-of J weight l w c) ≤ c) × (profit J (plan-of J weight l w c) ≡ figure-of J weight l w c)
+  unfolding plan-of pieces sized
+  plan-tree l w c a b =
+      let t = plan-of J weight l w c in
+      let e = written-earns (pieces J) (saw-written (normal-side J)) (by-weight weight) (written-proper (normal-side J)) (l, w) c in
+      (plain J t (l, w) (written-units (normal-side J) (pieces J) t (l, w) (e .0)), within-weight weight t c (e .1), e .2 ∙ plan-figure (l, w) c (a, b))
+
+  -- so the plan from the plate and the capacity earns the bound
+  pub plan-bound : OnPlate J (plan-of J weight (J .plate .0) (J .plate .1) (capacity J weight)) × (weight-of weight (plan-of J weight (J .plate .0) (J .plate .1) (capacity J weight)) ≤ capacity J weight)
+      × (profit J (plan-of J weight (J .plate .0) (J .plate .1) (capacity J weight)) ≡ bound-of J weight)
+  plan-bound = plan-tree (J .plate .0) (J .plate .1) (capacity J weight) (omega arith) (omega arith)
+
+  -- the search for a pair and the choice read figures of the job
+  pair-plain : (d : Direction) (l w c : ℕ) → l ≤ J .plate .0 → w ≤ J .plate .1 → first-cut (pieces J) (saw-written (normal-side J)) (by-weight weight) d (l, w) c ≡ first-pair J weight d l w c
+  unfolding first-cut first-pair saw-written by-weight
+  pair-plain Length l w c a b = first-cong _ _ _ (λ u m.
+      (let k = cut-written (normal-side J) Length l (u .0) (mem-pairs u _ _ m .0) in
+      let x : u .0 ≤ J .plate .0 = omega (arith, k .1, floor-le (normal-side J Length) l) in
+      ap₂ eqb (ap₂ _+_ (plan-figure (u .0, w) (u .1 .0) (x, b)) (plan-figure (l - u .0, w) (u .1 .1) (omega arith, b))) (plan-figure (l, w) c (a, b))))
+  pair-plain Width l w c a b = first-cong _ _ _ (λ u m.
+      (let k = cut-written (normal-side J) Width w (u .0) (mem-pairs u _ _ m .0) in
+      let x : u .0 ≤ J .plate .1 = omega (arith, k .1, floor-le (normal-side J Width) w) in
+      ap₂ eqb (ap₂ _+_ (plan-figure (l, u .0) (u .1 .0) (a, x)) (plan-figure (l, w - u .0) (u .1 .1) (a, omega arith))) (plan-figure (l, w) c (a, b))))
+
+  choice-plain : (l w c : ℕ) → l ≤ J .plate .0 → w ≤ J .plate .1 → choice (pieces J) (saw-written (normal-side J)) (by-weight weight) (l, w) c ≡ plan-choice J weight l w c
+  unfolding choice plan-choice pieces sized by-weight
+  choice-plain l w c a b = λ i. or-zero (eqb (plan-figure (l, w) c (a, b) i) 0)
+      (or-piece (first (λ k. (fits-in (J .size k) (l, w) && leb (weight k) c) && eqb (J .price k) (plan-figure (l, w) c (a, b) i)) (range 0 (J .count)))
+      (or-length (pair-plain Length l w c a b i) (or-waste (pair-plain Width l w c a b i))))
+
+  follow-plain : (l w : ℕ) (u : Choice ℕ ℕ) → follow (pieces J) (saw-written (normal-side J)) (by-weight weight) (written (pieces J) (saw-written (normal-side J)) (by-weight weight)) (l, w) u ≡ plan-after J weight l w u
+  unfolding plan-of saw-written
+  follow-plain l w as-waste = refl
+  follow-plain l w (as-piece i) = refl
+  follow-plain l w (as-cut Length x q) = refl
+  follow-plain l w (as-cut Width x q) = refl
+
+  -- the plan, from the choice at a rectangle and a share downward
+  pub plan-recursion : (l w c : ℕ) → l ≤ J .plate .0 → w ≤ J .plate .1 → plan-of J weight l w c ≡ plan-after J weight l w (plan-choice J weight l w c)
+  unfolding plan-of
+  plan-recursion l w c a b = written-eq (pieces J) (saw-written (normal-side J)) (by-weight weight) (written-proper (normal-side J)) (l, w) c
+      ∙ follow-plain l w (choice (pieces J) (saw-written (normal-side J)) (by-weight weight) (l, w) c) ∙ ap (plan-after J weight l w) (choice-plain l w c a b)
