@@ -74,3 +74,16 @@ next (Refused r) b = Refused r
 unfoldable pub first-refusal : List Check → Checked
 first-refusal [] = Passed
 first-refusal (c ∷ cs) = next (refuse-when (c .0) (c .1)) (first-refusal cs)
+
+-- an answer as document 01 gives it: its number, 0 where nothing is refused, and its values, for a refusal its place
+abbrev pub Outcome : Type 0
+Outcome = ℕ × List ℕ
+
+-- a refusal's number and place
+abbrev pub refused-as : Refusal → Outcome
+refused-as r = (number-of r, place-of r ∷ [])
+
+-- the values where the checks pass, and else the refusal
+abbrev pub outcome-by : Checked → List ℕ → Outcome
+outcome-by Passed values = (0, values)
+outcome-by (Refused r) values = refused-as r
