@@ -14,6 +14,7 @@ use Rattle.cutting.specs.Figure.{leaf, best, step}
 use Rattle.cutting.specs.Pieces.{fits-in, sized, Solid}
 use Rattle.cutting.specs.Saws.{saw}
 use Rattle.cutting.specs.Shares.{by-weight}
+use Rattle.cutting.specs.Areas.{waste-area, trim-area}
 use Rattle.cutting.specs.Job.{Job, GuillotineTree, OnPlate, profit, weight-of, KeepsDemands, capacity, pieces, figure-of, bound-of, pieces-area-of, waste-area-of, trim-area-of, InRange}
 use Rattle.cutting.proofs.Lists.{range-mem, mem-range}
 use Rattle.cutting.proofs.Greatest.{greatest-map}
@@ -103,3 +104,21 @@ module _ (J : Job) (weight : ℕ → ℕ) (h : InRange J) where
 pub areas-sum : (J : Job) (t : Tree ℕ) (l w : ℕ) → GuillotineTree J l w t → pieces-area-of J t + waste-area-of l w t + trim-area-of J l w t ≡ l * w
 unfolding pieces
 areas-sum J t l w g = areas (range 0 (J .count)) (J .price) (J .size) t (l, w) (unplain J t (l, w) g)
+
+-- the areas of the waste and of the trim of a cut are those of its parts
+module _ (J : Job) (l w x : ℕ) (a b : Tree ℕ) where
+  pub waste-area-length : waste-area-of l w (cut Length x a b) ≡ waste-area-of x w a + waste-area-of (l - x) w b
+  unfolding waste-area saw
+  waste-area-length = simp sub-zero
+
+  pub waste-area-width : waste-area-of l w (cut Width x a b) ≡ waste-area-of l x a + waste-area-of l (w - x) b
+  unfolding waste-area saw
+  waste-area-width = simp sub-zero
+
+  pub trim-area-length : trim-area-of J l w (cut Length x a b) ≡ trim-area-of J x w a + trim-area-of J (l - x) w b
+  unfolding trim-area saw
+  trim-area-length = simp sub-zero
+
+  pub trim-area-width : trim-area-of J l w (cut Width x a b) ≡ trim-area-of J l x a + trim-area-of J l (w - x) b
+  unfolding trim-area saw
+  trim-area-width = simp sub-zero

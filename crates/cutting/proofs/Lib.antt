@@ -1,5 +1,6 @@
 pub mod Lists
 pub mod Greatest
+pub mod Search
 pub mod Recursion
 pub mod Exact
 pub mod Transfer

@@ -9,7 +9,7 @@ use Prim.Native.Nat.{ℕ, zero, suc, _+_, _≤_, _<_}
 use native.Mathlib.Decide.{ℕ-discrete}
 use native.Mathlib.Omega.{arith}
 use lib.Dec.{T}
-use lib.ListN.{length}
+use lib.ListN.{length, getD}
 use Rattle.cutting.specs.Lists.{range, keep, filter, any, first, pairs}
 
 pub and-T : (a b : Bool) → T a → T b → T (a && b)
@@ -19,6 +19,15 @@ and-T false b t u = t
 pub T-and : (a b : Bool) → T (a && b) → T a × T b
 T-and true b t = (tt, t)
 T-and false b t = absurd t
+
+pub T-true : (b : Bool) → T b → b ≡ true
+T-true true t = refl
+T-true false t = absurd t
+
+pub T-equal : (a b : Bool) → (T a → T b) → (T b → T a) → a ≡ b
+T-equal true b f g = sym (T-true b (f tt))
+T-equal false true f g = absurd (g tt)
+T-equal false false f g = refl
 
 pub range-mem : (a n x : ℕ) → a ≤ x → x < a + n → List·Memᴰ x (range a n)
 unfolding range
@@ -37,6 +46,12 @@ mem-range a (suc n) x m = go (List·Memᴰ·cases-cons m) (λ (k : List·Memᴰ 
     go : (x ≡ a) ⊎ List·Memᴰ x (range (suc a) n) → (List·Memᴰ x (range (suc a) n) → (suc a ≤ x) × (x < suc a + n)) → (a ≤ x) × (x < a + suc n)
     go (inl e) f = omega arith
     go (inr k) f = let h = f k in omega arith
+
+pub range-entry : (a n i d : ℕ) → i < n → getD (range a n) i d ≡ a + i
+unfolding range
+range-entry a zero i d h = absurd (omega arith)
+range-entry a (suc n) zero d h = omega arith
+range-entry a (suc n) (suc i) d h = omega (arith, range-entry (suc a) n i d (omega arith))
 
 pub range-length : (a n : ℕ) → length (range a n) ≡ n
 unfolding range

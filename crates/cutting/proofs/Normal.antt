@@ -12,13 +12,13 @@ use native.Mathlib.Omega.{arith}
 use lib.Dec.{T, leb, eqb, leb→le, le→leb, eqb→eq}
 use Rattle.cutting.specs.declared.Direction.{Direction}
 use Rattle.cutting.specs.declared.Direction.the-variants.{Length, Width}
-use Rattle.cutting.specs.Lists.{range, any}
+use Rattle.cutting.specs.Lists.{range, filter, any}
 use Rattle.cutting.specs.Tree.{Rect, side, Saw, Shares, Proper, Monotone}
 use Rattle.cutting.specs.Figure.{figure}
 use Rattle.cutting.specs.Pieces.{_⊑_, fits-in, sized, Solid}
 use Rattle.cutting.specs.Saws.{saw, floor, saw-normal}
 use Rattle.cutting.specs.Normal.{Sum, none, more, summed, normal?, sides, normal}
-use Rattle.cutting.proofs.Lists.{and-T, T-and, range-mem, mem-range, filter-mem, mem-filter, any-mem, mem-any, map-mem}
+use Rattle.cutting.proofs.Lists.{and-T, T-and, T-equal, range-mem, mem-range, filter-mem, mem-filter, any-mem, mem-any, map-mem, mem-map}
 use Rattle.cutting.proofs.Transfer.{through, Enlarges, CutImage, both-parts, cut-image, Transfer, figure-mono, figure-transfer}
 use Rattle.cutting.proofs.Saws.{saw-cut, cut-saw, saw-proper}
 use Rattle.cutting.proofs.Pieces.{fits-in-true, true-fits-in, sized-enlarges}
@@ -147,6 +147,11 @@ pub Sum-add : (zs : List ℕ) {m n : ℕ} → Sum zs m → Sum zs n → Sum zs (
 Sum-add zs {n = n} none t = rw zero-add t
 Sum-add zs {n = n} (more {n = k} {m = m} a i s e) t = more {m = m + n} a i (Sum-add zs s t) (omega arith)
 
+-- a sum above 0 has a first number
+Sum-first : (zs : List ℕ) {n : ℕ} → Sum zs n → 1 ≤ n → (a : ℕ) × List·Memᴰ a zs × (a ≤ n) × Sum zs (n - a)
+Sum-first zs none h = absurd (omega arith)
+Sum-first zs (more {n = k} {m = m} a i s e) h = let z : m - a ≡ k = omega arith in (a, i, omega arith, rw z s)
+
 summed-sum : (zs : List ℕ) (k n : ℕ) → T (summed zs k n) → Sum zs n
 unfolding summed
 summed-sum zs zero n t = rw (eqb→eq n 0 t) none
@@ -194,8 +199,29 @@ module _ {P : Type 0} (ps : List P) (size : P → Rect) (plate : Rect) where
   side-normal d p m h = normal-sum (sides ps size plate d) (side d (size p)) .1
       (more {m = side d (size p)} (side d (size p)) (map-mem (λ p. side d (size p)) (filter-mem (λ p. fits-in (size p) plate) ps m (fits-in-true (size p) plate h))) none (omega arith))
 
--- the figure of a rectangle on the plate is the tabled figure, that of its largest normal sides
-pub tabled : {P S : Type 0} (ps : List P) (price : P → ℕ) (size : P → Rect) (plate : Rect) (H : Shares P S) → Monotone H → Solid ps size → (r : Rect) (s : S) → r ⊑ plate
-    → figure (sized ps price size) (saw 0) H r s ≡ figure (sized ps price size) (saw-normal (normal ps size plate)) H (through (λ d. floor (normal ps size plate d)) r) s
-tabled ps price size plate H mono solid r s h =
-    figure-normal (normal ps size plate) (λ d. normal-additive (sides ps size plate d)) ps price size solid H mono plate (side-normal ps size plate) r s h
+  -- the rule of a loop over the pieces: a number above 0 is normal if a piece that fits the plate leads to it from a normal one
+  pub normal-rule : (d : Direction) (n : ℕ) → 1 ≤ n
+      → normal ps size plate d n ≡ any (λ p. fits-in (size p) plate && (leb (side d (size p)) n && normal ps size plate d (n - side d (size p)))) ps
+  unfolding sides
+  normal-rule d n h = T-equal (normal ps size plate d n) (any test ps) up down
+    where
+      zs : List ℕ
+      zs = sides ps size plate d
+
+      test : P → Bool
+      test p = fits-in (size p) plate && (leb (side d (size p)) n && normal ps size plate d (n - side d (size p)))
+
+      up : T (normal ps size plate d n) → T (any test ps)
+      up t =
+          let u = Sum-first zs (normal-sum zs n .0 t) h in
+          let m = mem-map (λ p. side d (size p)) (u .0) (filter (λ p. fits-in (size p) plate) ps) (u .1) in
+          let k = mem-filter (λ p. fits-in (size p) plate) ps (m .1) in
+          any-mem test ps (k .0) (and-T (fits-in (size (m .0)) plate) _ (k .1) (and-T (leb (side d (size (m .0))) n) _ (le→leb _ n (omega (arith, m .2, u .2))) (rw (m .2) at (normal-sum zs (n - u .0) .1 (u .3)))))
+
+      down : T (any test ps) → T (normal ps size plate d n)
+      down t =
+          let m = mem-any test ps t in
+          let x = side d (size (m .0)) in
+          let k = T-and (fits-in (size (m .0)) plate) (leb x n && normal ps size plate d (n - x)) (m .2) in
+          let j = T-and (leb x n) (normal ps size plate d (n - x)) (k .1) in
+          normal-sum zs n .1 (more {m = n} x (map-mem (λ p. side d (size p)) (filter-mem (λ p. fits-in (size p) plate) ps (m .1) (k .0))) (normal-sum zs (n - x) .0 (j .1)) (omega (arith, leb→le x n (j .0))))

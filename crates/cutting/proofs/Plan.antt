@@ -2,27 +2,33 @@
 -- figures of the job alone.
 -- Assumes nothing.
 use mathlib.Core.Path.{_≡_, refl, sym, _∙_, ap, ap₂}
-use mathlib.Core.Bool.{_&&_}
-use Prim.Native.Nat.{ℕ, _+_, _-_, _≤_}
+use mathlib.Core.Bool.{Bool, false, _&&_}
+use mathlib.Core.Option.{none, some}
+use mathlib.Core.List.{List, map}
+use Prim.Native.Nat.{ℕ, zero, suc, _+_, _-_, _≤_, _<_}
 use native.Mathlib.Omega.{arith}
-use lib.Dec.{leb, eqb}
+use lib.Dec.{T, leb, eqb}
+use lib.ListN.{length, getD, length-map, List·getD-map}
 use Rattle.cutting.specs.declared.Direction.{Direction}
 use Rattle.cutting.specs.declared.Direction.the-variants.{Length, Width}
-use Rattle.cutting.specs.Lists.{range, first}
-use Rattle.cutting.specs.Tree.{Rect}
+use Rattle.cutting.specs.Lists.{range, filter, first}
+use Rattle.cutting.specs.Tree.{Rect, side}
 use Rattle.cutting.specs.Figure.{figure}
 use Rattle.cutting.specs.Pieces.{_⊑_, fits-in, sized}
 use Rattle.cutting.specs.Saws.{saw-written}
 use Rattle.cutting.specs.Shares.{by-weight}
-use Rattle.cutting.specs.Normal.{sides}
+use Rattle.cutting.specs.Normal.{none, sides}
 use Rattle.cutting.specs.Choice.{Choice, as-waste, as-piece, as-cut, or-waste, or-length, or-piece, or-zero, first-cut, choice, follow, written}
-use Rattle.cutting.specs.Job.{Job, GuillotineTree, OnPlate, profit, weight-of, capacity, pieces, figure-of, bound-of, normal-side, plan-of, first-pair, plan-choice, plan-after, InRange}
-use Rattle.cutting.proofs.Lists.{mem-pairs, first-cong}
+use Rattle.cutting.specs.Job.{Job, GuillotineTree, OnPlate, profit, weight-of, capacity, pieces, figure-of, bound-of, normal-side, normal-positions, normal-floor, plan-of, kind-earns, pair-earns, first-pair, plan-choice, plan-after, InRange}
+use Rattle.cutting.proofs.Lists.{range-entry, range-length, mem-pairs, first-cong}
+use Rattle.cutting.proofs.Search.{first-number, no-number, pairs-at, pairs-missing}
 use Rattle.cutting.proofs.Weights.{within-weight, by-weight-monotone}
 use Rattle.cutting.proofs.Normal.{floor-le, normal-additive, side-normal}
+use Rattle.cutting.proofs.Positions.{between-length, between-entry}
 use Rattle.cutting.proofs.Choice.{written-earns, written-eq}
 use Rattle.cutting.proofs.Written.{cut-written, written-proper, written-units, figure-written}
 use Rattle.cutting.proofs.Job.{plain, kinds-solid}
+use Rattle.cutting.proofs.Table.{normal-zero}
 
 module _ (J : Job) (weight : ℕ → ℕ) (h : InRange J) where
   -- cuts of the written plan have the same figures
@@ -75,3 +81,55 @@ module _ (J : Job) (weight : ℕ → ℕ) (h : InRange J) where
   unfolding plan-of
   plan-recursion l w c a b = written-eq (pieces J) (saw-written (normal-side J)) (by-weight weight) (written-proper (normal-side J)) (l, w) c
       ∙ follow-plain l w (choice (pieces J) (saw-written (normal-side J)) (by-weight weight) (l, w) c) ∙ ap (plan-after J weight l w) (choice-plain l w c a b)
+
+module _ (J : Job) (weight : ℕ → ℕ) (l w c : ℕ) where
+  -- the lowest-numbered kind that earns the figure, as a loop over the kinds finds it
+  pub kind-found : (i : ℕ) → i < J .count → T (kind-earns J weight l w c i) → ((j : ℕ) → j < i → kind-earns J weight l w c j ≡ false)
+      → first (kind-earns J weight l w c) (range 0 (J .count)) ≡ some i
+  kind-found i h t earlier = first-number (kind-earns J weight l w c) (J .count) i h t earlier
+
+  pub kind-missing : ((j : ℕ) → j < J .count → kind-earns J weight l w c j ≡ false) → first (kind-earns J weight l w c) (range 0 (J .count)) ≡ none
+  kind-missing fails = no-number (kind-earns J weight l w c) (J .count) fails
+
+  module _ (d : Direction) (a : ℕ) (known : a < length (normal-positions J d)) (tabled : getD (normal-positions J d) a 0 ≡ normal-floor J d (side d (l, w))) where
+    -- whether the cut at entry i of the normal positions, with share k for the first part, earns the figure
+    abbrev pub entry-earns : ℕ → ℕ → Bool
+    entry-earns i k = pair-earns J weight d l w c (getD (normal-positions J d) i 0, (k, c - k))
+
+    cuts : List ℕ
+    cuts = filter (normal-side J d) (range 1 (normal-floor J d (side d (l, w)) - 1))
+
+    shares : List (ℕ × ℕ)
+    shares = map (λ k. (k, c - k)) (range 0 (suc c))
+
+    cuts-length : length cuts ≡ a - 1
+    unfolding cuts normal-positions
+    cuts-length = rw (sym tabled) (between-length (normal-side J d) (normal-zero J d) (suc (side d (J .plate))) a known)
+
+    shares-length : length shares ≡ suc c
+    unfolding shares
+    shares-length = length-map (range 0 (suc c)) (λ k. (k, c - k)) ∙ range-length 0 (suc c)
+
+    at-entry : (j m : ℕ) → suc j < a → m ≤ c → _≡_ {A = ℕ × (ℕ × ℕ)} (getD cuts j 0, getD shares m (0, c - 0)) (getD (normal-positions J d) (suc j) 0, (m, c - m))
+    unfolding cuts shares normal-positions
+    at-entry j m h n =
+        let e : getD (range 0 (suc c)) m 0 ≡ m = omega (arith, range-entry 0 (suc c) m 0 (omega arith)) in
+        ap₂ (λ x q. (x, q)) (rw (sym tabled) (between-entry (normal-side J d) (normal-zero J d) (suc (side d (J .plate))) a j known h))
+        (List·getD-map (λ k. (k, c - k)) (range 0 (suc c)) m 0 ∙ ap (λ k. (k, c - k)) e)
+
+    -- the first pair of position and share, as nested loops over the entries from 1 and the shares from 0 find it
+    pub pair-found : (i k : ℕ) → 1 ≤ i → i < a → k ≤ c → T (entry-earns i k) → ((j m : ℕ) → 1 ≤ j → j < i → m ≤ c → entry-earns j m ≡ false)
+        → ((m : ℕ) → m < k → entry-earns i m ≡ false) → first-pair J weight d l w c ≡ some (getD (normal-positions J d) i 0, (k, c - k))
+    unfolding first-pair cuts shares
+    pair-found zero k h g n t rows row = absurd (omega arith)
+    pair-found (suc i) k h g n t rows row = rw (at-entry i k g n) at (pairs-at (pair-earns J weight d l w c) 0 (0, c - 0) cuts shares i k
+        (omega (arith, cuts-length)) (omega (arith, shares-length)) (rw (at-entry i k g n) t)
+        (λ j m p q. ap (pair-earns J weight d l w c) (at-entry j m (omega arith) (omega (arith, shares-length))) ∙ rows (suc j) m (omega arith) (omega arith) (omega (arith, shares-length)))
+        (λ m p. ap (pair-earns J weight d l w c) (at-entry i m g (omega arith)) ∙ row m p))
+
+    pub pair-missing : ((j m : ℕ) → 1 ≤ j → j < a → m ≤ c → entry-earns j m ≡ false) → first-pair J weight d l w c ≡ none
+    unfolding first-pair cuts shares
+    pair-missing rows = pairs-missing (pair-earns J weight d l w c) 0 (0, c - 0) cuts shares (λ j m p q.
+        (let h : suc j < a = omega (arith, cuts-length) in
+        let n : m ≤ c = omega (arith, shares-length) in
+        ap (pair-earns J weight d l w c) (at-entry j m h n) ∙ rows (suc j) m (omega arith) h n))

@@ -3,16 +3,16 @@
 use mathlib.Core.Path.{_≡_, refl, sym, _∙_, ap, ap₂}
 use mathlib.Core.Bool.{Bool, true, false}
 use mathlib.Core.List.{List, [], _∷_, List·Memᴰ, List·Memᴰ·head, List·Memᴰ·tail}
-use Prim.Native.Nat.{ℕ, zero, suc, _-_, _*_, _/_, _≤_, _<_}
+use Prim.Native.Nat.{ℕ, zero, suc, _+_, _-_, _*_, _/_, _≤_, _<_}
 use native.Mathlib.Nat.{sub-zero}
 use native.Mathlib.Decide.{ℕ-discrete, decLe}
 use native.Mathlib.Omega.{arith}
 use lib.Dec.{T}
-use lib.ListN.{length, getD, take, drop}
-use lib.Seq.{getD-take, length-take-le}
+use lib.ListN.{length, getD, take, drop, length-drop}
+use lib.Seq.{getD-take, getD-drop, length-take-le}
 use Rattle.cutting.specs.Lists.{range, keep, filter, greatest}
 use Rattle.cutting.specs.Saws.{floor}
-use Rattle.cutting.proofs.Lists.{range-mem, mem-range, filter-mem, mem-filter}
+use Rattle.cutting.proofs.Lists.{T-true, range-mem, mem-range, filter-mem, mem-filter}
 use Rattle.cutting.proofs.Greatest.{greatest-ge, greatest-le, most, most-ge, most-le}
 use Rattle.cutting.proofs.Normal.{floor-le, floor-passes, floor-ge}
 
@@ -24,10 +24,6 @@ getD-mem (x ∷ xs) (suc i) d h = List·Memᴰ·tail (getD-mem xs i d (omega ari
 pub mem-getD : {A : Type 0} (xs : List A) (x : A) (d : A) → List·Memᴰ x xs → (i : ℕ) × (i < length xs) × (getD xs i d ≡ x)
 mem-getD xs x d (List·Memᴰ·head e) = (0, omega arith, sym e)
 mem-getD xs x d (List·Memᴰ·tail {xs = ys} m) = let t = mem-getD ys x d m in (suc (t .0), omega (arith, t .1), t .2)
-
-T-true : (b : Bool) → T b → b ≡ true
-T-true true t = refl
-T-true false t = absurd t
 
 module _ (N : ℕ → Bool) where
   at-least : (b m a : ℕ) → a < length (filter N (range b m)) → b ≤ getD (filter N (range b m)) a 0
@@ -95,12 +91,25 @@ module _ (N : ℕ → Bool) where
       go (suc i) a b (no c) = (suc i, omega arith, omega arith, a, b)
 
   -- without the 0 at the head: the cuts of a side that is an entry are the entries between
-  pub between : T (N 0) → (m a : ℕ) → 0 < a → a < length (filter N (range 0 m)) → filter N (range 1 (getD (filter N (range 0 m)) a 0 - 1)) ≡ drop 1 (take a (filter N (range 0 m)))
-  unfolding filter
-  between z m a p h =
-      let l = getD (filter N (range 0 m)) a 0 in
-      let e : range 0 l ≡ 0 ∷ range 1 (l - 1) = rw sub-zero at (longer 0 l (omega (arith, rising m 0 a p h))) in
-      ap (λ c. drop 1 (keep c 0 (filter N (range 1 (l - 1))))) (sym (T-true (N 0) z)) ∙ ap (drop 1) (ap (filter N) (sym e) ∙ below m a h)
+  between : T (N 0) → (m a : ℕ) → a < length (filter N (range 0 m)) → filter N (range 1 (getD (filter N (range 0 m)) a 0 - 1)) ≡ drop 1 (take a (filter N (range 0 m)))
+  unfolding range filter
+  between z m zero h = rw (first-zero z m) refl
+  between z m (suc a) h =
+      let l = getD (filter N (range 0 m)) (suc a) 0 in
+      let e : range 0 l ≡ 0 ∷ range 1 (l - 1) = rw sub-zero at (longer 0 l (omega (arith, rising m 0 (suc a) (omega arith) h))) in
+      ap (λ c. drop 1 (keep c 0 (filter N (range 1 (l - 1))))) (sym (T-true (N 0) z)) ∙ ap (drop 1) (ap (filter N) (sym e) ∙ below m (suc a) h)
+
+  pub between-length : T (N 0) → (m a : ℕ) → a < length (filter N (range 0 m)) → length (filter N (range 1 (getD (filter N (range 0 m)) a 0 - 1))) ≡ a - 1
+  between-length z m a h =
+      let ns = filter N (range 0 m) in
+      omega (arith, ap length (between z m a h), length-drop 1 (take a ns), length-take-le a ns (omega arith))
+
+  pub between-entry : T (N 0) → (m a j : ℕ) → a < length (filter N (range 0 m)) → suc j < a
+      → getD (filter N (range 1 (getD (filter N (range 0 m)) a 0 - 1))) j 0 ≡ getD (filter N (range 0 m)) (suc j) 0
+  between-entry z m a j h l =
+      let ns = filter N (range 0 m) in
+      let e : 1 + j ≡ suc j = omega arith in
+      ap (λ xs. getD xs j 0) (between z m a h) ∙ getD-drop 1 (take a ns) j 0 ∙ ap (λ k. getD (take a ns) k 0) e ∙ getD-take a ns (suc j) 0 l
 
   -- the floor of a number is the last entry that is not above it
   pub floor-at : T (N 0) → (m a x : ℕ) → x < m → a < length (filter N (range 0 m)) → getD (filter N (range 0 m)) a 0 ≤ x

@@ -2,6 +2,7 @@
 -- it, and its loops find the figure from cuts at normal positions up to half of a side.
 -- Assumes nothing.
 use mathlib.Core.Path.{_≡_, _∙_}
+use mathlib.Core.Logic.{_↔_}
 use mathlib.Core.Bool.{_&&_}
 use Prim.Native.Nat.{ℕ, suc, _+_, _-_, _*_, _/_, _≤_, _<_, max}
 use native.Mathlib.Omega.{arith}
@@ -9,24 +10,33 @@ use lib.Dec.{T, leb}
 use lib.ListN.{length, getD}
 use Rattle.cutting.specs.declared.Direction.{Direction}
 use Rattle.cutting.specs.declared.Direction.the-variants.{Length, Width}
-use Rattle.cutting.specs.Lists.{range, only, filter, greatest}
+use Rattle.cutting.specs.Lists.{range, only, filter, any, greatest}
 use Rattle.cutting.specs.Tree.{side}
 use Rattle.cutting.specs.Figure.{leaf, best, step}
 use Rattle.cutting.specs.Pieces.{fits-in, sized}
 use Rattle.cutting.specs.Saws.{saw-half}
 use Rattle.cutting.specs.Shares.{by-weight}
-use Rattle.cutting.specs.Normal.{sides}
+use Rattle.cutting.specs.Normal.{Sum, sides}
 use Rattle.cutting.specs.Job.{Job, pieces, figure-of, normal-side, normal-positions, normal-floor, InRange}
 use Rattle.cutting.proofs.Lists.{range-mem, mem-range, range-length, filter-length, filter-mem, mem-filter}
 use Rattle.cutting.proofs.Greatest.{greatest-map, most}
 use Rattle.cutting.proofs.Weights.{by-weight-monotone, by-weight-symmetric}
-use Rattle.cutting.proofs.Normal.{normal-additive, side-normal}
+use Rattle.cutting.proofs.Normal.{normal-sum, normal-additive, side-normal, normal-rule}
 use Rattle.cutting.proofs.Positions.{getD-mem, mem-getD, below, first-zero, rising, floor-at, greatest-half}
 use Rattle.cutting.proofs.Cells.{cell-floor}
 use Rattle.cutting.proofs.Half.{cell-half}
 use Rattle.cutting.proofs.Job.{kinds-solid}
 
 module _ (J : Job) (d : Direction) where
+  -- a number is normal exactly if it is a sum, with repetition, of sides of kinds that fit the plate
+  pub normal-sums : (n : ℕ) → T (normal-side J d n) ↔ Sum (sides (range 0 (J .count)) (J .size) (J .plate) d) n
+  normal-sums n = normal-sum (sides (range 0 (J .count)) (J .size) (J .plate) d) n
+
+  -- and, above 0, exactly if a kind that fits the plate leads to it from a normal number
+  pub normal-side-rule : (n : ℕ) → 1 ≤ n
+      → normal-side J d n ≡ any (λ i. fits-in (J .size i) (J .plate) && (leb (side d (J .size i)) n && normal-side J d (n - side d (J .size i)))) (range 0 (J .count))
+  normal-side-rule n h = normal-rule (range 0 (J .count)) (J .size) (J .plate) d n h
+
   -- 0 is a normal position
   pub normal-zero : T (normal-side J d 0)
   normal-zero = normal-additive (sides (range 0 (J .count)) (J .size) (J .plate) d) .0
