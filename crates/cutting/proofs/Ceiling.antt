@@ -12,7 +12,7 @@ use Rattle.cutting.specs.Figure.{figure}
 use Rattle.cutting.specs.Pieces.{sized, Solid}
 use Rattle.cutting.specs.Saws.{saw}
 use Rattle.cutting.proofs.Exact.{figure-attained}
-use Rattle.cutting.proofs.Saws.{cut-saw}
+use Rattle.cutting.proofs.Saws.{cut-saw, saw-proper}
 use Rattle.cutting.proofs.Pieces.{true-fits-in}
 
 module _ {P : Type 0} (K : Pieces P) (C : Saw) (f : P → ℕ) (φ : Direction → ℕ → ℕ) (top : ℕ)
@@ -40,7 +40,7 @@ module _ {P : Type 0} (ps : List P) (price : P → ℕ) (size : P → Rect) (sol
   pub figure-area : (top : ℕ) → ((p : P) → List·Memᴰ p ps → price p ≤ top) → {S : Type 0} (H : Shares P S) (r : Rect) (s : S) → figure (sized ps price size) (saw 0) H r s ≤ r .0 * r .1 * top
   unfolding sized
   figure-area top priced H r s =
-      let e = figure-attained (sized ps price size) (saw 0) H r s in
+      let e = figure-attained (sized ps price size) (saw 0) H (saw-proper 0) r s in
       omega (
         arith,
         measured (sized ps price size) (saw 0) price (λ d n. n) top

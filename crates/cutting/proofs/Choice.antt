@@ -14,10 +14,9 @@ use Rattle.cutting.specs.Lists.{only, first, greatest, pairs}
 use Rattle.cutting.specs.Tree.{Rect, side, part, Tree, cut, Pieces, Saw, Shares, beyond, Proper, total, earns, Guillotine, Within}
 use Rattle.cutting.specs.Figure.{half-perimeter, leaf, best, step, figure}
 use Rattle.cutting.specs.Choice.{Choice, as-waste, as-piece, as-cut, or-waste, or-length, or-piece, or-zero, piece-earns, cut-earns, first-cut, choice, follow, plan-within, written}
-use Rattle.cutting.proofs.Lists.{and-T, T-and, pairs-mem, mem-pairs, Found, found, missing, first-found}
+use Rattle.cutting.proofs.Lists.{and-T, T-and, only-is, pairs-mem, mem-pairs, Found, found, missing, first-found}
 use Rattle.cutting.proofs.Greatest.{max-is, greatest-is}
 use Rattle.cutting.proofs.Recursion.{smaller, figure-eq}
-use Rattle.cutting.proofs.Exact.{only-is}
 
 module _ {P S : Type 0} (K : Pieces P) (C : Saw) (H : Shares P S) where
   -- a choice that earns the figure

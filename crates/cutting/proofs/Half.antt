@@ -5,44 +5,31 @@ use mathlib.Core.Path.{_≡_, _∙_}
 use mathlib.Core.Logic.{_⊎_, inl, inr}
 use mathlib.Core.Bool.{Bool}
 use mathlib.Core.List.{List, List·Memᴰ}
-use Prim.Native.Nat.{ℕ, _+_, _-_, _*_, _/_, _≤_, _<_}
+use Prim.Native.Nat.{ℕ, _+_, _-_, _≤_, _<_}
 use native.Mathlib.Decide.{ℕ-discrete, decLe}
 use native.Mathlib.Omega.{arith}
-use lib.Dec.{T}
 use Rattle.cutting.specs.declared.Direction.{Direction}
 use Rattle.cutting.specs.declared.Direction.the-variants.{Length, Width}
-use Rattle.cutting.specs.Lists.{range}
 use Rattle.cutting.specs.Tree.{Rect, side, part, Tree, waste, piece, cut, Pieces, Shares, total, earns, Guillotine, Within, Monotone, Symmetric}
 use Rattle.cutting.specs.Figure.{best, step, figure}
 use Rattle.cutting.specs.Pieces.{_⊑_, sized, Solid}
-use Rattle.cutting.specs.Saws.{saw, floor, saw-half}
-use Rattle.cutting.specs.Normal.{normal}
-use Rattle.cutting.proofs.Lists.{range-mem, mem-range, filter-mem, mem-filter}
+use Rattle.cutting.specs.Saws.{saw, floor, saw-normal, saw-half}
 use Rattle.cutting.proofs.Greatest.{greatest-le}
 use Rattle.cutting.proofs.Recursion.{figure-eq}
 use Rattle.cutting.proofs.Exact.{leaf-ge, best-ge, step-ge, figure-upper, figure-attained}
-use Rattle.cutting.proofs.Transfer.{through, Enlarges, enlarge, figure-mono, figure-degenerate, part-grow, part-whole, side-part}
-use Rattle.cutting.proofs.Saws.{saw-cut, cut-saw, saw-proper}
-use Rattle.cutting.proofs.Pieces.{sized-enlarges}
-use Rattle.cutting.proofs.Normal.{floor-le, floor-passes, Additive}
-use Rattle.cutting.proofs.Cells.{cell-floor}
+use Rattle.cutting.proofs.Floor.{floor-le, floor-passes}
+use Rattle.cutting.proofs.Saws.{saw-cut, cut-saw, saw-proper, half-cut, cut-half}
+use Rattle.cutting.proofs.Transfer.{through, Enlarges, enlarge, figure-mono, figure-degenerate, part-grow, part-within, side-part}
+use Rattle.cutting.proofs.Pieces.{units-enlarge}
+use Rattle.cutting.proofs.Reduction.{Sufficient, saw-normal-cuts, floor-figure}
 
-module _ (N : Direction → ℕ → Bool) where
-  half-cut : (d : Direction) (n x : ℕ) → 1 ≤ x → 2 * x ≤ n → T (N d x) → List·Memᴰ x (saw-half N .cuts d n)
-  unfolding saw-half
-  half-cut d n x h l t = filter-mem (N d) (range 1 (n / 2)) (range-mem 1 (n / 2) x h (omega arith)) t
-
-  cut-half : (d : Direction) (n x : ℕ) → List·Memᴰ x (saw-half N .cuts d n) → (1 ≤ x) × (2 * x ≤ n) × T (N d x)
-  unfolding saw-half
-  cut-half d n x m = let s = mem-filter (N d) (range 1 (n / 2)) m in let h = mem-range 1 (n / 2) x (s .0) in (omega arith, omega arith, s .1)
-
-module _ (N : Direction → ℕ → Bool) (c : (d : Direction) → Additive (N d)) {P S : Type 0} (ps : List P) (price : P → ℕ) (size : P → Rect) (solid : Solid ps size)
-    (H : Shares P S) (mono : Monotone H) (plate : Rect) (normal : (d : Direction) (p : P) → List·Memᴰ p ps → size p ⊑ plate → T (N d (side d (size p)))) where
+module _ {P S : Type 0} (ps : List P) (price : P → ℕ) (size : P → Rect) (solid : Solid ps size) (H : Shares P S) (mono : Monotone H) (plate : Rect) (N : Direction → ℕ → Bool)
+    (enough : Sufficient ps size plate N) where
   abbrev K : Pieces P
   K = sized ps price size
 
   enlarges : Enlarges K (saw 0)
-  enlarges = sized-enlarges ps price size solid 0
+  enlarges = units-enlarge ps price size solid 0
 
   -- the figure, cut at every whole unit
   abbrev F : Rect → S → ℕ
@@ -51,18 +38,17 @@ module _ (N : Direction → ℕ → Bool) (c : (d : Direction) → Additive (N d
   larger : (q r : Rect) (s : S) → q ⊑ r → F q s ≤ F r s
   larger q r s h = figure-mono K (saw 0) H enlarges q r s h
 
-  -- a part counts as much when its side falls to a normal position
+  -- a part counts as much when its side falls to such a position
   part-floor : (d : Direction) (x : ℕ) (r : Rect) (s : S) → r ⊑ plate → x ≤ side d r → F (part d x r) s ≤ F (part d (floor (N d) x) r) s
-  part-floor Length x r s h l = omega (
+  part-floor d x r s h l = omega (
     arith,
-    cell-floor N c ps price size solid H mono plate normal (x, r .1) s (omega arith),
-    larger (through (λ d. floor (N d)) (x, r .1)) (floor (N Length) x, r .1) s (omega (arith, floor-le (N Width) (r .1))),
+    floor-figure ps price size solid H mono plate N enough (saw-normal N) (saw-normal-cuts N (enough .additive)) (part d x r) s (part-within d x r plate h l),
+    larger (through (λ d. floor (N d)) (part d x r)) (part d (floor (N d) x) r) s (floor-part d x r),
   )
-  part-floor Width x r s h l = omega (
-    arith,
-    cell-floor N c ps price size solid H mono plate normal (r .0, x) s (omega arith),
-    larger (through (λ d. floor (N d)) (r .0, x)) (r .0, floor (N Width) x) s (omega (arith, floor-le (N Length) (r .0))),
-  )
+    where
+      floor-part : (d : Direction) (x : ℕ) (r : Rect) → through (λ d. floor (N d)) (part d x r) ⊑ part d (floor (N d) x) r
+      floor-part Length x r = omega (arith, floor-le (N Width) (r .1))
+      floor-part Width x r = omega (arith, floor-le (N Length) (r .0))
 
   -- a cut whose first part is not the larger: that part has figure 0, or a cut up to half of the side gives as much
   lesser-first : (d : Direction) (r : Rect) (s : S) (q : S × S) (x y : ℕ) → r ⊑ plate → x + y ≡ side d r → x ≤ y → List·Memᴰ q (H .splits d s)
@@ -79,12 +65,12 @@ module _ (N : Direction → ℕ → Bool) (c : (d : Direction) → Additive (N d
       go : Dec (z ≡ 0) → (F (part d x r) (q .0) ≡ 0) ⊎ (F (part d x r) (q .0) + F (part d y r) (q .1) ≤ best (saw-half N) H F d r s)
       go (yes k) = inl (omega (arith, below, figure-degenerate K (saw 0) H enlarges d (part d z r) (q .0) (side-part d z r ∙ k)))
       go (no k) =
-          let rest = floor (N d) (side d r - z) in inr (omega (
+          inr (omega (
             arith,
             below,
             larger (part d y r) (part d (side d r - z) r) (q .1) (part-grow d y (side d r - z) r (omega (arith, floor-le (N d) x))),
             part-floor d (side d r - z) r (q .1) h (omega arith),
-            best-ge K (saw-half N) H F d r s z q (half-cut N d (side d r) z (omega arith) (omega (arith, floor-le (N d) x)) (floor-passes (N d) (c d .0) x)) m,
+            best-ge K (saw-half N) H F d r s z q (half-cut N d (side d r) z (omega arith) (omega (arith, floor-le (N d) x)) (floor-passes (N d) (enough .additive d .0) x)) m,
           ))
 
   -- so two parts that earn no more than their figures earn no more than a step, if the larger one does not
@@ -102,8 +88,8 @@ module _ (N : Direction → ℕ → Bool) (c : (d : Direction) → Additive (N d
   half-upper swap waste r s h g w = omega arith
   half-upper swap (piece p) r s h g w = omega (arith, leaf-ge K (saw-half N) H p r s (g .0) (g .1) w)
   half-upper swap (cut d x a b) r s h g w = go (decLe x y)
-      (half-upper swap a r s h (enlarge K (saw 0) enlarges a (part d x r) r (part-whole d x r (omega (arith, l))) (g .1)) (mono d s (w .0) (w .1) a .0 (w .2)))
-      (half-upper swap b r s h (enlarge K (saw 0) enlarges b (part d y r) r (part-whole d y r (omega arith)) (g .2)) (mono d s (w .0) (w .1) b .1 (w .3)))
+      (half-upper swap a r s h (enlarge K (saw 0) enlarges a (part d x r) r (part-within d x r r (omega arith) (omega (arith, l))) (g .1)) (mono d s (w .0) (w .1) a .0 (w .2)))
+      (half-upper swap b r s h (enlarge K (saw 0) enlarges b (part d y r) r (part-within d y r r (omega arith) (omega arith)) (g .2)) (mono d s (w .0) (w .1) b .1 (w .3)))
     where
       y : ℕ
       y = side d r - x - 0
@@ -135,8 +121,8 @@ module _ (N : Direction → ℕ → Bool) (c : (d : Direction) → Additive (N d
       ))))
 
   -- the figure of a rectangle on the plate, from the cuts up to half of its sides
-  pub cell-half : Symmetric H → (r : Rect) (s : S) → r ⊑ plate → F r s ≡ step K (saw-half N) H F r s
+  pub half-figure : Symmetric H → (r : Rect) (s : S) → r ⊑ plate → F r s ≡ step K (saw-half N) H F r s
   unfolding step
-  cell-half swap r s h =
-      let e = figure-attained K (saw 0) H r s in
+  half-figure swap r s h =
+      let e = figure-attained K (saw 0) H (saw-proper 0) r s in
       omega (arith, half-upper swap (e .0) r s h (e .1) (e .2), e .3, half-lower Length r s, half-lower Width r s, figure-eq K (saw 0) H (saw-proper 0) r s)

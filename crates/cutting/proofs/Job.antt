@@ -59,7 +59,7 @@ module _ (J : Job) (weight : ℕ → ℕ) where
   -- and some such tree earns it
   pub figure-earned : (l w c : ℕ) → (t : Tree ℕ) × GuillotineTree J l w t × (weight-of weight t ≤ c) × (profit J t ≡ figure-of J weight l w c)
   unfolding figure-of pieces sized
-  figure-earned l w c = let e = figure-attained (pieces J) (saw 0) (by-weight weight) (l, w) c in (e .0, plain J (e .0) (l, w) (e .1), within-weight weight (e .0) c (e .2), e .3)
+  figure-earned l w c = let e = figure-attained (pieces J) (saw 0) (by-weight weight) (saw-proper 0) (l, w) c in (e .0, plain J (e .0) (l, w) (e .1), within-weight weight (e .0) c (e .2), e .3)
 
   -- the same of the bound: no tree on the plate of weight at most the capacity earns more
   pub bound-most : (t : Tree ℕ) → OnPlate J t → weight-of weight t ≤ capacity J weight → profit J t ≤ bound-of J weight

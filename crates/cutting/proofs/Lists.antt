@@ -10,7 +10,7 @@ use native.Mathlib.Decide.{ℕ-discrete}
 use native.Mathlib.Omega.{arith}
 use lib.Dec.{T}
 use lib.ListN.{length, getD}
-use Rattle.cutting.specs.Lists.{range, keep, filter, any, first, pairs}
+use Rattle.cutting.specs.Lists.{range, only, keep, filter, any, first, pairs}
 
 pub and-T : (a b : Bool) → T a → T b → T (a && b)
 and-T true b t u = u
@@ -28,6 +28,17 @@ pub T-equal : (a b : Bool) → (T a → T b) → (T b → T a) → a ≡ b
 T-equal true b f g = sym (T-true b (f tt))
 T-equal false true f g = absurd (g tt)
 T-equal false false f g = refl
+
+pub only-open : (a b : Bool) (n : ℕ) → T a → T b → only (a && b) n ≡ n
+only-open true true n t u = refl
+only-open true false n t u = absurd u
+only-open false b n t u = absurd t
+
+-- a price that is open, or 0
+pub only-is : (a b : Bool) (n : ℕ) → (T a × T b × (only (a && b) n ≡ n)) ⊎ (only (a && b) n ≡ 0)
+only-is true true n = inl (tt, tt, refl)
+only-is true false n = inr refl
+only-is false b n = inr refl
 
 pub range-mem : (a n x : ℕ) → a ≤ x → x < a + n → List·Memᴰ x (range a n)
 unfolding range

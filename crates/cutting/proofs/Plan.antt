@@ -12,30 +12,44 @@ use lib.ListN.{length, getD, length-map, List·getD-map}
 use Rattle.cutting.specs.declared.Direction.{Direction}
 use Rattle.cutting.specs.declared.Direction.the-variants.{Length, Width}
 use Rattle.cutting.specs.Lists.{range, filter, first}
-use Rattle.cutting.specs.Tree.{Rect, side}
+use Rattle.cutting.specs.Tree.{Rect, side, Tree, Guillotine}
 use Rattle.cutting.specs.Figure.{figure}
 use Rattle.cutting.specs.Pieces.{_⊑_, fits-in, sized}
-use Rattle.cutting.specs.Saws.{saw-written}
+use Rattle.cutting.specs.Saws.{saw, saw-written}
 use Rattle.cutting.specs.Shares.{by-weight}
-use Rattle.cutting.specs.Normal.{none, sides}
+use Rattle.cutting.specs.Normal.{none}
 use Rattle.cutting.specs.Choice.{Choice, as-waste, as-piece, as-cut, or-waste, or-length, or-piece, or-zero, first-cut, choice, follow, written}
 use Rattle.cutting.specs.Job.{Job, GuillotineTree, OnPlate, profit, weight-of, capacity, pieces, figure-of, bound-of, normal-side, normal-positions, normal-floor, plan-of, kind-earns, pair-earns, first-pair, plan-choice, plan-after, InRange}
 use Rattle.cutting.proofs.Lists.{range-entry, range-length, mem-pairs, first-cong}
 use Rattle.cutting.proofs.Search.{first-number, no-number, pairs-at, pairs-missing}
-use Rattle.cutting.proofs.Weights.{within-weight, by-weight-monotone}
-use Rattle.cutting.proofs.Normal.{floor-le, normal-additive, side-normal}
-use Rattle.cutting.proofs.Positions.{between-length, between-entry}
 use Rattle.cutting.proofs.Choice.{written-earns, written-eq}
-use Rattle.cutting.proofs.Written.{cut-written, written-proper, written-units, figure-written}
+use Rattle.cutting.proofs.Floor.{floor-le}
+use Rattle.cutting.proofs.Saws.{saw-cut, cut-written}
+use Rattle.cutting.proofs.Transfer.{recut}
+use Rattle.cutting.proofs.Weights.{within-weight, by-weight-monotone}
+use Rattle.cutting.proofs.Reduction.{Sufficient, CutsAt, saw-written-cuts, cuts-proper, saw-figure}
+use Rattle.cutting.proofs.Normal.{normal-sufficient}
+use Rattle.cutting.proofs.Positions.{between-length, between-entry}
 use Rattle.cutting.proofs.Job.{plain, kinds-solid}
 use Rattle.cutting.proofs.Table.{normal-zero}
 
 module _ (J : Job) (weight : ℕ → ℕ) (h : InRange J) where
-  -- cuts of the written plan have the same figures
+  enough : Sufficient (range 0 (J .count)) (J .size) (J .plate) (normal-side J)
+  enough = normal-sufficient (range 0 (J .count)) (J .size) (J .plate)
+
+  cuts-at : CutsAt (normal-side J) (saw-written (normal-side J))
+  cuts-at = saw-written-cuts (normal-side J) (enough .additive)
+
+  -- cuts of the written plan give the same figures
   plan-figure : (r : Rect) (c : ℕ) → r ⊑ J .plate → figure (pieces J) (saw-written (normal-side J)) (by-weight weight) r c ≡ figure-of J weight (r .0) (r .1) c
   unfolding figure-of pieces
-  plan-figure r c on = sym (figure-written (normal-side J) (λ d. normal-additive (sides (range 0 (J .count)) (J .size) (J .plate) d)) (range 0 (J .count)) (J .price) (J .size)
-      (kinds-solid J h) (by-weight weight) (by-weight-monotone weight) (J .plate) (side-normal (range 0 (J .count)) (J .size) (J .plate)) r c on)
+  plan-figure r c on = sym (saw-figure (range 0 (J .count)) (J .price) (J .size) (kinds-solid J h) (by-weight weight) (by-weight-monotone weight) (J .plate) (normal-side J) enough
+      (saw-written (normal-side J)) cuts-at r c on)
+
+  -- and its trees are trees cut at whole units
+  plan-units : (t : Tree ℕ) (r : Rect) → Guillotine (pieces J) (saw-written (normal-side J)) r t → Guillotine (pieces J) (saw 0) r t
+  unfolding saw saw-written
+  plan-units t r g = recut (pieces J) (saw-written (normal-side J)) (saw 0) (λ d n x m. (let u = cuts-at .units d n x m in (saw-cut 0 d n x (u .0) (omega arith), omega arith))) t r g
 
   -- the plan from a rectangle and a share is a guillotine tree on it, weighs at most the share and earns the figure
   pub plan-tree : (l w c : ℕ) → l ≤ J .plate .0 → w ≤ J .plate .1
@@ -43,8 +57,8 @@ module _ (J : Job) (weight : ℕ → ℕ) (h : InRange J) where
   unfolding plan-of pieces sized
   plan-tree l w c a b =
       let t = plan-of J weight l w c in
-      let e = written-earns (pieces J) (saw-written (normal-side J)) (by-weight weight) (written-proper (normal-side J)) (l, w) c in
-      (plain J t (l, w) (written-units (normal-side J) (pieces J) t (l, w) (e .0)), within-weight weight t c (e .1), e .2 ∙ plan-figure (l, w) c (a, b))
+      let e = written-earns (pieces J) (saw-written (normal-side J)) (by-weight weight) (cuts-proper (normal-side J) (saw-written (normal-side J)) cuts-at) (l, w) c in
+      (plain J t (l, w) (plan-units t (l, w) (e .0)), within-weight weight t c (e .1), e .2 ∙ plan-figure (l, w) c (a, b))
 
   -- so the plan from the plate and the capacity earns the bound
   pub plan-bound : OnPlate J (plan-of J weight (J .plate .0) (J .plate .1) (capacity J weight)) × (weight-of weight (plan-of J weight (J .plate .0) (J .plate .1) (capacity J weight)) ≤ capacity J weight)
@@ -79,7 +93,7 @@ module _ (J : Job) (weight : ℕ → ℕ) (h : InRange J) where
   -- the plan, from the choice at a rectangle and a share downward
   pub plan-recursion : (l w c : ℕ) → l ≤ J .plate .0 → w ≤ J .plate .1 → plan-of J weight l w c ≡ plan-after J weight l w (plan-choice J weight l w c)
   unfolding plan-of
-  plan-recursion l w c a b = written-eq (pieces J) (saw-written (normal-side J)) (by-weight weight) (written-proper (normal-side J)) (l, w) c
+  plan-recursion l w c a b = written-eq (pieces J) (saw-written (normal-side J)) (by-weight weight) (cuts-proper (normal-side J) (saw-written (normal-side J)) cuts-at) (l, w) c
       ∙ follow-plain l w (choice (pieces J) (saw-written (normal-side J)) (by-weight weight) (l, w) c) ∙ ap (plan-after J weight l w) (choice-plain l w c a b)
 
 module _ (J : Job) (weight : ℕ → ℕ) (l w c : ℕ) where

@@ -14,7 +14,7 @@ use Rattle.cutting.specs.Lists.{range, keep, filter, greatest}
 use Rattle.cutting.specs.Saws.{floor}
 use Rattle.cutting.proofs.Lists.{T-true, range-mem, mem-range, filter-mem, mem-filter}
 use Rattle.cutting.proofs.Greatest.{greatest-ge, greatest-le, most, most-ge, most-le}
-use Rattle.cutting.proofs.Normal.{floor-le, floor-passes, floor-ge}
+use Rattle.cutting.proofs.Floor.{floor-le, floor-passes, floor-ge}
 
 pub getD-mem : {A : Type 0} (xs : List A) (i : ℕ) (d : A) → i < length xs → List·Memᴰ (getD xs i d) xs
 getD-mem [] i d h = absurd (omega arith)

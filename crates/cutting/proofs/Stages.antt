@@ -139,7 +139,7 @@ module _ {P S : Type 0} (K : Pieces P) (C : Saw) (H : Shares P S) (proper : Prop
       held : (d : Direction) → max (block Length k r s) (block Width k r s) ≡ block d k r s
           → (t : Tree P) × Guillotine K C r t × Within H s t × (stages t ≤ k) × (earns K t ≡ max (block Length k r s) (block Width k r s))
       held d e =
-          let f = figure-attained K C (staged H) r (d, k, s) in
+          let f = figure-attained K C (staged H) proper r (d, k, s) in
           let v = staged-within H (f .0) d k s (f .2) in
           (f .0, f .1, v .1, omega (arith, v .0, stages-below-ge (f .0) d), f .3 ∙ sym e)
 
@@ -163,7 +163,7 @@ module _ {P S : Type 0} (K : Pieces P) (C : Saw) (H : Shares P S) (proper : Prop
 
   less : (d : Direction) (k : ℕ) (r : Rect) (s : S) → block (other d) k r s ≤ block d (suc k) r s
   less d k r s =
-      let f = figure-attained K C (staged H) r (other d, k, s) in
+      let f = figure-attained K C (staged H) proper r (other d, k, s) in
       let v = staged-within H (f .0) (other d) k s (f .2) in
       omega (arith, figure-upper K C (staged H) proper (f .0) r (d, suc k, s) (f .1) (within-staged H (f .0) d (suc k) s (omega (arith, v .0, change d (other d) (f .0), turn-le d (other d))) (v .1)))
 

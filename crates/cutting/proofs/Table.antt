@@ -12,19 +12,19 @@ use Rattle.cutting.specs.declared.Direction.{Direction}
 use Rattle.cutting.specs.declared.Direction.the-variants.{Length, Width}
 use Rattle.cutting.specs.Lists.{range, only, filter, any, greatest}
 use Rattle.cutting.specs.Tree.{side}
-use Rattle.cutting.specs.Figure.{leaf, best, step}
+use Rattle.cutting.specs.Figure.{leaf, best, step, figure}
 use Rattle.cutting.specs.Pieces.{fits-in, sized}
-use Rattle.cutting.specs.Saws.{saw-half}
+use Rattle.cutting.specs.Saws.{saw-normal, saw-half}
 use Rattle.cutting.specs.Shares.{by-weight}
 use Rattle.cutting.specs.Normal.{Sum, sides}
 use Rattle.cutting.specs.Job.{Job, pieces, figure-of, normal-side, normal-positions, normal-floor, InRange}
 use Rattle.cutting.proofs.Lists.{range-mem, mem-range, range-length, filter-length, filter-mem, mem-filter}
 use Rattle.cutting.proofs.Greatest.{greatest-map, most}
 use Rattle.cutting.proofs.Weights.{by-weight-monotone, by-weight-symmetric}
-use Rattle.cutting.proofs.Normal.{normal-sum, normal-additive, side-normal, normal-rule}
+use Rattle.cutting.proofs.Reduction.{Sufficient, saw-normal-cuts, saw-figure, floor-figure}
+use Rattle.cutting.proofs.Half.{half-figure}
+use Rattle.cutting.proofs.Normal.{normal-sum, normal-sufficient, normal-rule}
 use Rattle.cutting.proofs.Positions.{getD-mem, mem-getD, below, first-zero, rising, floor-at, greatest-half}
-use Rattle.cutting.proofs.Cells.{cell-floor}
-use Rattle.cutting.proofs.Half.{cell-half}
 use Rattle.cutting.proofs.Job.{kinds-solid}
 
 module _ (J : Job) (d : Direction) where
@@ -39,7 +39,7 @@ module _ (J : Job) (d : Direction) where
 
   -- 0 is a normal position
   pub normal-zero : T (normal-side J d 0)
-  normal-zero = normal-additive (sides (range 0 (J .count)) (J .size) (J .plate) d) .0
+  normal-zero = normal-sufficient (range 0 (J .count)) (J .size) (J .plate) .additive d .0
 
   -- the list of normal positions begins with 0
   pub positions-first : getD (normal-positions J d) 0 0 ≡ 0
@@ -86,11 +86,20 @@ module _ (J : Job) (d : Direction) where
   positions-half l k f h p q below above = greatest-half (normal-side J d) normal-zero (suc (side d (J .plate))) l k f (omega arith) p q below above
 
 module _ (J : Job) (weight : ℕ → ℕ) (h : InRange J) (l w c : ℕ) (on-length : l ≤ J .plate .0) (on-width : w ≤ J .plate .1) where
+  enough : Sufficient (range 0 (J .count)) (J .size) (J .plate) (normal-side J)
+  enough = normal-sufficient (range 0 (J .count)) (J .size) (J .plate)
+
+  -- cuts at normal positions alone, the remainder counted down to one, give the same figure
+  pub figure-normal : figure-of J weight l w c ≡ figure (pieces J) (saw-normal (normal-side J)) (by-weight weight) (l, w) c
+  unfolding figure-of pieces
+  figure-normal = saw-figure (range 0 (J .count)) (J .price) (J .size) (kinds-solid J h) (by-weight weight) (by-weight-monotone weight) (J .plate) (normal-side J) enough
+      (saw-normal (normal-side J)) (saw-normal-cuts (normal-side J) (enough .additive)) (l, w) c (on-length, on-width)
+
   -- the figure of a rectangle on the plate is that of the largest normal length and width not above its sides
   pub figure-floor : figure-of J weight l w c ≡ figure-of J weight (normal-floor J Length l) (normal-floor J Width w) c
   unfolding figure-of pieces
-  figure-floor = cell-floor (normal-side J) (λ d. normal-additive (sides (range 0 (J .count)) (J .size) (J .plate) d)) (range 0 (J .count)) (J .price) (J .size) (kinds-solid J h)
-      (by-weight weight) (by-weight-monotone weight) (J .plate) (side-normal (range 0 (J .count)) (J .size) (J .plate)) (l, w) c (on-length, on-width)
+  figure-floor = floor-figure (range 0 (J .count)) (J .price) (J .size) (kinds-solid J h) (by-weight weight) (by-weight-monotone weight) (J .plate) (normal-side J) enough
+      (saw-normal (normal-side J)) (saw-normal-cuts (normal-side J) (enough .additive)) (l, w) c (on-length, on-width)
 
   -- the recursion over cuts at normal positions up to half of a side, the remainder counted down to a normal position
   pub figure-half : figure-of J weight l w c ≡
@@ -98,5 +107,5 @@ module _ (J : Job) (weight : ℕ → ℕ) (h : InRange J) (l w c : ℕ) (on-leng
       (max (greatest (λ x. greatest (λ k. figure-of J weight x w k + figure-of J weight (normal-floor J Length (l - x)) w (c - k)) (range 0 (suc c))) (filter (normal-side J Length) (range 1 (l / 2))))
       (greatest (λ x. greatest (λ k. figure-of J weight l x k + figure-of J weight l (normal-floor J Width (w - x)) (c - k)) (range 0 (suc c))) (filter (normal-side J Width) (range 1 (w / 2)))))
   unfolding figure-of step leaf best pieces sized saw-half by-weight
-  figure-half = cell-half (normal-side J) (λ d. normal-additive (sides (range 0 (J .count)) (J .size) (J .plate) d)) (range 0 (J .count)) (J .price) (J .size) (kinds-solid J h)
-      (by-weight weight) (by-weight-monotone weight) (J .plate) (side-normal (range 0 (J .count)) (J .size) (J .plate)) (by-weight-symmetric weight) (l, w) c (on-length, on-width) ∙ simp greatest-map
+  figure-half = half-figure (range 0 (J .count)) (J .price) (J .size) (kinds-solid J h) (by-weight weight) (by-weight-monotone weight) (J .plate) (normal-side J) enough
+      (by-weight-symmetric weight) (l, w) c (on-length, on-width) ∙ simp greatest-map

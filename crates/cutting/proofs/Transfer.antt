@@ -80,20 +80,20 @@ module _ {P : Type 0} (K : Pieces P) (C : Saw) (G : Enlarges K C) where
 -- a larger rectangle's figure is no less
 pub figure-mono : {P S : Type 0} (K : Pieces P) (C : Saw) (H : Shares P S) → Enlarges K C → (q r : Rect) (s : S) → q ⊑ r → figure K C H q s ≤ figure K C H r s
 figure-mono K C H G q r s h =
-    let e = figure-attained K C H q s in
+    let e = figure-attained K C H (G .proper) q s in
     omega (arith, figure-upper K C H (G .proper) (e .0) r s (enlarge K C G (e .0) q r h (e .1)) (e .2))
 
 -- a rectangle with a side of 0 has figure 0
 pub figure-degenerate : {P S : Type 0} (K : Pieces P) (C : Saw) (H : Shares P S) → Enlarges K C → (d : Direction) (r : Rect) (s : S) → side d r ≡ 0 → figure K C H r s ≡ 0
-figure-degenerate K C H G d r s z = let e = figure-attained K C H r s in sym (e .3) ∙ degenerate-earns K C G (e .0) r d z (e .1)
+figure-degenerate K C H G d r s z = let e = figure-attained K C H (G .proper) r s in sym (e .3) ∙ degenerate-earns K C G (e .0) r d z (e .1)
 
 pub part-grow : (d : Direction) (x y : ℕ) (r : Rect) → x ≤ y → part d x r ⊑ part d y r
 part-grow Length x y r h = omega arith
 part-grow Width x y r h = omega arith
 
-pub part-whole : (d : Direction) (x : ℕ) (r : Rect) → x ≤ side d r → part d x r ⊑ r
-part-whole Length x r h = omega arith
-part-whole Width x r h = omega arith
+pub part-within : (d : Direction) (x : ℕ) (r q : Rect) → r ⊑ q → x ≤ side d r → part d x r ⊑ q
+part-within Length x r q h l = omega arith
+part-within Width x r q h l = omega arith
 
 pub side-part : (d : Direction) (x : ℕ) (r : Rect) → side d (part d x r) ≡ x
 side-part Length x r = refl
@@ -115,20 +115,16 @@ module _ {P S : Type 0} (K K′ : Pieces P) (C C′ : Saw) (H : Shares P S) (φ 
       (cut d (φ d x) (a .0) (b .0), (rw (through-side φ d r) k, a .1, enlarge K′ C′ G (b .0) _ _ (part-grow d _ _ (through φ r) (rw (through-side φ d r) l)) (b .1)), (q, i, a .2, b .2), ap₂ _+_ (a .3) (b .3))
   join d x r s q m n (second-part z l) i a b = (
     b .0,
-    enlarge K′ C′ G (b .0) _ _ (part-whole d _ (through φ r) (rw (through-side φ d r) l)) (b .1),
+    enlarge K′ C′ G (b .0) _ _ (part-within d _ (through φ r) (through φ r) (omega arith) (rw (through-side φ d r) l)) (b .1),
     mono d s q i (b .0) .1 (b .2),
     omega (arith, degenerate-earns K′ C′ G (a .0) _ d (side-part d _ (through φ r) ∙ z) (a .1)),
   )
   join d x r s q m n (first-part z l) i a b = (
     a .0,
-    enlarge K′ C′ G (a .0) _ _ (part-whole d _ (through φ r) (rw (through-side φ d r) l)) (a .1),
+    enlarge K′ C′ G (a .0) _ _ (part-within d _ (through φ r) (through φ r) (omega arith) (rw (through-side φ d r) l)) (a .1),
     mono d s q i (a .0) .0 (a .2),
     omega (arith, degenerate-earns K′ C′ G (b .0) _ d (side-part d _ (through φ r) ∙ z) (b .1)),
   )
-
-  pub inside : (d : Direction) (x : ℕ) (r : Rect) → r ⊑ plate → x < side d r → part d x r ⊑ plate
-  inside Length x r h l = omega arith
-  inside Width x r h l = omega arith
 
   -- each tree goes to one on the mapped rectangle, within the same share, that earns the same
   pub transfer : (t : Tree P) (r : Rect) (s : S) → r ⊑ plate → Guillotine K C r t → Within H s t → Earned K′ C′ H (through φ r) s (earns K t)
@@ -138,13 +134,13 @@ module _ {P S : Type 0} (K K′ : Pieces P) (C C′ : Saw) (H : Shares P S) (φ 
   transfer (cut d x a b) r s h g w =
       let l = proper d (side d r) x (g .0) in
       join d x r s (w .0) _ _ (c .images d (side d r) x (g .0)) (w .1)
-      (rw (through-part φ d x r) at (transfer a (part d x r) (w .0 .0) (inside d x r h (l .0)) (g .1) (w .2)))
-      (rw (through-part φ d (C .rest d (side d r) x) r) at (transfer b (beyond C d x r) (w .0 .1) (inside d _ r h (l .1)) (g .2) (w .3)))
+      (rw (through-part φ d x r) at (transfer a (part d x r) (w .0 .0) (part-within d x r plate h (omega arith)) (g .1) (w .2)))
+      (rw (through-part φ d (C .rest d (side d r) x) r) at (transfer b (beyond C d x r) (w .0 .1) (part-within d _ r plate h (omega arith)) (g .2) (w .3)))
 
   -- so its figure is not above that of the mapped rectangle
   pub figure-transfer : (r : Rect) (s : S) → r ⊑ plate → figure K C H r s ≤ figure K′ C′ H (through φ r) s
   figure-transfer r s h =
-      let e = figure-attained K C H r s in
+      let e = figure-attained K C H proper r s in
       let f = transfer (e .0) r s h (e .1) (e .2) in
       omega (arith, figure-upper K′ C′ H (G .proper) (f .0) (through φ r) s (f .1) (f .2))
 

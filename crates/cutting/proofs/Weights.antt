@@ -11,11 +11,9 @@ use native.Mathlib.Omega.{arith}
 use lib.Dec.{T, eqb, leb→le, le→leb, eqb-refl}
 use Rattle.cutting.specs.declared.Direction.{Direction}
 use Rattle.cutting.specs.Lists.{range, sum, only}
-use Rattle.cutting.specs.Tree.{Rect, part, Tree, waste, piece, cut, Pieces, Saw, beyond, Proper, total, copies, Keeps, earns, Guillotine, Within, Monotone, Symmetric}
-use Rattle.cutting.specs.Figure.{figure}
+use Rattle.cutting.specs.Tree.{Rect, part, Tree, waste, piece, cut, Pieces, Saw, beyond, total, copies, Keeps, Guillotine, Within, Monotone, Symmetric}
 use Rattle.cutting.specs.Shares.{by-weight}
 use Rattle.cutting.proofs.Lists.{range-mem, mem-range, map-mem, mem-map}
-use Rattle.cutting.proofs.Exact.{figure-upper}
 
 module _ {P : Type 0} (q : P → ℕ) where
   -- a share is divided into any two that sum to it
@@ -97,9 +95,3 @@ module _ {P : Type 0} (kind : P → ℕ) (K : Pieces P) (C : Saw) (n : ℕ) (kno
   -- a tree that keeps the demands weighs at most the capacity
   pub keeps-weight : (demand : ℕ → ℕ) (t : Tree P) (r : Rect) → Guillotine K C r t → Keeps kind n demand t → total (λ p. weight (kind p)) t ≤ sum n (λ i. demand i * weight i)
   keeps-weight demand t r g k = omega (arith, by-copies t r g, sum-le n (λ i. copies kind i t * weight i) (λ i. demand i * weight i) (λ i l. mul-le-mul-right (weight i) (k i l)))
-
-  -- no tree that keeps the demands earns more than the bound
-  pub kept-upper : Proper C → (demand : ℕ → ℕ) (t : Tree P) (r : Rect) → Guillotine K C r t → Keeps kind n demand t
-      → earns K t ≤ figure K C (by-weight (λ p. weight (kind p))) r (sum n (λ i. demand i * weight i))
-  kept-upper proper demand t r g k = figure-upper K C (by-weight (λ p. weight (kind p))) proper t r (sum n (λ i. demand i * weight i)) g
-      (weight-within (λ p. weight (kind p)) t (sum n (λ i. demand i * weight i)) (keeps-weight demand t r g k))
