@@ -12,7 +12,7 @@ use Rattle.cutting.specs.Lists.{only, greatest}
 use Rattle.cutting.specs.Tree.{Rect, side, part, Tree, waste, piece, cut, Pieces, Saw, Shares, beyond, Proper, total, earns, Guillotine, Within}
 use Rattle.cutting.specs.Figure.{leaf, best, step, figure}
 use Rattle.cutting.specs.Choice.{written}
-use Rattle.cutting.proofs.Lists.{only-open}
+use Rattle.cutting.proofs.Lists.{and-T, only-open}
 use Rattle.cutting.proofs.Greatest.{greatest-ge}
 use Rattle.cutting.proofs.Recursion.{figure-eq}
 use Rattle.cutting.proofs.Choice.{written-earns}
@@ -20,7 +20,8 @@ use Rattle.cutting.proofs.Choice.{written-earns}
 module _ {P S : Type 0} (K : Pieces P) (C : Saw) (H : Shares P S) where
   pub leaf-ge : (p : P) (r : Rect) (s : S) → List·Memᴰ p (K .members) → T (K .fits p r) → T (H .admits s p) → K .price p ≤ leaf K H r s
   unfolding leaf
-  leaf-ge p r s m f c = rw (only-open (K .fits p r) (H .admits s p) (K .price p) f c) at (greatest-ge (λ p. only (K .fits p r && H .admits s p) (K .price p)) m)
+  leaf-ge p r s m f c = rw (only-open (K .fits p r && H .admits s p) (K .price p) (and-T (K .fits p r) (H .admits s p) f c)) at
+      (greatest-ge (λ p. only (K .fits p r && H .admits s p) (K .price p)) m)
 
   pub best-ge : (F : Rect → S → ℕ) (d : Direction) (r : Rect) (s : S) (x : ℕ) (q : S × S) → List·Memᴰ x (C .cuts d (side d r)) → List·Memᴰ q (H .splits d s)
       → F (part d x r) (q .0) + F (beyond C d x r) (q .1) ≤ best C H F d r s

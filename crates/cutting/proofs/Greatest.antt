@@ -1,4 +1,4 @@
--- Laws of the greatest value of a list, and the same by index, as a loop finds it.
+-- The greatest value of a list: bounds, a member that gives it, and the same over numbers below n, as a loop finds it.
 -- Assumes nothing.
 use mathlib.Core.Path.{_≡_, refl, _∙_, ap, ap₂}
 use mathlib.Core.Logic.{_⊎_, inl, inr}
@@ -7,8 +7,8 @@ use Prim.Native.Nat.{ℕ, zero, suc, _≤_, _<_, max}
 use native.Mathlib.Nat.{le-max-left, le-max-right, max-le}
 use native.Mathlib.Decide.{ℕ-discrete, decLe}
 use native.Mathlib.Omega.{arith}
-use lib.ListN.{length, getD}
-use Rattle.cutting.specs.Lists.{greatest}
+use Rattle.cutting.specs.Lists.{range, greatest}
+use Rattle.cutting.proofs.Lists.{range-mem, mem-range}
 
 -- the greater of two is one of the two
 pub max-is : (a b : ℕ) → (max a b ≡ a) ⊎ (max a b ≡ b)
@@ -29,17 +29,16 @@ module _ {A : Type 0} where
   greatest-le f b [] h = omega arith
   greatest-le f b (x ∷ xs) h = max-le (h x (List·Memᴰ·head refl)) (greatest-le f b xs (λ y m. h y (List·Memᴰ·tail m)))
 
-  -- the greatest is 0, or a member gives it
-  pub greatest-is : (f : A → ℕ) (xs : List A) → (greatest f xs ≡ 0) ⊎ ((x : A) × List·Memᴰ x xs × (greatest f xs ≡ f x))
+  -- above 0, a member gives it
+  pub greatest-member : (f : A → ℕ) (xs : List A) → 0 < greatest f xs → (x : A) × List·Memᴰ x xs × (greatest f xs ≡ f x)
   unfolding greatest
-  greatest-is f [] = inl refl
-  greatest-is f (x ∷ xs) = go (max-is (f x) (greatest f xs)) (greatest-is f xs)
+  greatest-member f [] h = absurd (omega arith)
+  greatest-member f (x ∷ xs) h = go (max-is (f x) (greatest f xs)) (λ (l : 0 < greatest f xs). greatest-member f xs l)
     where
-      go : (max (f x) (greatest f xs) ≡ f x) ⊎ (max (f x) (greatest f xs) ≡ greatest f xs) → (greatest f xs ≡ 0) ⊎ ((y : A) × List·Memᴰ y xs × (greatest f xs ≡ f y))
-          → (max (f x) (greatest f xs) ≡ 0) ⊎ ((y : A) × List·Memᴰ y (x ∷ xs) × (max (f x) (greatest f xs) ≡ f y))
-      go (inl e) t = inr (x, List·Memᴰ·head refl, e)
-      go (inr e) (inl z) = inl (e ∙ z)
-      go (inr e) (inr t) = inr (t .0, List·Memᴰ·tail (t .1), e ∙ t .2)
+      go : (max (f x) (greatest f xs) ≡ f x) ⊎ (max (f x) (greatest f xs) ≡ greatest f xs) → (0 < greatest f xs → (y : A) × List·Memᴰ y xs × (greatest f xs ≡ f y))
+          → (y : A) × List·Memᴰ y (x ∷ xs) × (max (f x) (greatest f xs) ≡ f y)
+      go (inl e) t = (x, List·Memᴰ·head refl, e)
+      go (inr e) t = let u = t (omega arith) in (u .0, List·Memᴰ·tail (u .1), e ∙ u .2)
 
   pub greatest-cong : (f g : A → ℕ) (xs : List A) → ((x : A) → List·Memᴰ x xs → f x ≡ g x) → greatest f xs ≡ greatest g xs
   unfolding greatest
@@ -70,12 +69,10 @@ unfolding most
 most-le zero f b h = omega arith
 most-le (suc n) f b h = max-le (most-le n f b (λ i l. h i (omega arith))) (h n (omega arith))
 
-most-first : (n : ℕ) (f : ℕ → ℕ) → most (suc n) f ≡ max (f 0) (most n (λ i. f (suc i)))
-unfolding most
-most-first zero f = omega arith
-most-first (suc n) f = omega (arith, most-first n f)
-
-pub greatest-most : {A : Type 0} (f : A → ℕ) (d : A) (xs : List A) → greatest f xs ≡ most (length xs) (λ i. f (getD xs i d))
-unfolding greatest most
-greatest-most f d [] = refl
-greatest-most f d (x ∷ xs) = omega (arith, greatest-most f d xs, most-first (length xs) (λ i. f (getD (x ∷ xs) i d)))
+-- the greatest over the numbers below n
+pub greatest-range : (f : ℕ → ℕ) (n : ℕ) → greatest f (range 0 n) ≡ most n f
+greatest-range f n = omega (
+  arith,
+  greatest-le f (most n f) (range 0 n) (λ x m. (let h = mem-range 0 n x m in most-ge n f x (omega arith))),
+  most-le n f (greatest f (range 0 n)) (λ i h. greatest-ge f (range-mem 0 n i (omega arith) (omega arith))),
+)

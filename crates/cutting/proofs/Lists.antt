@@ -29,16 +29,14 @@ T-equal true b f g = sym (T-true b (f tt))
 T-equal false true f g = absurd (g tt)
 T-equal false false f g = refl
 
-pub only-open : (a b : Bool) (n : ℕ) → T a → T b → only (a && b) n ≡ n
-only-open true true n t u = refl
-only-open true false n t u = absurd u
-only-open false b n t u = absurd t
+-- a value that a test lets through
+pub only-open : (b : Bool) (n : ℕ) → T b → only b n ≡ n
+only-open true n t = refl
+only-open false n t = absurd t
 
--- a price that is open, or 0
-pub only-is : (a b : Bool) (n : ℕ) → (T a × T b × (only (a && b) n ≡ n)) ⊎ (only (a && b) n ≡ 0)
-only-is true true n = inl (tt, tt, refl)
-only-is true false n = inr refl
-only-is false b n = inr refl
+pub only-positive : (b : Bool) (n : ℕ) → 0 < only b n → T b × (only b n ≡ n)
+only-positive true n h = (tt, refl)
+only-positive false n h = absurd (omega arith)
 
 pub range-mem : (a n x : ℕ) → a ≤ x → x < a + n → List·Memᴰ x (range a n)
 unfolding range
