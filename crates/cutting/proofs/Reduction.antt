@@ -36,10 +36,10 @@ module _ (N : Direction → ℕ → Bool) (additive : (d : Direction) → Additi
   unfolding saw-normal
   saw-normal-cuts = record {
     makes = λ d n x h l t u. normal-cut N d n x h l t;
-    keeps = λ d n x y h t. floor-ge (N d) y (n - x) t (omega arith);
+    keeps = λ d n x y h t. floor-ge (N d) y _ t (omega arith);
     units = λ d n x m. (let h = cut-normal N d n x m in (h .0, h .1, omega (arith, floor-le (N d) (n - x))));
     makes-mono = λ d m n x h k. (let l = cut-normal N d m x k in normal-cut N d n x (l .0) (omega arith) (l .2));
-    keeps-mono = λ d m n x h k. floor-grow (N d) (additive d) (m - x) (n - x) (omega arith);
+    keeps-mono = λ d m n x h k. floor-grow (N d) (additive d) _ _ (omega arith);
   }
 
   pub saw-written-cuts : CutsAt N (saw-written N)

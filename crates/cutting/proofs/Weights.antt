@@ -17,15 +17,15 @@ use Rattle.cutting.proofs.Lists.{range-mem, mem-range, map-mem, mem-map
 
 module _ {P : Type 0} (q : P → ℕ) where
   -- a share is divided into any two that sum to it
-  by-weight-split : (d : Direction) (c a b : ℕ) → a + b ≡ c → List·Memᴰ (a, b) (by-weight q .splits d c)
-  unfolding by-weight
-  by-weight-split d c a b e = let k : b ≡ c - a = omega arith in rw k (map-mem (λ a. (a, c - a)) (range-mem 0 (suc c) a (omega arith) (omega arith)))
-
   split-by-weight : (d : Direction) (c : ℕ) (u : ℕ × ℕ) → List·Memᴰ u (by-weight q .splits d c) → u .0 + u .1 ≡ c
   unfolding by-weight
   split-by-weight d c u m =
-      let k = mem-map (λ a. (a, c - a)) u (range 0 (suc c)) m in
+      let k = mem-map _ u (range 0 (suc c)) m in
       omega (arith, mem-range 0 (suc c) (k .0) (k .1), ap (λ u. u .0) (k .2), ap (λ u. u .1) (k .2))
+
+  by-weight-split : (d : Direction) (c a b : ℕ) → a + b ≡ c → List·Memᴰ (a, b) (by-weight q .splits d c)
+  unfolding by-weight
+  by-weight-split d c a b e = let k : b ≡ c - a = omega arith in rw k (map-mem _ (range-mem 0 (suc c) a (omega arith) (omega arith)))
 
   pub within-weight : (t : Tree P) (c : ℕ) → Within (by-weight q) c t → total q t ≤ c
   unfolding by-weight total
