@@ -7,23 +7,18 @@ use mathlib.Core.Option.{Option}
 use mathlib.Core.List.{List, List·Memᴰ}
 use Prim.Native.Nat.{ℕ, zero, suc, _+_, _<_, max}
 use native.Mathlib.Omega.{arith}
-use lib.Dec.{T, eqb, eqb→eq, eqb-refl}
+use lib.Dec.{T, eqb, eqb→eq}
 use Rattle.cutting.specs.declared.Direction.{Direction}
 use Rattle.cutting.specs.declared.Direction.the-variants.{Length, Width}
 use Rattle.cutting.specs.Lists.{only, first, greatest, pairs}
 use Rattle.cutting.specs.Tree.{Rect, side, part, Tree, cut, Pieces, Saw, Shares, beyond, Proper, total, earns, Guillotine, Within}
 use Rattle.cutting.specs.Figure.{half-perimeter, leaf, best, step, figure}
 use Rattle.cutting.specs.Choice.{Choice, as-waste, as-piece, as-cut, or-waste, or-length, or-piece, or-zero, piece-earns, cut-earns, first-cut, choice, follow, plan-within, written}
-use Rattle.cutting.proofs.Lists.{and-T, T-and, only-positive, pairs-mem, mem-pairs, Found, found, missing, first-found}
+use Rattle.cutting.proofs.Tests.{and-T, T-and, only-positive, eqb-same, eqb-positive}
+use Rattle.cutting.proofs.Lists.{pairs-mem, mem-pairs}
 use Rattle.cutting.proofs.Greatest.{max-is, greatest-member}
+use Rattle.cutting.proofs.Search.{Found, found, missing, first-found}
 use Rattle.cutting.proofs.Recursion.{smaller, figure-eq}
-
-positive : (a : ℕ) → eqb a 0 ≡ false → 0 < a
-positive zero e = absurd (subst T e tt)
-positive (suc a) e = omega arith
-
-same : (a b : ℕ) → a ≡ b → T (eqb a b)
-same a b e = rw e (eqb-refl b)
 
 module _ {P S : Type 0} (K : Pieces P) (C : Saw) (H : Shares P S) where
   abbrev F : Rect → S → ℕ
@@ -53,14 +48,14 @@ module _ {P S : Type 0} (K : Pieces P) (C : Saw) (H : Shares P S) where
       let t = greatest-member (λ p. only (K .fits p r && H .admits s p) (K .price p)) (K .members) (omega arith) in
       let b = K .fits (t .0) r && H .admits s (t .0) in
       let o = only-positive b (K .price (t .0)) (omega (arith, t .2)) in
-      inl (t .0, t .1, and-T b (eqb (K .price (t .0)) (F r s)) (o .0) (same (K .price (t .0)) (F r s) (omega (arith, t .2, o .1))))
+      inl (t .0, t .1, and-T b (eqb (K .price (t .0)) (F r s)) (o .0) (eqb-same (K .price (t .0)) (F r s) (omega (arith, t .2, o .1))))
 
   cut-source : (d : Direction) (r : Rect) (s : S) → 0 < F r s → F r s ≡ best C H (figure K C H) d r s → Source r s
   unfolding best
   cut-source d r s h e =
       let t = greatest-member (λ x. greatest (both d r x) (H .splits d s)) (C .cuts d (side d r)) (omega arith) in
       let u = greatest-member (both d r (t .0)) (H .splits d s) (omega (arith, t .2)) in
-      inr (d, (t .0, u .0), pairs-mem (t .1) (u .1), same (both d r (t .0) (u .0)) (F r s) (omega (arith, t .2, u .2)))
+      inr (d, (t .0, u .0), pairs-mem (t .1) (u .1), eqb-same (both d r (t .0) (u .0)) (F r s) (omega (arith, t .2, u .2)))
 
   -- where the figure is above 0 a piece or a cut earns it
   source : Proper C → (r : Rect) (s : S) → 0 < F r s → Source r s
@@ -108,7 +103,7 @@ module _ {P S : Type 0} (K : Pieces P) (C : Saw) (H : Shares P S) where
 
       go : (b : Bool) → eqb (F r s) 0 ≡ b → Earning r s (or-zero b rest)
       go true e = eqb→eq (F r s) 0 (subst T (sym e) tt)
-      go false e = found-earning r s (first-found _ (K .members)) (first-found _ _) (first-found _ _) (source proper r s (positive (F r s) e))
+      go false e = found-earning r s (first-found _ (K .members)) (first-found _ _) (first-found _ _) (source proper r s (eqb-positive (F r s) e))
 
   -- a tree that earns the figure
   abbrev pub Earns : Rect → S → Tree P → Type 0

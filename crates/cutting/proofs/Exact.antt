@@ -12,7 +12,7 @@ use Rattle.cutting.specs.Lists.{only, greatest}
 use Rattle.cutting.specs.Tree.{Rect, side, part, Tree, waste, piece, cut, Pieces, Saw, Shares, beyond, Proper, total, earns, Guillotine, Within}
 use Rattle.cutting.specs.Figure.{leaf, best, step, figure}
 use Rattle.cutting.specs.Choice.{written}
-use Rattle.cutting.proofs.Lists.{and-T, only-open}
+use Rattle.cutting.proofs.Tests.{and-T, only-open}
 use Rattle.cutting.proofs.Greatest.{greatest-ge}
 use Rattle.cutting.proofs.Recursion.{figure-eq}
 use Rattle.cutting.proofs.Choice.{written-earns}

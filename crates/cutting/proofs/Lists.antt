@@ -1,42 +1,15 @@
--- Laws of the lists of specs/Lists: who is a member of a range, of a filtered list, of a list of pairs, and what a first member is.
+-- Laws of the lists of specs/Lists: who is a member of a range, of a filtered or mapped list and of a list of pairs, and their lengths.
 -- Assumes nothing.
-use mathlib.Core.Path.{_≡_, refl, sym, _∙_, ap, ap₂, subst}
+use mathlib.Core.Path.{_≡_, refl, sym, _∙_, ap, subst}
 use mathlib.Core.Logic.{_⊎_, inl, inr}
-use mathlib.Core.Bool.{Bool, true, false, _&&_, _||_}
-use mathlib.Core.Option.{Option, none, some}
+use mathlib.Core.Bool.{Bool, true, false, _||_}
 use mathlib.Core.List.{List, [], _∷_, map, List·Memᴰ, List·Memᴰ·head, List·Memᴰ·tail, List·Memᴰ·not-nil, List·Memᴰ·cases-cons, List·Memᴰ·append-cases, Memᴰ·append-left, Memᴰ·append-right, Memᴰ·cast}
 use Prim.Native.Nat.{ℕ, zero, suc, _+_, _≤_, _<_}
 use native.Mathlib.Decide.{ℕ-discrete}
 use native.Mathlib.Omega.{arith}
 use lib.Dec.{T}
 use lib.ListN.{length, getD}
-use Rattle.cutting.specs.Lists.{range, only, keep, filter, any, first, pairs}
-
-pub and-T : (a b : Bool) → T a → T b → T (a && b)
-and-T true b t u = u
-and-T false b t u = t
-
-pub T-and : (a b : Bool) → T (a && b) → T a × T b
-T-and true b t = (tt, t)
-T-and false b t = absurd t
-
-pub T-true : (b : Bool) → T b → b ≡ true
-T-true true t = refl
-T-true false t = absurd t
-
-pub T-equal : (a b : Bool) → (T a → T b) → (T b → T a) → a ≡ b
-T-equal true b f g = sym (T-true b (f tt))
-T-equal false true f g = absurd (g tt)
-T-equal false false f g = refl
-
--- a value that a test lets through
-pub only-open : (b : Bool) (n : ℕ) → T b → only b n ≡ n
-only-open true n t = refl
-only-open false n t = absurd t
-
-pub only-positive : (b : Bool) (n : ℕ) → 0 < only b n → T b × (only b n ≡ n)
-only-positive true n h = (tt, refl)
-only-positive false n h = absurd (omega arith)
+use Rattle.cutting.specs.Lists.{range, keep, filter, any, pairs}
 
 pub range-mem : (a n x : ℕ) → a ≤ x → x < a + n → List·Memᴰ x (range a n)
 unfolding range
@@ -144,35 +117,7 @@ module _ {A B : Type 0} where
   mem-pairs u [] ys m = absurd (List·Memᴰ·not-nil m)
   mem-pairs u (x ∷ xs) ys m = go (List·Memᴰ·append-cases (map (λ y. (x, y)) ys) m) (λ (k : List·Memᴰ u (pairs xs ys)). mem-pairs u xs ys k)
     where
-      go : List·Memᴰ u (map (λ y. (x, y)) ys) ⊎ List·Memᴰ u (pairs xs ys) → (List·Memᴰ u (pairs xs ys) → List·Memᴰ (u .0) xs × List·Memᴰ (u .1) ys) → List·Memᴰ (u .0) (x ∷ xs) × List·Memᴰ (u .1) ys
+      go : List·Memᴰ u (map (λ y. (x, y)) ys) ⊎ List·Memᴰ u (pairs xs ys) → (List·Memᴰ u (pairs xs ys) → List·Memᴰ (u .0) xs × List·Memᴰ (u .1) ys)
+          → List·Memᴰ (u .0) (x ∷ xs) × List·Memᴰ (u .1) ys
       go (inl k) h = let t = mem-map (λ y. (x, y)) u ys k in (List·Memᴰ·head (ap (λ v. v .0) (t .2)), Memᴰ·cast (ap (λ v. v .1) (t .2)) (t .1))
       go (inr k) h = let t = h k in (List·Memᴰ·tail (t .0), t .1)
-
--- what first answers: a member that passes, or that none does
-pub data Found {A : Type 0} (f : A → Bool) (xs : List A) : Option A → Type 0 where
-  found : {x : A} → List·Memᴰ x xs → T (f x) → Found f xs (some x)
-  missing : ((x : A) → List·Memᴰ x xs → T (f x) → ⊥) → Found f xs none
-
-module _ {A : Type 0} where
-  later : {f : A → Bool} {x : A} {xs : List A} {o : Option A} → f x ≡ false → Found f xs o → Found f (x ∷ xs) o
-  later e (found m t) = found (List·Memᴰ·tail m) t
-  later {f} {x} {xs} e (missing n) = missing (λ y m t. go y (List·Memᴰ·cases-cons m) t)
-    where
-      go : (y : A) → (y ≡ x) ⊎ List·Memᴰ y xs → T (f y) → ⊥
-      go y (inl p) t = subst T (ap f p ∙ e) t
-      go y (inr k) t = n y k t
-
-  pub first-found : (f : A → Bool) (xs : List A) → Found f xs (first f xs)
-  unfolding first
-  first-found f [] = missing (λ x m t. List·Memᴰ·not-nil m)
-  first-found f (x ∷ xs) = go (f x) refl (first-found f xs)
-    where
-      go : (b : Bool) → f x ≡ b → Found f xs (first f xs) → Found f (x ∷ xs) (elim b [ true ↦ some x | false ↦ first f xs ])
-      go true e r = found (List·Memᴰ·head refl) (subst T (sym e) tt)
-      go false e r = later e r
-
-  -- the first member that passes depends on the test's answers at the members only
-  pub first-cong : (f g : A → Bool) (xs : List A) → ((x : A) → List·Memᴰ x xs → f x ≡ g x) → first f xs ≡ first g xs
-  unfolding first
-  first-cong f g [] h = refl
-  first-cong f g (x ∷ xs) h = ap₂ (λ b o. elim b [ true ↦ some x | false ↦ o ]) (h x (List·Memᴰ·head refl)) (first-cong f g xs (λ y m. h y (List·Memᴰ·tail m)))

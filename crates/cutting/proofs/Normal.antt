@@ -13,7 +13,8 @@ use Rattle.cutting.specs.Lists.{filter, any}
 use Rattle.cutting.specs.Tree.{Rect, side}
 use Rattle.cutting.specs.Pieces.{fits-in}
 use Rattle.cutting.specs.Normal.{Sum, none, more, summed, normal?, sides, normal}
-use Rattle.cutting.proofs.Lists.{and-T, T-and, T-equal, filter-mem, mem-filter, any-mem, mem-any, map-mem, mem-map}
+use Rattle.cutting.proofs.Tests.{and-T, T-and, or-T, T-equal}
+use Rattle.cutting.proofs.Lists.{filter-mem, mem-filter, any-mem, mem-any, map-mem, mem-map}
 use Rattle.cutting.proofs.Floor.{Additive}
 use Rattle.cutting.proofs.Pieces.{fits-in-true}
 use Rattle.cutting.proofs.Reduction.{Sufficient}
@@ -42,10 +43,6 @@ summed-sum zs (suc k) n t = go (eqb n 0) refl t (λ (a : ℕ) (l : a ≤ n) (u :
         let w = T-and (leb (m .0) n) (summed zs k (n - m .0)) (m .2) in
         let l = leb→le (m .0) n (w .0) in
         more {m = n} (m .0) (m .1) (h (m .0) l (w .1)) (omega arith)
-
-or-T : (a b : Bool) → T b → T (a || b)
-or-T true b t = tt
-or-T false b t = t
 
 sum-summed : (zs : List ℕ) {n : ℕ} → Sum zs n → (k : ℕ) → n ≤ k → T (summed zs k n)
 unfolding summed

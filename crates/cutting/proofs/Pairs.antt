@@ -9,7 +9,8 @@ use lib.Dec.{eqb}
 use Rattle.cutting.specs.Lists.{only, pairs}
 use Rattle.cutting.specs.Tree.{Tree, waste, piece, cut, Shares, copies, Keeps, Within, Monotone, Symmetric}
 use Rattle.cutting.specs.Shares.{by-weight, free, across, paired, state, exact}
-use Rattle.cutting.proofs.Lists.{and-T, T-and, map-mem, mem-map, pairs-mem, mem-pairs}
+use Rattle.cutting.proofs.Tests.{and-T, T-and}
+use Rattle.cutting.proofs.Lists.{map-mem, mem-map, pairs-mem, mem-pairs}
 use Rattle.cutting.proofs.Weights.{within-weight, weight-within, by-weight-monotone, by-weight-symmetric}
 
 module _ {P S S′ : Type 0} (H : Shares P S) (H′ : Shares P S′) where

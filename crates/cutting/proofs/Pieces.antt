@@ -8,7 +8,7 @@ use Rattle.cutting.specs.declared.Direction.{Direction}
 use Rattle.cutting.specs.Tree.{Rect, Saw, Proper}
 use Rattle.cutting.specs.Pieces.{_⊑_, fits-in, sized, Solid}
 use Rattle.cutting.specs.Saws.{saw}
-use Rattle.cutting.proofs.Lists.{and-T, T-and}
+use Rattle.cutting.proofs.Tests.{and-T, T-and}
 use Rattle.cutting.proofs.Saws.{saw-cut, cut-saw, saw-proper}
 use Rattle.cutting.proofs.Transfer.{Enlarges}
 

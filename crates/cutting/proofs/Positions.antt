@@ -12,7 +12,8 @@ use lib.ListN.{length, getD, take, drop, length-drop}
 use lib.Seq.{getD-take, getD-drop, length-take-le}
 use Rattle.cutting.specs.Lists.{range, keep, filter, greatest}
 use Rattle.cutting.specs.Saws.{floor}
-use Rattle.cutting.proofs.Lists.{T-true, range-mem, mem-range, filter-mem, mem-filter}
+use Rattle.cutting.proofs.Tests.{T-true}
+use Rattle.cutting.proofs.Lists.{range-mem, mem-range, filter-mem, mem-filter}
 use Rattle.cutting.proofs.Greatest.{greatest-ge, greatest-le, most, most-ge, most-le}
 use Rattle.cutting.proofs.Floor.{floor-le, floor-passes, floor-ge}
 

@@ -1,16 +1,47 @@
--- The first member that passes a test, by index: what a loop that ends at the first one needs, and two nested loops over pairs.
+-- The first member that passes a test: what it is, and where it stands by index, as a loop finds it that ends at the first one, or two
+-- nested loops over pairs.
 -- Assumes nothing.
-use mathlib.Core.Path.{_≡_, refl, _∙_, ap}
-use mathlib.Core.Bool.{Bool, false}
-use mathlib.Core.Option.{none, some}
-use mathlib.Core.List.{List, [], _∷_, _++_, map}
+use mathlib.Core.Path.{_≡_, refl, sym, _∙_, ap, ap₂, subst}
+use mathlib.Core.Logic.{_⊎_, inl, inr}
+use mathlib.Core.Bool.{Bool, true, false}
+use mathlib.Core.Option.{Option, none, some}
+use mathlib.Core.List.{List, [], _∷_, _++_, map, List·Memᴰ, List·Memᴰ·head, List·Memᴰ·tail, List·Memᴰ·not-nil, List·Memᴰ·cases-cons}
 use Prim.Native.Nat.{ℕ, zero, suc, _<_}
 use native.Mathlib.Omega.{arith}
 use lib.Dec.{T}
 use lib.ListN.{length, getD}
 use Rattle.cutting.specs.Lists.{range, first, pairs}
-use Rattle.cutting.specs.Normal.{none}
-use Rattle.cutting.proofs.Lists.{T-true, range-entry, range-length}
+use Rattle.cutting.proofs.Tests.{T-true}
+use Rattle.cutting.proofs.Lists.{range-entry, range-length}
+
+-- what first answers: a member that passes, or that none does
+pub data Found {A : Type 0} (f : A → Bool) (xs : List A) : Option A → Type 0 where
+  found : {x : A} → List·Memᴰ x xs → T (f x) → Found f xs (some x)
+  missing : ((x : A) → List·Memᴰ x xs → T (f x) → ⊥) → Found f xs none
+
+module _ {A : Type 0} where
+  later : {f : A → Bool} {x : A} {xs : List A} {o : Option A} → f x ≡ false → Found f xs o → Found f (x ∷ xs) o
+  later e (found m t) = found (List·Memᴰ·tail m) t
+  later {f} {x} {xs} e (missing n) = missing (λ y m t. go y (List·Memᴰ·cases-cons m) t)
+    where
+      go : (y : A) → (y ≡ x) ⊎ List·Memᴰ y xs → T (f y) → ⊥
+      go y (inl p) t = subst T (ap f p ∙ e) t
+      go y (inr k) t = n y k t
+
+  pub first-found : (f : A → Bool) (xs : List A) → Found f xs (first f xs)
+  unfolding first
+  first-found f [] = missing (λ x m t. List·Memᴰ·not-nil m)
+  first-found f (x ∷ xs) = go (f x) refl (first-found f xs)
+    where
+      go : (b : Bool) → f x ≡ b → Found f xs (first f xs) → Found f (x ∷ xs) (elim b [ true ↦ some x | false ↦ first f xs ])
+      go true e r = found (List·Memᴰ·head refl) (subst T (sym e) tt)
+      go false e r = later e r
+
+  -- the first member that passes depends on the test's answers at the members only
+  pub first-cong : (f g : A → Bool) (xs : List A) → ((x : A) → List·Memᴰ x xs → f x ≡ g x) → first f xs ≡ first g xs
+  unfolding first
+  first-cong f g [] h = refl
+  first-cong f g (x ∷ xs) h = ap₂ (λ b o. elim b [ true ↦ some x | false ↦ o ]) (h x (List·Memᴰ·head refl)) (first-cong f g xs (λ y m. h y (List·Memᴰ·tail m)))
 
 module _ {A : Type 0} (f : A → Bool) (d : A) where
   pub first-at : (xs : List A) (i : ℕ) → i < length xs → T (f (getD xs i d)) → ((j : ℕ) → j < i → f (getD xs j d) ≡ false) → first f xs ≡ some (getD xs i d)
