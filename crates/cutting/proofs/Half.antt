@@ -19,7 +19,8 @@ use Rattle.cutting.proofs.Recursion.{figure-eq}
 use Rattle.cutting.proofs.Exact.{leaf-ge, best-ge, step-ge, figure-upper, figure-attained}
 use Rattle.cutting.proofs.Floor.{floor-le, floor-passes}
 use Rattle.cutting.proofs.Saws.{saw-cut, cut-saw, saw-proper, half-cut, cut-half}
-use Rattle.cutting.proofs.Transfer.{through, Enlarges, enlarge, figure-mono, figure-degenerate, part-grow, part-within, side-part}
+use Rattle.cutting.proofs.Enlarge.{part-grow, part-within, side-part, Enlarges, enlarge, figure-mono, figure-degenerate}
+use Rattle.cutting.proofs.Transfer.{through}
 use Rattle.cutting.proofs.Pieces.{units-enlarge}
 use Rattle.cutting.proofs.Reduction.{Sufficient, saw-normal-cuts, floor-figure}
 
@@ -36,7 +37,7 @@ module _ {P S : Type 0} (ps : List P) (price : P → ℕ) (size : P → Rect) (s
   F r s = figure K (saw 0) H r s
 
   larger : (q r : Rect) (s : S) → q ⊑ r → F q s ≤ F r s
-  larger q r s h = figure-mono K (saw 0) H enlarges q r s h
+  larger q r s h = figure-mono K (saw 0) enlarges H q r s h
 
   -- a part counts as much when its side falls to such a position
   part-floor : (d : Direction) (x : ℕ) (r : Rect) (s : S) → r ⊑ plate → x ≤ side d r → F (part d x r) s ≤ F (part d (floor (N d) x) r) s
@@ -63,7 +64,7 @@ module _ {P S : Type 0} (ps : List P) (price : P → ℕ) (size : P → Rect) (s
       below = part-floor d x r (q .0) h (omega arith)
 
       go : Dec (z ≡ 0) → (F (part d x r) (q .0) ≡ 0) ⊎ (F (part d x r) (q .0) + F (part d y r) (q .1) ≤ best (saw-half N) H F d r s)
-      go (yes k) = inl (omega (arith, below, figure-degenerate K (saw 0) H enlarges d (part d z r) (q .0) (side-part d z r ∙ k)))
+      go (yes k) = inl (omega (arith, below, figure-degenerate K (saw 0) enlarges H d (part d z r) (q .0) (side-part d z r ∙ k)))
       go (no k) =
           inr (omega (
             arith,

@@ -7,6 +7,7 @@ pub mod Choice
 pub mod Exact
 pub mod Floor
 pub mod Saws
+pub mod Enlarge
 pub mod Transfer
 pub mod Pieces
 pub mod Weights

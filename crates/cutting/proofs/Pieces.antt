@@ -10,7 +10,7 @@ use Rattle.cutting.specs.Pieces.{_⊑_, fits-in, sized, Solid}
 use Rattle.cutting.specs.Saws.{saw}
 use Rattle.cutting.proofs.Tests.{and-T, T-and}
 use Rattle.cutting.proofs.Saws.{saw-cut, cut-saw, saw-proper}
-use Rattle.cutting.proofs.Transfer.{Enlarges}
+use Rattle.cutting.proofs.Enlarge.{Enlarges}
 
 pub fits-in-true : (q r : Rect) → q ⊑ r → T (fits-in q r)
 fits-in-true q r h = and-T (leb (q .0) (r .0)) (leb (q .1) (r .1)) (le→leb (q .0) (r .0) (h .0)) (le→leb (q .1) (r .1) (h .1))

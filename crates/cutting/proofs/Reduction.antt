@@ -15,7 +15,8 @@ use Rattle.cutting.specs.Pieces.{_⊑_, sized, Solid}
 use Rattle.cutting.specs.Saws.{saw, floor, saw-normal, saw-written}
 use Rattle.cutting.proofs.Floor.{floor-le, floor-passes, floor-ge, Additive, floor-adds, floor-grow}
 use Rattle.cutting.proofs.Saws.{saw-cut, cut-saw, saw-proper, normal-cut, cut-normal, written-cut, cut-written}
-use Rattle.cutting.proofs.Transfer.{through, Enlarges, CutImage, both-parts, cut-image, Transfer, figure-mono, figure-transfer}
+use Rattle.cutting.proofs.Enlarge.{Enlarges, figure-mono}
+use Rattle.cutting.proofs.Transfer.{through, CutImage, both-parts, cut-image, Transfer, figure-transfer}
 use Rattle.cutting.proofs.Pieces.{fits-in-true, true-fits-in, sized-enlarges, units-enlarge}
 
 -- positions that suffice: 0 and all sums of two are among them, and the sides of every piece that fits the plate
@@ -111,8 +112,8 @@ module _ {P S : Type 0} (ps : List P) (price : P → ℕ) (size : P → Rect) (s
 
     -- cuts at such positions alone give the same figure
     pub saw-figure : (r : Rect) (s : S) → r ⊑ plate → figure K (saw 0) H r s ≡ figure K C H r s
-    saw-figure r s h = omega (arith, up r s h, figure-mono K C H enlarges (floors r) r s (floors-within r), down r s)
+    saw-figure r s h = omega (arith, up r s h, figure-mono K C enlarges H (floors r) r s (floors-within r), down r s)
 
     -- and the figure is that of the largest such sides
     pub floor-figure : (r : Rect) (s : S) → r ⊑ plate → figure K (saw 0) H r s ≡ figure K (saw 0) H (floors r) s
-    floor-figure r s h = omega (arith, up r s h, down (floors r) s, figure-mono K (saw 0) H (units-enlarge ps price size solid 0) (floors r) r s (floors-within r))
+    floor-figure r s h = omega (arith, up r s h, down (floors r) s, figure-mono K (saw 0) (units-enlarge ps price size solid 0) H (floors r) r s (floors-within r))
