@@ -40,7 +40,8 @@ module _ {P S : Type 0} (K : Pieces P) (C : Saw) (H : Shares P S) where
 
   -- a piece that earns the figure, or a cut in one direction
   abbrev Source : Rect → S → Type 0
-  Source r s = ((p : P) × List·Memᴰ p (K .members) × T (piece-earns K C H r s p)) ⊎ ((d : Direction) × (u : ℕ × (S × S)) × List·Memᴰ u (divided d r s) × T (cut-earns K C H d r s u))
+  Source r s = ((p : P) × List·Memᴰ p (K .members) × T (piece-earns K C H r s p))
+      ⊎ ((d : Direction) × (u : ℕ × (S × S)) × List·Memᴰ u (divided d r s) × T (cut-earns K C H d r s u))
 
   piece-source : (r : Rect) (s : S) → 0 < F r s → F r s ≡ leaf K H r s → Source r s
   unfolding leaf
@@ -110,8 +111,8 @@ module _ {P S : Type 0} (K : Pieces P) (C : Saw) (H : Shares P S) where
   Earns r s t = Guillotine K C r t × Within H s t × (earns K t ≡ F r s)
 
   module _ (proper : Proper C) where
-    follow-earns : (G : Rect → S → Tree P) (r : Rect) (s : S) (c : Choice P S) → Earning r s c → ((q : Rect) (u : S) → half-perimeter q < half-perimeter r → Earns q u (G q u))
-        → Earns r s (follow K C H G r c)
+    follow-earns : (G : Rect → S → Tree P) (r : Rect) (s : S) (c : Choice P S) → Earning r s c
+        → ((q : Rect) (u : S) → half-perimeter q < half-perimeter r → Earns q u (G q u)) → Earns r s (follow K C H G r c)
     unfolding total
     follow-earns G r s as-waste p f = (tt, tt, sym p)
     follow-earns G r s (as-piece x) p f = ((p .0, p .1), p .2, p .3)
@@ -144,7 +145,8 @@ module _ {P S : Type 0} (K : Pieces P) (C : Saw) (H : Shares P S) where
     plan-enough zero k r s h g = absurd (omega arith)
     plan-enough (suc n) zero r s h g = absurd (omega arith)
     plan-enough (suc n) (suc k) r s h g =
-        follow-cong (plan-within K C H n) (plan-within K C H k) r s (choice K C H r s) (choice-earning proper r s) (λ q u l. plan-enough n k q u (omega arith) (omega arith))
+        follow-cong (plan-within K C H n) (plan-within K C H k) r s (choice K C H r s) (choice-earning proper r s)
+        (λ q u l. plan-enough n k q u (omega arith) (omega arith))
 
     -- the plan's equation
     pub written-eq : (r : Rect) (s : S) → written K C H r s ≡ follow K C H (written K C H) r (choice K C H r s)

@@ -59,8 +59,10 @@ module _ {P : Type 0} (K : Pieces P) (C : Saw) (G : Enlarges K C) where
   degenerate-earns (piece p) r Width z g = absurd (omega (arith, G .fits-solid p r (g .0) (g .1)))
   degenerate-earns (cut Length x a b) r Length z g = absurd (omega (arith, G .proper Length (r .0) x (g .0)))
   degenerate-earns (cut Width x a b) r Width z g = absurd (omega (arith, G .proper Width (r .1) x (g .0)))
-  degenerate-earns (cut Length x a b) r Width z g = ap₂ _+_ (degenerate-earns a (part Length x r) Width z (g .1)) (degenerate-earns b (beyond C Length x r) Width z (g .2))
-  degenerate-earns (cut Width x a b) r Length z g = ap₂ _+_ (degenerate-earns a (part Width x r) Length z (g .1)) (degenerate-earns b (beyond C Width x r) Length z (g .2))
+  degenerate-earns (cut Length x a b) r Width z g =
+      ap₂ _+_ (degenerate-earns a (part Length x r) Width z (g .1)) (degenerate-earns b (beyond C Length x r) Width z (g .2))
+  degenerate-earns (cut Width x a b) r Length z g =
+      ap₂ _+_ (degenerate-earns a (part Width x r) Length z (g .1)) (degenerate-earns b (beyond C Width x r) Length z (g .2))
 
   module _ {S : Type 0} (H : Shares P S) where
     pub figure-mono : (q r : Rect) (s : S) → q ⊑ r → figure K C H q s ≤ figure K C H r s

@@ -32,15 +32,21 @@ module _ (J : Job) where
   unfolding pieces sized saw
   plain waste r g = tt
   plain (piece i) r g = let h = mem-range 0 (J .count) i (g .0) in let l = true-fits-in (J .size i) r (g .1) in (omega arith, l .0, l .1)
-  plain (cut Length x a b) r g = let h = cut-saw 0 Length (r .0) x (g .0) in (omega arith, omega arith, plain a (x, r .1) (g .1), rw sub-zero at (plain b (r .0 - x - 0, r .1) (g .2)))
-  plain (cut Width x a b) r g = let h = cut-saw 0 Width (r .1) x (g .0) in (omega arith, omega arith, plain a (r .0, x) (g .1), rw sub-zero at (plain b (r .0, r .1 - x - 0) (g .2)))
+  plain (cut Length x a b) r g =
+      let h = cut-saw 0 Length (r .0) x (g .0) in
+      (omega arith, omega arith, plain a (x, r .1) (g .1), rw sub-zero at (plain b (r .0 - x - 0, r .1) (g .2)))
+  plain (cut Width x a b) r g =
+      let h = cut-saw 0 Width (r .1) x (g .0) in
+      (omega arith, omega arith, plain a (r .0, x) (g .1), rw sub-zero at (plain b (r .0, r .1 - x - 0) (g .2)))
 
   pub unplain : (t : Tree ℕ) (r : Rect) → GuillotineTree J (r .0) (r .1) t → Guillotine (pieces J) (saw 0) r t
   unfolding pieces sized saw
   unplain waste r g = tt
   unplain (piece i) r g = (range-mem 0 (J .count) i (omega arith) (omega arith), fits-in-true (J .size i) r (g .1, g .2))
-  unplain (cut Length x a b) r g = (saw-cut 0 Length (r .0) x (g .0) (omega arith), unplain a (x, r .1) (g .2), unplain b (r .0 - x - 0, r .1) (rw sub-zero (g .3)))
-  unplain (cut Width x a b) r g = (saw-cut 0 Width (r .1) x (g .0) (omega arith), unplain a (r .0, x) (g .2), unplain b (r .0, r .1 - x - 0) (rw sub-zero (g .3)))
+  unplain (cut Length x a b) r g =
+      (saw-cut 0 Length (r .0) x (g .0) (omega arith), unplain a (x, r .1) (g .2), unplain b (r .0 - x - 0, r .1) (rw sub-zero (g .3)))
+  unplain (cut Width x a b) r g =
+      (saw-cut 0 Width (r .1) x (g .0) (omega arith), unplain a (r .0, x) (g .2), unplain b (r .0, r .1 - x - 0) (rw sub-zero (g .3)))
 
 module _ (J : Job) (weight : ℕ → ℕ) where
   -- the recursion, as document 01 has it
@@ -59,7 +65,9 @@ module _ (J : Job) (weight : ℕ → ℕ) where
   -- and some such tree earns it
   pub figure-earned : (l w c : ℕ) → (t : Tree ℕ) × GuillotineTree J l w t × (weight-of weight t ≤ c) × (profit J t ≡ figure-of J weight l w c)
   unfolding figure-of pieces sized
-  figure-earned l w c = let e = figure-attained (pieces J) (saw 0) (by-weight weight) (saw-proper 0) (l, w) c in (e .0, plain J (e .0) (l, w) (e .1), within-weight weight (e .0) c (e .2), e .3)
+  figure-earned l w c =
+      let e = figure-attained (pieces J) (saw 0) (by-weight weight) (saw-proper 0) (l, w) c in
+      (e .0, plain J (e .0) (l, w) (e .1), within-weight weight (e .0) c (e .2), e .3)
 
   -- the same of the bound: no tree on the plate of weight at most the capacity earns more
   pub bound-most : (t : Tree ℕ) → OnPlate J t → weight-of weight t ≤ capacity J weight → profit J t ≤ bound-of J weight
@@ -72,7 +80,8 @@ module _ (J : Job) (weight : ℕ → ℕ) where
   -- a tree on the plate that keeps every demand weighs at most the capacity
   pub demands-weight : (t : Tree ℕ) → OnPlate J t → KeepsDemands J t → weight-of weight t ≤ capacity J weight
   unfolding pieces sized
-  demands-weight t g k = keeps-weight (λ i. i) (pieces J) (saw 0) (J .count) (λ p m. (let h = mem-range 0 (J .count) p m in omega arith)) weight (J .demand) t (J .plate) (unplain J t (J .plate) g) k
+  demands-weight t g k = keeps-weight (λ i. i) (pieces J) (saw 0) (J .count) (λ i m. (let h = mem-range 0 (J .count) i m in omega arith)) weight (J .demand)
+      t (J .plate) (unplain J t (J .plate) g) k
 
   -- so it earns at most the bound
   pub bound-holds : (t : Tree ℕ) → OnPlate J t → KeepsDemands J t → profit J t ≤ bound-of J weight
@@ -86,8 +95,8 @@ module _ (J : Job) (weight : ℕ → ℕ) (h : InRange J) where
   -- no figure is above the area times the greatest price
   pub figure-ceiling : (l w c : ℕ) → figure-of J weight l w c ≤ l * w * 1000000
   unfolding figure-of pieces
-  figure-ceiling l w c = figure-area (range 0 (J .count)) (J .price) (J .size) (kinds-solid J h) 1000000
-      (λ i m. (let l = mem-range 0 (J .count) i m in h .prices i (omega arith))) (by-weight weight) (l, w) c
+  figure-ceiling l w c = figure-area (range 0 (J .count)) (J .price) (J .size) (kinds-solid J h) (by-weight weight) 1000000
+      (λ i m. (let l = mem-range 0 (J .count) i m in h .prices i (omega arith))) (l, w) c
 
   -- so the bound is at most 1,000,000,000,000
   pub bound-ceiling : bound-of J weight ≤ 1000000000000

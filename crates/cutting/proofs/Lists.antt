@@ -1,15 +1,16 @@
 -- Laws of the lists of specs/Lists: who is a member of a range, of a filtered or mapped list and of a list of pairs, and their lengths.
 -- Assumes nothing.
-use mathlib.Core.Path.{_≡_, refl, sym, _∙_, ap, subst}
+use mathlib.Core.Path.{_≡_, refl, sym, _∙_, ap, ap₂, subst}
 use mathlib.Core.Logic.{_⊎_, inl, inr}
 use mathlib.Core.Bool.{Bool, true, false, _||_}
+use mathlib.Core.Option.{some}
 use mathlib.Core.List.{List, [], _∷_, map, List·Memᴰ, List·Memᴰ·head, List·Memᴰ·tail, List·Memᴰ·not-nil, List·Memᴰ·cases-cons, List·Memᴰ·append-cases, Memᴰ·append-left, Memᴰ·append-right, Memᴰ·cast}
 use Prim.Native.Nat.{ℕ, zero, suc, _+_, _≤_, _<_}
 use native.Mathlib.Decide.{ℕ-discrete}
 use native.Mathlib.Omega.{arith}
 use lib.Dec.{T}
 use lib.ListN.{length, getD}
-use Rattle.cutting.specs.Lists.{range, keep, filter, any, pairs}
+use Rattle.cutting.specs.Lists.{range, keep, filter, any, first, pairs}
 
 pub range-mem : (a n x : ℕ) → a ≤ x → x < a + n → List·Memᴰ x (range a n)
 unfolding range
@@ -92,6 +93,12 @@ module _ {A : Type 0} where
       go : (b : Bool) → f y ≡ b → T (b || any f ys) → (T (any f ys) → (x : A) × List·Memᴰ x ys × T (f x)) → (x : A) × List·Memᴰ x (y ∷ ys) × T (f x)
       go true e k h = (y, List·Memᴰ·head refl, subst T (sym e) tt)
       go false e k h = let r = h k in (r .0, List·Memᴰ·tail (r .1), r .2)
+
+  -- the first member that passes depends on the test's answers at the members only
+  pub first-cong : (f g : A → Bool) (xs : List A) → ((x : A) → List·Memᴰ x xs → f x ≡ g x) → first f xs ≡ first g xs
+  unfolding first
+  first-cong f g [] h = refl
+  first-cong f g (x ∷ xs) h = ap₂ (λ b o. elim b [ true ↦ some x | false ↦ o ]) (h x (List·Memᴰ·head refl)) (first-cong f g xs (λ y m. h y (List·Memᴰ·tail m)))
 
 module _ {A B : Type 0} where
   pub map-mem : (f : A → B) {x : A} {xs : List A} → List·Memᴰ x xs → List·Memᴰ (f x) (map f xs)

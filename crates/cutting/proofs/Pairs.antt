@@ -41,8 +41,10 @@ module _ {P S S′ : Type 0} (H : Shares P S) (H′ : Shares P S′) where
   paired-monotone l l′ d s q m t =
       let k = mem-map (λ u. across u) q (pairs (H .splits d (s .0)) (H′ .splits d (s .1))) m in
       let j = mem-pairs (k .0) (H .splits d (s .0)) (H′ .splits d (s .1)) (k .1) in (
-        λ w. (let v = paired-within t (across (k .0) .0) (rw (k .2) at w) in within-paired t s (l d (s .0) (k .0 .0) (j .0) t .0 (v .0)) (l′ d (s .1) (k .0 .1) (j .1) t .0 (v .1))),
-        λ w. (let v = paired-within t (across (k .0) .1) (rw (k .2) at w) in within-paired t s (l d (s .0) (k .0 .0) (j .0) t .1 (v .0)) (l′ d (s .1) (k .0 .1) (j .1) t .1 (v .1))),
+        λ w. (let v = paired-within t (across (k .0) .0) (rw (k .2) at w) in
+            within-paired t s (l d (s .0) (k .0 .0) (j .0) t .0 (v .0)) (l′ d (s .1) (k .0 .1) (j .1) t .0 (v .1))),
+        λ w. (let v = paired-within t (across (k .0) .1) (rw (k .2) at w) in
+            within-paired t s (l d (s .0) (k .0 .0) (j .0) t .1 (v .0)) (l′ d (s .1) (k .0 .1) (j .1) t .1 (v .1))),
       )
 
   pub paired-symmetric : Symmetric H → Symmetric H′ → Symmetric (paired H H′)
@@ -62,7 +64,8 @@ module _ {P : Type 0} (kind : P → ℕ) where
   pub exact-within : (n : ℕ) (f : ℕ → ℕ) (t : Tree P) → Keeps kind n f t → Within (exact kind n) (state n f) t
   unfolding exact state
   exact-within zero f t k = free-within t
-  exact-within (suc n) f t k = within-paired _ _ t (f n, state n f) (weight-within _ t (f n) (k n (omega arith))) (exact-within n f t (λ i l. k i (omega arith)))
+  exact-within (suc n) f t k =
+      within-paired _ _ t (f n, state n f) (weight-within _ t (f n) (k n (omega arith))) (exact-within n f t (λ i l. k i (omega arith)))
 
   pub within-exact : (n : ℕ) (f : ℕ → ℕ) (t : Tree P) → Within (exact kind n) (state n f) t → Keeps kind n f t
   unfolding exact state

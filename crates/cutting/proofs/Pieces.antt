@@ -33,4 +33,5 @@ module _ {P : Type 0} (ps : List P) (price : P → ℕ) (size : P → Rect) (sol
 
   pub units-enlarge : (k : ℕ) → Enlarges (sized ps price size) (saw k)
   unfolding saw
-  units-enlarge k = sized-enlarges (saw k) (λ d m n x h c. (let l = cut-saw k d m x c in saw-cut k d n x (l .0) (omega arith))) (λ d m n x h c. omega arith) (saw-proper k)
+  units-enlarge k = sized-enlarges (saw k) (λ d m n x h c. (let l = cut-saw k d m x c in saw-cut k d n x (l .0) (omega arith)))
+      (λ d m n x h c. omega arith) (saw-proper k)

@@ -20,8 +20,8 @@ use Rattle.cutting.specs.Shares.{by-weight}
 use Rattle.cutting.specs.Normal.{none}
 use Rattle.cutting.specs.Choice.{Choice, as-waste, as-piece, as-cut, or-waste, or-length, or-piece, or-zero, first-cut, choice, follow, written}
 use Rattle.cutting.specs.Job.{Job, GuillotineTree, OnPlate, profit, weight-of, capacity, pieces, figure-of, bound-of, normal-side, normal-positions, normal-floor, plan-of, kind-earns, pair-earns, first-pair, plan-choice, plan-after, InRange}
-use Rattle.cutting.proofs.Lists.{range-entry, range-length, mem-pairs}
-use Rattle.cutting.proofs.Search.{first-cong, first-number, no-number, pairs-at, pairs-missing}
+use Rattle.cutting.proofs.Lists.{range-entry, range-length, first-cong, mem-pairs}
+use Rattle.cutting.proofs.Search.{first-number, no-number, pairs-at, pairs-missing}
 use Rattle.cutting.proofs.Choice.{written-earns, written-eq}
 use Rattle.cutting.proofs.Floor.{floor-le}
 use Rattle.cutting.proofs.Saws.{saw-cut, cut-written}

@@ -18,7 +18,8 @@ smaller C proper Width r x m = let h = proper Width (r .1) x m in omega arith
 
 module _ {P S : Type 0} (K : Pieces P) (C : Saw) (H : Shares P S) (proper : Proper C) where
   -- a step reads its figure at smaller rectangles only
-  step-cong : (F G : Rect → S → ℕ) (r : Rect) (s : S) → ((q : Rect) (u : S) → half-perimeter q < half-perimeter r → F q u ≡ G q u) → step K C H F r s ≡ step K C H G r s
+  step-cong : (F G : Rect → S → ℕ) (r : Rect) (s : S) → ((q : Rect) (u : S) → half-perimeter q < half-perimeter r → F q u ≡ G q u)
+      → step K C H F r s ≡ step K C H G r s
   unfolding step best
   step-cong F G r s h = ap₂ (λ a b. max (leaf K H r s) (max a b)) (same Length) (same Width)
     where

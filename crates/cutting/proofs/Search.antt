@@ -1,7 +1,7 @@
 -- The first member that passes a test: what it is, and where it stands by index, as a loop finds it that ends at the first one, or two
 -- nested loops over pairs.
 -- Assumes nothing.
-use mathlib.Core.Path.{_≡_, refl, sym, _∙_, ap, ap₂, subst}
+use mathlib.Core.Path.{_≡_, refl, sym, _∙_, ap, subst}
 use mathlib.Core.Logic.{_⊎_, inl, inr}
 use mathlib.Core.Bool.{Bool, true, false}
 use mathlib.Core.Option.{Option, none, some}
@@ -37,12 +37,6 @@ module _ {A : Type 0} where
       go true e r = found (List·Memᴰ·head refl) (subst T (sym e) tt)
       go false e r = later e r
 
-  -- the first member that passes depends on the test's answers at the members only
-  pub first-cong : (f g : A → Bool) (xs : List A) → ((x : A) → List·Memᴰ x xs → f x ≡ g x) → first f xs ≡ first g xs
-  unfolding first
-  first-cong f g [] h = refl
-  first-cong f g (x ∷ xs) h = ap₂ (λ b o. elim b [ true ↦ some x | false ↦ o ]) (h x (List·Memᴰ·head refl)) (first-cong f g xs (λ y m. h y (List·Memᴰ·tail m)))
-
 module _ {A : Type 0} (f : A → Bool) (d : A) where
   pub first-at : (xs : List A) (i : ℕ) → i < length xs → T (f (getD xs i d)) → ((j : ℕ) → j < i → f (getD xs j d) ≡ false) → first f xs ≡ some (getD xs i d)
   unfolding first
@@ -62,7 +56,10 @@ first-number f n i h t earlier =
     rw (e i h) at (first-at f 0 (range 0 n) i (omega (arith, range-length 0 n)) (rw (e i h) t) (λ j k. ap f (e j (omega arith)) ∙ earlier j k))
 
 pub no-number : (f : ℕ → Bool) (n : ℕ) → ((j : ℕ) → j < n → f j ≡ false) → first f (range 0 n) ≡ none
-no-number f n fails = first-missing f 0 (range 0 n) (λ j k. (let h : j < n = omega (arith, range-length 0 n) in let e : getD (range 0 n) j 0 ≡ j = omega (arith, range-entry 0 n j 0 h) in ap f e ∙ fails j h))
+no-number f n fails = first-missing f 0 (range 0 n) (λ j k.
+    (let h : j < n = omega (arith, range-length 0 n) in
+    let e : getD (range 0 n) j 0 ≡ j = omega (arith, range-entry 0 n j 0 h) in
+    ap f e ∙ fails j h))
 
 module _ {A B : Type 0} (f : A × B → Bool) (d : A) (e : B) where
   -- in the row of x
@@ -73,7 +70,8 @@ module _ {A B : Type 0} (f : A × B → Bool) (d : A) (e : B) where
   row-at x (y ∷ ys) zs zero l t h = rw (T-true (f (x, y)) t, first) refl
   row-at x (y ∷ ys) zs (suc k) l t h = rw (h 0 (omega arith), first) (row-at x ys zs k (omega arith) t (λ m j. h (suc m) (omega arith)))
 
-  row-missing : (x : A) (ys : List B) (zs : List (A × B)) → ((m : ℕ) → m < length ys → f (x, getD ys m e) ≡ false) → first f (map (λ y. (x, y)) ys ++ zs) ≡ first f zs
+  row-missing : (x : A) (ys : List B) (zs : List (A × B)) → ((m : ℕ) → m < length ys → f (x, getD ys m e) ≡ false)
+      → first f (map (λ y. (x, y)) ys ++ zs) ≡ first f zs
   unfolding first
   row-missing x [] zs h = refl
   row-missing x (y ∷ ys) zs h = rw (h 0 (omega arith), first) (row-missing x ys zs (λ m j. h (suc m) (omega arith)))
@@ -89,7 +87,8 @@ module _ {A B : Type 0} (f : A × B → Bool) (d : A) (e : B) where
       ∙ pairs-at xs ys i k (omega arith) n t (λ j m h g. rows (suc j) m (omega arith) g) row
 
   -- no pair passes
-  pub pairs-missing : (xs : List A) (ys : List B) → ((j m : ℕ) → j < length xs → m < length ys → f (getD xs j d, getD ys m e) ≡ false) → first f (pairs xs ys) ≡ none
+  pub pairs-missing : (xs : List A) (ys : List B) → ((j m : ℕ) → j < length xs → m < length ys → f (getD xs j d, getD ys m e) ≡ false)
+      → first f (pairs xs ys) ≡ none
   unfolding pairs first
   pairs-missing [] ys h = refl
   pairs-missing (x ∷ xs) ys h = row-missing x ys (pairs xs ys) (λ m g. h 0 m (omega arith) g) ∙ pairs-missing xs ys (λ j m g l. h (suc j) m (omega arith) l)

@@ -1,23 +1,23 @@
 -- A stage limit as a part of the share: a tree is within it exactly when its stages are, and the recursion by blocks.
 -- Assumes nothing.
-use mathlib.Core.Path.{_≡_, refl, sym, _∙_, ap, fun-ext}
-use mathlib.Core.Logic.{_⊎_, inl, inr}
+use mathlib.Core.Path.{_≡_, refl, sym, _∙_}
+use mathlib.Core.Logic.{⊎-elim}
 use mathlib.Core.List.{List, List·Memᴰ, List·Memᴰ·not-nil}
 use Prim.Native.Nat.{ℕ, zero, suc, _+_, _-_, _≤_, _<_, max}
 use native.Mathlib.Omega.{arith}
 use Rattle.cutting.specs.declared.Direction.{Direction}
 use Rattle.cutting.specs.declared.Direction.the-variants.{Length, Width}
-use Rattle.cutting.specs.Lists.{greatest}
-use Rattle.cutting.specs.Tree.{Rect, side, part, Tree, waste, piece, cut, Pieces, Saw, Shares, beyond, Proper, earns, Guillotine, Within, Monotone, Symmetric}
+use Rattle.cutting.specs.Tree.{Rect, side, Tree, waste, piece, cut, Pieces, Saw, Shares, Proper, earns, Guillotine, Within, Monotone, Symmetric}
 use Rattle.cutting.specs.Figure.{leaf, best, step, figure}
 use Rattle.cutting.specs.Shares.{turn, staged-splits, staged, stages-below, stages}
 use Rattle.cutting.proofs.Lists.{map-mem, mem-map}
-use Rattle.cutting.proofs.Greatest.{max-is, greatest-map}
+use Rattle.cutting.proofs.Greatest.{max-is, greatest-cong, greatest-map}
 use Rattle.cutting.proofs.Recursion.{figure-eq}
 use Rattle.cutting.proofs.Exact.{figure-upper, figure-attained}
 
 module _ {S : Type 0} where
-  staged-splits-mem : (e : Direction) (k : ℕ) (qs : List (S × S)) (q : S × S) → 0 < k → List·Memᴰ q qs → List·Memᴰ ((e, k, q .0), (e, k, q .1)) (staged-splits e k qs)
+  staged-splits-mem : (e : Direction) (k : ℕ) (qs : List (S × S)) (q : S × S) → 0 < k → List·Memᴰ q qs
+      → List·Memᴰ ((e, k, q .0), (e, k, q .1)) (staged-splits e k qs)
   staged-splits-mem e zero qs q h m = absurd (omega arith)
   staged-splits-mem e (suc k) qs q h m = map-mem (λ q. ((e, suc k, q .0), (e, suc k, q .1))) m
 
@@ -124,51 +124,58 @@ module _ {P S : Type 0} (K : Pieces P) (C : Saw) (H : Shares P S) (proper : Prop
   abbrev pub block : Direction → ℕ → Rect → S → ℕ
   block d k r s = figure K C (staged H) r (d, k, s)
 
-  -- no tree within the limit and the share earns more than the greater of both blocks
-  pub staged-upper : (t : Tree P) (r : Rect) (k : ℕ) (s : S) → Guillotine K C r t → Within H s t → stages t ≤ k → earns K t ≤ max (block Length k r s) (block Width k r s)
-  staged-upper t r k s g w h = go (root t) (figure-upper K C (staged H) proper t r (root t, k, s) g (within-staged H t (root t) k s (omega (arith, root-stages t)) w))
+  -- the figure within a limit of k stages, whichever direction comes first
+  abbrev pub within-stages : ℕ → Rect → S → ℕ
+  within-stages k r s = max (block Length k r s) (block Width k r s)
+
+  -- no tree within the limit and the share earns more
+  pub staged-upper : (t : Tree P) (r : Rect) (k : ℕ) (s : S) → Guillotine K C r t → Within H s t → stages t ≤ k → earns K t ≤ within-stages k r s
+  staged-upper t r k s g w h =
+      go (root t) (figure-upper K C (staged H) proper t r (root t, k, s) g (within-staged H t (root t) k s (omega (arith, root-stages t)) w))
     where
-      go : (d : Direction) → earns K t ≤ block d k r s → earns K t ≤ max (block Length k r s) (block Width k r s)
+      go : (d : Direction) → earns K t ≤ block d k r s → earns K t ≤ within-stages k r s
       go Length l = omega arith
       go Width l = omega arith
 
   -- and some tree within both earns it
-  pub staged-attained : (r : Rect) (k : ℕ) (s : S) → (t : Tree P) × Guillotine K C r t × Within H s t × (stages t ≤ k) × (earns K t ≡ max (block Length k r s) (block Width k r s))
-  staged-attained r k s = go (max-is (block Length k r s) (block Width k r s))
+  pub staged-attained : (r : Rect) (k : ℕ) (s : S) → (t : Tree P) × Guillotine K C r t × Within H s t × (stages t ≤ k) × (earns K t ≡ within-stages k r s)
+  staged-attained r k s = ⊎-elim (held Length) (held Width) (max-is (block Length k r s) (block Width k r s))
     where
-      held : (d : Direction) → max (block Length k r s) (block Width k r s) ≡ block d k r s
-          → (t : Tree P) × Guillotine K C r t × Within H s t × (stages t ≤ k) × (earns K t ≡ max (block Length k r s) (block Width k r s))
+      held : (d : Direction) → within-stages k r s ≡ block d k r s
+          → (t : Tree P) × Guillotine K C r t × Within H s t × (stages t ≤ k) × (earns K t ≡ within-stages k r s)
       held d e =
           let f = figure-attained K C (staged H) proper r (d, k, s) in
           let v = staged-within H (f .0) d k s (f .2) in
           (f .0, f .1, v .1, omega (arith, v .0, stages-below-ge (f .0) d), f .3 ∙ sym e)
 
-      go : (max (block Length k r s) (block Width k r s) ≡ block Length k r s) ⊎ (max (block Length k r s) (block Width k r s) ≡ block Width k r s)
-          → (t : Tree P) × Guillotine K C r t × Within H s t × (stages t ≤ k) × (earns K t ≡ max (block Length k r s) (block Width k r s))
-      go (inl e) = held Length e
-      go (inr e) = held Width e
-
-  -- what the two parts of a cut come to
-  abbrev both : Direction → Rect → ℕ → (Direction × ℕ × S) × (Direction × ℕ × S) → ℕ
-  both d r x q = figure K C (staged H) (part d x r) (q .0) + figure K C (staged H) (beyond C d x r) (q .1)
-
+  -- cuts in the block's own direction stay in the block
   own : (d : Direction) (k : ℕ) (r : Rect) (s : S) → best C (staged H) (figure K C (staged H)) d r (d, suc k, s) ≡ best C H (λ q u. block d (suc k) q u) d r s
   unfolding best staged
-  own d k r s = ap (λ f. greatest f (C .cuts d (side d r))) (fun-ext (λ x. ap (λ j. greatest (both d r x) (staged-splits d j (H .splits d s))) (turn-none d k) ∙ greatest-map (both d r x) _ (H .splits d s)))
+  own d k r s = rw (turn-none d k) (greatest-cong _ _ (C .cuts d (side d r)) (λ x m. greatest-map _ _ (H .splits d s)))
 
+  -- cuts in the other direction have one stage fewer
   cross : (d : Direction) (k : ℕ) (r : Rect) (s : S)
       → best C (staged H) (figure K C (staged H)) (other d) r (d, suc k, s) ≡ best C (staged H) (figure K C (staged H)) (other d) r (other d, k, s)
   unfolding best staged
-  cross d k r s = ap (λ j. greatest (λ x. greatest (both (other d) r x) (staged-splits (other d) j (H .splits (other d) s))) (C .cuts (other d) (side (other d) r))) (turn-one d k)
+  cross d k r s = rw (turn-one d k) refl
 
   less : (d : Direction) (k : ℕ) (r : Rect) (s : S) → block (other d) k r s ≤ block d (suc k) r s
   less d k r s =
       let f = figure-attained K C (staged H) proper r (other d, k, s) in
       let v = staged-within H (f .0) (other d) k s (f .2) in
-      omega (arith, figure-upper K C (staged H) proper (f .0) r (d, suc k, s) (f .1) (within-staged H (f .0) d (suc k) s (omega (arith, v .0, change d (other d) (f .0), turn-le d (other d))) (v .1)))
+      let l : stages-below d (f .0) ≤ suc k = omega (arith, v .0, change d (other d) (f .0), turn-le d (other d)) in
+      omega (arith, f .3, figure-upper K C (staged H) proper (f .0) r (d, suc k, s) (f .1) (within-staged H (f .0) d (suc k) s l (v .1)))
+
+  step-either : (d : Direction) (r : Rect) (u : Direction × ℕ × S) → step K C (staged H) (figure K C (staged H)) r u
+      ≡ max (leaf K (staged H) r u) (max (best C (staged H) (figure K C (staged H)) d r u) (best C (staged H) (figure K C (staged H)) (other d) r u))
+  unfolding step
+  step-either Length r u = refl
+  step-either Width r u = omega arith
 
   -- a block's figure is the greatest of the other block's with one stage fewer, and of the cuts between figures of its own
   pub staged-eq : (d : Direction) (k : ℕ) (r : Rect) (s : S) → block d (suc k) r s ≡ max (block (other d) k r s) (best C H (λ q u. block d (suc k) q u) d r s)
-  unfolding step leaf staged
-  staged-eq Length k r s = omega (arith, figure-eq K C (staged H) proper r (Length, suc k, s), figure-eq K C (staged H) proper r (Width, k, s), own Length k r s, cross Length k r s, less Length k r s)
-  staged-eq Width k r s = omega (arith, figure-eq K C (staged H) proper r (Width, suc k, s), figure-eq K C (staged H) proper r (Length, k, s), own Width k r s, cross Width k r s, less Width k r s)
+  unfolding leaf staged
+  staged-eq d k r s =
+      let a = figure-eq K C (staged H) proper r (d, suc k, s) ∙ step-either d r (d, suc k, s) in
+      let b = figure-eq K C (staged H) proper r (other d, k, s) ∙ step-either d r (other d, k, s) in
+      omega (arith, a, b, own d k r s, cross d k r s, less d k r s)

@@ -99,7 +99,7 @@ module _ (J : Job) (weight : ℕ → ℕ) (h : InRange J) (l w c : ℕ) (on-leng
   pub figure-floor : figure-of J weight l w c ≡ figure-of J weight (normal-floor J Length l) (normal-floor J Width w) c
   unfolding figure-of pieces
   figure-floor = floor-figure (range 0 (J .count)) (J .price) (J .size) (kinds-solid J h) (by-weight weight) (by-weight-monotone weight) (J .plate) (normal-side J) enough
-      (saw-normal (normal-side J)) (saw-normal-cuts (normal-side J) (enough .additive)) (l, w) c (on-length, on-width)
+      (l, w) c (on-length, on-width)
 
   -- the recursion over cuts at normal positions up to half of a side, the remainder counted down to a normal position
   pub figure-half : figure-of J weight l w c ≡

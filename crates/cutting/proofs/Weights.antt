@@ -93,5 +93,7 @@ module _ {P : Type 0} (kind : P → ℕ) (K : Pieces P) (C : Saw) (n : ℕ) (kno
   )
 
   -- a tree that keeps the demands weighs at most the capacity
-  pub keeps-weight : (demand : ℕ → ℕ) (t : Tree P) (r : Rect) → Guillotine K C r t → Keeps kind n demand t → total (λ p. weight (kind p)) t ≤ sum n (λ i. demand i * weight i)
-  keeps-weight demand t r g k = omega (arith, by-copies t r g, sum-le n (λ i. copies kind i t * weight i) (λ i. demand i * weight i) (λ i l. mul-le-mul-right (weight i) (k i l)))
+  pub keeps-weight : (demand : ℕ → ℕ) (t : Tree P) (r : Rect) → Guillotine K C r t → Keeps kind n demand t
+      → total (λ p. weight (kind p)) t ≤ sum n (λ i. demand i * weight i)
+  keeps-weight demand t r g k =
+      omega (arith, by-copies t r g, sum-le n (λ i. copies kind i t * weight i) (λ i. demand i * weight i) (λ i l. mul-le-mul-right (weight i) (k i l)))
