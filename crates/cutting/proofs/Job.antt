@@ -22,7 +22,8 @@ use Rattle.cutting.proofs.Recursion.{figure-eq}
 use Rattle.cutting.proofs.Exact.{figure-upper, figure-attained}
 use Rattle.cutting.proofs.Saws.{saw-cut, cut-saw, saw-proper}
 use Rattle.cutting.proofs.Pieces.{fits-in-true, true-fits-in}
-use Rattle.cutting.proofs.Weights.{within-weight, weight-within, keeps-weight}
+use Rattle.cutting.proofs.Weights.{within-weight, weight-within}
+use Rattle.cutting.proofs.Demands.{keeps-weight}
 use Rattle.cutting.proofs.Areas.{areas}
 use Rattle.cutting.proofs.Ceiling.{figure-area}
 

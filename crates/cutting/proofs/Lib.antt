@@ -11,6 +11,7 @@ pub mod Enlarge
 pub mod Transfer
 pub mod Pieces
 pub mod Weights
+pub mod Demands
 pub mod Pairs
 pub mod Stages
 pub mod Reduction

@@ -1,4 +1,5 @@
--- Two share systems at a time, and as many as there are kinds: the remaining copies.
+-- Two share systems at a time: a tree is within both exactly when it is within each. As many as there are kinds give the remaining copies:
+-- a tree is within them exactly when it keeps every demand.
 -- Assumes nothing.
 use mathlib.Core.Path.{_≡_, refl}
 use mathlib.Core.List.{List·Memᴰ·head}
