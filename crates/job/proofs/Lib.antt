@@ -1,3 +1,0 @@
-pub mod Checks
-pub mod Entries
-pub mod Read

@@ -1,0 +1,4 @@
+pub mod Product
+pub mod Nodes
+pub mod Steps
+pub mod Whole

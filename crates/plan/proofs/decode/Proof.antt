@@ -1,0 +1,19 @@
+-- `plan::decode` meets its contract: each kind gives its node. Assumes nothing.
+use borrow.Author.Tests.{ne-eqb}
+use Rattle.plan.proofs.decode.Statement.{statement}
+use Rattle.plan.proofs.decode.Tie as tie
+
+returns : tie.Need-returns
+returns c = simp (c .match .keys1)
+
+returns-2 : tie.Need-returns-2
+returns-2 c = simp (c .match .keys2)
+
+returns-3 : tie.Need-returns-3
+returns-3 c = simp (c .match .keys3)
+
+returns-4 : tie.Need-returns-4
+returns-4 c = simp (ne-eqb _ _ (c .match .rest .0 .0 .1), ne-eqb _ _ (c .match .rest .0 .1), ne-eqb _ _ (c .match .rest .1))
+
+pub decode-spec : {M : Type 1} → statement M
+decode-spec = tie.close (tie.spec returns returns-2 returns-3 returns-4)
