@@ -9,12 +9,12 @@ use native.Mathlib.Nat.{zero-add}
 use native.Mathlib.Omega.{arith}
 use lib.Dec.{T, leb, eqb, leb→le, le→leb, eqb→eq}
 use Rattle.cutting.specs.declared.Direction.{Direction}
-use Rattle.cutting.specs.Lists.{filter, any}
+use Rattle.cutting.specs.Lists.{any}
 use Rattle.cutting.specs.Tree.{Rect, side}
-use Rattle.cutting.specs.Pieces.{fits-in}
+use Rattle.cutting.specs.Pieces.{_⊑_, fits-in}
 use Rattle.cutting.specs.Normal.{Sum, none, more, summed, normal?, sides, normal}
-use Rattle.cutting.proofs.Tests.{and-T, T-and, or-T, T-equal}
-use Rattle.cutting.proofs.Lists.{filter-mem, mem-filter, any-mem, mem-any, map-mem, mem-map}
+use Rattle.cutting.proofs.Tests.{and-T, T-and, or-T}
+use Rattle.cutting.proofs.Lists.{filter-mem, any-mem, mem-any, map-mem}
 use Rattle.cutting.proofs.Floor.{Additive}
 use Rattle.cutting.proofs.Pieces.{fits-in-true}
 use Rattle.cutting.proofs.Reduction.{Sufficient}
@@ -22,11 +22,6 @@ use Rattle.cutting.proofs.Reduction.{Sufficient}
 pub Sum-add : (zs : List ℕ) {m n : ℕ} → Sum zs m → Sum zs n → Sum zs (m + n)
 Sum-add zs {n = n} none t = rw zero-add t
 Sum-add zs {n = n} (more {n = k} {m = m} a i s e) t = more {m = m + n} a i (Sum-add zs s t) (omega arith)
-
--- a sum above 0 has a first number
-Sum-first : (zs : List ℕ) {n : ℕ} → Sum zs n → 1 ≤ n → (a : ℕ) × List·Memᴰ a zs × (a ≤ n) × Sum zs (n - a)
-Sum-first zs none h = absurd (omega arith)
-Sum-first zs (more {n = k} {m = m} a i s e) h = let z : m - a ≡ k = omega arith in (a, i, omega arith, rw z s)
 
 summed-sum : (zs : List ℕ) (k n : ℕ) → T (summed zs k n) → Sum zs n
 unfolding summed
@@ -55,7 +50,8 @@ sum-summed zs (more {n = n} {m = m} a i s e) k h = go a refl k refl (λ (j : ℕ
     go (suc b) z zero f g = absurd (omega arith)
     go (suc b) z (suc j) f g =
         let p : m - a ≡ n = omega arith in
-        or-T (eqb m 0) _ (any-mem (λ a. leb a m && summed zs j (m - a)) zs i (and-T (leb a m) (summed zs j (m - a)) (le→leb a m (omega arith)) (rw p (g j (omega arith)))))
+        let t = and-T (leb a m) (summed zs j (m - a)) (le→leb a m (omega arith)) (rw p (g j (omega arith))) in
+        or-T (eqb m 0) _ (any-mem (λ a. leb a m && summed zs j (m - a)) zs i t)
 
 -- the test passes exactly the sums
 pub normal-sum : (zs : List ℕ) (n : ℕ) → T (normal? zs n) ↔ Sum zs n
@@ -66,38 +62,13 @@ pub normal-additive : (zs : List ℕ) → Additive (normal? zs)
 normal-additive zs = (normal-sum zs 0 .1 none, λ a b t u. normal-sum zs (a + b) .1 (Sum-add zs (normal-sum zs a .0 t) (normal-sum zs b .0 u)))
 
 module _ {P : Type 0} (ps : List P) (size : P → Rect) (plate : Rect) where
+  -- the side of a piece that fits the plate is normal
+  side-normal : (d : Direction) (p : P) → List·Memᴰ p ps → size p ⊑ plate → T (normal ps size plate d (side d (size p)))
+  unfolding sides
+  side-normal d p m h =
+      let k = map-mem (λ p. side d (size p)) (filter-mem (λ p. fits-in (size p) plate) ps m (fits-in-true (size p) plate h)) in
+      normal-sum (sides ps size plate d) (side d (size p)) .1 (more {m = side d (size p)} (side d (size p)) k none (omega arith))
+
   -- normal positions suffice
   pub normal-sufficient : Sufficient ps size plate (normal ps size plate)
-  unfolding sides
-  normal-sufficient = record {
-    additive = λ d. normal-additive (sides ps size plate d);
-    has-side = λ d p m h. normal-sum (sides ps size plate d) (side d (size p)) .1
-        (more {m = side d (size p)} (side d (size p)) (map-mem (λ p. side d (size p)) (filter-mem (λ p. fits-in (size p) plate) ps m (fits-in-true (size p) plate h))) none (omega arith));
-  }
-
-  -- the rule of a loop over the pieces: a number above 0 is normal if a piece that fits the plate leads to it from a normal one
-  pub normal-rule : (d : Direction) (n : ℕ) → 1 ≤ n
-      → normal ps size plate d n ≡ any (λ p. fits-in (size p) plate && (leb (side d (size p)) n && normal ps size plate d (n - side d (size p)))) ps
-  unfolding sides
-  normal-rule d n h = T-equal (normal ps size plate d n) (any test ps) up down
-    where
-      zs : List ℕ
-      zs = sides ps size plate d
-
-      test : P → Bool
-      test p = fits-in (size p) plate && (leb (side d (size p)) n && normal ps size plate d (n - side d (size p)))
-
-      up : T (normal ps size plate d n) → T (any test ps)
-      up t =
-          let u = Sum-first zs (normal-sum zs n .0 t) h in
-          let m = mem-map (λ p. side d (size p)) (u .0) (filter (λ p. fits-in (size p) plate) ps) (u .1) in
-          let k = mem-filter (λ p. fits-in (size p) plate) ps (m .1) in
-          any-mem test ps (k .0) (and-T (fits-in (size (m .0)) plate) _ (k .1) (and-T (leb (side d (size (m .0))) n) _ (le→leb _ n (omega (arith, m .2, u .2))) (rw (m .2) at (normal-sum zs (n - u .0) .1 (u .3)))))
-
-      down : T (any test ps) → T (normal ps size plate d n)
-      down t =
-          let m = mem-any test ps t in
-          let x = side d (size (m .0)) in
-          let k = T-and (fits-in (size (m .0)) plate) (leb x n && normal ps size plate d (n - x)) (m .2) in
-          let j = T-and (leb x n) (normal ps size plate d (n - x)) (k .1) in
-          normal-sum zs n .1 (more {m = n} x (map-mem (λ p. side d (size p)) (filter-mem (λ p. fits-in (size p) plate) ps (m .1) (k .0))) (normal-sum zs (n - x) .0 (j .1)) (omega (arith, leb→le x n (j .0))))
+  normal-sufficient = record { additive = λ d. normal-additive (sides ps size plate d); has-side = side-normal }

@@ -10,36 +10,34 @@ use lib.Dec.{T, leb}
 use lib.ListN.{length, getD}
 use Rattle.cutting.specs.declared.Direction.{Direction}
 use Rattle.cutting.specs.declared.Direction.the-variants.{Length, Width}
-use Rattle.cutting.specs.Lists.{range, only, filter, any, greatest}
-use Rattle.cutting.specs.Tree.{side}
+use Rattle.cutting.specs.Lists.{range, only, filter, greatest}
+use Rattle.cutting.specs.Tree.{Rect, side, Saw}
 use Rattle.cutting.specs.Figure.{leaf, best, step, figure}
-use Rattle.cutting.specs.Pieces.{fits-in, sized}
+use Rattle.cutting.specs.Pieces.{_⊑_, fits-in, sized}
 use Rattle.cutting.specs.Saws.{saw-normal, saw-half}
 use Rattle.cutting.specs.Shares.{by-weight}
 use Rattle.cutting.specs.Normal.{Sum, sides}
 use Rattle.cutting.specs.Job.{Job, pieces, figure-of, normal-side, normal-positions, normal-floor, InRange}
-use Rattle.cutting.proofs.Lists.{range-mem, mem-range, range-length, filter-length, filter-mem, mem-filter}
 use Rattle.cutting.proofs.Greatest.{greatest-map, most}
 use Rattle.cutting.proofs.Weights.{by-weight-monotone, by-weight-symmetric}
-use Rattle.cutting.proofs.Reduction.{Sufficient, saw-normal-cuts, saw-figure, floor-figure}
+use Rattle.cutting.proofs.Reduction.{Sufficient, CutsAt, saw-normal-cuts, saw-figure, floor-figure}
 use Rattle.cutting.proofs.Half.{half-figure}
-use Rattle.cutting.proofs.Normal.{normal-sum, normal-sufficient, normal-rule}
-use Rattle.cutting.proofs.Positions.{getD-mem, mem-getD, below, first-zero, rising, floor-at, greatest-half}
+use Rattle.cutting.proofs.Normal.{normal-sum, normal-sufficient}
+use Rattle.cutting.proofs.Positions.{rising, entry-passes, passes-entry, passing-length, first-zero, floor-at, greatest-half}
 use Rattle.cutting.proofs.Job.{kinds-solid}
+
+-- the normal lengths and widths of a job suffice for its kinds
+pub sides-suffice : (J : Job) → Sufficient (range 0 (J .count)) (J .size) (J .plate) (normal-side J)
+sides-suffice J = normal-sufficient (range 0 (J .count)) (J .size) (J .plate)
 
 module _ (J : Job) (d : Direction) where
   -- a number is normal exactly if it is a sum, with repetition, of sides of kinds that fit the plate
   pub normal-sums : (n : ℕ) → T (normal-side J d n) ↔ Sum (sides (range 0 (J .count)) (J .size) (J .plate) d) n
   normal-sums n = normal-sum (sides (range 0 (J .count)) (J .size) (J .plate) d) n
 
-  -- and, above 0, exactly if a kind that fits the plate leads to it from a normal number
-  pub normal-side-rule : (n : ℕ) → 1 ≤ n
-      → normal-side J d n ≡ any (λ i. fits-in (J .size i) (J .plate) && (leb (side d (J .size i)) n && normal-side J d (n - side d (J .size i)))) (range 0 (J .count))
-  normal-side-rule n h = normal-rule (range 0 (J .count)) (J .size) (J .plate) d n h
-
   -- 0 is a normal position
   pub normal-zero : T (normal-side J d 0)
-  normal-zero = normal-sufficient (range 0 (J .count)) (J .size) (J .plate) .additive d .0
+  normal-zero = sides-suffice J .additive d .0
 
   -- the list of normal positions begins with 0
   pub positions-first : getD (normal-positions J d) 0 0 ≡ 0
@@ -52,16 +50,16 @@ module _ (J : Job) (d : Direction) where
   positions-rise i j h l = rising (normal-side J d) (suc (side d (J .plate))) i j h l
 
   -- its entries are normal and not above the plate's side
-  pub positions-normal : (i : ℕ) → i < length (normal-positions J d) → T (normal-side J d (getD (normal-positions J d) i 0)) × (getD (normal-positions J d) i 0 ≤ side d (J .plate))
+  pub positions-normal : (i : ℕ) → i < length (normal-positions J d)
+      → T (normal-side J d (getD (normal-positions J d) i 0)) × (getD (normal-positions J d) i 0 ≤ side d (J .plate))
   unfolding normal-positions
-  positions-normal i l =
-      let m = mem-filter (normal-side J d) (range 0 (suc (side d (J .plate)))) (getD-mem (normal-positions J d) i 0 l) in
-      (m .1, (let k = mem-range 0 (suc (side d (J .plate))) (getD (normal-positions J d) i 0) (m .0) in omega arith))
+  positions-normal i l = let e = entry-passes (normal-side J d) (suc (side d (J .plate))) i l in (e .0, omega (arith, e .1))
 
   -- every normal number up to the plate's side is an entry
-  pub positions-entry : (x : ℕ) → x ≤ side d (J .plate) → T (normal-side J d x) → (i : ℕ) × (i < length (normal-positions J d)) × (getD (normal-positions J d) i 0 ≡ x)
+  pub positions-entry : (x : ℕ) → x ≤ side d (J .plate) → T (normal-side J d x)
+      → (i : ℕ) × (i < length (normal-positions J d)) × (getD (normal-positions J d) i 0 ≡ x)
   unfolding normal-positions
-  positions-entry x h t = mem-getD (normal-positions J d) x 0 (filter-mem (normal-side J d) (range 0 (suc (side d (J .plate)))) (range-mem 0 (suc (side d (J .plate))) x (omega arith) (omega arith)) t)
+  positions-entry x h t = passes-entry (normal-side J d) (suc (side d (J .plate))) x (omega arith) t
 
   -- it has an entry, and at most one for each number from 0 to the plate's side
   pub positions-some : 0 < length (normal-positions J d)
@@ -69,7 +67,7 @@ module _ (J : Job) (d : Direction) where
 
   pub positions-length : length (normal-positions J d) ≤ suc (side d (J .plate))
   unfolding normal-positions
-  positions-length = omega (arith, filter-length (normal-side J d) (range 0 (suc (side d (J .plate)))), range-length 0 (suc (side d (J .plate))))
+  positions-length = passing-length (normal-side J d) (suc (side d (J .plate)))
 
   -- the largest normal position not above x is the last entry not above it
   pub positions-floor : (a x : ℕ) → x ≤ side d (J .plate) → a < length (normal-positions J d) → getD (normal-positions J d) a 0 ≤ x
@@ -85,27 +83,31 @@ module _ (J : Job) (d : Direction) where
   unfolding normal-positions
   positions-half l k f h p q below above = greatest-half (normal-side J d) normal-zero (suc (side d (J .plate))) l k f (omega arith) p q below above
 
-module _ (J : Job) (weight : ℕ → ℕ) (h : InRange J) (l w c : ℕ) (on-length : l ≤ J .plate .0) (on-width : w ≤ J .plate .1) where
-  enough : Sufficient (range 0 (J .count)) (J .size) (J .plate) (normal-side J)
-  enough = normal-sufficient (range 0 (J .count)) (J .size) (J .plate)
-
-  -- cuts at normal positions alone, the remainder counted down to one, give the same figure
-  pub figure-normal : figure-of J weight l w c ≡ figure (pieces J) (saw-normal (normal-side J)) (by-weight weight) (l, w) c
+module _ (J : Job) (weight : ℕ → ℕ) (h : InRange J) where
+  -- a saw at the normal positions gives the same figures on the plate
+  pub figure-saw : (C : Saw) → CutsAt (normal-side J) C → (r : Rect) (c : ℕ) → r ⊑ J .plate → figure-of J weight (r .0) (r .1) c ≡ figure (pieces J) C (by-weight weight) r c
   unfolding figure-of pieces
-  figure-normal = saw-figure (range 0 (J .count)) (J .price) (J .size) (kinds-solid J h) (by-weight weight) (by-weight-monotone weight) (J .plate) (normal-side J) enough
-      (saw-normal (normal-side J)) (saw-normal-cuts (normal-side J) (enough .additive)) (l, w) c (on-length, on-width)
+  figure-saw C cuts r c on = saw-figure (range 0 (J .count)) (J .price) (J .size) (kinds-solid J h) (by-weight weight) (by-weight-monotone weight)
+      (J .plate) (normal-side J) (sides-suffice J) C cuts r c on
 
-  -- the figure of a rectangle on the plate is that of the largest normal length and width not above its sides
-  pub figure-floor : figure-of J weight l w c ≡ figure-of J weight (normal-floor J Length l) (normal-floor J Width w) c
-  unfolding figure-of pieces
-  figure-floor = floor-figure (range 0 (J .count)) (J .price) (J .size) (kinds-solid J h) (by-weight weight) (by-weight-monotone weight) (J .plate) (normal-side J) enough
-      (l, w) c (on-length, on-width)
+  module _ (l w c : ℕ) (on-length : l ≤ J .plate .0) (on-width : w ≤ J .plate .1) where
+    -- cuts at normal positions alone, the remainder counted down to one, give the same figure
+    pub figure-normal : figure-of J weight l w c ≡ figure (pieces J) (saw-normal (normal-side J)) (by-weight weight) (l, w) c
+    figure-normal = figure-saw (saw-normal (normal-side J)) (saw-normal-cuts (normal-side J) (sides-suffice J .additive)) (l, w) c (on-length, on-width)
 
-  -- the recursion over cuts at normal positions up to half of a side, the remainder counted down to a normal position
-  pub figure-half : figure-of J weight l w c ≡
-      max (greatest (λ i. only (fits-in (J .size i) (l, w) && leb (weight i) c) (J .price i)) (range 0 (J .count)))
-      (max (greatest (λ x. greatest (λ k. figure-of J weight x w k + figure-of J weight (normal-floor J Length (l - x)) w (c - k)) (range 0 (suc c))) (filter (normal-side J Length) (range 1 (l / 2))))
-      (greatest (λ x. greatest (λ k. figure-of J weight l x k + figure-of J weight l (normal-floor J Width (w - x)) (c - k)) (range 0 (suc c))) (filter (normal-side J Width) (range 1 (w / 2)))))
-  unfolding figure-of step leaf best pieces sized saw-half by-weight
-  figure-half = half-figure (range 0 (J .count)) (J .price) (J .size) (kinds-solid J h) (by-weight weight) (by-weight-monotone weight) (J .plate) (normal-side J) enough
-      (by-weight-symmetric weight) (l, w) c (on-length, on-width) ∙ simp greatest-map
+    -- the figure of a rectangle on the plate is that of the largest normal length and width not above its sides
+    pub figure-floor : figure-of J weight l w c ≡ figure-of J weight (normal-floor J Length l) (normal-floor J Width w) c
+    unfolding figure-of pieces
+    figure-floor = floor-figure (range 0 (J .count)) (J .price) (J .size) (kinds-solid J h) (by-weight weight) (by-weight-monotone weight)
+        (J .plate) (normal-side J) (sides-suffice J) (l, w) c (on-length, on-width)
+
+    -- the recursion over cuts at normal positions up to half of a side, the remainder counted down to a normal position
+    pub figure-half : figure-of J weight l w c ≡
+        max (greatest (λ i. only (fits-in (J .size i) (l, w) && leb (weight i) c) (J .price i)) (range 0 (J .count)))
+        (max (greatest (λ x. greatest (λ k. figure-of J weight x w k + figure-of J weight (normal-floor J Length (l - x)) w (c - k)) (range 0 (suc c)))
+        (filter (normal-side J Length) (range 1 (l / 2))))
+        (greatest (λ x. greatest (λ k. figure-of J weight l x k + figure-of J weight l (normal-floor J Width (w - x)) (c - k)) (range 0 (suc c)))
+        (filter (normal-side J Width) (range 1 (w / 2)))))
+    unfolding figure-of step leaf best pieces sized saw-half by-weight
+    figure-half = half-figure (range 0 (J .count)) (J .price) (J .size) (kinds-solid J h) (by-weight weight) (by-weight-monotone weight)
+        (J .plate) (normal-side J) (sides-suffice J) (by-weight-symmetric weight) (l, w) c (on-length, on-width) ∙ simp greatest-map

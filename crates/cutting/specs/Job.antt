@@ -82,9 +82,13 @@ normal-positions J d = filter (normal-side J d) (range 0 (suc (side d (J .plate)
 abbrev pub normal-floor : Job → Direction → ℕ → ℕ
 normal-floor J d n = floor (normal-side J d) n
 
--- the plan behind the bound, from a rectangle and a share downward
+-- the plan from a rectangle and a share downward
 unfoldable pub plan-of : Job → (ℕ → ℕ) → ℕ → ℕ → ℕ → Tree ℕ
 plan-of J weight l w c = written (pieces J) (saw-written (normal-side J)) (by-weight weight) (l, w) c
+
+-- the plan behind the bound itself
+abbrev pub bound-plan : Job → (ℕ → ℕ) → Tree ℕ
+bound-plan J weight = plan-of J weight (J .plate .0) (J .plate .1) (capacity J weight)
 
 -- whether kind i fits, weighs at most the share, and has the figure as its price
 abbrev pub kind-earns : Job → (ℕ → ℕ) → ℕ → ℕ → ℕ → ℕ → Bool

@@ -2,13 +2,16 @@
 // Fields are two or four bytes, lowest byte first; specs/Block says where each stands and when a block is refused.
 use refusal::Checked;
 use refusal::Refusal;
+use refusal::refuse_if;
 ghost use mathlib.Core.Path.{_≡_};
 ghost use Prim.Native.Nat.{ℕ, _+_, _*_, _≤_, _<_};
 ghost use lib.ListN.{length, getD};
+ghost use mathlib.Core.Bool.{_||_};
+ghost use mathlib.Core.List.{[], _∷_};
 ghost use Rattle.refusal.specs.Refusals.{first-refusal};
-ghost use Rattle.cutting.specs.Job.{InRange, capacity};
-ghost use Rattle.job.specs.Block.{u16-at, u32-at, job-checks, record-of, read-of, job-of};
-ghost use Rattle.job.specs.Weights.{weights-answer, weight-in};
+ghost use Rattle.cutting.specs.Job.{InRange};
+ghost use Rattle.job.specs.Block.{u16-at, u32-at, count-at, price-at, outside, HoldsKinds, header-checks, size-check, pair-checks, each-kind, job-checks, entries, record-of, empty-record, read-of, job-of};
+ghost use Rattle.job.specs.Weights.{weights-answer};
 
 // The job record: the plate's sides, the number of kinds, and for each kind its sides, price and demand; 0 past the last kind.
 pub struct JobRecord {
@@ -31,4 +34,232 @@ pub struct JobAnswer {
 pub enum WeightsAnswer {
     Capacity(u16),
     Refused(Refusal),
+}
+
+// A byte as a number of 16 bits.
+fn wide(byte: u8) -> u16
+    ensures { λ r. ⌜ (r ≡ byte) × (r < 256) ⌝ }
+{
+    byte as u16
+}
+
+// A byte as a number of 32 bits.
+fn wider(byte: u8) -> u32
+    ensures { λ r. ⌜ (r ≡ byte) × (r < 256) ⌝ }
+{
+    byte as u32
+}
+
+// A field of two bytes.
+fn read_u16(block: &[u8], at: usize) -> u16
+    requires { ⌜ at + 2 ≤ length (now block) ⌝ }
+    ensures { λ r. ⌜ r ≡ u16-at (now (block .entry)) at ⌝ }
+{
+    wide(block[at]) + 256 * wide(block[at + 1])
+}
+
+// A field of four bytes.
+fn read_u32(block: &[u8], at: usize) -> u32
+    requires { ⌜ at + 4 ≤ length (now block) ⌝ }
+    ensures { λ r. ⌜ r ≡ u32-at (now (block .entry)) at ⌝ }
+{
+    wider(block[at])
+        + 256 * wider(block[at + 1])
+        + 65536 * wider(block[at + 2])
+        + 16777216 * wider(block[at + 3])
+}
+
+// Whether one of two conditions holds.
+fn either(a: bool, b: bool) -> bool
+    ensures { λ r. ⌜ r ≡ (a || b) ⌝ }
+{
+    if a { true } else { b }
+}
+
+// Whether a number lies outside a range.
+fn lies_outside(x: u16, lo: u16, hi: u16) -> bool
+    ensures { λ r. ⌜ r ≡ outside lo hi x ⌝ }
+{
+    either(x < lo, hi < x)
+}
+
+// Whether one of two sides, the first at `at`, lies outside 1 to 1,000.
+fn side_outside(block: &[u8], at: usize) -> bool
+    requires { ⌜ at + 4 ≤ length (now block) ⌝ }
+    ensures { λ r. ⌜ r ≡ (outside 1 1000 (u16-at (now (block .entry)) at) || outside 1 1000 (u16-at (now (block .entry)) (at + 2))) ⌝ }
+{
+    let length = lies_outside(read_u16(block, at), 1, 1000);
+    let width = lies_outside(read_u16(block, at + 2), 1, 1000);
+    either(length, width)
+}
+
+// Refusals 1 to 4: the header.
+fn check_header(block: &[u8]) -> Checked
+    ensures { λ r. ⌜ r ≡ first-refusal (header-checks (now (block .entry))) ⌝ }
+{
+    let short = refuse_if(block.len() < 6, Refusal::ShortHeader);
+    let Checked::Passed = short else {
+        return short;
+    };
+    let plate = refuse_if(side_outside(block, 0), Refusal::PlateSide);
+    let Checked::Passed = plate else {
+        return plate;
+    };
+    let n = read_u16(block, 4);
+    let kinds = refuse_if(lies_outside(n, 1, 64), Refusal::KindCount);
+    let Checked::Passed = kinds else {
+        return kinds;
+    };
+    refuse_if(block.len() != 6 + 10 * (n as usize), Refusal::BlockLength)
+}
+
+// Refusal 5, of one kind.
+fn check_size(block: &[u8], i: u16) -> Checked
+    requires { ⌜ (10 + 4 * i ≤ length (now block)) × (i < 64) ⌝ }
+    ensures { λ r. ⌜ r ≡ first-refusal (size-check (now (block .entry)) i ∷ []) ⌝ }
+{
+    refuse_if(
+        side_outside(block, 6 + 4 * (i as usize)),
+        Refusal::KindSide(i),
+    )
+}
+
+// The first array: the sizes in the order of the kinds.
+fn check_sizes(block: &[u8], n: u16) -> Checked
+    requires { ⌜ HoldsKinds (now block) n ⌝ }
+    ensures { λ r. ⌜ r ≡ first-refusal (each-kind (λ i. size-check (now (block .entry)) i ∷ []) 0 n) ⌝ }
+{
+    for i in 0..n {
+        let size = check_size(block, i);
+        let Checked::Passed = size else {
+            return size;
+        };
+    }
+    Checked::Passed
+}
+
+// Refusals 6 and 7, of one kind.
+fn check_pair(block: &[u8], n: u16, i: u16) -> Checked
+    requires { ⌜ HoldsKinds (now block) n × (i < n) ⌝ }
+    ensures { λ r. ⌜ r ≡ first-refusal (pair-checks (now (block .entry)) i) ⌝ }
+{
+    let pairs = 6 + 4 * (n as usize);
+    let at = pairs + 6 * (i as usize);
+    let price = refuse_if(1000000 < read_u32(block, at), Refusal::Price(i));
+    let Checked::Passed = price else {
+        return price;
+    };
+    refuse_if(255 < read_u16(block, at + 4), Refusal::Demand(i))
+}
+
+// The second array: the pairs of price and demand in the order of the kinds.
+fn check_pairs(block: &[u8], n: u16) -> Checked
+    requires { ⌜ HoldsKinds (now block) n ⌝ }
+    ensures { λ r. ⌜ r ≡ first-refusal (each-kind (pair-checks (now (block .entry))) 0 n) ⌝ }
+{
+    for i in 0..n {
+        let pair = check_pair(block, n, i);
+        let Checked::Passed = pair else {
+            return pair;
+        };
+    }
+    Checked::Passed
+}
+
+// Refusals 1 to 7, in the table's order.
+fn check_job(block: &[u8]) -> Checked
+    ensures { λ r. ⌜ r ≡ first-refusal (job-checks (now (block .entry))) ⌝ }
+{
+    let header = check_header(block);
+    let Checked::Passed = header else {
+        return header;
+    };
+    let n = read_u16(block, 4);
+    let sizes = check_sizes(block, n);
+    let Checked::Passed = sizes else {
+        return sizes;
+    };
+    check_pairs(block, n)
+}
+
+// An array of fields of two bytes, the first at `from` and each `step` bytes after the one before.
+fn read_fields(block: &[u8], from: usize, step: usize, n: u16) -> [u16; 64]
+    requires { ⌜ (n ≤ 64) × ((i : ℕ) → i < n → from + step * i + 2 ≤ length (now block)) ⌝ }
+    ensures { λ r. ⌜ r ≡ entries (λ i. u16-at (now (block .entry)) (from + step * i)) n ⌝ }
+{
+    let mut fields = [0u16; 64];
+    for i in 0..n {
+        let k = i as usize;
+        fields[k] = read_u16(block, from + step * k);
+    }
+    fields
+}
+
+// The prices, fields of four bytes.
+fn read_prices(block: &[u8], n: u16) -> [u32; 64]
+    requires { ⌜ HoldsKinds (now block) n ⌝ }
+    ensures { λ r. ⌜ r ≡ entries (price-at (now (block .entry))) n ⌝ }
+{
+    let mut prices = [0u32; 64];
+    let pairs = 6 + 4 * (n as usize);
+    for i in 0..n {
+        let k = i as usize;
+        prices[k] = read_u32(block, pairs + 6 * k);
+    }
+    prices
+}
+
+// The record of a block that passed its checks.
+fn read_record(block: &[u8]) -> JobRecord
+    requires { ⌜ HoldsKinds (now block) (count-at (now block)) ⌝ }
+    ensures { λ r. ⌜ r ≡ record-of (now (block .entry)) ⌝ }
+{
+    let length = read_u16(block, 0);
+    let width = read_u16(block, 2);
+    let n = read_u16(block, 4);
+    let lengths = read_fields(block, 6, 4, n);
+    let widths = read_fields(block, 8, 4, n);
+    let prices = read_prices(block, n);
+    let demands = read_fields(block, 10 + 4 * (n as usize), 6, n);
+    JobRecord {
+        length: length,
+        width: width,
+        count: n,
+        lengths: lengths,
+        widths: widths,
+        prices: prices,
+        demands: demands,
+    }
+}
+
+// The record where a block is refused.
+fn empty_record() -> JobRecord
+    ensures { λ r. ⌜ r ≡ empty-record ⌝ }
+{
+    JobRecord {
+        length: 0,
+        width: 0,
+        count: 0,
+        lengths: [0u16; 64],
+        widths: [0u16; 64],
+        prices: [0u32; 64],
+        demands: [0u16; 64],
+    }
+}
+
+// A job block, read or refused.
+pub fn read_job(block: &[u8]) -> JobAnswer
+    ensures { λ r. ⌜ r ≡ read-of (now (block .entry)) ⌝ }
+{
+    let verdict = check_job(block);
+    let Checked::Passed = verdict else {
+        return JobAnswer {
+            verdict: verdict,
+            job: empty_record(),
+        };
+    };
+    JobAnswer {
+        verdict: Checked::Passed,
+        job: read_record(block),
+    }
 }

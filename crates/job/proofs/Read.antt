@@ -1,0 +1,109 @@
+-- What is known of a job block that passed its checks, and of the record that was read from it.
+-- Assumes nothing.
+use mathlib.Core.Path.{_≡_, refl, sym, _∙_, ap, ap₂, subst}
+use mathlib.Core.Bool.{Bool, true, false, _||_, not}
+use mathlib.Core.List.{List, [], _∷_, _++_}
+use Prim.Native.Nat.{ℕ, _+_, _*_, _≤_, _<_}
+use native.Mathlib.Omega.{arith}
+use borrow.Author.Tests.{ltb-false, eqb-true, not-false}
+use lib.Dec.{ltb, eqb}
+use lib.ListN.{length, getD}
+use Rattle.cutting.specs.Job.{InRange}
+use Rattle.refusal.specs.Refusals.{next, first-refusal}
+use Rattle.refusal.specs.declared.Checked.{Checked}
+use Rattle.refusal.specs.declared.Checked.the-variants.{Passed, Refused}
+use Rattle.refusal.specs.declared.Refusal.{Refusal}
+use Rattle.refusal.specs.declared.Refusal.the-variants.{ShortHeader, PlateSide, KindCount, BlockLength, KindSide, Price, Demand}
+use Rattle.job.specs.Block.{plate-length-at, plate-width-at, count-at, length-at, width-at, price-at, demand-at, HoldsKinds, outside, header-checks, size-check, pair-checks, each-kind, job-checks, entries, record-of, empty-record, answer-by, read-of, job-of}
+use Rattle.job.specs.declared.JobAnswer.{JobAnswer}
+use Rattle.job.specs.declared.JobRecord.{JobRecord}
+use Rattle.job.proofs.Checks.{passed-both, first-append, cons-passed, each-passed}
+use Rattle.job.proofs.Entries.{entries-length, entries-in}
+
+or-false : (a b : Bool) → (a || b) ≡ false → (a ≡ false) × (b ≡ false)
+or-false true b p = (p, cc)
+or-false false b p = (refl, p)
+
+-- a number that does not lie outside a range
+inside : (lo hi x : ℕ) → outside lo hi x ≡ false → (lo ≤ x) × (x ≤ hi)
+inside lo hi x p = let q = or-false (ltb x lo) (ltb hi x) p in (ltb-false x lo (q .0), ltb-false hi x (q .1))
+
+-- two numbers of which none lies outside
+both-inside : (lo hi x y : ℕ) → (outside lo hi x || outside lo hi y) ≡ false → ((lo ≤ x) × (x ≤ hi)) × ((lo ≤ y) × (y ≤ hi))
+both-inside lo hi x y p = let q = or-false (outside lo hi x) (outside lo hi y) p in (inside lo hi x (q .0), inside lo hi y (q .1))
+
+-- the header's numbers where its checks passed
+pub record Header (s : List ℕ) : Type 0 where
+  pub plate-length : (1 ≤ plate-length-at s) × (plate-length-at s ≤ 1000)
+  pub plate-width : (1 ≤ plate-width-at s) × (plate-width-at s ≤ 1000)
+  pub kinds : (1 ≤ count-at s) × (count-at s ≤ 64)
+  pub bytes : length s ≡ 6 + 10 * count-at s
+
+pub header-passed : (s : List ℕ) → first-refusal (header-checks s) ≡ Passed → Header s
+header-passed s p =
+    let a = cons-passed _ _ _ p in
+    let b = cons-passed _ _ _ (a .1) in
+    let d = cons-passed _ _ _ (b .1) in
+    let e = cons-passed _ _ _ (d .1) in
+    let plate = both-inside 1 1000 (plate-length-at s) (plate-width-at s) (b .0) in
+    record {
+      plate-length = plate .0;
+      plate-width = plate .1;
+      kinds = inside 1 64 (count-at s) (d .0);
+      bytes = eqb-true (length s) (6 + 10 * count-at s) (not-false (eqb (length s) (6 + 10 * count-at s)) (e .0));
+    }
+
+-- a block whose header passed has all the bytes of its kinds
+pub header-holds : (s : List ℕ) (n : ℕ) → n ≡ count-at s → first-refusal (header-checks s) ≡ Passed → HoldsKinds s n
+header-holds s n e p = let h = header-passed s p in (e, omega (arith, e, h .kinds .1), omega (arith, e, h .bytes))
+
+-- a block's checks: the header's, then the sizes', then the pairs'
+pub job-parts : (s : List ℕ) → first-refusal (job-checks s)
+    ≡ next (first-refusal (header-checks s)) (next (first-refusal (each-kind (λ i. size-check s i ∷ []) 0 (count-at s))) (first-refusal (each-kind (pair-checks s) 0 (count-at s))))
+unfolding job-checks
+job-parts s = first-append (header-checks s) (each-kind (λ i. size-check s i ∷ []) 0 (count-at s) ++ each-kind (pair-checks s) 0 (count-at s))
+    ∙ ap (next (first-refusal (header-checks s))) (first-append (each-kind (λ i. size-check s i ∷ []) 0 (count-at s)) (each-kind (pair-checks s) 0 (count-at s)))
+
+-- where a block passed, its three parts did
+pub job-passed : (s : List ℕ) → first-refusal (job-checks s) ≡ Passed
+    → (first-refusal (header-checks s) ≡ Passed) × (first-refusal (each-kind (λ i. size-check s i ∷ []) 0 (count-at s)) ≡ Passed) × (first-refusal (each-kind (pair-checks s) 0 (count-at s)) ≡ Passed)
+job-passed s p =
+    let a = passed-both _ _ (sym (job-parts s) ∙ p) in
+    let b = passed-both _ _ (a .1) in
+    (a .0, b .0, b .1)
+
+-- a kind's sides where the block passed
+sides-passed : (s : List ℕ) → first-refusal (job-checks s) ≡ Passed → (i : ℕ) → i < count-at s
+    → ((1 ≤ length-at s i) × (length-at s i ≤ 1000)) × ((1 ≤ width-at s i) × (width-at s i ≤ 1000))
+sides-passed s p i h =
+    let q = each-passed (λ i. size-check s i ∷ []) 0 (count-at s) i (job-passed s p .1) (omega arith) (omega (arith, h)) in
+    both-inside 1 1000 (length-at s i) (width-at s i) (cons-passed _ _ _ q .0)
+
+-- a kind's price and demand where the block passed
+pair-passed : (s : List ℕ) → first-refusal (job-checks s) ≡ Passed → (i : ℕ) → i < count-at s → (price-at s i ≤ 1000000) × (demand-at s i ≤ 255)
+pair-passed s p i h =
+    let q = cons-passed _ _ _ (each-passed (pair-checks s) 0 (count-at s) i (job-passed s p .2) (omega arith) (omega (arith, h))) in
+    (ltb-false 1000000 (price-at s i) (q .0), ltb-false 255 (demand-at s i) (cons-passed _ _ _ (q .1) .0))
+
+-- the job that was read from a block that passed is in document 01's ranges
+pub read-in-range : (s : List ℕ) → first-refusal (job-checks s) ≡ Passed → InRange (job-of (record-of s))
+unfolding record-of
+read-in-range s p =
+    let h = header-passed s (job-passed s p .0) in
+    record {
+      plate-length = h .plate-length;
+      plate-width = h .plate-width;
+      kinds = h .kinds;
+      lengths = λ i l. subst (λ x. (1 ≤ x) × (x ≤ 1000)) (sym (entries-in (length-at s) (count-at s) i (h .kinds .1) l)) (sides-passed s p i l .0);
+      widths = λ i l. subst (λ x. (1 ≤ x) × (x ≤ 1000)) (sym (entries-in (width-at s) (count-at s) i (h .kinds .1) l)) (sides-passed s p i l .1);
+      prices = λ i l. subst (λ x. x ≤ 1000000) (sym (entries-in (price-at s) (count-at s) i (h .kinds .1) l)) (pair-passed s p i l .0);
+      demands = λ i l. subst (λ x. x ≤ 255) (sym (entries-in (demand-at s) (count-at s) i (h .kinds .1) l)) (pair-passed s p i l .1);
+    }
+
+-- the answer where the block passed
+pub read-passed : (s : List ℕ) → first-refusal (job-checks s) ≡ Passed → read-of s ≡ record { verdict = Passed; job = record-of s }
+read-passed s p = ap (λ a. answer-by a (record-of s)) p
+
+-- the answer where the block was refused
+pub read-refused : (s : List ℕ) {a : Checked} {r : Refusal} {j : JobRecord} → a ≡ first-refusal (job-checks s) → a ≡ Refused r → j ≡ empty-record → _≡_ {A = JobAnswer} (record { verdict = a; job = j }) (read-of s)
+read-refused s e p q = ap₂ (λ a j. record { verdict = a; job = j }) p q ∙ sym (ap (λ a. answer-by a (record-of s)) (sym e ∙ p))

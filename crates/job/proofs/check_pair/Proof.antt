@@ -1,0 +1,79 @@
+-- `job::check_pair` meets its contract. Assumes nothing.
+use mathlib.Core.Path.{_≡_, _∙_, ap}
+use Prim.Native.Nat.{_+_, _*_}
+use native.Mathlib.Omega.{arith}
+use borrow.Author.Needs.{needs}
+use denote.Ref.{now}
+use lib.Dec.{ltb}
+use Rattle.refusal.specs.Refusals.{refuse-when}
+use Rattle.refusal.specs.declared.Refusal.the-variants.{Price, Demand}
+use Rattle.job.specs.Block.{u16-at, u32-at, count-at, price-at, demand-at}
+use Rattle.job.proofs.Checks.{check-stops, check-passes, check-last}
+use Rattle.job.proofs.check_pair.Statement.{statement}
+use Rattle.job.proofs.check_pair.Tie as tie
+
+mul-pairs : tie.Need-mul-pairs
+mul-pairs c = search needs
+
+add-pairs : tie.Need-add-pairs
+add-pairs c = search needs
+
+mul-at : tie.Need-mul-at
+mul-at c = search needs
+
+add-at : tie.Need-add-at
+add-at c = search needs
+
+read-u32-requires : tie.Need-read-u32-requires
+read-u32-requires c κs = search needs
+
+refuse-if-requires : tie.Need-refuse-if-requires
+refuse-if-requires c κs = search needs
+
+enum-told : tie.Need-enum-told
+enum-told c = search needs
+
+enum-told-2 : tie.Need-enum-told-2
+enum-told-2 c = search needs
+
+returns : tie.Need-returns
+returns c = let s = now (c .before .before .before .before .before .args .block) in
+    let i = c .before .before .before .before .before .args .i in
+    let e : c .before .before .before .read-u32 .result ≡ price-at s i = c .before .before .before .read-u32 .ensures ∙ ap (λ n. u32-at s (6 + 4 * n + 6 * i)) (c .before .before .before .before .before .pre .0 .0) in
+    check-stops _ _ _ (c .before .before .refuse-if .ensures ∙ ap (λ p. refuse-when (ltb 1000000 p) (Price i)) e) (c .enum-told2 .given .1)
+
+add-read-u16 : tie.Need-add-read-u16
+add-read-u16 c = search needs
+
+read-u16-requires : tie.Need-read-u16-requires
+read-u16-requires c κs = search needs
+
+refuse-if-requires-2 : tie.Need-refuse-if-requires-2
+refuse-if-requires-2 c κs = search needs
+
+returns-2 : tie.Need-returns-2
+returns-2 c = let s = now (c .before .before .before .before .before .before .before .args .block) in
+    let i = c .before .before .before .before .before .before .before .args .i in
+    let e : c .before .before .before .before .before .read-u32 .result ≡ price-at s i = c .before .before .before .before .before .read-u32 .ensures ∙ ap (λ n. u32-at s (6 + 4 * n + 6 * i)) (c .before .before .before .before .before .before .before .pre .0 .0) in
+    let k : 6 + 4 * (c .before .before .before .before .before .before .before .args .n) + 6 * i + 4 ≡ 10 + 4 * count-at s + 6 * i = omega (arith, c .before .before .before .before .before .before .before .pre .0 .0) in
+    let d : c .before .read-u16 .result ≡ demand-at s i = c .before .read-u16 .ensures ∙ ap (u16-at s) k in
+    check-last _ _ (c .refuse-if2 .ensures ∙ ap (λ d. refuse-when (ltb 255 d) (Demand i)) d)
+    ∙ check-passes _ _ _ (c .before .before .before .before .refuse-if .ensures ∙ ap (λ p. refuse-when (ltb 1000000 p) (Price i)) e) (c .before .before .enum-told .given .1)
+
+pub check-pair-spec : {M : Type 1} → statement M
+check-pair-spec =
+    tie.close
+    (tie.spec
+    mul-pairs
+    add-pairs
+    mul-at
+    add-at
+    read-u32-requires
+    refuse-if-requires
+    enum-told
+    enum-told-2
+    returns
+    add-read-u16
+    read-u16-requires
+    refuse-if-requires-2
+    returns-2)

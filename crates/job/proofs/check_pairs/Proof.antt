@@ -1,0 +1,57 @@
+-- `job::check_pairs` meets its contract. Assumes nothing.
+use Prim.Native.Nat.{_-_, _≤_}
+use borrow.Author.Needs.{needs}
+use denote.Ref.{now}
+use Rattle.job.specs.Block.{pair-checks}
+use Rattle.job.proofs.Checks.{Decides, begins, passes, stops, ends}
+use Rattle.job.proofs.check_pairs.Statement.{statement}
+use Rattle.job.proofs.check_pairs.Tie as tie
+
+abbrev Inv-loop : tie.InvT-loop
+Inv-loop block n i₀ i = (i ≤ n) × Decides (pair-checks block) n i
+
+abbrev μ-loop : tie.MeasureT-loop
+μ-loop block n i₀ i = n - i
+
+loop-holds : tie.Need-loop-holds Inv-loop μ-loop
+loop-holds c = (search needs, begins (pair-checks (now (c .before .args .block))) (c .before .args .n))
+
+check-pair-requires : tie.Need-check-pair-requires Inv-loop μ-loop
+check-pair-requires c κs = search needs
+
+enum-told : tie.Need-enum-told Inv-loop μ-loop
+enum-told c = search needs
+
+enum-told-2 : tie.Need-enum-told-2 Inv-loop μ-loop
+enum-told-2 c = search needs
+
+returns : tie.Need-returns Inv-loop μ-loop
+returns c = stops (pair-checks (now (c .before .before .before .before .before .before .args .block))) (c .before .before .before .before .loop .i) (c .before .before .before .before .before .before .args .n) (c .before .before .before .loop-test .taken) (c .before .before .before .before .loop .inv .1) (c .before .before .check-pair .ensures) (c .enum-told2 .given .1)
+
+add-i : tie.Need-add-i Inv-loop μ-loop
+add-i c = search needs
+
+loop-less : tie.Need-loop-less Inv-loop μ-loop
+loop-less c = search needs
+
+loop-again : tie.Need-loop-again Inv-loop μ-loop
+loop-again c = (search needs, passes (pair-checks (now (c .before .before .before .before .before .before .args .block))) (c .before .before .before .before .loop .i) (c .before .before .before .before .before .before .args .n) (c .before .before .before .loop-test .taken) (c .before .before .before .before .loop .inv .1) (c .before .before .check-pair .ensures) (c .enum-told .given .1))
+
+returns-2 : tie.Need-returns-2 Inv-loop μ-loop
+returns-2 c = ends (pair-checks (now (c .before .before .before .args .block))) (c .before .loop .i) (c .before .before .before .args .n) (c .loop-test .left) (c .before .loop .inv .1)
+
+pub check-pairs-spec : {M : Type 1} → statement M
+check-pairs-spec =
+    tie.close
+    (tie.spec
+    Inv-loop
+    μ-loop
+    loop-holds
+    check-pair-requires
+    enum-told
+    enum-told-2
+    returns
+    add-i
+    loop-less
+    loop-again
+    returns-2)

@@ -1,0 +1,36 @@
+-- `job::check_size` meets its contract. Assumes nothing.
+use mathlib.Core.Path.{_≡_, _∙_, ap}
+use mathlib.Core.Bool.{_||_}
+use Prim.Native.Nat.{_+_, _*_}
+use native.Mathlib.Omega.{arith}
+use borrow.Author.Needs.{needs}
+use denote.Ref.{now}
+use Rattle.refusal.specs.Refusals.{refuse-when}
+use Rattle.refusal.specs.declared.Refusal.the-variants.{KindSide}
+use Rattle.job.specs.Block.{outside, u16-at}
+use Rattle.job.proofs.Checks.{check-last}
+use Rattle.job.proofs.check_size.Statement.{statement}
+use Rattle.job.proofs.check_size.Tie as tie
+
+mul-side-outside : tie.Need-mul-side-outside
+mul-side-outside c = search needs
+
+add-side-outside : tie.Need-add-side-outside
+add-side-outside c = search needs
+
+side-outside-requires : tie.Need-side-outside-requires
+side-outside-requires c κs = search needs
+
+refuse-if-requires : tie.Need-refuse-if-requires
+refuse-if-requires c κs = search needs
+
+returns : tie.Need-returns
+returns c = let s = now (c .before .before .before .args .block) in
+    let i = c .before .before .before .args .i in
+    let e : 6 + 4 * i + 2 ≡ 8 + 4 * i = omega arith in
+    check-last _ _ (c .refuse-if .ensures ∙ ap (λ t. refuse-when t (KindSide i)) (c .before .side-outside .ensures ∙ ap (λ k. outside 1 1000 (u16-at s (6 + 4 * i)) || outside 1 1000 (u16-at s k)) e))
+
+pub check-size-spec : {M : Type 1} → statement M
+check-size-spec =
+    tie.close
+    (tie.spec mul-side-outside add-side-outside side-outside-requires refuse-if-requires returns)

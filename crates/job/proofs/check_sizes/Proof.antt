@@ -1,0 +1,58 @@
+-- `job::check_sizes` meets its contract. Assumes nothing.
+use mathlib.Core.List.{[], _∷_}
+use Prim.Native.Nat.{_-_, _≤_}
+use borrow.Author.Needs.{needs}
+use denote.Ref.{now}
+use Rattle.job.specs.Block.{size-check}
+use Rattle.job.proofs.Checks.{Decides, begins, passes, stops, ends}
+use Rattle.job.proofs.check_sizes.Statement.{statement}
+use Rattle.job.proofs.check_sizes.Tie as tie
+
+abbrev Inv-loop : tie.InvT-loop
+Inv-loop block n i₀ i = (i ≤ n) × Decides (λ i. size-check block i ∷ []) n i
+
+abbrev μ-loop : tie.MeasureT-loop
+μ-loop block n i₀ i = n - i
+
+loop-holds : tie.Need-loop-holds Inv-loop μ-loop
+loop-holds c = (search needs, begins (λ i. size-check (now (c .before .args .block)) i ∷ []) (c .before .args .n))
+
+check-size-requires : tie.Need-check-size-requires Inv-loop μ-loop
+check-size-requires c κs = search needs
+
+enum-told : tie.Need-enum-told Inv-loop μ-loop
+enum-told c = search needs
+
+enum-told-2 : tie.Need-enum-told-2 Inv-loop μ-loop
+enum-told-2 c = search needs
+
+returns : tie.Need-returns Inv-loop μ-loop
+returns c = stops (λ i. size-check (now (c .before .before .before .before .before .before .args .block)) i ∷ []) (c .before .before .before .before .loop .i) (c .before .before .before .before .before .before .args .n) (c .before .before .before .loop-test .taken) (c .before .before .before .before .loop .inv .1) (c .before .before .check-size .ensures) (c .enum-told2 .given .1)
+
+add-i : tie.Need-add-i Inv-loop μ-loop
+add-i c = search needs
+
+loop-less : tie.Need-loop-less Inv-loop μ-loop
+loop-less c = search needs
+
+loop-again : tie.Need-loop-again Inv-loop μ-loop
+loop-again c = (search needs, passes (λ i. size-check (now (c .before .before .before .before .before .before .args .block)) i ∷ []) (c .before .before .before .before .loop .i) (c .before .before .before .before .before .before .args .n) (c .before .before .before .loop-test .taken) (c .before .before .before .before .loop .inv .1) (c .before .before .check-size .ensures) (c .enum-told .given .1))
+
+returns-2 : tie.Need-returns-2 Inv-loop μ-loop
+returns-2 c = ends (λ i. size-check (now (c .before .before .before .args .block)) i ∷ []) (c .before .loop .i) (c .before .before .before .args .n) (c .loop-test .left) (c .before .loop .inv .1)
+
+pub check-sizes-spec : {M : Type 1} → statement M
+check-sizes-spec =
+    tie.close
+    (tie.spec
+    Inv-loop
+    μ-loop
+    loop-holds
+    check-size-requires
+    enum-told
+    enum-told-2
+    returns
+    add-i
+    loop-less
+    loop-again
+    returns-2)

@@ -1,0 +1,41 @@
+-- `job::read_job` meets its contract. Assumes nothing.
+use mathlib.Core.Path.{refl, sym, _∙_, ap}
+use borrow.Author.Needs.{needs}
+use denote.Ref.{now}
+use Rattle.refusal.specs.declared.Checked.the-variants.{Passed}
+use Rattle.job.proofs.Read.{job-passed, header-holds, read-passed, read-refused}
+use Rattle.job.proofs.read_job.Statement.{statement}
+use Rattle.job.proofs.read_job.Tie as tie
+
+check-job-requires : tie.Need-check-job-requires
+check-job-requires c κs = search needs
+
+enum-told : tie.Need-enum-told
+enum-told c = search needs
+
+enum-told-2 : tie.Need-enum-told-2
+enum-told-2 c = search needs
+
+empty-record-requires : tie.Need-empty-record-requires
+empty-record-requires c κs = search needs
+
+returns : tie.Need-returns
+returns c = read-refused (now (c .before .before .before .before .before .args .block)) (c .before .before .before .check-job .ensures) (c .before .enum-told2 .given .1) (c .empty-record .ensures)
+
+read-record-requires : tie.Need-read-record-requires
+read-record-requires c κs = header-holds (now (c .before .before .before .before .args .block)) _ refl (job-passed (now (c .before .before .before .before .args .block)) (sym (c .before .before .check-job .ensures) ∙ c .enum-told .given .1) .0)
+
+returns-2 : tie.Need-returns-2
+returns-2 c = ap (λ j. record { verdict = Passed; job = j }) (c .read-record .ensures) ∙ sym (read-passed (now (c .before .before .before .before .before .args .block)) (sym (c .before .before .before .check-job .ensures) ∙ c .before .enum-told .given .1))
+
+pub read-job-spec : {M : Type 1} → statement M
+read-job-spec =
+    tie.close
+    (tie.spec
+    check-job-requires
+    enum-told
+    enum-told-2
+    empty-record-requires
+    returns
+    read-record-requires
+    returns-2)
