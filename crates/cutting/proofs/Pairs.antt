@@ -2,12 +2,13 @@
 -- a tree is within them exactly when it keeps every demand.
 -- Assumes nothing.
 use mathlib.Core.Path.{_≡_, refl}
-use mathlib.Core.List.{List·Memᴰ·head}
+use mathlib.Core.List.{List·Memᴰ, List·Memᴰ·head}
 use Prim.Native.Nat.{ℕ, zero, suc, _≤_, _<_}
 use native.Mathlib.Decide.{ℕ-discrete}
 use native.Mathlib.Omega.{arith}
 use lib.Dec.{eqb}
-use Rattle.cutting.specs.Lists.{only, pairs}
+use Rattle.cutting.specs.declared.Direction.{Direction}
+use Rattle.cutting.specs.Lists.{only}
 use Rattle.cutting.specs.Tree.{Tree, waste, piece, cut, Shares, copies, Keeps, Within, Monotone, Symmetric}
 use Rattle.cutting.specs.Shares.{by-weight, free, across, paired, state, exact}
 use Rattle.cutting.proofs.Tests.{and-T, T-and}
@@ -15,16 +16,24 @@ use Rattle.cutting.proofs.Lists.{map-mem, mem-map, pairs-mem, mem-pairs
 use Rattle.cutting.proofs.Weights.{within-weight, weight-within, by-weight-monotone, by-weight-symmetric}
 
 module _ {P S S′ : Type 0} (H : Shares P S) (H′ : Shares P S′) where
+  -- a division of both is a division of each
+  split-paired : (d : Direction) (s : S × S′) (q : (S × S′) × (S × S′)) → List·Memᴰ q (paired H H′ .splits d s)
+      → (u : (S × S) × (S′ × S′)) × List·Memᴰ (u .0) (H .splits d (s .0)) × List·Memᴰ (u .1) (H′ .splits d (s .1)) × (q ≡ across u)
+  unfolding paired
+  split-paired d s q m =
+      let k = mem-map (λ u. across u) q _ m in
+      let j = mem-pairs (k .0) (H .splits d (s .0)) (H′ .splits d (s .1)) (k .1) in
+      (k .0, j .0, j .1, k .2)
+
   pub paired-within : (t : Tree P) (s : S × S′) → Within (paired H H′) s t → Within H (s .0) t × Within H′ (s .1) t
   unfolding paired
   paired-within waste s w = (tt, tt)
   paired-within (piece p) s w = T-and (H .admits (s .0) p) (H′ .admits (s .1) p) w
   paired-within (cut d x a b) s w =
-      let m = mem-map (λ u. across u) (w .0) (pairs (H .splits d (s .0)) (H′ .splits d (s .1))) (w .1) in
-      let k = mem-pairs (m .0) (H .splits d (s .0)) (H′ .splits d (s .1)) (m .1) in
-      let l = paired-within a (across (m .0) .0) (rw (m .2) at (w .2)) in
-      let r = paired-within b (across (m .0) .1) (rw (m .2) at (w .3)) in
-      ((m .0 .0, k .0, l .0, r .0), (m .0 .1, k .1, l .1, r .1))
+      let u = split-paired d s (w .0) (w .1) in
+      let l = paired-within a (across (u .0) .0) (rw (u .3) at (w .2)) in
+      let r = paired-within b (across (u .0) .1) (rw (u .3) at (w .3)) in
+      ((u .0 .0, u .1, l .0, r .0), (u .0 .1, u .2, l .1, r .1))
 
   pub within-paired : (t : Tree P) (s : S × S′) → Within H (s .0) t → Within H′ (s .1) t → Within (paired H H′) s t
   unfolding paired
@@ -38,22 +47,19 @@ module _ {P S S′ : Type 0} (H : Shares P S) (H′ : Shares P S′) where
   )
 
   pub paired-monotone : Monotone H → Monotone H′ → Monotone (paired H H′)
-  unfolding paired
   paired-monotone l l′ d s q m t =
-      let k = mem-map (λ u. across u) q (pairs (H .splits d (s .0)) (H′ .splits d (s .1))) m in
-      let j = mem-pairs (k .0) (H .splits d (s .0)) (H′ .splits d (s .1)) (k .1) in (
-        λ w. (let v = paired-within t (across (k .0) .0) (rw (k .2) at w) in
-            within-paired t s (l d (s .0) (k .0 .0) (j .0) t .0 (v .0)) (l′ d (s .1) (k .0 .1) (j .1) t .0 (v .1))),
-        λ w. (let v = paired-within t (across (k .0) .1) (rw (k .2) at w) in
-            within-paired t s (l d (s .0) (k .0 .0) (j .0) t .1 (v .0)) (l′ d (s .1) (k .0 .1) (j .1) t .1 (v .1))),
+      let u = split-paired d s q m in
+      let h = l d (s .0) (u .0 .0) (u .1) t in
+      let h′ = l′ d (s .1) (u .0 .1) (u .2) t in (
+        λ w. (let v = paired-within t (across (u .0) .0) (rw (u .3) at w) in within-paired t s (h .0 (v .0)) (h′ .0 (v .1))),
+        λ w. (let v = paired-within t (across (u .0) .1) (rw (u .3) at w) in within-paired t s (h .1 (v .0)) (h′ .1 (v .1))),
       )
 
   pub paired-symmetric : Symmetric H → Symmetric H′ → Symmetric (paired H H′)
   unfolding paired
   paired-symmetric l l′ d s q m =
-      let k = mem-map (λ u. across u) q (pairs (H .splits d (s .0)) (H′ .splits d (s .1))) m in
-      let j = mem-pairs (k .0) (H .splits d (s .0)) (H′ .splits d (s .1)) (k .1) in
-      rw (k .2) (map-mem (λ u. across u) (pairs-mem (l d (s .0) (k .0 .0) (j .0)) (l′ d (s .1) (k .0 .1) (j .1))))
+      let u = split-paired d s q m in
+      rw (u .3) (map-mem (λ u. across u) (pairs-mem (l d (s .0) (u .0 .0) (u .1)) (l′ d (s .1) (u .0 .1) (u .2))))
 
 pub free-within : {P : Type 0} (t : Tree P) → Within free tt t
 unfolding free
