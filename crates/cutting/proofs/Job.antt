@@ -29,25 +29,25 @@ use Rattle.cutting.proofs.Ceiling.{figure-area}
 
 module _ (J : Job) where
   -- the plain trees are those of the theory, both ways
-  pub plain : (t : Tree ℕ) (r : Rect) → Guillotine (pieces J) (saw 0) r t → GuillotineTree J (r .0) (r .1) t
+  pub guillotine-plain : (t : Tree ℕ) (r : Rect) → Guillotine (pieces J) (saw 0) r t → GuillotineTree J (r .0) (r .1) t
   unfolding pieces sized saw
-  plain waste r g = tt
-  plain (piece i) r g = let h = mem-range 0 (J .count) i (g .0) in let l = true-fits-in (J .size i) r (g .1) in (omega arith, l .0, l .1)
-  plain (cut Length x a b) r g =
+  guillotine-plain waste r g = tt
+  guillotine-plain (piece i) r g = let h = mem-range 0 (J .count) i (g .0) in let l = true-fits-in (J .size i) r (g .1) in (omega arith, l .0, l .1)
+  guillotine-plain (cut Length x a b) r g =
       let h = cut-saw 0 Length (r .0) x (g .0) in
-      (omega arith, omega arith, plain a (x, r .1) (g .1), rw sub-zero at (plain b (r .0 - x - 0, r .1) (g .2)))
-  plain (cut Width x a b) r g =
+      (omega arith, omega arith, guillotine-plain a (x, r .1) (g .1), rw sub-zero at (guillotine-plain b (r .0 - x - 0, r .1) (g .2)))
+  guillotine-plain (cut Width x a b) r g =
       let h = cut-saw 0 Width (r .1) x (g .0) in
-      (omega arith, omega arith, plain a (r .0, x) (g .1), rw sub-zero at (plain b (r .0, r .1 - x - 0) (g .2)))
+      (omega arith, omega arith, guillotine-plain a (r .0, x) (g .1), rw sub-zero at (guillotine-plain b (r .0, r .1 - x - 0) (g .2)))
 
-  pub unplain : (t : Tree ℕ) (r : Rect) → GuillotineTree J (r .0) (r .1) t → Guillotine (pieces J) (saw 0) r t
+  pub plain-guillotine : (t : Tree ℕ) (r : Rect) → GuillotineTree J (r .0) (r .1) t → Guillotine (pieces J) (saw 0) r t
   unfolding pieces sized saw
-  unplain waste r g = tt
-  unplain (piece i) r g = (range-mem 0 (J .count) i (omega arith) (omega arith), fits-in-true (J .size i) r (g .1, g .2))
-  unplain (cut Length x a b) r g =
-      (saw-cut 0 Length (r .0) x (g .0) (omega arith), unplain a (x, r .1) (g .2), unplain b (r .0 - x - 0, r .1) (rw sub-zero (g .3)))
-  unplain (cut Width x a b) r g =
-      (saw-cut 0 Width (r .1) x (g .0) (omega arith), unplain a (r .0, x) (g .2), unplain b (r .0, r .1 - x - 0) (rw sub-zero (g .3)))
+  plain-guillotine waste r g = tt
+  plain-guillotine (piece i) r g = (range-mem 0 (J .count) i (omega arith) (omega arith), fits-in-true (J .size i) r (g .1, g .2))
+  plain-guillotine (cut Length x a b) r g =
+      (saw-cut 0 Length (r .0) x (g .0) (omega arith), plain-guillotine a (x, r .1) (g .2), plain-guillotine b (r .0 - x - 0, r .1) (rw sub-zero (g .3)))
+  plain-guillotine (cut Width x a b) r g =
+      (saw-cut 0 Width (r .1) x (g .0) (omega arith), plain-guillotine a (r .0, x) (g .2), plain-guillotine b (r .0, r .1 - x - 0) (rw sub-zero (g .3)))
 
 module _ (J : Job) (weight : ℕ → ℕ) where
   -- the recursion, as document 01 has it
@@ -61,14 +61,14 @@ module _ (J : Job) (weight : ℕ → ℕ) where
   -- no tree of weight at most the share earns more
   pub figure-most : (t : Tree ℕ) (l w c : ℕ) → GuillotineTree J l w t → weight-of weight t ≤ c → profit J t ≤ figure-of J weight l w c
   unfolding figure-of pieces sized
-  figure-most t l w c g h = figure-upper (pieces J) (saw 0) (by-weight weight) (saw-proper 0) t (l, w) c (unplain J t (l, w) g) (weight-within weight t c h)
+  figure-most t l w c g h = figure-upper (pieces J) (saw 0) (by-weight weight) (saw-proper 0) t (l, w) c (plain-guillotine J t (l, w) g) (weight-within weight t c h)
 
   -- and some such tree earns it
   pub figure-earned : (l w c : ℕ) → (t : Tree ℕ) × GuillotineTree J l w t × (weight-of weight t ≤ c) × (profit J t ≡ figure-of J weight l w c)
   unfolding figure-of pieces sized
   figure-earned l w c =
       let e = figure-attained (pieces J) (saw 0) (by-weight weight) (saw-proper 0) (l, w) c in
-      (e .0, plain J (e .0) (l, w) (e .1), within-weight weight (e .0) c (e .2), e .3)
+      (e .0, guillotine-plain J (e .0) (l, w) (e .1), within-weight weight (e .0) c (e .2), e .3)
 
   -- the same of the bound: no tree on the plate of weight at most the capacity earns more
   pub bound-most : (t : Tree ℕ) → OnPlate J t → weight-of weight t ≤ capacity J weight → profit J t ≤ bound-of J weight
@@ -82,7 +82,7 @@ module _ (J : Job) (weight : ℕ → ℕ) where
   pub demands-weight : (t : Tree ℕ) → OnPlate J t → KeepsDemands J t → weight-of weight t ≤ capacity J weight
   unfolding pieces sized
   demands-weight t g k = keeps-weight (λ i. i) (pieces J) (saw 0) (J .count) (λ i m. (let h = mem-range 0 (J .count) i m in omega arith)) weight (J .demand)
-      t (J .plate) (unplain J t (J .plate) g) k
+      t (J .plate) (plain-guillotine J t (J .plate) g) k
 
   -- so it earns at most the bound
   pub bound-holds : (t : Tree ℕ) → OnPlate J t → KeepsDemands J t → profit J t ≤ bound-of J weight
@@ -113,7 +113,7 @@ module _ (J : Job) (weight : ℕ → ℕ) (h : InRange J) where
 -- the three areas of a tree sum to the rectangle's
 pub areas-sum : (J : Job) (t : Tree ℕ) (l w : ℕ) → GuillotineTree J l w t → pieces-area-of J t + waste-area-of l w t + trim-area-of J l w t ≡ l * w
 unfolding pieces
-areas-sum J t l w g = areas (range 0 (J .count)) (J .price) (J .size) t (l, w) (unplain J t (l, w) g)
+areas-sum J t l w g = areas (range 0 (J .count)) (J .price) (J .size) t (l, w) (plain-guillotine J t (l, w) g)
 
 -- the areas of the waste and of the trim of a cut are those of its parts
 module _ (J : Job) (l w x : ℕ) (a b : Tree ℕ) where

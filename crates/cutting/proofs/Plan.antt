@@ -22,7 +22,7 @@ use Rattle.cutting.proofs.Saws.{saw-cut}
 use Rattle.cutting.proofs.Transfer.{recut}
 use Rattle.cutting.proofs.Weights.{within-weight}
 use Rattle.cutting.proofs.Reduction.{CutsAt, saw-written-cuts, cuts-proper}
-use Rattle.cutting.proofs.Job.{plain}
+use Rattle.cutting.proofs.Job.{guillotine-plain}
 use Rattle.cutting.proofs.Table.{sides-suffice, figure-saw}
 
 module _ (J : Job) (weight : ℕ → ℕ) (h : InRange J) where
@@ -54,7 +54,7 @@ module _ (J : Job) (weight : ℕ → ℕ) (h : InRange J) where
     unfolding plan-of pieces sized
     plan-tree =
         let e = written-earns (pieces J) C (by-weight weight) plan-proper (l, w) c in
-        (plain J plan (l, w) (plan-units plan (l, w) (e .0)), within-weight weight plan c (e .1), e .2 ∙ plan-figure (l, w) c (on-length, on-width))
+        (guillotine-plain J plan (l, w) (plan-units plan (l, w) (e .0)), within-weight weight plan c (e .1), e .2 ∙ plan-figure (l, w) c (on-length, on-width))
 
     -- a cut at a position of the plan's saw has both parts on the plate
     pair-plain : (d : Direction) → first-cut (pieces J) C (by-weight weight) d (l, w) c ≡ first-pair J weight d l w c
