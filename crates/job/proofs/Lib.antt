@@ -1,3 +1,4 @@
 pub mod Checks
 pub mod Entries
 pub mod Read
+pub mod Weights

@@ -7,13 +7,12 @@ use Prim.Native.Nat.{ℕ, _+_, _*_, _≤_, _<_}
 use native.Mathlib.Omega.{arith}
 use borrow.Author.Tests.{ltb-false, eqb-true, not-false}
 use lib.Dec.{ltb, eqb}
-use lib.ListN.{length, getD}
+use lib.ListN.{length}
 use Rattle.cutting.specs.Job.{InRange}
 use Rattle.refusal.specs.Refusals.{next, first-refusal}
 use Rattle.refusal.specs.declared.Checked.{Checked}
 use Rattle.refusal.specs.declared.Checked.the-variants.{Passed, Refused}
 use Rattle.refusal.specs.declared.Refusal.{Refusal}
-use Rattle.refusal.specs.declared.Refusal.the-variants.{ShortHeader, PlateSide, KindCount, BlockLength, KindSide, Price, Demand}
 use Rattle.job.specs.Block.{plate-length-at, plate-width-at, count-at, length-at, width-at, price-at, demand-at, HoldsKinds, outside, header-checks, size-check, pair-checks, each-kind, job-checks, entries, record-of, empty-record, answer-by, read-of, job-of}
 use Rattle.job.specs.declared.JobAnswer.{JobAnswer}
 use Rattle.job.specs.declared.JobRecord.{JobRecord}
@@ -100,9 +99,39 @@ read-in-range s p =
       demands = λ i l. subst (λ x. x ≤ 255) (sym (entries-in (demand-at s) (count-at s) i (h .kinds .1) l)) (pair-passed s p i l .1);
     }
 
+-- the fields of a block's record
+pub record-length : (s : List ℕ) → record-of s .length ≡ plate-length-at s
+unfolding record-of
+record-length s = refl
+
+pub record-width : (s : List ℕ) → record-of s .width ≡ plate-width-at s
+unfolding record-of
+record-width s = refl
+
+pub record-count : (s : List ℕ) → record-of s .count ≡ count-at s
+unfolding record-of
+record-count s = refl
+
+-- the record's arrays have 64 entries
+pub record-arrays : (s : List ℕ) → (length (record-of s .lengths) ≡ 64) × (length (record-of s .widths) ≡ 64) × (length (record-of s .prices) ≡ 64) × (length (record-of s .demands) ≡ 64)
+unfolding record-of
+record-arrays s = (entries-length (length-at s) (count-at s), entries-length (width-at s) (count-at s), entries-length (price-at s) (count-at s), entries-length (demand-at s) (count-at s))
+
+-- the answer's verdict is the first refusal
+pub read-verdict : (s : List ℕ) → read-of s .verdict ≡ first-refusal (job-checks s)
+read-verdict s = go (first-refusal (job-checks s))
+  where
+    go : (a : Checked) → answer-by a (record-of s) .verdict ≡ a
+    go Passed = refl
+    go (Refused r) = refl
+
 -- the answer where the block passed
 pub read-passed : (s : List ℕ) → first-refusal (job-checks s) ≡ Passed → read-of s ≡ record { verdict = Passed; job = record-of s }
 read-passed s p = ap (λ a. answer-by a (record-of s)) p
+
+-- its job where the verdict is that the block passed
+pub read-record : (s : List ℕ) → read-of s .verdict ≡ Passed → read-of s .job ≡ record-of s
+read-record s p = ap (λ a. a .job) (read-passed s (sym (read-verdict s) ∙ p))
 
 -- the answer where the block was refused
 pub read-refused : (s : List ℕ) {a : Checked} {r : Refusal} {j : JobRecord} → a ≡ first-refusal (job-checks s) → a ≡ Refused r → j ≡ empty-record → _≡_ {A = JobAnswer} (record { verdict = a; job = j }) (read-of s)

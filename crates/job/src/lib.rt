@@ -4,14 +4,14 @@ use refusal::Checked;
 use refusal::Refusal;
 use refusal::refuse_if;
 ghost use mathlib.Core.Path.{_≡_};
-ghost use Prim.Native.Nat.{ℕ, _+_, _*_, _≤_, _<_};
-ghost use lib.ListN.{length, getD};
 ghost use mathlib.Core.Bool.{_||_};
 ghost use mathlib.Core.List.{[], _∷_};
+ghost use Prim.Native.Nat.{ℕ, _+_, _*_, _≤_, _<_};
+ghost use lib.ListN.{length};
 ghost use Rattle.refusal.specs.Refusals.{first-refusal};
-ghost use Rattle.cutting.specs.Job.{InRange};
+ghost use Rattle.cutting.specs.Job.{InRange, capacity};
 ghost use Rattle.job.specs.Block.{u16-at, u32-at, count-at, price-at, outside, HoldsKinds, header-checks, size-check, pair-checks, each-kind, job-checks, entries, record-of, empty-record, read-of, job-of};
-ghost use Rattle.job.specs.Weights.{weights-answer};
+ghost use Rattle.job.specs.Weights.{weight-in, weights-answer};
 
 // The job record: the plate's sides, the number of kinds, and for each kind its sides, price and demand; 0 past the last kind.
 pub struct JobRecord {
@@ -262,4 +262,40 @@ pub fn read_job(block: &[u8]) -> JobAnswer
         verdict: Checked::Passed,
         job: read_record(block),
     }
+}
+
+// A demand times a weight.
+fn weigh(demand: u16, weight: u8) -> u32
+    requires { ⌜ demand ≤ 255 ⌝ }
+    ensures { λ r. ⌜ (r ≡ demand * weight) × (r ≤ 65025) ⌝ }
+{
+    (demand as u32) * wider(weight)
+}
+
+// The capacity of as many weights as the job has kinds: at most 64 times 65,025.
+fn sum_capacity(job: JobRecord, weights: &[u8]) -> u32
+    requires { ⌜ InRange (job-of job) × (length (now weights) ≡ job .count) ⌝ }
+    ensures { λ r. ⌜ r ≡ capacity (job-of job) (weight-in (now (weights .entry))) ⌝ }
+{
+    let mut q = 0u32;
+    for i in 0..job.count {
+        let k = i as usize;
+        q = q + weigh(job.demands[k], weights[k]);
+    }
+    q
+}
+
+// The weights of a job that was read: the capacity, or refusal 8 or 9.
+pub fn check_weights(job: JobRecord, weights: &[u8]) -> WeightsAnswer
+    requires { ⌜ InRange (job-of job) ⌝ }
+    ensures { λ r. ⌜ r ≡ weights-answer (job-of job) (now (weights .entry)) ⌝ }
+{
+    if weights.len() != (job.count as usize) {
+        return WeightsAnswer::Refused(Refusal::WeightCount);
+    }
+    let q = sum_capacity(job, weights);
+    if 4095 < q {
+        return WeightsAnswer::Refused(Refusal::Capacity);
+    }
+    WeightsAnswer::Capacity(q as u16)
 }

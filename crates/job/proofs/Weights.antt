@@ -1,0 +1,91 @@
+-- What is known of weights that were accepted, and the capacity as a loop sums it.
+-- Assumes nothing.
+use mathlib.Core.Path.{_≡_, refl, sym, ap}
+use mathlib.Core.Bool.{not}
+use mathlib.Core.List.{List}
+use Prim.Native.Nat.{ℕ, suc, _+_, _*_, _≤_, _<_}
+use native.Mathlib.Nat.{mul-le-mul}
+use native.Mathlib.Omega.{arith}
+use borrow.Author.Tests.{ltb-false, lt-ltb, le-ltb, eqb-true, eq-eqb, ne-eqb, not-false}
+use lib.Dec.{eqb}
+use lib.ListN.{length}
+use Rattle.cutting.specs.Job.{Job, capacity, InRange}
+use Rattle.cutting.specs.Lists.{sum}
+use Rattle.refusal.specs.Refusals.{first-refusal}
+use Rattle.refusal.specs.declared.Checked.{Checked}
+use Rattle.refusal.specs.declared.Checked.the-variants.{Passed, Refused}
+use Rattle.refusal.specs.declared.Refusal.{Refusal}
+use Rattle.refusal.specs.declared.Refusal.the-variants as refusal
+use Rattle.job.specs.Block.{count-at, job-checks, record-of}
+use Rattle.job.specs.Weights.{weight-in, weight-checks, weights-by, weights-answer, block-job, Accepted}
+use Rattle.job.specs.declared.WeightsAnswer.the-variants as answer
+use Rattle.job.proofs.Checks.{cons-passed, append-passed, passed-append}
+use Rattle.job.proofs.Read.{read-in-range}
+
+-- a demand times a weight is at most 255 times 255
+pub weighed : (d w : ℕ) → d ≤ 255 → w < 256 → d * w ≤ 65025
+weighed d w h k = mul-le-mul h (let e : w ≤ 255 = omega (arith, k) in e)
+
+-- one summand more
+pub sum-more : (f : ℕ → ℕ) (i : ℕ) → sum i f + f i ≡ sum (i + 1) f
+unfolding sum
+sum-more f i = let e : suc i ≡ i + 1 = omega arith in ap (λ n. sum n f) e
+
+-- no summand yet
+pub sum-none : (f : ℕ → ℕ) → 0 ≡ sum 0 f
+unfolding sum
+sum-none f = refl
+
+-- the answer where the number of weights is not the number of kinds
+pub answer-count : (J : Job) (ws : List ℕ) → (length ws ≡ J .count → ⊥) → answer.Refused refusal.WeightCount ≡ weights-answer J ws
+unfolding first-refusal
+answer-count J ws h = simp (ne-eqb (length ws) (J .count) h)
+
+-- the answer where the capacity is too large
+pub answer-capacity : (J : Job) (ws : List ℕ) {q : ℕ} → length ws ≡ J .count → q ≡ capacity J (weight-in ws) → 4095 < q → answer.Refused refusal.Capacity ≡ weights-answer J ws
+unfolding first-refusal
+answer-capacity J ws {q} h e l = simp (eq-eqb (length ws) (J .count) h, sym e, lt-ltb 4095 q l)
+
+-- the answer where both checks pass
+pub answer-passed : (J : Job) (ws : List ℕ) {q : ℕ} → length ws ≡ J .count → q ≡ capacity J (weight-in ws) → q ≤ 4095 → answer.Capacity q ≡ weights-answer J ws
+unfolding first-refusal
+answer-passed J ws {q} h e l = simp (eq-eqb (length ws) (J .count) h, sym e, le-ltb 4095 q l)
+
+-- weights that passed: as many as kinds, and a capacity of at most 4,095
+pub weights-passed : (J : Job) (ws : List ℕ) → first-refusal (weight-checks J ws) ≡ Passed → (length ws ≡ J .count) × (capacity J (weight-in ws) ≤ 4095)
+weights-passed J ws p =
+    let a = cons-passed _ _ _ p in
+    let b = cons-passed _ _ _ (a .1) in
+    (eqb-true (length ws) (J .count) (not-false (eqb (length ws) (J .count)) (a .0)), ltb-false 4095 (capacity J (weight-in ws)) (b .0))
+
+-- an answer with a capacity: the weights passed, and it is theirs
+pub capacity-answered : (J : Job) (ws : List ℕ) (q : ℕ) → weights-answer J ws ≡ answer.Capacity q → (first-refusal (weight-checks J ws) ≡ Passed) × (q ≡ capacity J (weight-in ws))
+capacity-answered J ws q e = go (first-refusal (weight-checks J ws)) e
+  where
+    go : (a : Checked) → weights-by a (capacity J (weight-in ws)) ≡ answer.Capacity q → (a ≡ Passed) × (q ≡ capacity J (weight-in ws))
+    go Passed e = (refl, cc)
+    go (Refused r) e = (cc, cc)
+
+-- an answer with a refusal: it is the first of the weights
+pub refusal-answered : (J : Job) (ws : List ℕ) (r : Refusal) → weights-answer J ws ≡ answer.Refused r → first-refusal (weight-checks J ws) ≡ Refused r
+refusal-answered J ws r e = go (first-refusal (weight-checks J ws)) e
+  where
+    go : (a : Checked) → weights-by a (capacity J (weight-in ws)) ≡ answer.Refused r → a ≡ Refused r
+    go Passed e = cc
+    go (Refused x) e = cc
+
+-- a job block and weights are accepted where both pass
+pub accepted-both : (s ws : List ℕ) → Accepted s ws → (first-refusal (job-checks s) ≡ Passed) × (first-refusal (weight-checks (block-job s) ws) ≡ Passed)
+accepted-both s ws p = append-passed (job-checks s) (weight-checks (block-job s) ws) p
+
+pub both-accepted : (s ws : List ℕ) → first-refusal (job-checks s) ≡ Passed → first-refusal (weight-checks (block-job s) ws) ≡ Passed → Accepted s ws
+both-accepted s ws p q = passed-append (job-checks s) (weight-checks (block-job s) ws) p q
+
+-- accepted weights are as many as the kinds, and their capacity is at most 4,095
+pub accepted-weights : (s ws : List ℕ) → Accepted s ws → (length ws ≡ count-at s) × (capacity (block-job s) (weight-in ws) ≤ 4095)
+unfolding record-of
+accepted-weights s ws p = weights-passed (block-job s) ws (accepted-both s ws p .1)
+
+-- the job of an accepted block is in document 01's ranges
+pub accepted-in-range : (s ws : List ℕ) → Accepted s ws → InRange (block-job s)
+accepted-in-range s ws p = read-in-range s (accepted-both s ws p .0)

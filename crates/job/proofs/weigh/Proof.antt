@@ -1,0 +1,20 @@
+-- `job::weigh` meets its contract. Assumes nothing.
+use mathlib.Core.Path.{ap}
+use Prim.Native.Nat.{_*_}
+use native.Mathlib.Omega.{arith}
+use borrow.Author.Needs.{needs}
+use Rattle.job.proofs.Weights.{weighed}
+use Rattle.job.proofs.weigh.Statement.{statement}
+use Rattle.job.proofs.weigh.Tie as tie
+
+wider-requires : tie.Need-wider-requires
+wider-requires c κs = search needs
+
+mul-result : tie.Need-mul-result
+mul-result c = omega (arith, weighed (c .before .args .demand) (c .wider .result) (c .before .pre) (c .wider .ensures .1))
+
+returns : tie.Need-returns
+returns c = (ap (λ w. c .before .args .demand * w) (c .wider .ensures .0), weighed (c .before .args .demand) (c .wider .result) (c .before .pre) (c .wider .ensures .1))
+
+pub weigh-spec : {M : Type 1} → statement M
+weigh-spec = tie.close (tie.spec wider-requires mul-result returns)
