@@ -1,0 +1,215 @@
+-- The choice from a filled table: the two searches over lent arrays answer the definition's searches over figures of the job.
+-- Assumes nothing.
+use mathlib.Core.Path.{_≡_, refl, sym, _∙_, ap, ap₂}
+use mathlib.Core.Bool.{Bool, true, false, _&&_}
+use mathlib.Core.Option.{Option, none, some, Option·map}
+use mathlib.Core.List.{List, [], _∷_, _++_, map, map-map, map-append}
+use Prim.Native.Nat.{ℕ, zero, suc, _+_, _-_, _*_, _≤_, _<_}
+use native.Mathlib.Numerals.{add-one}
+use native.Mathlib.Omega.{arith}
+use borrow.Author.Tests.{eq-eqb, ne-eqb}
+use lib.Dec.{eqb}
+use lib.ListN.{length, getD, length-map}
+use lib.Seq.{ext-getD}
+use Rattle.cutting.specs.declared.Direction.{Direction}
+use Rattle.cutting.specs.declared.Direction.the-variants.{Length, Width}
+use Rattle.cutting.specs.declared.Node.the-variants.{Waste, Piece, Cut}
+use Rattle.cutting.specs.Lists.{range, filter, first, pairs}
+use Rattle.cutting.specs.Tree.{side, part}
+use Rattle.cutting.specs.Choice.{Choice, as-waste, as-piece, as-cut, or-waste, or-length, or-piece, or-zero}
+use Rattle.cutting.specs.Job.{Job, figure-of, normal-side, normal-positions, normal-floor, kind-earns, pair-earns, first-pair, plan-choice}
+use Rattle.cutting.proofs.Lists.{mem-range, mem-pairs, range-length, range-entry, first-cong}
+use Rattle.cutting.proofs.Positions.{between-length, between-entry}
+use Rattle.cutting.proofs.Table.{normal-zero}
+use Rattle.job.specs.Weights.{weight-in}
+use Rattle.table.specs.Table.{position-count, position}
+use Rattle.writer.specs.declared.Chosen.{Chosen}
+use Rattle.writer.specs.declared.Dimensions.{Dimensions}
+use Rattle.writer.specs.declared.KindFound.{KindFound}
+use Rattle.writer.specs.declared.KindFound.the-variants as kind
+use Rattle.writer.specs.declared.CutFound.{CutFound}
+use Rattle.writer.specs.declared.CutFound.the-variants as found
+use Rattle.writer.specs.Search.{kind-test, kind-found, pair-test, first-index, cut-found}
+use Rattle.writer.specs.Plan.{Listed, Mapped, Tabled, lent-job, Lent, Cell, chosen-of, chosen-at}
+use Rattle.writer.proofs.Rows.{stride-of, base-of, figure-at, a-of, b-of, row-figure, mapped-figure, cell-figure}
+
+-- searches over mapped lists
+module _ {A B : Type 0} where
+  first-map : (f : B → Bool) (g : A → B) (xs : List A) → first f (map g xs) ≡ Option·map g (first (λ x. f (g x)) xs)
+  unfolding first
+  first-map f g [] = refl
+  first-map f g (x ∷ xs) = go (f (g x)) (first-map f g xs)
+    where
+      go : (b : Bool) → first f (map g xs) ≡ Option·map g (first (λ x. f (g x)) xs)
+          → elim b [ true ↦ some (g x) | false ↦ first f (map g xs) ] ≡ Option·map g (elim b [ true ↦ some x | false ↦ first (λ x. f (g x)) xs ])
+      go true h = refl
+      go false h = h
+
+  getD-map-in : (f : A → B) (xs : List A) (i : ℕ) (d : B) (e : A) → i < length xs → getD (map f xs) i d ≡ f (getD xs i e)
+  getD-map-in f [] i d e h = absurd (omega arith)
+  getD-map-in f (x ∷ xs) zero d e h = refl
+  getD-map-in f (x ∷ xs) (suc i) d e h = getD-map-in f xs i d e (omega arith)
+
+pairs-map : {A B C D : Type 0} (g : A → C) (h : B → D) (xs : List A) (ys : List B) → pairs (map g xs) (map h ys) ≡ map (λ u. (g (u .0), h (u .1))) (pairs xs ys)
+unfolding pairs
+pairs-map g h [] ys = refl
+pairs-map g h (x ∷ xs) ys =
+    ap₂ _++_ (map-map (λ y. (g x, y)) h ys ∙ sym (map-map (λ u. (g (u .0), h (u .1))) (λ y. (x, y)) ys)) (pairs-map g h xs ys)
+    ∙ sym (map-append (λ u. (g (u .0), h (u .1))) (map (λ y. (x, y)) ys) (pairs xs ys))
+
+-- the cuts of a side are the listed positions between the first and the side's own
+cuts-listed : (J : Job) (d : Direction) (positions : List ℕ) (a n : ℕ) → Listed J d positions → a < position-count J d → position J d a ≡ normal-floor J d n
+    → filter (normal-side J d) (range 1 (normal-floor J d n - 1)) ≡ map (λ i. getD positions i 0) (range 1 (a - 1))
+unfolding normal-positions
+cuts-listed J d positions a n listed h e = ext-getD 0 cuts (map (λ i. getD positions i 0) (range 1 (a - 1))) (omega (arith, long, length-map (range 1 (a - 1)) (λ i. getD positions i 0), range-length 1 (a - 1))) at
+  where
+    cuts : List ℕ
+    cuts = filter (normal-side J d) (range 1 (normal-floor J d n - 1))
+
+    long : length cuts ≡ a - 1
+    long = rw (sym e) (between-length (normal-side J d) (normal-zero J d) (suc (side d (J .plate))) a h)
+
+    at : (j : ℕ) → j < length cuts → getD cuts j 0 ≡ getD (map (λ i. getD positions i 0) (range 1 (a - 1))) j 0
+    at j l =
+        let g : suc j < a = omega (arith, long) in
+        let k : getD (range 1 (a - 1)) j 0 ≡ suc j = omega (arith, range-entry 1 (a - 1) j 0 (omega arith)) in
+        rw (sym e) (between-entry (normal-side J d) (normal-zero J d) (suc (side d (J .plate))) a j h g) ∙ sym (listed .1 (suc j) (omega arith))
+        ∙ sym (getD-map-in (λ i. getD positions i 0) (range 1 (a - 1)) j 0 0 (omega (arith, range-length 1 (a - 1))) ∙ ap (λ i. getD positions i 0) k)
+
+pair-figures : (J : Job) (weight : ℕ → ℕ) (d : Direction) (l w c : ℕ) (u : ℕ × (ℕ × ℕ)) → pair-earns J weight d l w c u
+    ≡ eqb (figure-at J weight (part d (u .0) (l, w)) (u .1 .0) + figure-at J weight (part d (side d (l, w) - u .0) (l, w)) (u .1 .1)) (figure-of J weight l w c)
+pair-figures J weight Length l w c u = refl
+pair-figures J weight Width l w c u = refl
+
+-- the answer as the searches give it: waste where the value is 0, or the kind, or the length cut, or the width cut
+abbrev pub or-width-cut : CutFound → Chosen
+or-width-cut found.Missing = record { node = Waste; share = 0 }
+or-width-cut (found.At x k) = record { node = Cut Width x; share = k }
+
+abbrev pub or-length-cut : CutFound → Chosen → Chosen
+or-length-cut found.Missing r = r
+or-length-cut (found.At x k) r = record { node = Cut Length x; share = k }
+
+abbrev pub or-kind : KindFound → Chosen → Chosen
+or-kind kind.Missing r = r
+or-kind (kind.Kind i) r = record { node = Piece i; share = 0 }
+
+abbrev pub or-none : Bool → Chosen → Chosen
+or-none true r = record { node = Waste; share = 0 }
+or-none false r = r
+
+-- the cut of a pair of indexes
+abbrev pair-of : List ℕ → ℕ → ℕ × ℕ → ℕ × (ℕ × ℕ)
+pair-of positions c u = (getD positions (u .0) 0, (u .1, c - u .1))
+
+searched : (lengths widths : List ℕ) (c : ℕ) (z : Bool) (o : Option ℕ) (i j : Option (ℕ × ℕ)) {p s : Option (ℕ × (ℕ × ℕ))} → p ≡ Option·map (pair-of lengths c) i → s ≡ Option·map (pair-of widths c) j
+    → chosen-of (or-zero z (or-piece o (or-length p (or-waste s)))) ≡ or-none z (or-kind (kind-found o) (or-length-cut (cut-found lengths i) (or-width-cut (cut-found widths j))))
+searched lengths widths c true o i j e f = refl
+searched lengths widths c false (some k) i j e f = refl
+searched lengths widths c false none (some u) j e f = rw e refl
+searched lengths widths c false none none (some v) e f = rw (e, f) refl
+searched lengths widths c false none none none e f = rw (e, f) refl
+
+module _ {J : Job} {weights : List ℕ} {columns q : ℕ} {lengths widths length-map width-map table : List ℕ} (t : Tabled J weights columns q lengths widths length-map width-map table)
+    (l w c : ℕ) (on-length : l ≤ J .plate .0) (on-width : w ≤ J .plate .1) (share : c ≤ q) where
+  module _ (d : Direction) (positions floors : List ℕ) (listed : Listed J d positions) (mapped : Mapped J d floors) where
+    on-side : side d (l, w) ≤ side d (J .plate)
+    on-side = elim d [ Length ↦ on-length | Width ↦ on-width ]
+
+    -- the test of a pair reads the figures of its two parts
+    pair-same : (i k : ℕ) → i < position-count J d → k ≤ c → pair-earns J (weight-in weights) d l w c (pair-of positions c (i, k))
+        ≡ pair-test positions floors table (side d (l, w)) (stride-of columns q d) (base-of columns q d (getD length-map l 0) (getD width-map w 0)) c (figure-of J (weight-in weights) l w c) (i, k)
+    pair-same i k h g = pair-figures J (weight-in weights) d l w c (pair-of positions c (i, k)) ∙ ap₂ (λ a b. eqb (a + b) (figure-of J (weight-in weights) l w c))
+        (ap (λ x. figure-at J (weight-in weights) (part d x (l, w)) k) (listed .1 i h) ∙ sym (row-figure t l w on-length on-width d i k h (omega arith)))
+        (sym (mapped-figure t l w on-length on-width d floors mapped (side d (l, w) - getD positions i 0) (c - k) (omega (arith, on-side)) (omega arith)))
+
+    -- the search over indexes answers the definition's search
+    pair-index : first-pair J (weight-in weights) d l w c ≡ Option·map (pair-of positions c)
+        (first-index positions floors table (side d (l, w)) (getD floors (side d (l, w)) 0) (stride-of columns q d) (base-of columns q d (getD length-map l 0) (getD width-map w 0)) c (figure-of J (weight-in weights) l w c))
+    unfolding first-pair first-index
+    pair-index =
+        let a = getD floors (side d (l, w)) 0 in
+        let m = mapped (side d (l, w)) on-side in
+        let e : c + 1 ≡ suc c = add-one c in
+        rw e (ap (λ xs. first (pair-earns J (weight-in weights) d l w c) (pairs xs (map (λ k. (k, c - k)) (range 0 (suc c))))) (cuts-listed J d positions a (side d (l, w)) listed (m .0) (m .1))
+        ∙ ap (first (pair-earns J (weight-in weights) d l w c)) (pairs-map (λ i. getD positions i 0) (λ k. (k, c - k)) (range 1 (a - 1)) (range 0 (suc c)))
+        ∙ first-map (pair-earns J (weight-in weights) d l w c) (pair-of positions c) (pairs (range 1 (a - 1)) (range 0 (suc c)))
+        ∙ ap (Option·map (pair-of positions c)) (first-cong _ _ _ (λ u n.
+        (let p = mem-pairs u (range 1 (a - 1)) (range 0 (suc c)) n in
+        let i = mem-range 1 (a - 1) (u .0) (p .0) in
+        let k = mem-range 0 (suc c) (u .1) (p .1) in
+        pair-same (u .0) (u .1) (omega (arith, m .0)) (omega arith)))))
+
+-- the ways out of the code, one for each search that ends it
+exit-none : (z : Bool) (r : Chosen) → z ≡ true → or-none z r ≡ record { node = Waste; share = 0 }
+exit-none z r e = rw e refl
+
+module _ (z : Bool) (k : KindFound) where
+  exit-kind : (r : Chosen) {i : ℕ} → z ≡ false → k ≡ kind.Kind i → or-none z (or-kind k r) ≡ record { node = Piece i; share = 0 }
+  exit-kind r e f = rw (e, f) refl
+
+  exit-length : (a b : CutFound) {x s : ℕ} → z ≡ false → k ≡ kind.Missing → a ≡ found.At x s → or-none z (or-kind k (or-length-cut a (or-width-cut b))) ≡ record { node = Cut Length x; share = s }
+  exit-length a b e f h = rw (e, f, h) refl
+
+  exit-width : (a b : CutFound) {x s : ℕ} → z ≡ false → k ≡ kind.Missing → a ≡ found.Missing → b ≡ found.At x s
+      → or-none z (or-kind k (or-length-cut a (or-width-cut b))) ≡ record { node = Cut Width x; share = s }
+  exit-width a b e f h i = rw (e, f, h, i) refl
+
+  exit-nothing : (a b : CutFound) → z ≡ false → k ≡ kind.Missing → a ≡ found.Missing → b ≡ found.Missing
+      → or-none z (or-kind k (or-length-cut a (or-width-cut b))) ≡ record { node = Waste; share = 0 }
+  exit-nothing a b e f h i = rw (e, f, h, i) refl
+
+-- the searches that the choice makes over lent arrays, at a cell of a value
+module _ (g : Dimensions) (kind-lengths kind-widths prices weights lengths widths length-map width-map table : List ℕ) (l w c value : ℕ) where
+  abbrev pub kind-search : Option ℕ
+  kind-search = first (kind-test kind-lengths kind-widths prices weights l w c value) (range 0 (g .count))
+
+  abbrev pub length-search : Option (ℕ × ℕ)
+  length-search = first-index lengths length-map table l (getD length-map l 0) (g .columns * (g .capacity + 1)) (getD width-map w 0 * (g .capacity + 1)) c value
+
+  abbrev pub width-search : Option (ℕ × ℕ)
+  width-search = first-index widths width-map table w (getD width-map w 0) (g .capacity + 1) (getD length-map l 0 * (g .columns * (g .capacity + 1))) c value
+
+  -- their answer: waste where the value is 0, or the kind, or the length cut, or the width cut
+  abbrev pub answer : Chosen
+  answer = or-none (eqb value 0) (or-kind (kind-found kind-search) (or-length-cut (cut-found lengths length-search) (or-width-cut (cut-found widths width-search))))
+
+-- the answer is the choice
+module _ (g : Dimensions) (kl kw prices : List ℕ) {weights lengths widths mx my table : List ℕ} (t : Lent g kl kw prices weights lengths widths mx my table) {l w c : ℕ} (at : Cell g l w c) where
+  answer-figure : answer g kl kw prices weights lengths widths mx my table l w c (figure-of (lent-job g kl kw prices) (weight-in weights) l w c) ≡ chosen-at g kl kw prices weights l w c
+  unfolding plan-choice
+  answer-figure =
+      let v = figure-of (lent-job g kl kw prices) (weight-in weights) l w c in
+      sym (searched lengths widths c (eqb v 0) (kind-search g kl kw prices weights lengths widths mx my table l w c v) (length-search g kl kw prices weights lengths widths mx my table l w c v)
+      (width-search g kl kw prices weights lengths widths mx my table l w c v)
+      (pair-index t l w c (at .on-length) (at .on-width) (at .in-capacity) Length lengths mx (t .lengths-are) (t .length-floors)) (pair-index t l w c (at .on-length) (at .on-width) (at .in-capacity) Width widths my (t .widths-are) (t .width-floors)))
+
+  -- the value of the cell
+  abbrev pub cell : ℕ
+  cell = getD table (getD mx l 0 * (g .columns * (g .capacity + 1)) + getD my w 0 * (g .capacity + 1) + c) 0
+
+  answer-choice : answer g kl kw prices weights lengths widths mx my table l w c cell ≡ chosen-at g kl kw prices weights l w c
+  answer-choice = ap (λ v. answer g kl kw prices weights lengths widths mx my table l w c v) (cell-figure t l w (at .on-length) (at .on-width) c (at .in-capacity)) ∙ answer-figure
+
+  -- each way out of the code answers the choice
+  pub none-chosen : cell ≡ 0 → record { node = Waste; share = 0 } ≡ chosen-at g kl kw prices weights l w c
+  none-chosen z = sym (exit-none _ _ (eq-eqb cell 0 z)) ∙ answer-choice
+
+  module _ (z : cell ≡ 0 → ⊥) where
+    pub kind-chosen : {i : ℕ} → kind-found (kind-search g kl kw prices weights lengths widths mx my table l w c cell) ≡ kind.Kind i
+        → record { node = Piece i; share = 0 } ≡ chosen-at g kl kw prices weights l w c
+    kind-chosen k = sym (exit-kind _ _ _ (ne-eqb cell 0 z) k) ∙ answer-choice
+
+    module _ (k : kind-found (kind-search g kl kw prices weights lengths widths mx my table l w c cell) ≡ kind.Missing) where
+      pub length-chosen : {x s : ℕ} → cut-found lengths (length-search g kl kw prices weights lengths widths mx my table l w c cell) ≡ found.At x s
+          → record { node = Cut Length x; share = s } ≡ chosen-at g kl kw prices weights l w c
+      length-chosen a = sym (exit-length _ _ _ (cut-found widths (width-search g kl kw prices weights lengths widths mx my table l w c cell)) (ne-eqb cell 0 z) k a) ∙ answer-choice
+
+      module _ (a : cut-found lengths (length-search g kl kw prices weights lengths widths mx my table l w c cell) ≡ found.Missing) where
+        pub width-chosen : {x s : ℕ} → cut-found widths (width-search g kl kw prices weights lengths widths mx my table l w c cell) ≡ found.At x s
+            → record { node = Cut Width x; share = s } ≡ chosen-at g kl kw prices weights l w c
+        width-chosen b = sym (exit-width _ _ _ _ (ne-eqb cell 0 z) k a b) ∙ answer-choice
+
+        pub nothing-chosen : cut-found widths (width-search g kl kw prices weights lengths widths mx my table l w c cell) ≡ found.Missing
+            → record { node = Waste; share = 0 } ≡ chosen-at g kl kw prices weights l w c
+        nothing-chosen b = sym (exit-nothing _ _ _ _ (ne-eqb cell 0 z) k a b) ∙ answer-choice

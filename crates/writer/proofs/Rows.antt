@@ -1,0 +1,139 @@
+-- The rows of a filled table in one direction: the row of index i holds the figures of the rectangle whose side in that direction is the
+-- i-th normal position, and whose other side stays.
+-- Assumes nothing.
+use mathlib.Core.Path.{_≡_, sym, _∙_, ap, ap₂}
+use mathlib.Core.List.{List}
+use Prim.Native.Nat.{ℕ, suc, _+_, _-_, _*_, _≤_, _<_}
+use native.Mathlib.Nat.{mul-le-mul, mul-le-mul-right}
+use native.Mathlib.Omega.{arith}
+use lib.ListN.{length, getD}
+use Rattle.cutting.specs.declared.Direction.{Direction}
+use Rattle.cutting.specs.declared.Direction.the-variants.{Length, Width}
+use Rattle.cutting.specs.Tree.{Rect, side, part}
+use Rattle.cutting.specs.Job.{Job, InRange, figure-of, normal-side, normal-floor}
+use Rattle.cutting.proofs.Floor.{floor-le}
+use Rattle.cutting.proofs.Job.{figure-ceiling}
+use Rattle.cutting.proofs.Table.{positions-rise, positions-normal, positions-length, positions-floor, figure-floor}
+use Rattle.job.specs.Weights.{weight-in}
+use Rattle.table.specs.Table.{position-count, position, words-needed, word}
+use Rattle.writer.specs.Search.{Row, Searchable}
+use Rattle.writer.specs.Plan.{Listed, Mapped, Tabled}
+
+-- the words from one row to the next, and the word where row 0 begins; a and b are the indexes of the tabled length and width
+abbrev pub stride-of : ℕ → ℕ → Direction → ℕ
+stride-of columns q Length = columns * (q + 1)
+stride-of columns q Width = q + 1
+
+abbrev pub base-of : ℕ → ℕ → Direction → ℕ → ℕ → ℕ
+base-of columns q Length a b = b * (q + 1)
+base-of columns q Width a b = a * (columns * (q + 1))
+
+-- the figure of a rectangle
+abbrev pub figure-at : Job → (ℕ → ℕ) → Rect → ℕ → ℕ
+figure-at J weight r c = figure-of J weight (r .0) (r .1) c
+
+-- an index in reach
+word-below : (p r n a b k : ℕ) → a < p → b < r → k < n → (a * r + b) * n + k < p * r * n
+word-below p r n a b k h g l =
+    let u : (a + 1) * r ≤ p * r = mul-le-mul-right r (omega arith) in
+    let v : (a * r + b + 1) * n ≤ p * r * n = mul-le-mul-right n (omega arith) in
+    omega arith
+
+-- a normal position is its own floor
+position-floor : (J : Job) (d : Direction) (i : ℕ) → i < position-count J d → normal-floor J d (position J d i) ≡ position J d i
+position-floor J d i h = positions-floor J d i (position J d i) (positions-normal J d i h .1) h (omega arith) (λ g. positions-rise J d i (suc i) (omega arith) g)
+
+-- no figure on the plate is above 1,000,000,000,000
+figure-most : (J : Job) (weight : ℕ → ℕ) → InRange J → (r : Rect) (c : ℕ) → r .0 ≤ J .plate .0 → r .1 ≤ J .plate .1 → figure-at J weight r c ≤ 1000000000000
+figure-most J weight h r c a b =
+    let x : r .0 ≤ 1000 = omega (arith, h .plate-length) in
+    let y : r .1 ≤ 1000 = omega (arith, h .plate-width) in
+    omega (arith, figure-ceiling J weight h (r .0) (r .1) c, mul-le-mul x y)
+
+module _ {J : Job} {weights : List ℕ} {columns q : ℕ} {lengths widths length-map width-map table : List ℕ} (t : Tabled J weights columns q lengths widths length-map width-map table)
+    (l w : ℕ) (on-length : l ≤ J .plate .0) (on-width : w ≤ J .plate .1) where
+  -- the indexes of the tabled length and width
+  abbrev pub a-of : ℕ
+  a-of = getD length-map l 0
+
+  abbrev pub b-of : ℕ
+  b-of = getD width-map w 0
+
+  -- a row's word, and its figure
+  row-cell : (d : Direction) (i k : ℕ) → i < position-count J d → k ≤ q
+      → (i * stride-of columns q d + base-of columns q d a-of b-of + k < words-needed J q) × (getD table (i * stride-of columns q d + base-of columns q d a-of b-of + k) 0 ≡ figure-at J (weight-in weights) (part d (position J d i) (l, w)) k)
+  row-cell Length i k h g =
+      let m = t .width-floors w on-width in
+      let e : i * (columns * (q + 1)) + b-of * (q + 1) + k ≡ word J q i b-of k = rw (t .columns-are) (omega arith) in (
+        rw e (word-below _ _ _ i b-of k h (m .0) (omega arith)),
+        ap (λ n. getD table n 0) e ∙ t .figures i b-of k h (m .0) (omega arith)
+            ∙ sym (figure-floor J (weight-in weights) (t .in-range) (position J Length i) w k (positions-normal J Length i h .1) on-width ∙ ap₂ (λ x y. figure-of J (weight-in weights) x y k) (position-floor J Length i h) (sym (m .1))),
+      )
+  row-cell Width i k h g =
+      let m = t .length-floors l on-length in
+      let e : i * (q + 1) + a-of * (columns * (q + 1)) + k ≡ word J q a-of i k = rw (t .columns-are) (omega arith) in (
+        rw e (word-below _ _ _ a-of i k (m .0) h (omega arith)),
+        ap (λ n. getD table n 0) e ∙ t .figures a-of i k (m .0) h (omega arith)
+            ∙ sym (figure-floor J (weight-in weights) (t .in-range) l (position J Width i) k on-length (positions-normal J Width i h .1) ∙ ap₂ (λ x y. figure-of J (weight-in weights) x y k) (sym (m .1)) (position-floor J Width i h)),
+      )
+
+  part-on : (d : Direction) (i : ℕ) → i < position-count J d → (part d (position J d i) (l, w) .0 ≤ J .plate .0) × (part d (position J d i) (l, w) .1 ≤ J .plate .1)
+  part-on Length i h = (positions-normal J Length i h .1, on-width)
+  part-on Width i h = (on-length, positions-normal J Width i h .1)
+
+  -- a row's figures
+  pub row-figure : (d : Direction) (i k : ℕ) → i < position-count J d → k ≤ q
+      → getD table (i * stride-of columns q d + base-of columns q d a-of b-of + k) 0 ≡ figure-at J (weight-in weights) (part d (position J d i) (l, w)) k
+  row-figure d i k h g = row-cell d i k h g .1
+
+  -- a row's words are there
+  row-there : (d : Direction) (c i : ℕ) → c ≤ q → i < position-count J d → Row table (stride-of columns q d) (base-of columns q d a-of b-of) c i
+  row-there d c i g h k m =
+      let e = row-cell d i k h (omega arith) in
+      let o = part-on d i h in
+      (omega (arith, e .0, t .words-there), omega (arith, e .1, figure-most J (weight-in weights) (t .in-range) (part d (position J d i) (l, w)) k (o .0) (o .1)))
+
+  -- the row that a map gives for a length holds the figures of the rectangle with that length
+  pub mapped-figure : (d : Direction) (floors : List ℕ) → Mapped J d floors → (n k : ℕ) → n ≤ side d (J .plate) → k ≤ q
+      → getD table (getD floors n 0 * stride-of columns q d + base-of columns q d a-of b-of + k) 0 ≡ figure-at J (weight-in weights) (part d n (l, w)) k
+  mapped-figure Length floors mapped n k on g =
+      let m = mapped n on in
+      row-figure Length (getD floors n 0) k (m .0) g
+      ∙ figure-floor J (weight-in weights) (t .in-range) (position J Length (getD floors n 0)) w k (positions-normal J Length (getD floors n 0) (m .0) .1) on-width
+      ∙ ap (λ x. figure-of J (weight-in weights) x (normal-floor J Width w) k) (position-floor J Length (getD floors n 0) (m .0) ∙ m .1) ∙ sym (figure-floor J (weight-in weights) (t .in-range) n w k on on-width)
+  mapped-figure Width floors mapped n k on g =
+      let m = mapped n on in
+      row-figure Width (getD floors n 0) k (m .0) g
+      ∙ figure-floor J (weight-in weights) (t .in-range) l (position J Width (getD floors n 0)) k on-length (positions-normal J Width (getD floors n 0) (m .0) .1)
+      ∙ ap (λ y. figure-of J (weight-in weights) (normal-floor J Length l) y k) (position-floor J Width (getD floors n 0) (m .0) ∙ m .1) ∙ sym (figure-floor J (weight-in weights) (t .in-range) l n k on-length on)
+
+  -- the word of the rectangle itself
+  pub cell-there : (c : ℕ) → c ≤ q → a-of * (columns * (q + 1)) + b-of * (q + 1) + c < length table
+  cell-there c h = omega (arith, row-cell Length a-of c (t .length-floors l on-length .0) h .0, t .words-there)
+
+  pub cell-figure : (c : ℕ) → c ≤ q → getD table (a-of * (columns * (q + 1)) + b-of * (q + 1) + c) 0 ≡ figure-of J (weight-in weights) l w c
+  cell-figure c h = mapped-figure Length length-map (t .length-floors) l c on-length h
+
+  -- a cut in one direction can be searched for
+  pub searchable : (d : Direction) (positions floors : List ℕ) → Listed J d positions → Mapped J d floors → (c : ℕ) → c ≤ q
+      → Searchable positions floors table (side d (l, w)) (getD floors (side d (l, w)) 0) (stride-of columns q d) (base-of columns q d a-of b-of) c
+  searchable d positions floors listed mapped c h =
+      let on : (side d (l, w) ≤ side d (J .plate)) × (side d (J .plate) ≤ 1000) = elim d [ Length ↦ (on-length, t .in-range .plate-length .1) | Width ↦ (on-width, t .in-range .plate-width .1) ] in
+      let last = mapped (side d (l, w)) (on .0) in
+      record {
+        mapped = omega (arith, on);
+        shares = omega (arith, t .capacity-most);
+        listed = λ i g. (omega (arith, listed .0, last .0), omega (arith, listed .1 i (omega (arith, last .0)), positions-rise J d i (getD floors (side d (l, w)) 0) g (last .0), last .1, floor-le (normal-side J d) (side d (l, w))));
+        rows = λ i g. row-there d c i h (omega (arith, last .0));
+        remainders = λ x g. row-there d c (getD floors x 0) h (mapped x (omega (arith, on)) .0);
+      }
+
+  -- no index, and no word where a row begins, is large
+  pub cell-sizes : (a-of < 1002) × (b-of < 1002) × (columns * (q + 1) ≤ 4100096) × (a-of * (columns * (q + 1)) ≤ 4104196096) × (b-of * (q + 1) ≤ 4100096)
+  cell-sizes =
+      let a : a-of ≤ 1001 = omega (arith, t .length-floors l on-length .0, positions-length J Length, t .in-range .plate-length) in
+      let r : columns ≤ 1001 = omega (arith, t .columns-are, positions-length J Width, t .in-range .plate-width) in
+      let b : b-of ≤ 1001 = omega (arith, t .width-floors w on-width .0, positions-length J Width, t .in-range .plate-width) in
+      let n : q + 1 ≤ 4096 = omega (arith, t .capacity-most) in
+      let s : columns * (q + 1) ≤ 4100096 = mul-le-mul r n in
+      (omega arith, omega arith, s, mul-le-mul a s, mul-le-mul b n)

@@ -1,0 +1,55 @@
+-- The two searches of the choice, over lent arrays: the lowest-numbered kind that earns a value, and the first pair of position and
+-- share whose two words of the table sum to it.
+-- Assumes nothing.
+use mathlib.Core.Bool.{Bool, _&&_}
+use mathlib.Core.Option.{Option, none, some}
+use mathlib.Core.List.{List}
+use Prim.Native.Nat.{ℕ, _+_, _-_, _*_, _≤_, _<_}
+use lib.Dec.{leb, eqb}
+use lib.ListN.{length, getD}
+use Rattle.cutting.specs.Lists.{range, first, pairs}
+use Rattle.writer.specs.declared.KindFound.{KindFound}
+use Rattle.writer.specs.declared.KindFound.the-variants as kind
+use Rattle.writer.specs.declared.CutFound.{CutFound}
+use Rattle.writer.specs.declared.CutFound.the-variants as cut
+
+-- whether a kind fits the rectangle, weighs at most the share and has the value as its price
+abbrev pub earns-alone : ℕ → ℕ → ℕ → ℕ → ℕ → ℕ → ℕ → ℕ → Bool
+earns-alone length width price weight l w c value = ((leb length l && leb width w) && leb weight c) && eqb price value
+
+-- the same of kind i of lent arrays
+abbrev pub kind-test : List ℕ → List ℕ → List ℕ → List ℕ → ℕ → ℕ → ℕ → ℕ → ℕ → Bool
+kind-test lengths widths prices weights l w c value i = earns-alone (getD lengths i 0) (getD widths i 0) (getD prices i 0) (getD weights i 0) l w c value
+
+-- the kind that a search found
+abbrev pub kind-found : Option ℕ → KindFound
+kind-found none = kind.Missing
+kind-found (some i) = kind.Kind i
+
+-- whether the i-th position with share k for the first part earns the value: the first part has row i of the table, the second the row
+-- that the map gives for the true remainder
+abbrev pub pair-test : List ℕ → List ℕ → List ℕ → ℕ → ℕ → ℕ → ℕ → ℕ → ℕ × ℕ → Bool
+pair-test positions map table side stride base c value u =
+    eqb (getD table (u .0 * stride + base + u .1) 0 + getD table (getD map (side - getD positions (u .0) 0) 0 * stride + base + (c - u .1)) 0) value
+
+-- the first pair that earns the value: the positions from the first to the last but one rising, and for each the shares rising
+unfoldable pub first-index : List ℕ → List ℕ → List ℕ → ℕ → ℕ → ℕ → ℕ → ℕ → ℕ → Option (ℕ × ℕ)
+first-index positions map table side last stride base c value = first (pair-test positions map table side stride base c value) (pairs (range 1 (last - 1)) (range 0 (c + 1)))
+
+-- the cut that a search found: its position and the first part's share
+abbrev pub cut-found : List ℕ → Option (ℕ × ℕ) → CutFound
+cut-found positions none = cut.Missing
+cut-found positions (some u) = cut.At (getD positions (u .0) 0) (u .1)
+
+-- a row of the table, from a share up to c: its words are there, and the sum of two of them does not wrap
+abbrev pub Row : List ℕ → ℕ → ℕ → ℕ → ℕ → Type 0
+Row table stride base c i = (k : ℕ) → k ≤ c → (i * stride + base + k < length table) × (getD table (i * stride + base + k) 0 ≤ 1000000000000)
+
+-- what the search for a cut reads: the positions below the last are listed and not above the side, and their rows and those of the
+-- remainders are there
+pub record Searchable (positions map table : List ℕ) (side last stride base c : ℕ) : Type 0 where
+  pub mapped : side ≤ 1000
+  pub shares : c ≤ 4095
+  pub listed : (i : ℕ) → i < last → (i < length positions) × (getD positions i 0 ≤ side)
+  pub rows : (i : ℕ) → i < last → Row table stride base c i
+  pub remainders : (x : ℕ) → x ≤ side → Row table stride base c (getD map x 0)
