@@ -1,0 +1,50 @@
+-- The bound is the table's last word: the figure of the last normal length and width at the whole capacity is that of the plate.
+-- Assumes nothing.
+use mathlib.Core.Path.{_≡_, sym, _∙_, ap₂}
+use mathlib.Core.List.{List}
+use Prim.Native.Nat.{ℕ, _+_, _-_, _*_, _≤_, _<_}
+use native.Mathlib.Nat.{mul-le-mul-right}
+use native.Mathlib.Omega.{arith}
+use lib.ListN.{length, getD}
+use Rattle.cutting.specs.declared.Direction.{Direction}
+use Rattle.cutting.specs.declared.Direction.the-variants.{Length, Width}
+use Rattle.cutting.specs.Tree.{side}
+use Rattle.cutting.specs.Job.{Job, InRange, figure-of, bound-of, capacity, normal-positions, normal-floor}
+use Rattle.cutting.proofs.Table.{positions-some, positions-normal, positions-floor, figure-floor}
+use Rattle.table.specs.Table.{position-count, position, words-needed, word, Figures}
+
+-- the last normal position is the largest not above the plate's side
+last-position : (J : Job) (d : Direction) → position J d (position-count J d - 1) ≡ normal-floor J d (side d (J .plate))
+last-position J d =
+    let n = position-count J d in
+    let some = positions-some J d in
+    let last = positions-normal J d (n - 1) (omega arith) in
+    sym (positions-floor J d (n - 1) (side d (J .plate)) (omega arith) (omega arith) (last .1) (λ h. absurd (omega arith)))
+
+less-one : (p r : ℕ) → 0 < p → (p - 1) * r + r ≡ p * r
+less-one p r h = go (p - 1) (omega arith)
+  where
+    go : (k : ℕ) → p ≡ k + 1 → k * r + r ≡ p * r
+    go k e = rw e (omega arith)
+
+-- the word before the end
+word-last : (p r n : ℕ) → 0 < p → 0 < r → ((p - 1) * r + (r - 1)) * (n + 1) + n ≡ p * r * (n + 1) - 1
+word-last p r n hp hr =
+    let e = less-one p r hp in
+    let f : (p - 1) * r + (r - 1) + 1 ≡ p * r = omega arith in
+    let g : ((p - 1) * r + (r - 1) + 1) * (n + 1) ≡ p * r * (n + 1) = rw f in
+    omega arith
+
+-- the word before the end holds the bound
+pub bound-last : (J : Job) (weight : ℕ → ℕ) → InRange J → (xs : List ℕ) → Figures J weight (capacity J weight) xs
+    → getD xs (words-needed J (capacity J weight) - 1) 0 ≡ bound-of J weight
+bound-last J weight h xs f =
+    let p = position-count J Length in
+    let r = position-count J Width in
+    let q = capacity J weight in
+    let a = positions-some J Length in
+    let b = positions-some J Width in
+    rw (← word-last p r q a b)
+    (f (p - 1) (r - 1) q (omega arith) (omega arith) (omega arith)
+    ∙ ap₂ (λ l w. figure-of J weight l w q) (last-position J Length) (last-position J Width)
+    ∙ sym (figure-floor J weight h (J .plate .0) (J .plate .1) q (omega arith) (omega arith)))
