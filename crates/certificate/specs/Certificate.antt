@@ -1,0 +1,49 @@
+-- The certificate: its checks in the table's order, what it answers, and its numbers as document 01 gives them.
+-- Assumes nothing.
+use mathlib.Core.Bool.{Bool, true, false}
+use mathlib.Core.List.{List, [], _∷_, _++_}
+use Prim.Native.Nat.{ℕ, _+_, _-_}
+use lib.Dec.{eqb}
+use Rattle.cutting.specs.Job.{Job, bound-of}
+use Rattle.refusal.specs.Refusals.{Outcome, next, first-refusal, refused-as, outcome-by}
+use Rattle.refusal.specs.declared.Checked.{Checked}
+use Rattle.refusal.specs.declared.Checked.the-variants.{Passed, Refused}
+use Rattle.job.specs.Block.{job-checks}
+use Rattle.job.specs.Weights.{block-job, weight-in, weight-checks}
+use Rattle.plan.specs.Plan.{plan-answer}
+use Rattle.bound.specs.Bound.{Memory, memory-checks}
+use Rattle.certificate.specs.declared.Certificate.{Certificate}
+use Rattle.certificate.specs.declared.Certificate.the-variants as certificate
+
+-- the verdict of the checks that stand before the storage's: 1 to 9, then the plan's, 10 to 18
+abbrev pub plan-verdict : List ℕ → List ℕ → List ℕ → List ℕ → Checked
+plan-verdict s ws kinds operands = next (first-refusal (job-checks s ++ weight-checks (block-job s) ws)) (plan-answer (block-job s) kinds operands .verdict)
+
+-- the verdict of all checks: then storage, 19 and 20
+abbrev pub certify-verdict : List ℕ → List ℕ → List ℕ → List ℕ → Memory → Checked
+certify-verdict s ws kinds operands m = next (plan-verdict s ws kinds operands) (first-refusal (memory-checks (block-job s) (weight-in ws) m))
+
+abbrev pub compared-by : Bool → ℕ → ℕ → Certificate
+compared-by true profit bound = certificate.Best profit
+compared-by false profit bound = certificate.Gap profit (bound - profit)
+
+-- best exactly when the profit equals the bound; otherwise the gap, bound minus profit
+abbrev pub compared : ℕ → ℕ → Certificate
+compared profit bound = compared-by (eqb profit bound) profit bound
+
+-- a certificate where the checks pass, and else the refusal
+abbrev pub handed-on : Checked → Certificate → Certificate
+handed-on Passed c = c
+handed-on (Refused r) c = certificate.Refused r
+
+-- what certify answers
+abbrev pub certificate-of : List ℕ → List ℕ → List ℕ → List ℕ → Memory → Certificate
+certificate-of s ws kinds operands m =
+    handed-on (certify-verdict s ws kinds operands m)
+    (compared (plan-answer (block-job s) kinds operands .report .profit) (bound-of (block-job s) (weight-in ws)))
+
+-- a certificate's number and values: the gap, 0 for best, the bound and the profit
+abbrev pub certificate-outcome : Certificate → Outcome
+certificate-outcome (certificate.Best profit) = (0, 0 ∷ profit ∷ profit ∷ [])
+certificate-outcome (certificate.Gap profit gap) = (0, gap ∷ (profit + gap) ∷ profit ∷ [])
+certificate-outcome (certificate.Refused r) = refused-as r
