@@ -1,0 +1,88 @@
+-- The sides of the kinds that fit: how the list grows, and that it is the job's list of document 01, for lengths and for widths.
+-- Assumes nothing.
+use mathlib.Core.Path.{_≡_, refl, ap, ap₂}
+use mathlib.Core.Bool.{Bool, true, false, and-comm}
+use mathlib.Core.List.{List, [], _∷_, _++_, map, List·Memᴰ, List·Memᴰ·head, List·Memᴰ·tail}
+use Prim.Native.Nat.{ℕ, _+_, _≤_, _<_}
+use native.Mathlib.Omega.{arith}
+use lib.Dec.{leb}
+use lib.ListN.{length, getD, set, length-map, List·getD-append}
+use Rattle.cutting.specs.declared.Direction.{Direction}
+use Rattle.cutting.specs.declared.Direction.the-variants.{Length, Width}
+use Rattle.cutting.specs.Lists.{range, keep, filter}
+use Rattle.cutting.specs.Tree.{side}
+use Rattle.cutting.specs.Pieces.{fits-in}
+use Rattle.cutting.specs.Normal.{normals, sides}
+use Rattle.cutting.specs.Job.{Job, normal-positions}
+use Rattle.cutting.proofs.Lists.{mem-range, mem-filter, mem-map}
+use Rattle.cutting.proofs.Positions.{getD-mem}
+use Rattle.positions.specs.Positions.{Listed, Positive, kind-fits, fitting, positions-of}
+use Rattle.positions.proofs.Lists.{filter-taken, filter-left, filter-count, listed-more}
+
+map-snoc : (f : ℕ → ℕ) (xs : List ℕ) (x : ℕ) → map f (xs ++ (x ∷ [])) ≡ map f xs ++ (f x ∷ [])
+map-snoc f [] x = refl
+map-snoc f (y ∷ ys) x = ap (λ zs. f y ∷ zs) (map-snoc f ys x)
+
+module _ (ss os : List ℕ) (l o : ℕ) where
+  -- no kind yet
+  pub fitting-none : (old : List ℕ) → Listed (fitting ss os 0 l o) 0 old old
+  unfolding fitting range filter
+  fitting-none old = record { number = refl; contents = refl }
+
+  -- one kind more, which fits: its side is written
+  pub fitting-taken : (i n : ℕ) (old new : List ℕ) → kind-fits ss os l o i ≡ true
+      → Listed (fitting ss os i l o) n old new → n < length old → Listed (fitting ss os (i + 1) l o) (n + 1) old (set new n (getD ss i 0))
+  unfolding fitting
+  fitting-taken i n old new t w h =
+      rw (filter-taken (kind-fits ss os l o) i t, map-snoc (λ j. getD ss j 0) (filter (kind-fits ss os l o) (range 0 i)) i) (listed-more (fitting ss os i l o) old new n (getD ss i 0) w h)
+
+  -- one kind more, which does not fit
+  pub fitting-left : (i n : ℕ) (old new : List ℕ) → kind-fits ss os l o i ≡ false → Listed (fitting ss os i l o) n old new → Listed (fitting ss os (i + 1) l o) n old new
+  unfolding fitting
+  fitting-left i n old new t w = rw (filter-left (kind-fits ss os l o) i t) w
+
+  pub fitting-count : (n : ℕ) → length (fitting ss os n l o) ≤ n
+  unfolding fitting
+  fitting-count n = rw length-map (filter-count (kind-fits ss os l o) n)
+
+  -- the written sides are as positive as the kinds' own
+  pub fitting-positive : (n k : ℕ) (old new : List ℕ) → Positive ss n → Listed (fitting ss os n l o) k old new → Positive new k
+  unfolding fitting
+  fitting-positive n k old new h w i g =
+      let xs = filter (kind-fits ss os l o) (range 0 n) in
+      let b : i < length (fitting ss os n l o) = omega (arith, w .number) in
+      let j = mem-map (λ j. getD ss j 0) _ xs (getD-mem (fitting ss os n l o) i 0 b) in
+      let r = mem-range 0 n (j .0) (mem-filter (kind-fits ss os l o) (range 0 n) (j .1) .0) in
+      rw (w .contents, List·getD-append (fitting ss os n l o) _ 0 i b, j .2) (h (j .0) (omega arith))
+
+module _ {A B : Type 0} where
+  -- a filtered and mapped list depends on the answers at the members only
+  filter-map-cong : (f g : A → Bool) (p q : A → B) (xs : List A) → ((x : A) → List·Memᴰ x xs → (f x ≡ g x) × (p x ≡ q x)) → map p (filter f xs) ≡ map q (filter g xs)
+  unfolding filter
+  filter-map-cong f g p q [] h = refl
+  filter-map-cong f g p q (x ∷ xs) h =
+      let e = h x (List·Memᴰ·head refl) in
+      rw (e .0) (go (g x) (e .1) (filter-map-cong f g p q xs (λ y m. h y (List·Memᴰ·tail m))))
+    where
+      go : (b : Bool) → p x ≡ q x → map p (filter f xs) ≡ map q (filter g xs) → map p (keep b x (filter f xs)) ≡ map q (keep b x (filter g xs))
+      go true u v = ap₂ (λ y ys. y ∷ ys) u v
+      go false u v = v
+
+module _ (J : Job) where
+  found : (d : Direction) (ss os : List ℕ) (o : ℕ)
+      → ((i : ℕ) → i < J .count → (kind-fits ss os (side d (J .plate)) o i ≡ fits-in (J .size i) (J .plate)) × (getD ss i 0 ≡ side d (J .size i)))
+      → positions-of ss os (J .count) (side d (J .plate)) o ≡ normal-positions J d
+  unfolding fitting sides normals normal-positions
+  found d ss os o h =
+      ap (λ zs. normals zs (side d (J .plate)))
+      (filter-map-cong (kind-fits ss os (side d (J .plate)) o) (λ i. fits-in (J .size i) (J .plate)) (λ i. getD ss i 0) (λ i. side d (J .size i)) (range 0 (J .count))
+      (λ i m. (let l = mem-range 0 (J .count) i m in h i (omega arith))))
+
+  module _ (lengths widths : List ℕ) (h : (i : ℕ) → i < J .count → J .size i ≡ (getD lengths i 0, getD widths i 0)) where
+    -- from lengths and widths: the normal lengths
+    pub lengths-found : positions-of lengths widths (J .count) (J .plate .0) (J .plate .1) ≡ normal-positions J Length
+    lengths-found = found Length lengths widths (J .plate .1) (λ i l. rw (h i l) (refl, refl))
+
+    -- from widths and lengths: the normal widths
+    pub widths-found : positions-of widths lengths (J .count) (J .plate .1) (J .plate .0) ≡ normal-positions J Width
+    widths-found = found Width widths lengths (J .plate .0) (λ i l. rw (h i l) (and-comm (leb (getD widths i 0) (J .plate .1)) (leb (getD lengths i 0) (J .plate .0)), refl))

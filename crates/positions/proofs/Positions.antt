@@ -1,0 +1,38 @@
+-- The map of remainders: the last entry not above a length is that of the length before, or the next one; in the list of normal
+-- positions, read back from an array, it is the largest normal position not above the length.
+-- Assumes nothing.
+use mathlib.Core.Path.{_≡_, sym, _∙_, ap}
+use mathlib.Core.List.{List}
+use Prim.Native.Nat.{ℕ, suc, _+_, _≤_, _<_}
+use native.Mathlib.Numerals.{add-one}
+use native.Mathlib.Omega.{arith}
+use lib.ListN.{length, getD, take}
+use lib.Seq.{getD-take, length-take-le}
+use Rattle.cutting.specs.declared.Direction.{Direction}
+use Rattle.cutting.specs.Tree.{side}
+use Rattle.cutting.specs.Job.{Job, normal-positions, normal-floor}
+use Rattle.cutting.proofs.Table.{positions-first, positions-rise, positions-some, positions-floor}
+use Rattle.positions.specs.Positions.{Rising, LastUpTo}
+
+-- the next entry is x itself
+pub last-next : (list : List ℕ) (n x i : ℕ) → Rising list n → i + 1 < n → getD list (i + 1) 0 ≤ x → x ≤ getD list (i + 1) 0 → LastUpTo list n x (i + 1)
+last-next list n x i rising h l g = record { within = h; not-above = l; next-above = λ k. omega (arith, rising .1 (i + 1) k) }
+
+module _ (J : Job) (d : Direction) (list : List ℕ) (n : ℕ) (h : n ≤ length list) (e : take n list ≡ normal-positions J d) where
+  count-is : length (normal-positions J d) ≡ n
+  count-is = sym (ap length e) ∙ length-take-le n list h
+
+  entry-is : (i : ℕ) → i < n → getD (normal-positions J d) i 0 ≡ getD list i 0
+  entry-is i l = ap (λ xs. getD xs i 0) (sym e) ∙ getD-take n list i 0 l
+
+  -- the list has an entry, begins with 0 and rises
+  pub positions-rising : (1 ≤ n) × Rising list n
+  positions-rising =
+      let p : 1 ≤ n = omega (arith, positions-some J d, count-is) in
+      (p, (sym (entry-is 0 p) ∙ positions-first J d, λ i l. omega (arith, positions-rise J d i (i + 1) (omega arith) (omega (arith, count-is)), entry-is i (omega arith), entry-is (i + 1) l)))
+
+  -- the last entry not above x is the largest normal position not above it
+  pub floor-found : (x i : ℕ) → x ≤ side d (J .plate) → LastUpTo list n x i → getD list i 0 ≡ normal-floor J d x
+  floor-found x i l f =
+      sym (entry-is i (f .within)) ∙ sym (positions-floor J d i x l (omega (arith, count-is, f .within)) (omega (arith, entry-is i (f .within), f .not-above))
+      (λ k. (let m : suc i < n = omega (arith, count-is) in rw (entry-is (suc i) m) (rw add-one at (f .next-above (omega arith))))))

@@ -1,0 +1,96 @@
+-- `positions::floor_map` meets its contract. The invariant: the map is right below x, entry i is not above x, and the next is not below it.
+-- Assumes nothing.
+use mathlib.Core.Logic.{⊎-elim}
+use Prim.Native.Nat.{_+_, _-_, _≤_, _<_}
+use mathlib.Core.Path.{_≡_, refl}
+use native.Mathlib.Omega.{arith}
+use borrow.Author.Needs.{needs}
+use lib.ListN.{length, getD, length-set}
+use denote.Ref.{now}
+use Rattle.positions.specs.Positions.{LastUpTo, Floors}
+use Rattle.positions.proofs.Lists.{entries-more}
+use Rattle.positions.proofs.Positions.{last-next}
+use Rattle.positions.proofs.floor_map.Statement.{statement}
+use Rattle.positions.proofs.floor_map.Tie as tie
+
+abbrev Inv-loop : tie.InvT-loop
+Inv-loop list count side floors₀ i₀ x₀ x-end floors i x = (x ≤ x-end) × (x-end ≡ side + 1) × (length floors ≡ 1001) × (i < count) × (getD list i 0 ≤ x) × (i + 1 < count → x ≤ getD list (i + 1) 0) × Floors list count x floors
+
+abbrev μ-loop : tie.MeasureT-loop
+μ-loop list count side floors₀ i₀ x₀ x-end floors i x = x-end - x
+
+add-x-end : tie.Need-add-x-end Inv-loop μ-loop
+add-x-end c = search needs
+
+loop-holds : tie.Need-loop-holds Inv-loop μ-loop
+loop-holds c = (search needs, refl, refl, search needs, search needs, λ k. omega arith, λ x l. absurd (let z : ⊥ = omega arith in z))
+
+add-next : tie.Need-add-next Inv-loop μ-loop
+add-next c = search needs
+
+cast-if2 : tie.Need-cast-if2 Inv-loop μ-loop
+cast-if2 c = search needs
+
+mul-if2 : tie.Need-mul-if2 Inv-loop μ-loop
+mul-if2 c = search needs
+
+shared-slice-read-if2 : tie.Need-shared-slice-read-if2 Inv-loop μ-loop
+shared-slice-read-if2 c = search needs
+
+cast-floors : tie.Need-cast-floors Inv-loop μ-loop
+cast-floors c = search needs
+
+mul-floors : tie.Need-mul-floors Inv-loop μ-loop
+mul-floors c = search needs
+
+array-write-floors : tie.Need-array-write-floors Inv-loop μ-loop
+array-write-floors c = search needs
+
+add-x : tie.Need-add-x Inv-loop μ-loop
+add-x c = search needs
+
+loop-less : tie.Need-loop-less Inv-loop μ-loop
+loop-less c = search needs
+
+loop-again : tie.Need-loop-again Inv-loop μ-loop
+loop-again c =
+    let start = c .before .before .before in
+    let turn = c .before .before .loop in
+    let stays : (turn .i + 1 < start .args .count → turn .x < getD (now (start .args .list)) (turn .i + 1) 0) → LastUpTo (now (start .args .list)) (start .args .count) (turn .x) (turn .i) =
+    λ f. record { within = omega arith; not-above = omega arith; next-above = f } in
+    let last : LastUpTo (now (start .args .list)) (start .args .count) (turn .x) (c .if1 .i) =
+    ⊎-elim
+    (λ w. rw (w .3) (last-next _ _ _ _ (start .pre .3) (omega arith) (w .2 .taken) (turn .inv .5 (omega arith))))
+    (⊎-elim (λ w. rw (w .3) (stays (λ k. omega arith))) (λ w. rw (w .1) (stays (λ k. omega arith))))
+    (c .if1 .came) in (
+      omega arith,
+      refl,
+      simp length-set (turn .inv .2),
+      last .within,
+      omega (arith, last .not-above),
+      λ k. omega (arith, last .next-above k),
+      entries-more (LastUpTo (now (start .args .list)) (start .args .count)) (turn .floors) (turn .x) (c .if1 .i) 0 (omega arith) (turn .inv .6) last,
+    )
+
+returns : tie.Need-returns Inv-loop μ-loop
+returns c = λ x l. c .before .loop .inv .6 x (omega arith)
+
+pub floor-map-spec : {M : Type 1} → statement M
+floor-map-spec =
+    tie.close
+    (tie.spec
+    Inv-loop
+    μ-loop
+    add-x-end
+    loop-holds
+    add-next
+    cast-if2
+    mul-if2
+    shared-slice-read-if2
+    cast-floors
+    mul-floors
+    array-write-floors
+    add-x
+    loop-less
+    loop-again
+    returns)

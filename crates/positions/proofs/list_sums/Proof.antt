@@ -1,0 +1,111 @@
+-- `positions::list_sums` meets its contract. The invariant: the marks below x are right, and the sums below x are listed. Assumes nothing.
+use mathlib.Core.Logic.{⊎-elim}
+use Prim.Native.Nat.{suc, _+_, _-_, _≤_}
+use mathlib.Core.Path.{_≡_, _∙_, sym, refl, ap}
+use mathlib.Core.Bool.{false}
+use native.Mathlib.Omega.{arith}
+use borrow.Author.Needs.{needs}
+use lib.ListN.{length, take, length-set}
+use denote.Ref.{now}
+use Rattle.cutting.specs.Lists.{range, filter}
+use Rattle.cutting.specs.Normal.{normal?, normals}
+use Rattle.positions.specs.Positions.{Listed, Marked}
+use Rattle.positions.proofs.Lists.{entries-more, filter-taken, filter-left, listed-more}
+use Rattle.positions.proofs.list_sums.Statement.{statement}
+use Rattle.positions.proofs.list_sums.Tie as tie
+
+abbrev Inv-loop : tie.InvT-loop
+Inv-loop fit count side out₀ marks₀ n₀ top x₀ out marks n x = (x ≤ top) × (top ≡ side + 1) × (n ≤ x) × (length marks ≡ 1001) × (length out ≡ length out₀) × Marked (take count fit) x marks × Listed (filter (normal? (take count fit)) (range 0 x)) n out₀ out
+
+abbrev μ-loop : tie.MeasureT-loop
+μ-loop fit count side out₀ marks₀ n₀ top x₀ out marks n x = top - x
+
+add-top : tie.Need-add-top Inv-loop μ-loop
+add-top c = search needs
+
+loop-holds : tie.Need-loop-holds Inv-loop μ-loop
+unfolding range filter
+loop-holds c = (search needs, refl, search needs, refl, refl, λ y l. absurd (let z : ⊥ = omega arith in z), record { number = refl; contents = refl })
+
+is-normal-requires : tie.Need-is-normal-requires Inv-loop μ-loop
+is-normal-requires c κs = (omega arith, omega arith, c .before .before .before .before .pre .3, c .before .before .loop .inv .5)
+
+cast-marks : tie.Need-cast-marks Inv-loop μ-loop
+cast-marks c = search needs
+
+array-write-marks : tie.Need-array-write-marks Inv-loop μ-loop
+array-write-marks c = search needs
+
+cast-out : tie.Need-cast-out Inv-loop μ-loop
+cast-out c = search needs
+
+mul-out : tie.Need-mul-out Inv-loop μ-loop
+mul-out c = search needs
+
+slice-write-out : tie.Need-slice-write-out Inv-loop μ-loop
+slice-write-out c = search needs
+
+add-n : tie.Need-add-n Inv-loop μ-loop
+add-n c = search needs
+
+add-x : tie.Need-add-x Inv-loop μ-loop
+add-x c = search needs
+
+loop-less : tie.Need-loop-less Inv-loop μ-loop
+loop-less c = search needs
+
+loop-again : tie.Need-loop-again Inv-loop μ-loop
+loop-again c =
+    let start = c .before .before .before .before .before .before .args in
+    let zs = take (start .count) (now (start .fit)) in
+    let turn = c .before .before .before .before .loop in
+    let normal = c .before .is-normal in
+    let marked = entries-more (λ y b. b ≡ normal? zs y) (turn .marks) (turn .x) (normal .result) false (omega arith) (turn .inv .5) (normal .ensures) in
+    ⊎-elim
+    (λ w. (
+      omega arith,
+      refl,
+      omega (arith, w .2),
+      simp length-set (turn .inv .3),
+      ap length (w .1) ∙ simp length-set (turn .inv .4),
+      marked,
+      rw (w .1, w .2, filter-taken (normal? zs) (turn .x) (sym (normal .ensures) ∙ w .0 .taken)) (listed-more _ _ _ _ _ (turn .inv .6) (omega arith)),
+    ))
+    (λ w. (
+      omega arith,
+      refl,
+      omega (arith, w .2),
+      simp length-set (turn .inv .3),
+      ap length (w .1) ∙ turn .inv .4,
+      marked,
+      rw (w .1, w .2, filter-left (normal? zs) (turn .x) (sym (normal .ensures) ∙ w .0 .left)) (turn .inv .6),
+    ))
+    (c .if1 .came)
+
+same-length : tie.Need-same-length Inv-loop μ-loop
+same-length c = c .before .loop .inv .4
+
+returns : tie.Need-returns Inv-loop μ-loop
+unfolding normals
+returns c = let e : c .before .loop .x ≡ suc (c .before .before .before .args .side) = omega arith in rw e at (c .before .loop .inv .6)
+
+pub list-sums-spec : {M : Type 1} → statement M
+list-sums-spec =
+    tie.close
+    (tie.spec
+    Inv-loop
+    μ-loop
+    add-top
+    loop-holds
+    is-normal-requires
+    cast-marks
+    array-write-marks
+    cast-out
+    mul-out
+    slice-write-out
+    add-n
+    add-x
+    loop-less
+    loop-again
+    same-length
+    returns)

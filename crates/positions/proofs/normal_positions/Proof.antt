@@ -1,0 +1,27 @@
+-- `positions::normal_positions` meets its contract. Assumes nothing.
+use native.Mathlib.Omega.{arith}
+use borrow.Author.Needs.{needs}
+use denote.Ref.{now}
+use Rattle.positions.proofs.Lists.{listed-take}
+use Rattle.positions.proofs.Fitting.{fitting-count, fitting-positive}
+use Rattle.positions.proofs.normal_positions.Statement.{statement}
+use Rattle.positions.proofs.normal_positions.Tie as tie
+
+fitting-sides-requires : tie.Need-fitting-sides-requires
+fitting-sides-requires c κs = search needs
+
+list-sums-requires : tie.Need-list-sums-requires
+list-sums-requires c κs =
+    let start = c .before .before .before .before .before in
+    let fit = c .before .before .fitting-sides .ensures in
+    (omega (arith, fit .number, fitting-count (now (start .args .sides)) (now (start .args .others)) (start .args .side) (start .args .other) (start .args .count)), start .pre .1, start .pre .2, fitting-positive _ _ _ _ _ _ _ _ (start .pre .3) fit)
+
+same-length : tie.Need-same-length
+same-length c = search needs
+
+returns : tie.Need-returns
+returns c = rw (listed-take (c .before .before .before .before .before .fitting-sides .ensures)) at (c .before .before .list-sums .ensures)
+
+pub normal-positions-spec : {M : Type 1} → statement M
+normal-positions-spec =
+    tie.close (tie.spec fitting-sides-requires list-sums-requires same-length returns)

@@ -1,0 +1,49 @@
+-- Normal positions as the planner finds them, from lent arrays of sides, and the map from a length to the last position not above it.
+-- Assumes nothing.
+use mathlib.Core.Path.{_≡_}
+use mathlib.Core.Bool.{Bool, false, _&&_}
+use mathlib.Core.List.{List, map}
+use Prim.Native.Nat.{ℕ, _+_, _≤_, _<_}
+use lib.Dec.{leb}
+use lib.ListN.{length, getD}
+use Rattle.cutting.specs.Lists.{range, filter, over}
+use Rattle.cutting.specs.Normal.{normal?, normals}
+
+-- an array with n entries written at its front, those of a list: every later entry keeps its old contents
+pub record Listed (xs : List ℕ) (n : ℕ) (old new : List ℕ) : Type 0 where
+  pub number : n ≡ length xs
+  pub contents : new ≡ over xs old
+
+-- no side of the first n kinds is 0
+abbrev pub Positive : List ℕ → ℕ → Type 0
+Positive sides n = (i : ℕ) → i < n → 1 ≤ getD sides i 0
+
+-- whether a kind fits: neither its side nor its other side is greater than the plate's
+abbrev pub kind-fits : List ℕ → List ℕ → ℕ → ℕ → ℕ → Bool
+kind-fits sides others side other i = leb (getD sides i 0) side && leb (getD others i 0) other
+
+-- the sides of those of the first n kinds that fit
+unfoldable pub fitting : List ℕ → List ℕ → ℕ → ℕ → ℕ → List ℕ
+fitting sides others n side other = map (λ i. getD sides i 0) (filter (kind-fits sides others side other) (range 0 n))
+
+-- the normal positions up to a side of the plate, rising
+abbrev pub positions-of : List ℕ → List ℕ → ℕ → ℕ → ℕ → List ℕ
+positions-of sides others n side other = normals (fitting sides others n side other) side
+
+-- the marks below x are the tests for sums
+abbrev pub Marked : List ℕ → ℕ → List Bool → Type 0
+Marked zs x marks = (y : ℕ) → y < x → getD marks y false ≡ normal? zs y
+
+-- the first n entries of a list begin with 0 and rise
+abbrev pub Rising : List ℕ → ℕ → Type 0
+Rising list n = (getD list 0 0 ≡ 0) × ((i : ℕ) → i + 1 < n → getD list i 0 < getD list (i + 1) 0)
+
+-- i is the last of the first n entries that is not above x
+pub record LastUpTo (list : List ℕ) (n x i : ℕ) : Type 0 where
+  pub within : i < n
+  pub not-above : getD list i 0 ≤ x
+  pub next-above : i + 1 < n → x < getD list (i + 1) 0
+
+-- a map that has, at each x below m, the last entry not above x
+abbrev pub Floors : List ℕ → ℕ → ℕ → List ℕ → Type 0
+Floors list n m floors = (x : ℕ) → x < m → LastUpTo list n x (getD floors x 0)

@@ -1,0 +1,116 @@
+// Normal positions of either side of the plate, and the map of remainders: for each length the last position not above it.
+// One function serves lengths and widths: the caller hands over the sides in question first and the other sides second.
+ghost use mathlib.Core.Path.{_≡_};
+ghost use mathlib.Core.Bool.{_&&_};
+ghost use Prim.Native.Nat.{ℕ, _+_, _≤_, _<_};
+ghost use lib.Dec.{leb};
+ghost use lib.ListN.{length, take};
+ghost use Rattle.cutting.specs.Normal.{normal?, normals};
+ghost use Rattle.positions.specs.Positions.{Listed, Positive, fitting, positions-of, Marked, Rising, Floors};
+
+// Whether a kind fits: neither side is greater than the plate's.
+fn fits(s: u16, o: u16, side: u16, other: u16) -> bool
+    ensures { λ r. ⌜ r ≡ leb s side && leb o other ⌝ }
+{
+    if s <= side {
+        return o <= other;
+    }
+    false
+}
+
+// The sides of the kinds that fit, squeezed to the front of `fit`.
+fn fitting_sides(
+    sides: &[u16; 64],
+    others: &[u16; 64],
+    count: u16,
+    side: u16,
+    other: u16,
+    fit: &mut [u16; 64],
+) -> u16
+    requires { ⌜ (count ≤ 64) × (length (now fit) ≡ 64) ⌝ }
+    ensures { λ r. ⌜ Listed (fitting (now (sides .entry)) (now (others .entry)) count side other) r (now (fit .entry)) (now (fit .exit)) ⌝ }
+{
+    let mut n: u16 = 0;
+    for i in 0..count {
+        let s = sides[i as usize];
+        if fits(s, others[i as usize], side, other) {
+            fit[n as usize] = s;
+            n += 1;
+        }
+    }
+    n
+}
+
+// Whether x is 0, or a side leads to it from a marked position.
+fn is_normal(marks: &[bool; 1001], fit: &[u16; 64], count: u16, x: u16) -> bool
+    requires { ⌜ (count ≤ 64) × (x ≤ 1000) × Positive (now fit) count × Marked (take count (now fit)) x (now marks) ⌝ }
+    ensures { λ r. ⌜ r ≡ normal? (take count (now (fit .entry))) x ⌝ }
+{
+    if x == 0 {
+        return true;
+    }
+    for i in 0..count {
+        let s = fit[i as usize];
+        if s <= x {
+            if marks[(x - s) as usize] {
+                return true;
+            }
+        }
+    }
+    false
+}
+
+// Marks the sums up to `side` and lists them: position after position, each from the marks before it.
+fn list_sums(fit: &[u16; 64], count: u16, side: u16, out: &mut [u16]) -> u16
+    requires { ⌜ (count ≤ 64) × (side ≤ 1000) × (side < length (now out)) × Positive (now fit) count ⌝ }
+    ensures { λ r. ⌜ Listed (normals (take count (now (fit .entry))) side) r (now (out .entry)) (now (out .exit)) ⌝ }
+{
+    let mut marks = [false; 1001];
+    let mut n: u16 = 0;
+    let top = side + 1;
+    for x in 0..top {
+        let normal = is_normal(&marks, fit, count, x);
+        marks[x as usize] = normal;
+        if normal {
+            out[n as usize] = x;
+            n += 1;
+        }
+    }
+    n
+}
+
+// The normal positions up to `side`, rising, at the front of `out`; answers how many.
+pub fn normal_positions(
+    sides: &[u16; 64],
+    others: &[u16; 64],
+    count: u16,
+    side: u16,
+    other: u16,
+    out: &mut [u16],
+) -> u16
+    requires { ⌜ (count ≤ 64) × (side ≤ 1000) × (side < length (now out)) × Positive (now sides) count ⌝ }
+    ensures { λ r. ⌜ Listed (positions-of (now (sides .entry)) (now (others .entry)) count side other) r (now (out .entry)) (now (out .exit)) ⌝ }
+{
+    let mut fit = [0u16; 64];
+    let n = fitting_sides(sides, others, count, side, other, &mut fit);
+    list_sums(&fit, n, side, out)
+}
+
+// For each length up to `side` the index of the last position not above it, found in one pass.
+pub fn floor_map(list: &[u16], count: u16, side: u16) -> [u16; 1001]
+    requires { ⌜ (1 ≤ count) × (count ≤ length (now list)) × (side ≤ 1000) × Rising (now list) count ⌝ }
+    ensures { λ r. ⌜ Floors (now (list .entry)) count (side + 1) r ⌝ }
+{
+    let mut floors = [0u16; 1001];
+    let mut i: u16 = 0;
+    for x in 0..side + 1 {
+        let next = i + 1;
+        if next < count {
+            if list[next as usize] <= x {
+                i = next;
+            }
+        }
+        floors[x as usize] = i;
+    }
+    floors
+}
