@@ -16,6 +16,11 @@ use Rattle.refusal.specs.declared.Refusal.the-variants.{ListShort, TableShort}
 use Rattle.table.specs.Table.{words-needed, Figures, Kept}
 use Rattle.bound.specs.Bound.{Memory, Leaves, list-check, table-check, list-after, TableAfter, memory-checks, answer-by, report-of}
 use Rattle.bound.specs.declared.BoundAnswer.the-variants as answer
+use Rattle.bound.specs.declared.Counts.{Counts}
+
+-- two counts are p and r
+pub counts-are : {a b p r : ℕ} → a ≡ p → b ≡ r → _≡_ {A = Counts} (record { lengths = a; widths = b }) (record { lengths = p; widths = r })
+counts-are e f = cc
 
 module _ (J : Job) (weight : ℕ → ℕ) (old new : Memory) where
   -- whether a list is short

@@ -17,6 +17,7 @@ use Rattle.refusal.specs.declared.Refusal.the-variants.{ListShort, TableShort}
 use Rattle.job.specs.Block.{job-checks}
 use Rattle.job.specs.Weights.{block-job, weight-in, weight-checks}
 use Rattle.table.specs.Table.{position-count, words-needed, Figures, Kept}
+use Rattle.bound.specs.declared.Counts.{Counts}
 use Rattle.bound.specs.declared.BoundReport.{BoundReport}
 use Rattle.bound.specs.declared.BoundAnswer.{BoundAnswer}
 use Rattle.bound.specs.declared.BoundAnswer.the-variants as answer
@@ -32,6 +33,10 @@ table-check J q n = (ltb n (words-needed J q), TableShort (words-needed J q))
 -- the storage checks, over the lengths of the two lists and of the table
 abbrev pub storage-checks : Job → ℕ → ℕ → ℕ → ℕ → List Check
 storage-checks J q m n k = list-check J m n ∷ table-check J q k ∷ []
+
+-- p and r of a job
+abbrev pub counts-of : Job → Counts
+counts-of J = record { lengths = position-count J Length; widths = position-count J Width }
 
 -- what the bound call reports of a job and weights: the bound, Q, p and r
 abbrev pub report-of : Job → (ℕ → ℕ) → BoundReport
