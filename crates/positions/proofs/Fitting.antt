@@ -16,8 +16,8 @@ use Rattle.cutting.specs.Normal.{normals, sides}
 use Rattle.cutting.specs.Job.{Job, normal-positions}
 use Rattle.cutting.proofs.Lists.{mem-range, mem-filter, mem-map}
 use Rattle.cutting.proofs.Positions.{getD-mem}
-use Rattle.positions.specs.Positions.{Listed, Positive, kind-fits, fitting, positions-of}
-use Rattle.positions.proofs.Lists.{filter-taken, filter-left, filter-count, listed-more}
+use Rattle.positions.specs.Positions.{Holds, Positive, kind-fits, fitting, positions-of}
+use Rattle.positions.proofs.Lists.{filter-taken, filter-left, filter-count, holds-more}
 
 map-snoc : (f : ℕ → ℕ) (xs : List ℕ) (x : ℕ) → map f (xs ++ (x ∷ [])) ≡ map f xs ++ (f x ∷ [])
 map-snoc f [] x = refl
@@ -25,19 +25,19 @@ map-snoc f (y ∷ ys) x = ap (λ zs. f y ∷ zs) (map-snoc f ys x)
 
 module _ (ss os : List ℕ) (l o : ℕ) where
   -- no kind yet
-  pub fitting-none : (old : List ℕ) → Listed (fitting ss os 0 l o) 0 old old
+  pub fitting-none : (old : List ℕ) → Holds (fitting ss os 0 l o) 0 old old
   unfolding fitting range filter
   fitting-none old = record { number = refl; contents = refl }
 
   -- one kind more, which fits: its side is written
   pub fitting-taken : (i n : ℕ) (old new : List ℕ) → kind-fits ss os l o i ≡ true
-      → Listed (fitting ss os i l o) n old new → n < length old → Listed (fitting ss os (i + 1) l o) (n + 1) old (set new n (getD ss i 0))
+      → Holds (fitting ss os i l o) n old new → n < length old → Holds (fitting ss os (i + 1) l o) (n + 1) old (set new n (getD ss i 0))
   unfolding fitting
   fitting-taken i n old new t w h =
-      rw (filter-taken (kind-fits ss os l o) i t, map-snoc (λ j. getD ss j 0) (filter (kind-fits ss os l o) (range 0 i)) i) (listed-more (fitting ss os i l o) old new n (getD ss i 0) w h)
+      rw (filter-taken (kind-fits ss os l o) i t, map-snoc (λ j. getD ss j 0) (filter (kind-fits ss os l o) (range 0 i)) i) (holds-more (fitting ss os i l o) old new n (getD ss i 0) w h)
 
   -- one kind more, which does not fit
-  pub fitting-left : (i n : ℕ) (old new : List ℕ) → kind-fits ss os l o i ≡ false → Listed (fitting ss os i l o) n old new → Listed (fitting ss os (i + 1) l o) n old new
+  pub fitting-left : (i n : ℕ) (old new : List ℕ) → kind-fits ss os l o i ≡ false → Holds (fitting ss os i l o) n old new → Holds (fitting ss os (i + 1) l o) n old new
   unfolding fitting
   fitting-left i n old new t w = rw (filter-left (kind-fits ss os l o) i t) w
 
@@ -46,7 +46,7 @@ module _ (ss os : List ℕ) (l o : ℕ) where
   fitting-count n = rw length-map (filter-count (kind-fits ss os l o) n)
 
   -- the written sides are as positive as the kinds' own
-  pub fitting-positive : (n k : ℕ) (old new : List ℕ) → Positive ss n → Listed (fitting ss os n l o) k old new → Positive new k
+  pub fitting-positive : (n k : ℕ) (old new : List ℕ) → Positive ss n → Holds (fitting ss os n l o) k old new → Positive new k
   unfolding fitting
   fitting-positive n k old new h w i g =
       let xs = filter (kind-fits ss os l o) (range 0 n) in

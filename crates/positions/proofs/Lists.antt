@@ -11,7 +11,7 @@ use lib.ListN.{length, getD, set, take, drop, length-append}
 use lib.Seq.{drop-cons, take-append-seam, getD-set-same, getD-set-other, set-append-seam, append-snoc}
 use Rattle.cutting.specs.Lists.{range, keep, filter}
 use Rattle.cutting.proofs.Lists.{range-length, filter-length}
-use Rattle.positions.specs.Positions.{Listed}
+use Rattle.positions.specs.Positions.{Holds}
 
 keep-front : (b : Bool) (x : ℕ) (xs ys : List ℕ) → keep b x (xs ++ ys) ≡ keep b x xs ++ ys
 keep-front true x xs ys = refl
@@ -37,18 +37,18 @@ module _ (f : ℕ → Bool) where
   filter-count n = omega (arith, filter-length f (range 0 n), range-length 0 n)
 
 -- one entry more is written
-pub listed-more : (xs old new : List ℕ) (n v : ℕ) → Listed xs n old new → n < length old → Listed (xs ++ (v ∷ [])) (n + 1) old (set new n v)
-listed-more xs old new n v w h =
+pub holds-more : (xs old new : List ℕ) (n v : ℕ) → Holds xs n old new → n < length old → Holds (xs ++ (v ∷ [])) (n + 1) old (set new n v)
+holds-more xs old new n v w h =
     let e : length (xs ++ (v ∷ [])) ≡ suc (length xs) = omega (arith, length-append xs (v ∷ [])) in
     record { number = omega (arith, e, w .number); contents = rw (w .contents, w .number) (ap (λ ys. set (xs ++ ys) (length xs) v) (drop-cons old (length xs) 0 (omega arith)) ∙ set-append-seam xs _ _ v ∙ sym (ap (λ k. (xs ++ (v ∷ [])) ++ drop k old) e ∙ append-snoc xs v _)) }
 
 -- the list, read back
-pub listed-take : {xs old new : List ℕ} {n : ℕ} → Listed xs n old new → take n new ≡ xs
-listed-take {xs} w = rw (w .contents, w .number) (take-append-seam xs _)
+pub holds-take : {xs old new : List ℕ} {n : ℕ} → Holds xs n old new → take n new ≡ xs
+holds-take {xs} w = rw (w .contents, w .number) (take-append-seam xs _)
 
 -- the array has room for it
-pub listed-length : {xs old new : List ℕ} {n : ℕ} → Listed xs n old new → n ≤ length new
-listed-length {xs} {old} w = rw (w .contents, w .number) (omega (arith, length-append xs (drop (length xs) old)))
+pub holds-length : {xs old new : List ℕ} {n : ℕ} → Holds xs n old new → n ≤ length new
+holds-length {xs} {old} w = rw (w .contents, w .number) (omega (arith, length-append xs (drop (length xs) old)))
 
 -- what holds of each entry below x, and of a value stored at x, holds of each entry below x + 1 after the store
 pub entries-more : {A : Type 0} (P : ℕ → A → Type 0) (l : List A) (x : ℕ) (a d : A) → x < length l

@@ -12,7 +12,7 @@ use Rattle.cutting.specs.declared.Direction.{Direction}
 use Rattle.cutting.specs.Tree.{side}
 use Rattle.cutting.specs.Job.{Job, normal-positions, normal-floor}
 use Rattle.cutting.proofs.Table.{positions-first, positions-rise, positions-some, positions-floor}
-use Rattle.positions.specs.Positions.{Rising, LastUpTo}
+use Rattle.positions.specs.Positions.{Rising, LastUpTo, Floors}
 
 -- the next entry is x itself
 pub last-next : (list : List ℕ) (n x i : ℕ) → Rising list n → i + 1 < n → getD list (i + 1) 0 ≤ x → x ≤ getD list (i + 1) 0 → LastUpTo list n x (i + 1)
@@ -36,3 +36,14 @@ module _ (J : Job) (d : Direction) (list : List ℕ) (n : ℕ) (h : n ≤ length
   floor-found x i l f =
       sym (entry-is i (f .within)) ∙ sym (positions-floor J d i x l (omega (arith, count-is, f .within)) (omega (arith, entry-is i (f .within), f .not-above))
       (λ k. (let m : suc i < n = omega (arith, count-is) in rw (entry-is (suc i) m) (rw add-one at (f .next-above (omega arith))))))
+
+  -- the list read back: it has room for the normal positions, and holds them
+  pub positions-read : (length (normal-positions J d) ≤ length list) × ((i : ℕ) → i < length (normal-positions J d) → getD list i 0 ≡ getD (normal-positions J d) i 0)
+  positions-read = (omega (arith, count-is), λ i l. sym (entry-is i (omega (arith, count-is))))
+
+  -- the map read back: at each length it names the largest normal position not above it
+  pub floors-found : (floors : List ℕ) → Floors list n (side d (J .plate) + 1) floors → (x : ℕ) → x ≤ side d (J .plate)
+      → (getD floors x 0 < length (normal-positions J d)) × (getD (normal-positions J d) (getD floors x 0) 0 ≡ normal-floor J d x)
+  floors-found floors f x l =
+      let last = f x (omega arith) in
+      (omega (arith, count-is, last .within), entry-is (getD floors x 0) (last .within) ∙ floor-found x (getD floors x 0) l last)

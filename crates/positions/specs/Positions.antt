@@ -9,8 +9,8 @@ use lib.ListN.{length, getD}
 use Rattle.cutting.specs.Lists.{range, filter, over}
 use Rattle.cutting.specs.Normal.{normal?, normals}
 
--- an array with n entries written at its front, those of a list: every later entry keeps its old contents
-pub record Listed (xs : List ℕ) (n : ℕ) (old new : List ℕ) : Type 0 where
+-- an array holds the n entries of a list at its front; every later entry keeps its old contents
+pub record Holds (xs : List ℕ) (n : ℕ) (old new : List ℕ) : Type 0 where
   pub number : n ≡ length xs
   pub contents : new ≡ over xs old
 

@@ -6,7 +6,7 @@ ghost use Prim.Native.Nat.{ℕ, _+_, _≤_, _<_};
 ghost use lib.Dec.{leb};
 ghost use lib.ListN.{length, take};
 ghost use Rattle.cutting.specs.Normal.{normal?, normals};
-ghost use Rattle.positions.specs.Positions.{Listed, Positive, fitting, positions-of, Marked, Rising, Floors};
+ghost use Rattle.positions.specs.Positions.{Holds, Positive, fitting, positions-of, Marked, Rising, Floors};
 
 // Whether a kind fits: neither side is greater than the plate's.
 fn fits(s: u16, o: u16, side: u16, other: u16) -> bool
@@ -28,7 +28,7 @@ fn fitting_sides(
     fit: &mut [u16; 64],
 ) -> u16
     requires { ⌜ (count ≤ 64) × (length (now fit) ≡ 64) ⌝ }
-    ensures { λ r. ⌜ Listed (fitting (now (sides .entry)) (now (others .entry)) count side other) r (now (fit .entry)) (now (fit .exit)) ⌝ }
+    ensures { λ r. ⌜ Holds (fitting (now (sides .entry)) (now (others .entry)) count side other) r (now (fit .entry)) (now (fit .exit)) ⌝ }
 {
     let mut n: u16 = 0;
     for i in 0..count {
@@ -63,7 +63,7 @@ fn is_normal(marks: &[bool; 1001], fit: &[u16; 64], count: u16, x: u16) -> bool
 // Marks the sums up to `side` and lists them: position after position, each from the marks before it.
 fn list_sums(fit: &[u16; 64], count: u16, side: u16, out: &mut [u16]) -> u16
     requires { ⌜ (count ≤ 64) × (side ≤ 1000) × (side < length (now out)) × Positive (now fit) count ⌝ }
-    ensures { λ r. ⌜ Listed (normals (take count (now (fit .entry))) side) r (now (out .entry)) (now (out .exit)) ⌝ }
+    ensures { λ r. ⌜ Holds (normals (take count (now (fit .entry))) side) r (now (out .entry)) (now (out .exit)) ⌝ }
 {
     let mut marks = [false; 1001];
     let mut n: u16 = 0;
@@ -89,7 +89,7 @@ pub fn normal_positions(
     out: &mut [u16],
 ) -> u16
     requires { ⌜ (count ≤ 64) × (side ≤ 1000) × (side < length (now out)) × Positive (now sides) count ⌝ }
-    ensures { λ r. ⌜ Listed (positions-of (now (sides .entry)) (now (others .entry)) count side other) r (now (out .entry)) (now (out .exit)) ⌝ }
+    ensures { λ r. ⌜ Holds (positions-of (now (sides .entry)) (now (others .entry)) count side other) r (now (out .entry)) (now (out .exit)) ⌝ }
 {
     let mut fit = [0u16; 64];
     let n = fitting_sides(sides, others, count, side, other, &mut fit);
@@ -99,7 +99,7 @@ pub fn normal_positions(
 // For each length up to `side` the index of the last position not above it, found in one pass.
 pub fn floor_map(list: &[u16], count: u16, side: u16) -> [u16; 1001]
     requires { ⌜ (1 ≤ count) × (count ≤ length (now list)) × (side ≤ 1000) × Rising (now list) count ⌝ }
-    ensures { λ r. ⌜ Floors (now (list .entry)) count (side + 1) r ⌝ }
+    ensures { λ r. ⌜ (length r ≡ 1001) × Floors (now (list .entry)) count (side + 1) r ⌝ }
 {
     let mut floors = [0u16; 1001];
     let mut i: u16 = 0;

@@ -5,13 +5,13 @@ use Prim.Native.Nat.{_-_, _≤_}
 use mathlib.Core.Path.{_≡_, _∙_, sym}
 use native.Mathlib.Omega.{arith}
 use borrow.Author.Needs.{needs}
-use Rattle.positions.specs.Positions.{Listed, fitting}
+use Rattle.positions.specs.Positions.{Holds, fitting}
 use Rattle.positions.proofs.Fitting.{fitting-none, fitting-taken, fitting-left}
 use Rattle.positions.proofs.fitting_sides.Statement.{statement}
 use Rattle.positions.proofs.fitting_sides.Tie as tie
 
 abbrev Inv-loop : tie.InvT-loop
-Inv-loop sides others count side other fit₀ n₀ i₀ fit n i = (i ≤ count) × (n ≤ i) × Listed (fitting sides others i side other) n fit₀ fit
+Inv-loop sides others count side other fit₀ n₀ i₀ fit n i = (i ≤ count) × (n ≤ i) × Holds (fitting sides others i side other) n fit₀ fit
 
 abbrev μ-loop : tie.MeasureT-loop
 μ-loop sides others count side other fit₀ n₀ i₀ fit n i = count - i

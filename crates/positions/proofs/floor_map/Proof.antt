@@ -73,7 +73,7 @@ loop-again c =
     )
 
 returns : tie.Need-returns Inv-loop μ-loop
-returns c = λ x l. c .before .loop .inv .6 x (omega arith)
+returns c = (c .before .loop .inv .2, λ x l. c .before .loop .inv .6 x (omega arith))
 
 pub floor-map-spec : {M : Type 1} → statement M
 floor-map-spec =

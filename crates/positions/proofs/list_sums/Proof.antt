@@ -9,13 +9,13 @@ use lib.ListN.{length, take, length-set}
 use denote.Ref.{now}
 use Rattle.cutting.specs.Lists.{range, filter}
 use Rattle.cutting.specs.Normal.{normal?, normals}
-use Rattle.positions.specs.Positions.{Listed, Marked}
-use Rattle.positions.proofs.Lists.{entries-more, filter-taken, filter-left, listed-more}
+use Rattle.positions.specs.Positions.{Holds, Marked}
+use Rattle.positions.proofs.Lists.{entries-more, filter-taken, filter-left, holds-more}
 use Rattle.positions.proofs.list_sums.Statement.{statement}
 use Rattle.positions.proofs.list_sums.Tie as tie
 
 abbrev Inv-loop : tie.InvT-loop
-Inv-loop fit count side out₀ marks₀ n₀ top x₀ out marks n x = (x ≤ top) × (top ≡ side + 1) × (n ≤ x) × (length marks ≡ 1001) × (length out ≡ length out₀) × Marked (take count fit) x marks × Listed (filter (normal? (take count fit)) (range 0 x)) n out₀ out
+Inv-loop fit count side out₀ marks₀ n₀ top x₀ out marks n x = (x ≤ top) × (top ≡ side + 1) × (n ≤ x) × (length marks ≡ 1001) × (length out ≡ length out₀) × Marked (take count fit) x marks × Holds (filter (normal? (take count fit)) (range 0 x)) n out₀ out
 
 abbrev μ-loop : tie.MeasureT-loop
 μ-loop fit count side out₀ marks₀ n₀ top x₀ out marks n x = top - x
@@ -69,7 +69,7 @@ loop-again c =
       simp length-set (turn .inv .3),
       ap length (w .1) ∙ simp length-set (turn .inv .4),
       marked,
-      rw (w .1, w .2, filter-taken (normal? zs) (turn .x) (sym (normal .ensures) ∙ w .0 .taken)) (listed-more _ _ _ _ _ (turn .inv .6) (omega arith)),
+      rw (w .1, w .2, filter-taken (normal? zs) (turn .x) (sym (normal .ensures) ∙ w .0 .taken)) (holds-more _ _ _ _ _ (turn .inv .6) (omega arith)),
     ))
     (λ w. (
       omega arith,

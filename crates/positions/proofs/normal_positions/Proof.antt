@@ -2,7 +2,7 @@
 use native.Mathlib.Omega.{arith}
 use borrow.Author.Needs.{needs}
 use denote.Ref.{now}
-use Rattle.positions.proofs.Lists.{listed-take}
+use Rattle.positions.proofs.Lists.{holds-take}
 use Rattle.positions.proofs.Fitting.{fitting-count, fitting-positive}
 use Rattle.positions.proofs.normal_positions.Statement.{statement}
 use Rattle.positions.proofs.normal_positions.Tie as tie
@@ -20,7 +20,7 @@ same-length : tie.Need-same-length
 same-length c = search needs
 
 returns : tie.Need-returns
-returns c = rw (listed-take (c .before .before .before .before .before .fitting-sides .ensures)) at (c .before .before .list-sums .ensures)
+returns c = rw (holds-take (c .before .before .before .before .before .fitting-sides .ensures)) at (c .before .before .list-sums .ensures)
 
 pub normal-positions-spec : {M : Type 1} → statement M
 normal-positions-spec =
