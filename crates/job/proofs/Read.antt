@@ -129,9 +129,13 @@ read-verdict s = go (first-refusal (job-checks s))
 pub read-passed : (s : List ℕ) → first-refusal (job-checks s) ≡ Passed → read-of s ≡ record { verdict = Passed; job = record-of s }
 read-passed s p = ap (λ a. answer-by a (record-of s)) p
 
--- its job where the verdict is that the block passed
-pub read-record : (s : List ℕ) → read-of s .verdict ≡ Passed → read-of s .job ≡ record-of s
-read-record s p = ap (λ a. a .job) (read-passed s (sym (read-verdict s) ∙ p))
+-- what a caller knows from an answer that the block passed
+pub answered : (s : List ℕ) {r : JobAnswer} → r ≡ read-of s → r .verdict ≡ Passed → (first-refusal (job-checks s) ≡ Passed) × (r .job ≡ record-of s)
+answered s e p = let q = sym (read-verdict s) ∙ sym (ap (λ a. a .verdict) e) ∙ p in (q, ap (λ a. a .job) (e ∙ read-passed s q))
+
+-- and from an answer that it was refused
+pub refused : (s : List ℕ) {r : JobAnswer} {x : Refusal} → r ≡ read-of s → r .verdict ≡ Refused x → first-refusal (job-checks s) ≡ Refused x
+refused s e p = sym (read-verdict s) ∙ sym (ap (λ a. a .verdict) e) ∙ p
 
 -- the answer where the block was refused
 pub read-refused : (s : List ℕ) {a : Checked} {r : Refusal} {j : JobRecord} → a ≡ first-refusal (job-checks s) → a ≡ Refused r → j ≡ empty-record → _≡_ {A = JobAnswer} (record { verdict = a; job = j }) (read-of s)

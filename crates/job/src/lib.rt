@@ -297,5 +297,6 @@ pub fn check_weights(job: JobRecord, weights: &[u8]) -> WeightsAnswer
     if 4095 < q {
         return WeightsAnswer::Refused(Refusal::Capacity);
     }
-    WeightsAnswer::Capacity(q as u16)
+    let capacity = q as u16;
+    WeightsAnswer::Capacity(capacity)
 }

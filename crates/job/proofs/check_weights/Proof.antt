@@ -18,12 +18,12 @@ sum-capacity-requires c κs = search needs
 returns-2 : tie.Need-returns-2
 returns-2 c = answer-capacity (job-of (c .before .before .before .before .before .args .job)) (now (c .before .before .before .before .before .args .weights)) (c .before .before .if1 .left) (c .before .sum-capacity .ensures) (c .if2 .taken)
 
-cast-t9 : tie.Need-cast-t9
-cast-t9 c = search needs
+cast-capacity : tie.Need-cast-capacity
+cast-capacity c = search needs
 
 returns-3 : tie.Need-returns-3
 returns-3 c = answer-passed (job-of (c .before .before .before .before .before .args .job)) (now (c .before .before .before .before .before .args .weights)) (c .before .before .if1 .left) (c .before .sum-capacity .ensures) (c .if2 .left)
 
 pub check-weights-spec : {M : Type 1} → statement M
 check-weights-spec =
-    tie.close (tie.spec cast-if1 returns sum-capacity-requires returns-2 cast-t9 returns-3)
+    tie.close (tie.spec cast-if1 returns sum-capacity-requires returns-2 cast-capacity returns-3)
