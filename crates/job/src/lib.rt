@@ -51,7 +51,7 @@ fn wider(byte: u8) -> u32
 }
 
 // A field of two bytes.
-fn read_u16(block: &[u8], at: usize) -> u16
+pub fn read_u16(block: &[u8], at: usize) -> u16
     requires { ⌜ at + 2 ≤ length (now block) ⌝ }
     ensures { λ r. ⌜ r ≡ u16-at (now (block .entry)) at ⌝ }
 {
