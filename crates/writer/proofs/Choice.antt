@@ -1,7 +1,7 @@
 -- The choice from a filled table: the two searches over lent arrays answer the definition's searches over figures of the job.
 -- Assumes nothing.
 use mathlib.Core.Path.{_≡_, refl, sym, _∙_, ap, ap₂}
-use mathlib.Core.Bool.{Bool, true, false, _&&_}
+use mathlib.Core.Bool.{Bool, true, false}
 use mathlib.Core.Option.{Option, none, some, Option·map}
 use mathlib.Core.List.{List, [], _∷_, _++_, map, map-map, map-append}
 use Prim.Native.Nat.{ℕ, zero, suc, _+_, _-_, _*_, _≤_, _<_}
@@ -16,8 +16,8 @@ use Rattle.cutting.specs.declared.Direction.the-variants.{Length, Width}
 use Rattle.cutting.specs.declared.Node.the-variants.{Waste, Piece, Cut}
 use Rattle.cutting.specs.Lists.{range, filter, first, pairs}
 use Rattle.cutting.specs.Tree.{side, part}
-use Rattle.cutting.specs.Choice.{Choice, as-waste, as-piece, as-cut, or-waste, or-length, or-piece, or-zero}
-use Rattle.cutting.specs.Job.{Job, figure-of, normal-side, normal-positions, normal-floor, kind-earns, pair-earns, first-pair, plan-choice}
+use Rattle.cutting.specs.Choice.{or-waste, or-length, or-piece, or-zero}
+use Rattle.cutting.specs.Job.{Job, figure-of, normal-side, normal-positions, normal-floor, pair-earns, first-pair, plan-choice}
 use Rattle.cutting.proofs.Lists.{mem-range, mem-pairs, range-length, range-entry, first-cong}
 use Rattle.cutting.proofs.Positions.{between-length, between-entry}
 use Rattle.cutting.proofs.Table.{normal-zero}
@@ -31,7 +31,7 @@ use Rattle.writer.specs.declared.CutFound.{CutFound}
 use Rattle.writer.specs.declared.CutFound.the-variants as found
 use Rattle.writer.specs.Search.{kind-test, kind-found, pair-test, first-index, cut-found}
 use Rattle.writer.specs.Plan.{Listed, Mapped, Tabled, lent-job, Lent, Cell, chosen-of, chosen-at}
-use Rattle.writer.proofs.Rows.{stride-of, base-of, figure-at, a-of, b-of, row-figure, mapped-figure, cell-figure}
+use Rattle.writer.proofs.Rows.{stride-of, base-of, figure-at, row-figure, mapped-figure, cell-figure}
 
 -- searches over mapped lists
 module _ {A B : Type 0} where

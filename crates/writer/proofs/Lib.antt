@@ -1,3 +1,5 @@
 pub mod Search
 pub mod Rows
 pub mod Choice
+pub mod Preorder
+pub mod Plan

@@ -145,6 +145,9 @@ fn find_cut(
 // The choice at a rectangle and a share: figure 0 gives waste; otherwise the lowest-numbered kind that earns the figure; otherwise the
 // first length cut, and failing all the first width cut. A row of the table has the words of one normal length.
 pub fn choose(
+    l: u16,
+    w: u16,
+    c: u16,
     g: Dimensions,
     klengths: &[u16; 64],
     kwidths: &[u16; 64],
@@ -155,9 +158,6 @@ pub fn choose(
     lengthmap: &[u16; 1001],
     widthmap: &[u16; 1001],
     table: &[u64],
-    l: u16,
-    w: u16,
-    c: u16,
 ) -> Chosen
     requires { ⌜ Lent g (now klengths) (now kwidths) (now prices) (now weights) (now lengths) (now widths) (now lengthmap) (now widthmap) (now table) × Cell g l w c ⌝ }
     ensures { λ r. ⌜ r ≡ chosen-at g (now (klengths .entry)) (now (kwidths .entry)) (now (prices .entry)) (now (weights .entry)) l w c ⌝ }
@@ -278,5 +278,174 @@ fn second_part(d: Direction, x: u16, l: u16, w: u16) -> Sides
             length: l,
             width: w - x,
         },
+    }
+}
+
+// The number of nodes of the plan from a rectangle and a share downward.
+pub fn count_nodes(
+    l: u16,
+    w: u16,
+    c: u16,
+    g: Dimensions,
+    klengths: &[u16; 64],
+    kwidths: &[u16; 64],
+    prices: &[u32; 64],
+    weights: &[u8],
+    lengths: &[u16],
+    widths: &[u16],
+    lengthmap: &[u16; 1001],
+    widthmap: &[u16; 1001],
+    table: &[u64],
+) -> u64
+    requires { ⌜ Lent g (now klengths) (now kwidths) (now prices) (now weights) (now lengths) (now widths) (now lengthmap) (now widthmap) (now table) × Cell g l w c ⌝ }
+    ensures { λ r. ⌜ r ≡ node-count (plan-at g (now (klengths .entry)) (now (kwidths .entry)) (now (prices .entry)) (now (weights .entry)) l w c) ⌝ }
+{
+    let chosen = choose(
+        l,
+        w,
+        c,
+        g,
+        klengths,
+        kwidths,
+        prices,
+        weights,
+        lengths,
+        widths,
+        lengthmap,
+        widthmap,
+        table,
+    );
+    let node = chosen.node;
+    let share = chosen.share;
+    match node {
+        Node::Waste => 1,
+        Node::Piece(_) => 1,
+        Node::Cut(d, x) => {
+            let a = first_part(d, x, l, w);
+            let b = second_part(d, x, l, w);
+            let first = count_nodes(
+                a.length,
+                a.width,
+                share,
+                g,
+                klengths,
+                kwidths,
+                prices,
+                weights,
+                lengths,
+                widths,
+                lengthmap,
+                widthmap,
+                table,
+            );
+            let second = count_nodes(
+                b.length,
+                b.width,
+                c - share,
+                g,
+                klengths,
+                kwidths,
+                prices,
+                weights,
+                lengths,
+                widths,
+                lengthmap,
+                widthmap,
+                table,
+            );
+            1 + first + second
+        }
+    }
+}
+
+// Writes the plan from a rectangle and a share downward in preorder, from entry `at` on, and answers where the next node goes.
+pub fn write_nodes(
+    l: u16,
+    w: u16,
+    c: u16,
+    kinds: &mut [u8],
+    operands: &mut [u16],
+    at: usize,
+    g: Dimensions,
+    klengths: &[u16; 64],
+    kwidths: &[u16; 64],
+    prices: &[u32; 64],
+    weights: &[u8],
+    lengths: &[u16],
+    widths: &[u16],
+    lengthmap: &[u16; 1001],
+    widthmap: &[u16; 1001],
+    table: &[u64],
+) -> usize
+    requires { ⌜ Lent g (now klengths) (now kwidths) (now prices) (now weights) (now lengths) (now widths) (now lengthmap) (now widthmap) (now table) × Cell g l w c
+        × (at + node-count (plan-at g (now klengths) (now kwidths) (now prices) (now weights) l w c) ≤ length (now kinds))
+        × (at + node-count (plan-at g (now klengths) (now kwidths) (now prices) (now weights) l w c) ≤ length (now operands)) ⌝ }
+    ensures { λ r. ⌜ (r ≡ at + node-count (plan-at g (now (klengths .entry)) (now (kwidths .entry)) (now (prices .entry)) (now (weights .entry)) l w c))
+        × (now (kinds .exit) ≡ sets (now (kinds .entry)) at (kinds-of (plan-at g (now (klengths .entry)) (now (kwidths .entry)) (now (prices .entry)) (now (weights .entry)) l w c)))
+        × (now (operands .exit) ≡ sets (now (operands .entry)) at (operands-of (plan-at g (now (klengths .entry)) (now (kwidths .entry)) (now (prices .entry)) (now (weights .entry)) l w c))) ⌝ }
+{
+    let chosen = choose(
+        l,
+        w,
+        c,
+        g,
+        klengths,
+        kwidths,
+        prices,
+        weights,
+        lengths,
+        widths,
+        lengthmap,
+        widthmap,
+        table,
+    );
+    let node = chosen.node;
+    let share = chosen.share;
+    kinds[at] = kind_number(node);
+    operands[at] = operand(node);
+    let next = at + 1;
+    match node {
+        Node::Waste => next,
+        Node::Piece(_) => next,
+        Node::Cut(d, x) => {
+            let a = first_part(d, x, l, w);
+            let b = second_part(d, x, l, w);
+            let middle = write_nodes(
+                a.length,
+                a.width,
+                share,
+                kinds,
+                operands,
+                next,
+                g,
+                klengths,
+                kwidths,
+                prices,
+                weights,
+                lengths,
+                widths,
+                lengthmap,
+                widthmap,
+                table,
+            );
+            write_nodes(
+                b.length,
+                b.width,
+                c - share,
+                kinds,
+                operands,
+                middle,
+                g,
+                klengths,
+                kwidths,
+                prices,
+                weights,
+                lengths,
+                widths,
+                lengthmap,
+                widthmap,
+                table,
+            )
+        }
     }
 }
