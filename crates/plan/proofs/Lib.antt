@@ -2,3 +2,10 @@ pub mod Product
 pub mod Nodes
 pub mod Steps
 pub mod Whole
+pub mod Counts
+pub mod Preorder
+pub mod Trees
+pub mod Parse
+pub mod Plans
+pub mod Operands
+pub mod Calls

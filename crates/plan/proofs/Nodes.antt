@@ -1,30 +1,49 @@
 -- The checks of a node case by case, and what a waste or piece node leaves.
 -- Assumes nothing.
-use mathlib.Core.Path.{_≡_, _∙_, refl, sym, ap}
+use mathlib.Core.Path.{_≡_, _∙_, refl, sym, ap, subst}
 use mathlib.Core.Bool.{Bool, true, false}
 use mathlib.Core.List.{List}
 use Prim.Native.Nat.{ℕ, _+_, _-_, _*_, _≤_, _<_, _^_}
 use native.Mathlib.Nat.{mul-le-mul}
 use native.Mathlib.Omega.{arith}
-use lib.Dec.{leb, ltb}
+use lib.Dec.{T, leb, ltb, eqb}
 use lib.ListN.{getD, set}
-use borrow.Author.Tests.{le-leb, lt-leb, le-ltb, lt-ltb, eq-eqb, ne-eqb, leb-true, leb-false, ltb-false}
+use borrow.Author.Tests.{le-leb, lt-leb, le-ltb, lt-ltb, eq-eqb, ne-eqb, leb-true, leb-false, ltb-false, eqb-true, eqb-false}
 use Rattle.cutting.specs.Tree.{Rect, side}
 use Rattle.cutting.specs.declared.Direction.{Direction}
-use Rattle.cutting.specs.declared.Node.the-variants.{Cut}
+use Rattle.cutting.specs.declared.Direction.the-variants.{Length, Width}
+use Rattle.cutting.specs.declared.Node.{Node}
+use Rattle.cutting.specs.declared.Node.the-variants.{Waste, Piece, Cut}
 use Rattle.cutting.specs.Pieces.{fits-in}
 use Rattle.cutting.specs.Areas.{area}
 use Rattle.cutting.specs.Job.{Job}
-use Rattle.refusal.specs.Refusals.{first-refusal, refuse-when, next}
+use Rattle.cutting.proofs.Pieces.{true-fits-in}
+use Rattle.refusal.specs.Refusals.{first-refusal, refuse-when}
 use Rattle.refusal.specs.declared.Refusal.{Refusal}
 use Rattle.refusal.specs.declared.Refusal.the-variants.{NodeKind, PieceNumber, Operand, Misfit, Excess}
-use Rattle.refusal.specs.declared.Checked.{Checked}
 use Rattle.refusal.specs.declared.Checked.the-variants.{Passed, Refused}
 use Rattle.job.specs.Block.{outside}
+use Rattle.job.proofs.Checks.{next-passed}
 use Rattle.plan.specs.declared.Tally.{Tally}
 use Rattle.plan.specs.declared.Walked.{Walked}
 use Rattle.plan.specs.Plan.{node-of, node-checks}
 use Rattle.plan.specs.Walk.{Sized, stopped, step, Placed}
+
+-- a kind and an operand by the node that they are
+pub data Read (k o : ℕ) : Node → Type 0 where
+  is-waste : k ≡ 0 → Read k o Waste
+  is-piece : k ≡ 1 → Read k o (Piece o)
+  is-length : k ≡ 2 → Read k o (Cut Length o)
+  is-width : 3 ≤ k → Read k o (Cut Width o)
+
+pub read : (k o : ℕ) → Read k o (node-of k o)
+read k o = go (eqb k 0) refl (eqb k 1) refl (eqb k 2) refl
+  where
+    go : (x : Bool) → eqb k 0 ≡ x → (y : Bool) → eqb k 1 ≡ y → (z : Bool) → eqb k 2 ≡ z → Read k o (node-of k o)
+    go true e y f z g = rw e (is-waste (eqb-true k 0 e))
+    go false e true f z g = rw (e, f) (is-piece (eqb-true k 1 f))
+    go false e false f true g = rw (e, f, g) (is-length (eqb-true k 2 g))
+    go false e false f false g = let a = eqb-false k 0 e in let b = eqb-false k 1 f in let c = eqb-false k 2 g in rw (e, f, g) (is-width (omega arith))
 
 module _ (J : Job) (c : List ℕ) (r : Rect) (k : ℕ) where
   pub kind-refused : (kind o : ℕ) → 3 < kind → first-refusal (node-checks J c r k kind o) ≡ Refused (NodeKind k)
@@ -55,15 +74,11 @@ module _ (J : Job) (c : List ℕ) (r : Rect) (k : ℕ) where
   unfolding first-refusal
   piece-passes i h f e = simp (lt-leb (J .count) i h, f, lt-leb (J .demand i) (getD c i 0) e)
 
-next-passed : (a : Checked) → next a Passed ≡ a
-next-passed Passed = refl
-next-passed (Refused r) = refl
-
 -- a cut has check 14 alone
 pub cut-checks : (J : Job) (c : List ℕ) (r : Rect) (k kind o : ℕ) (d : Direction) (x : ℕ) → kind ≤ 3 → node-of kind o ≡ Cut d x →
     first-refusal (node-checks J c r k kind o) ≡ refuse-when (outside 1 (side d r - 1) x) (Operand k)
 unfolding first-refusal
-cut-checks J c r k kind o d x h e = let f : ltb 3 kind ≡ false = le-ltb 3 kind h in simp (f, e) (next-passed _)
+cut-checks J c r k kind o d x h e = let f : ltb 3 kind ≡ false = le-ltb 3 kind h in simp (f, e) (sym (next-passed _))
 
 -- a refused walk did not pass
 pub never : {t : Tally} {r : Refusal} {a : Walked} {A : Type 0} → a ≡ stopped r t → a .verdict ≡ Passed → A
@@ -85,12 +100,7 @@ stops J kind o r t c a x e f =
 
 -- a piece takes no more than the rectangle that it fits
 pub fits-area : (a b l w : ℕ) → fits-in (a, b) (l, w) ≡ true → a * b ≤ l * w
-fits-area a b l w f = go (leb a l) refl (leb b w) refl f
-  where
-    go : (x : Bool) → leb a l ≡ x → (y : Bool) → leb b w ≡ y → fits-in (a, b) (l, w) ≡ true → a * b ≤ l * w
-    go true p true q f = mul-le-mul (leb-true a l p) (leb-true b w q)
-    go true p false q f = let z : _≡_ {A = Bool} false true = simp (p, q) at f in absurd (let u : _≡_ {A = ℕ} 0 1 = cc in let w : ⊥ = omega arith in w)
-    go false p y q f = let z : _≡_ {A = Bool} false true = simp p at f in absurd (let u : _≡_ {A = ℕ} 0 1 = cc in let w : ⊥ = omega arith in w)
+fits-area a b l w f = let h = true-fits-in (a, b) (l, w) (subst T (sym f) tt) in mul-le-mul (h .0) (h .1)
 
 -- a position from 1 on is outside a cut's range where the side is no greater
 pub past-side : (s x : ℕ) → 1 ≤ x → leb s x ≡ outside 1 (s - 1) x

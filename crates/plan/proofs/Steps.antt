@@ -1,14 +1,12 @@
 -- The walk step by step: what one call of the recursive check adds to it, whatever is still to be filled.
 -- Assumes nothing.
 use mathlib.Core.Path.{_≡_, _∙_, refl, sym, ap, subst}
-use mathlib.Core.Bool.{Bool, true, false}
+use mathlib.Core.Bool.{true, false}
 use mathlib.Core.List.{List, [], _∷_, _++_}
 use Prim.Native.Nat.{ℕ, zero, suc, _+_, _-_, _≤_, _<_}
 use native.Mathlib.Omega.{arith}
 use native.Mathlib.Numerals.{add-one}
-use lib.Dec.{eqb}
 use lib.ListN.{length, getD, drop, drop-of-length-le}
-use borrow.Author.Tests.{eqb-true}
 use Rattle.cutting.specs.declared.Direction.{Direction}
 use Rattle.cutting.specs.declared.Node.{Node}
 use Rattle.cutting.specs.declared.Node.the-variants.{Waste, Piece, Cut}
@@ -25,7 +23,7 @@ use Rattle.plan.specs.declared.Tally.{Tally}
 use Rattle.plan.specs.declared.Walked.{Walked}
 use Rattle.plan.specs.Plan.{node-of, node-checks, parts, counted, proceed, walk, nodes-in}
 use Rattle.plan.specs.Walk.{report-of, from, stopped, step, Placed, Filled}
-use Rattle.plan.proofs.Nodes.{cut-checks, never}
+use Rattle.plan.proofs.Nodes.{Read, is-waste, is-piece, is-length, is-width, read, cut-checks, never}
 
 -- two arrays of one length have as many nodes
 pub nodes-length : (ks os : List ℕ) → length ks ≡ length os → length (nodes-in ks os) ≡ length ks
@@ -130,41 +128,23 @@ module _ (J : Job) (nodes : List (ℕ × ℕ)) (r : Rect) (t : Tally) (c : List 
             }
 
 -- kind 0 is waste, kind 1 a piece whose number is the operand
-data Leaf : ℕ → ℕ → Node → Type 0 where
-  is-waste : {k o : ℕ} → k ≡ 0 → Leaf k o Waste
-  is-piece : {k o : ℕ} → k ≡ 1 → Leaf k o (Piece o)
-  is-cut : {k o : ℕ} {d : Direction} → Leaf k o (Cut d o)
+waste-kind : {k o : ℕ} {n : Node} → Read k o n → n ≡ Waste → k ≡ 0
+waste-kind (is-waste e) p = e
+waste-kind (is-piece e) p = cc
+waste-kind (is-length e) p = cc
+waste-kind (is-width h) p = cc
 
-leaf-of : (k o : ℕ) → Leaf k o (node-of k o)
-leaf-of k o = go (eqb k 0) refl (eqb k 1) refl (eqb k 2) refl
-  where
-    go : (x : Bool) → eqb k 0 ≡ x → (y : Bool) → eqb k 1 ≡ y → (z : Bool) → eqb k 2 ≡ z → Leaf k o (node-of k o)
-    go true e y f z g = rw e (is-waste (eqb-true k 0 e))
-    go false e true f z g = rw (e, f) (is-piece (eqb-true k 1 f))
-    go false e false f true g = rw (e, f, g) is-cut
-    go false e false f false g = rw (e, f, g) is-cut
-
-waste-case : {k o : ℕ} {n : Node} → Leaf k o n → n ≡ Waste → k ≡ 0
-waste-case (is-waste e) p = e
-waste-case (is-piece e) p = absurd (let z : _≡_ {A = ℕ} 0 1 = cc in let w : ⊥ = omega arith in w)
-waste-case is-cut p = absurd (let z : _≡_ {A = ℕ} 0 1 = cc in let w : ⊥ = omega arith in w)
-
-piece-case : {k o i : ℕ} {n : Node} → Leaf k o n → n ≡ Piece i → (k ≡ 1) × (i ≡ o)
-piece-case (is-waste e) p = absurd (let z : _≡_ {A = ℕ} 0 1 = cc in let w : ⊥ = omega arith in w)
-piece-case (is-piece e) p = (e, cc)
-piece-case is-cut p = absurd (let z : _≡_ {A = ℕ} 0 1 = cc in let w : ⊥ = omega arith in w)
-
-node-waste : (k o : ℕ) → node-of k o ≡ Waste → k ≡ 0
-node-waste k o p = waste-case (leaf-of k o) p
-
-node-piece : (k o i : ℕ) → node-of k o ≡ Piece i → (k ≡ 1) × (i ≡ o)
-node-piece k o i p = piece-case (leaf-of k o) p
+piece-kind : {k o i : ℕ} {n : Node} → Read k o n → n ≡ Piece i → (k ≡ 1) × (i ≡ o)
+piece-kind (is-waste e) p = (cc, cc)
+piece-kind (is-piece e) p = (e, cc)
+piece-kind (is-length e) p = (cc, cc)
+piece-kind (is-width h) p = (cc, cc)
 
 module _ (J : Job) (nodes : List (ℕ × ℕ)) (r : Rect) (t : Tally) (c : List ℕ) (a : Walked) (after : List ℕ)
     (kind o : ℕ) (here : drop (t .at) nodes ≡ (kind, o) ∷ drop (t .at + 1) nodes) (more : t .at < length nodes) where
   pub waste-leaf : node-of kind o ≡ Waste → Placed J 0 o r t c a after → Filled J nodes r t c a after
-  waste-leaf e k = leaf J nodes r t c a after 0 o (here ∙ ap (λ n. (n, o) ∷ drop (t .at + 1) nodes) (node-waste kind o e)) more refl k
+  waste-leaf e k = leaf J nodes r t c a after 0 o (here ∙ ap (λ n. (n, o) ∷ drop (t .at + 1) nodes) (waste-kind (read kind o) e)) more refl k
 
   pub piece-leaf : (i : ℕ) → node-of kind o ≡ Piece i → Placed J 1 i r t c a after → Filled J nodes r t c a after
-  piece-leaf i e k = let z = node-piece kind o i e in
+  piece-leaf i e k = let z = piece-kind {i = i} (read kind o) e in
       leaf J nodes r t c a after 1 i (here ∙ ap (λ n. (n, o) ∷ drop (t .at + 1) nodes) (z .0) ∙ ap (λ n. (1, n) ∷ drop (t .at + 1) nodes) (sym (z .1))) more refl k

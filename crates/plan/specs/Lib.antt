@@ -1,2 +1,4 @@
 pub mod Plan
 pub mod Walk
+pub mod Trees
+pub mod Calls

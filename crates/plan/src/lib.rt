@@ -3,18 +3,21 @@
 use cutting::Direction;
 use cutting::Node;
 use job::JobRecord;
+use job::read_job;
 use refusal::Checked;
 use refusal::Refusal;
 ghost use mathlib.Core.Path.{_≡_};
 ghost use mathlib.Core.List.{List};
 ghost use Prim.Native.Nat.{ℕ, _+_, _*_, _-_, _≤_, _<_, _^_};
-ghost use lib.ListN.{length};
+ghost use lib.ListN.{length, take};
 ghost use Rattle.cutting.specs.Tree.{side, part};
 ghost use Rattle.cutting.specs.Pieces.{fits-in};
 ghost use Rattle.cutting.specs.Job.{Job, InRange};
-ghost use Rattle.job.specs.Block.{outside, job-from, job-of};
+ghost use Rattle.job.specs.Block.{u16-at, outside, job-from, job-of};
 ghost use Rattle.plan.specs.Plan.{node-of, nodes-in, unreported, plan-answer};
 ghost use Rattle.plan.specs.Walk.{Sized, stopped, step, Placed, Filled};
+ghost use Rattle.plan.specs.Trees.{ChecksPlan};
+ghost use Rattle.plan.specs.Calls.{job-in, arrays-answer, plan-count, plan-kinds, plan-operands, plan-block-answer, block-answer, JobPasses, BlockPasses};
 
 // What a passed plan reports: profit, copies of each of 64 kinds, and the areas of pieces, waste nodes and trim.
 pub struct Report {
@@ -372,4 +375,79 @@ pub fn check_nodes(job: JobRecord, kinds: &[u8], operands: &[u16]) -> PlanAnswer
             trim: t.trim,
         },
     }
+}
+
+// A plan's arrays checked for a job block: refusals 1 to 7, then 10 to 18.
+pub fn check_plan(block: &[u8], kinds: &[u8], operands: &[u16]) -> PlanAnswer
+    ensures answer { λ r. ⌜ r ≡ arrays-answer (now (block .entry)) (now (kinds .entry)) (now (operands .entry)) ⌝ }
+    ensures trees { λ r. ⌜ ChecksPlan (JobPasses (now (block .entry))) (job-in (now (block .entry))) (now (kinds .entry)) (now (operands .entry)) r ⌝ }
+{
+    let read = read_job(block);
+    let verdict = read.verdict;
+    let Checked::Passed = verdict else {
+        return without_report(verdict);
+    };
+    let job = read.job;
+    check_nodes(job, kinds, operands)
+}
+
+// A byte as a number of 16 bits.
+fn wide_byte(byte: u8) -> u16
+    ensures { λ r. ⌜ (r ≡ byte) × (r < 256) ⌝ }
+{
+    byte as u16
+}
+
+// A field of two bytes, lowest byte first.
+fn read_u16(block: &[u8], at: usize) -> u16
+    requires { ⌜ at + 2 ≤ length (now block) ⌝ }
+    ensures { λ r. ⌜ r ≡ u16-at (now (block .entry)) at ⌝ }
+{
+    wide_byte(block[at]) + 256 * wide_byte(block[at + 1])
+}
+
+// The operands of a plan block, in the first entries.
+fn read_operands(plan: &[u8], count: usize) -> [u16; 4095]
+    requires { ⌜ (count ≡ plan-count (now plan)) × (length (now plan) ≡ 2 + 3 * count) × (count ≤ 4095) ⌝ }
+    ensures { λ r. ⌜ (take count r ≡ plan-operands (now (plan .entry))) × (length r ≡ 4095) ⌝ }
+{
+    let mut operands = [0u16; 4095];
+    for i in 0..count {
+        operands[i] = read_u16(plan, 2 + count + 2 * i);
+    }
+    operands
+}
+
+// A plan block checked for a job that was read: refusals 10 to 18.
+fn check_block(job: JobRecord, plan: &[u8]) -> PlanAnswer
+    requires { ⌜ InRange (job-of job) ⌝ }
+    ensures { λ r. ⌜ r ≡ plan-block-answer (job-of job) (now (plan .entry)) ⌝ }
+{
+    if plan.len() < 2 {
+        return without_report(Checked::Refused(Refusal::PlanLength));
+    }
+    let count = read_u16(plan, 0) as usize;
+    let end = 2 + count;
+    if plan.len() != end + 2 * count {
+        return without_report(Checked::Refused(Refusal::PlanLength));
+    }
+    if 4095 < count {
+        return without_report(Checked::Refused(Refusal::NodeCount));
+    }
+    let operands = read_operands(plan, count);
+    check_nodes(job, &plan[2..end], &operands[..count])
+}
+
+// A plan block checked for a job block: refusals 1 to 7, then 10 to 18.
+pub fn check_plan_block(block: &[u8], plan: &[u8]) -> PlanAnswer
+    ensures answer { λ r. ⌜ r ≡ block-answer (now (block .entry)) (now (plan .entry)) ⌝ }
+    ensures trees { λ r. ⌜ ChecksPlan (JobPasses (now (block .entry)) × BlockPasses (now (plan .entry))) (job-in (now (block .entry))) (plan-kinds (now (plan .entry))) (plan-operands (now (plan .entry))) r ⌝ }
+{
+    let read = read_job(block);
+    let verdict = read.verdict;
+    let Checked::Passed = verdict else {
+        return without_report(verdict);
+    };
+    let job = read.job;
+    check_block(job, plan)
 }

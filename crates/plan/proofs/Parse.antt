@@ -1,0 +1,132 @@
+-- A walk that passes has read the nodes of a guillotine tree that keeps every demand.
+-- Assumes nothing.
+use mathlib.Core.Path.{_≡_, _∙_, refl, sym, ap, ap₂, subst}
+use mathlib.Core.Bool.{true, false}
+use mathlib.Core.List.{List, [], _∷_, _++_}
+use Prim.Native.Nat.{ℕ, zero, suc, _+_, _-_, _≤_, _<_}
+use native.Mathlib.Decide.{ℕ-discrete}
+use native.Mathlib.Omega.{arith}
+use lib.Dec.{T, ltb, eqb}
+use lib.ListN.{length, getD, set, length-append, length-set}
+use lib.Seq.{getD-set-same, getD-set-other}
+use borrow.Author.Tests.{leb-false, ltb-false, eqb-true, not-false}
+use Rattle.cutting.specs.declared.Direction.{Direction}
+use Rattle.cutting.specs.declared.Direction.the-variants.{Length, Width}
+use Rattle.cutting.specs.declared.Node.{Node}
+use Rattle.cutting.specs.declared.Node.the-variants.{Waste, Piece, Cut}
+use Rattle.cutting.specs.Tree.{Rect, side, part, Tree, waste, piece, cut}
+use Rattle.cutting.specs.Preorder.{preorder, node-count}
+use Rattle.cutting.specs.Pieces.{fits-in}
+use Rattle.cutting.specs.Job.{Job, GuillotineTree}
+use Rattle.cutting.proofs.Pieces.{true-fits-in}
+use Rattle.refusal.specs.Refusals.{first-refusal}
+use Rattle.refusal.specs.declared.Refusal.{Refusal}
+use Rattle.refusal.specs.declared.Checked.{Checked}
+use Rattle.refusal.specs.declared.Checked.the-variants.{Passed, Refused}
+use Rattle.job.proofs.Checks.{cons-passed}
+use Rattle.plan.specs.declared.Report.{Report}
+use Rattle.plan.specs.declared.PlanAnswer.{PlanAnswer}
+use Rattle.plan.specs.Plan.{node-of, unnumbered, misplaced, misfit, excess, node-checks, proceed, walk}
+use Rattle.plan.proofs.Nodes.{Read, is-waste, is-piece, is-length, is-width, read, inside-range}
+use Rattle.plan.proofs.Counts.{added}
+use Rattle.plan.proofs.Preorder.{pair-of, written, written-cut, count-cut}
+use Rattle.plan.proofs.Trees.{NodeFits, node-walks}
+
+-- what follows from a refusal that passed
+pub no-pass : {r : Refusal} {A : Type 0} → Refused r ≡ Passed → A
+no-pass e = absurd (let z : _≡_ {A = ℕ} 0 1 = cc in let w : ⊥ = omega arith in w)
+
+-- a check passed where what follows it did
+pub proceed-passed : (v : Checked) (a : PlanAnswer) → proceed v a .verdict ≡ Passed → v ≡ Passed
+proceed-passed Passed a e = refl
+proceed-passed (Refused r) a e = no-pass e
+
+-- a piece that fits is no larger
+fits-true : (q r : Rect) → fits-in q r ≡ true → (q .0 ≤ r .0) × (q .1 ≤ r .1)
+fits-true q r e = true-fits-in q r (subst T (sym e) tt)
+
+-- a kind and an operand whose checks passed are those of a node that fits
+node-read : (J : Job) (c : List ℕ) (r : Rect) (k o : ℕ) (n : Node) → Read k o n → ltb 3 k ≡ false → unnumbered J n ≡ false → misplaced r n o ≡ false → misfit J r n ≡ false → excess J c n ≡ false
+    → ((k, o) ≡ pair-of n) × NodeFits J c r n
+node-read J c r k o Waste (is-waste e) a b d f g = (ap₂ (λ x y. (x, y)) e (eqb-true o 0 (not-false (eqb o 0) d)), tt)
+node-read J c r k o (Piece i) (is-piece e) a b d f g =
+    (ap (λ x. (x, o)) e, (leb-false (J .count) o b, not-false (fits-in (J .size o) r) f, leb-false (J .demand o) (getD c o 0) g))
+node-read J c r k o (Cut Length x) (is-length e) a b d f g = (ap (λ x. (x, o)) e, inside-range (r .0) o d)
+node-read J c r k o (Cut Width x) (is-width h) a b d f g = (ap (λ x. (x, o)) (let l = ltb-false 3 k a in let e : k ≡ 3 = omega arith in e), inside-range (r .1) o d)
+
+pub node-passed : (J : Job) (c : List ℕ) (r : Rect) (at k o : ℕ) → first-refusal (node-checks J c r at k o) ≡ Passed → ((k, o) ≡ pair-of (node-of k o)) × NodeFits J c r (node-of k o)
+node-passed J c r at k o p =
+    let e = cons-passed _ _ _ p in
+    let f = cons-passed _ _ _ (e .1) in
+    let g = cons-passed _ _ _ (f .1) in
+    let h = cons-passed _ _ _ (g .1) in
+    let i = cons-passed _ _ _ (h .1) in
+    node-read J c r k o (node-of k o) (read k o) (e .0) (f .0) (g .0) (h .0) (i .0)
+
+module _ (J : Job) (few : J .count ≤ 64) where
+  -- a report whose copies keep every demand
+  abbrev pub Kept : Report → Type 0
+  Kept s = (length (s .copies) ≡ 64) × ((i : ℕ) → i < J .count → getD (s .copies) i 0 ≤ J .demand i)
+
+  -- the tree at the front of the nodes, and what is left
+  pub record Parsed (k : ℕ) (ns : List (ℕ × ℕ)) (r : Rect) (rs : List Rect) (s : Report) : Type 0 where
+    pub tree : Tree ℕ
+    pub left : List (ℕ × ℕ)
+    pub nodes : ns ≡ written tree ++ left
+    pub on : GuillotineTree J (r .0) (r .1) tree
+    pub goes : walk J k ns (r ∷ rs) s ≡ walk J (k + node-count tree) left rs (added J tree r s)
+    pub kept : Kept (added J tree r s)
+
+  -- a piece that fits keeps them
+  kept-piece : (i : ℕ) (c : List ℕ) → (length c ≡ 64) × ((j : ℕ) → j < J .count → getD c j 0 ≤ J .demand j) → i < J .count → getD c i 0 < J .demand i
+      → (length (set c i (getD c i 0 + 1)) ≡ 64) × ((j : ℕ) → j < J .count → getD (set c i (getD c i 0 + 1)) j 0 ≤ J .demand j)
+  kept-piece i c h l f = (length-set c i (getD c i 0 + 1) ∙ h .0, λ j n. go j n (ℕ-discrete j i))
+    where
+      go : (j : ℕ) → j < J .count → Dec (j ≡ i) → getD (set c i (getD c i 0 + 1)) j 0 ≤ J .demand j
+      go j n (yes e) = rw (e, getD-set-same c i (getD c i 0 + 1) 0 (omega (arith, h .0, few))) (omega arith)
+      go j n (no e) = rw (getD-set-other c i j (getD c i 0 + 1) 0 e) (h .1 j n)
+
+  join-parts : (d : Direction) (x : ℕ) (a b : Tree ℕ) (r : Rect) → (1 ≤ x) × (x < side d r)
+      → GuillotineTree J (part d x r .0) (part d x r .1) a → GuillotineTree J (part d (side d r - x) r .0) (part d (side d r - x) r .1) b → GuillotineTree J (r .0) (r .1) (cut d x a b)
+  join-parts Length x a b r h g k = (h .0, h .1, g, k)
+  join-parts Width x a b r h g k = (h .0, h .1, g, k)
+
+  -- every list of at most m nodes that passes is parsed
+  abbrev Parses : ℕ → Type 0
+  Parses m = (k : ℕ) (ns : List (ℕ × ℕ)) (r : Rect) (rs : List Rect) (s : Report) → length ns ≤ m → Kept s → walk J k ns (r ∷ rs) s .verdict ≡ Passed → Parsed k ns r rs s
+
+  -- after a node that fits
+  after-node : (m : ℕ) → Parses m → (k : ℕ) (n : Node) (ns : List (ℕ × ℕ)) (r : Rect) (rs : List Rect) (s : Report) → length ns ≤ m → Kept s → NodeFits J (s .copies) r n
+      → walk J k (pair-of n ∷ ns) (r ∷ rs) s .verdict ≡ Passed → Parsed k (pair-of n ∷ ns) r rs s
+  unfolding added preorder node-count
+  after-node m parse k Waste ns r rs s l h f p = record { tree = waste; left = ns; nodes = refl; on = tt; goes = node-walks J k Waste ns r rs s f; kept = h }
+  after-node m parse k (Piece i) ns r rs s l h f p =
+      record { tree = piece i; left = ns; nodes = refl; on = (let z = fits-true (J .size i) r (f .1) in (f .0, z .0, z .1)); goes = node-walks J k (Piece i) ns r rs s f; kept = kept-piece i (s .copies) h (f .0) (f .2) }
+  after-node m parse k (Cut d x) ns r rs s l h f p =
+      let w = node-walks J k (Cut d x) ns r rs s f in
+      let a = parse (k + 1) ns (part d x r) (part d (side d r - x) r ∷ rs) s l h (ap (λ (z : PlanAnswer). z .verdict) (sym w) ∙ p) in
+      let less : length (a .left) ≤ m = omega (arith, ap length (a .nodes), length-append (written (a .tree)) (a .left)) in
+      let b = parse (k + 1 + node-count (a .tree)) (a .left) (part d (side d r - x) r) rs (added J (a .tree) (part d x r) s) less (a .kept) (ap (λ (z : PlanAnswer). z .verdict) (sym (w ∙ a .goes)) ∙ p) in
+      record {
+        tree = cut d x (a .tree) (b .tree);
+        left = b .left;
+        nodes = ap (λ l. pair-of (Cut d x) ∷ l) (a .nodes ∙ ap (λ l. written (a .tree) ++ l) (b .nodes)) ∙ sym (written-cut d x (a .tree) (b .tree) (b .left));
+        on = join-parts d x (a .tree) (b .tree) r f (a .on) (b .on);
+        goes = w ∙ a .goes ∙ b .goes ∙ ap (λ n. walk J n (b .left) rs (added J (b .tree) (part d (side d r - x) r) (added J (a .tree) (part d x r) s)))
+            (let e : k + 1 + node-count (a .tree) + node-count (b .tree) ≡ k + node-count (cut d x (a .tree) (b .tree)) = omega (arith, count-cut d x (a .tree) (b .tree)) in e);
+        kept = b .kept;
+      }
+
+  step : (m : ℕ) → Parses m → Parses (suc m)
+  unfolding walk
+  step m parse k [] r rs s l h p = no-pass p
+  step m parse k (n ∷ ns) r rs s l h p =
+      let u = node-passed J (s .copies) r k (n .0) (n .1) (proceed-passed _ _ p) in
+      subst (λ (x : ℕ × ℕ). Parsed k (x ∷ ns) r rs s) (sym (u .0))
+      (after-node m parse k (node-of (n .0) (n .1)) ns r rs s (omega arith) h (u .1) (subst (λ (x : ℕ × ℕ). walk J k (x ∷ ns) (r ∷ rs) s .verdict ≡ Passed) (u .0) p))
+
+  pub parse : (m : ℕ) → Parses m
+  unfolding walk
+  parse zero k [] r rs s l h p = no-pass p
+  parse zero k (n ∷ ns) r rs s l h p = absurd (omega arith)
+  parse (suc m) k ns r rs s l h p = step m (parse m) k ns r rs s l h p

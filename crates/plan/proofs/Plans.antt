@@ -1,0 +1,162 @@
+-- A plan passes exactly when its arrays are the preorder of a guillotine tree on the plate that keeps every demand and has at most
+-- 4,095 nodes; it then reports that tree's own profit, copies and areas, and else zeros.
+-- Assumes nothing.
+use mathlib.Core.Path.{_≡_, _∙_, refl, sym, ap, ap₂}
+use mathlib.Core.List.{List, [], _∷_, _++_, append-nil}
+use Prim.Native.Nat.{ℕ, _+_, _-_, _≤_, _<_}
+use native.Mathlib.Nat.{zero-add}
+use native.Mathlib.Decide.{decLt}
+use native.Mathlib.Omega.{arith}
+use borrow.Author.Tests.{ne-eqb, eqb-true, not-false}
+use lib.Dec.{eqb}
+use lib.ListN.{length, getD, length-replicate, getD-replicate}
+use lib.Seq.{ext-getD}
+use Rattle.cutting.specs.declared.Direction.the-variants.{Length, Width}
+use Rattle.cutting.specs.Tree.{Rect, Tree, waste, piece, cut, total}
+use Rattle.cutting.specs.Preorder.{preorder, node-count}
+use Rattle.cutting.specs.Job.{Job, GuillotineTree, OnPlate, copies-of}
+use Rattle.cutting.proofs.Job.{areas-sum}
+use Rattle.refusal.specs.Refusals.{first-refusal}
+use Rattle.refusal.specs.declared.Refusal.{Refusal}
+use Rattle.refusal.specs.declared.Checked.{Checked}
+use Rattle.refusal.specs.declared.Checked.the-variants.{Passed, Refused}
+use Rattle.job.specs.Block.{entries}
+use Rattle.job.proofs.Checks.{cons-passed}
+use Rattle.job.proofs.Entries.{entries-length, entries-in, entries-past}
+use Rattle.plan.specs.declared.Report.{Report}
+use Rattle.plan.specs.declared.PlanAnswer.{PlanAnswer}
+use Rattle.plan.specs.Plan.{plan-checks, plan-answer, walk, node-of, node-checks, parts, counted, nodes-in, passed, proceed, empty-report}
+use Rattle.plan.specs.Trees.{PlanOf, tree-report, ChecksPlan}
+use Rattle.plan.proofs.Nodes.{inside-range}
+use Rattle.plan.proofs.Steps.{nodes-length}
+use Rattle.plan.proofs.Whole.{walks-on}
+use Rattle.plan.proofs.Counts.{added, added-profit, added-pieces, added-waste, added-trim, added-length, added-copies}
+use Rattle.plan.proofs.Preorder.{written, count-written, arrays-written, kinds-length, operands-length, written-kinds, written-operands}
+use Rattle.plan.proofs.Trees.{tree-walks}
+use Rattle.plan.proofs.Parse.{no-pass, proceed-passed, Kept, parse}
+
+-- a refused plan reports zeros
+abbrev Zeroed : PlanAnswer → Type 0
+Zeroed a = (r : Refusal) → a .verdict ≡ Refused r → a .report ≡ empty-report
+
+proceed-zeros : (v : Checked) (a : PlanAnswer) → Zeroed a → Zeroed (proceed v a)
+proceed-zeros Passed a h = h
+proceed-zeros (Refused r) a h = λ x e. refl
+
+walk-zeros : (J : Job) (k : ℕ) (ns : List (ℕ × ℕ)) (rs : List Rect) (s : Report) → Zeroed (walk J k ns rs s)
+unfolding walk
+walk-zeros J k [] [] s = λ r e. no-pass (sym e)
+walk-zeros J k (n ∷ ns) [] s = λ r e. refl
+walk-zeros J k [] (q ∷ rs) s = λ r e. refl
+walk-zeros J k (n ∷ ns) (q ∷ rs) s = proceed-zeros (first-refusal (node-checks J (s .copies) q k (n .0) (n .1))) _
+    (walk-zeros J (k + 1) ns (parts (node-of (n .0) (n .1)) q ++ rs) (counted J (node-of (n .0) (n .1)) q s))
+
+-- a tree has no copy of a kind past the job's
+none-past : (J : Job) (t : Tree ℕ) (l w : ℕ) → GuillotineTree J l w t → (i : ℕ) → J .count ≤ i → copies-of i t ≡ 0
+unfolding total
+none-past J waste l w g i h = refl
+none-past J (piece j) l w g i h = simp (ne-eqb j i (λ e. omega (arith, e, g .0)))
+none-past J (cut Length x a b) l w g i h = omega (arith, none-past J a x w (g .2) i h, none-past J b (l - x) w (g .3) i h)
+none-past J (cut Width x a b) l w g i h = omega (arith, none-past J a l x (g .2) i h, none-past J b l (w - x) (g .3) i h)
+
+-- where every rectangle is filled, the walk passes only at the end of the nodes
+ended : (J : Job) (k : ℕ) (left : List (ℕ × ℕ)) (s : Report) → walk J k left [] s .verdict ≡ Passed → (left ≡ []) × (walk J k left [] s ≡ passed s)
+unfolding walk
+ended J k [] s p = (refl, refl)
+ended J k (n ∷ ns) s p = no-pass p
+
+-- a tree has a node
+some-node : (t : Tree ℕ) → 1 ≤ node-count t
+unfolding node-count preorder
+some-node waste = omega arith
+some-node (piece i) = omega arith
+some-node (cut d x a b) = omega arith
+
+same-report : {p p′ q q′ w w′ m m′ : ℕ} {c c′ : List ℕ} → p ≡ p′ → c ≡ c′ → q ≡ q′ → w ≡ w′ → m ≡ m′
+    → _≡_ {A = Report} (record { profit = p; copies = c; pieces = q; waste = w; trim = m }) (record { profit = p′; copies = c′; pieces = q′; waste = w′; trim = m′ })
+same-report a b c d e = cc
+
+-- the empty report has 64 entries, all 0
+empty-length : length (empty-report .copies) ≡ 64
+empty-length = length-replicate {A = ℕ} 64 0
+
+empty-copies : (i : ℕ) → i < 64 → getD (empty-report .copies) i 0 ≡ 0
+empty-copies i h = getD-replicate {A = ℕ} 64 i 0 0 h
+
+module _ (J : Job) (few : J .count ≤ 64) where
+  abbrev whole : Tree ℕ → Report
+  whole t = added J t (J .plate) empty-report
+
+  whole-copies : (t : Tree ℕ) (i : ℕ) → i < 64 → getD (whole t .copies) i 0 ≡ copies-of i t
+  whole-copies t i h = added-copies J t (J .plate) empty-report i (omega (arith, h, empty-length)) ∙ omega (arith, empty-copies i h)
+
+  -- what a whole tree adds to the empty report is its own
+  whole-own : (t : Tree ℕ) → OnPlate J t → whole t ≡ tree-report J t
+  whole-own t g =
+      same-report (added-profit J t (J .plate) empty-report ∙ zero-add _) copies (added-pieces J t (J .plate) empty-report ∙ zero-add _) (added-waste J t (J .plate) empty-report ∙ zero-add _) (added-trim J t (J .plate) empty-report ∙ zero-add _)
+    where
+      at : (i : ℕ) → i < 64 → Dec (i < J .count) → copies-of i t ≡ getD (entries (λ i. copies-of i t) (J .count)) i 0
+      at i h (yes l) = sym (entries-in (λ i. copies-of i t) (J .count) i few l)
+      at i h (no l) = none-past J t (J .plate .0) (J .plate .1) g i (omega arith) ∙ sym (entries-past (λ i. copies-of i t) (J .count) i (omega arith))
+
+      size : length (whole t .copies) ≡ 64
+      size = added-length J t (J .plate) empty-report ∙ empty-length
+
+      copies : whole t .copies ≡ entries (λ i. copies-of i t) (J .count)
+      copies = ext-getD 0 _ _ (size ∙ sym (entries-length (λ i. copies-of i t) (J .count)))
+          (λ i h. (let k : i < 64 = omega (arith, size, h) in whole-copies t i k ∙ at i k (decLt i (J .count))))
+
+  module _ (ks os : List ℕ) where
+    -- a plan's tree passes
+    passes : (t : Tree ℕ) → PlanOf J t ks os → plan-answer J ks os ≡ passed (whole t)
+    unfolding walk
+    passes t h =
+        let a = ap length (h .kinds) ∙ kinds-length t in
+        let b = ap length (h .operands) ∙ operands-length t in
+        let n = some-node t in
+        walks-on J ks os (a ∙ sym b) (omega (arith, a, n)) (omega (arith, a, h .nodes))
+        ∙ ap (λ ns. walk J 0 ns (J .plate ∷ []) empty-report) (ap₂ nodes-in (h .kinds) (h .operands) ∙ arrays-written t ∙ sym (append-nil (written t)))
+        ∙ tree-walks J few t 0 [] (J .plate) [] empty-report (h .on-plate) (empty-length, λ i l. omega (arith, empty-copies i (omega (arith, l, few)), h .demands i l))
+
+    -- a plan that passes is a tree's
+    parsed : length ks ≡ length os → 1 ≤ length ks → length ks ≤ 4095 → plan-answer J ks os .verdict ≡ Passed → (t : Tree ℕ) × PlanOf J t ks os × (plan-answer J ks os ≡ passed (whole t))
+    parsed same some most p =
+        let w = walks-on J ks os same some most in
+        let kept : Kept J few empty-report = (empty-length, λ i l. omega (arith, empty-copies i (omega (arith, l, few)))) in
+        let u = parse J few (length (nodes-in ks os)) 0 (nodes-in ks os) (J .plate) [] empty-report (omega arith) kept (ap (λ (a : PlanAnswer). a .verdict) (sym w) ∙ p) in
+        let z = ended J (0 + node-count (u .tree)) (u .left) (whole (u .tree)) (ap (λ (a : PlanAnswer). a .verdict) (sym (w ∙ u .goes)) ∙ p) in
+        let e : nodes-in ks os ≡ written (u .tree) = u .nodes ∙ ap (λ l. written (u .tree) ++ l) (z .0) ∙ append-nil (written (u .tree)) in (
+          u .tree,
+          record {
+            on-plate = u .on;
+            demands = λ i l. (let c = whole-copies (u .tree) i (omega (arith, l, few)) in omega (arith, c, u .kept .1 i l));
+            nodes = omega (arith, most, nodes-length ks os same, ap length e, count-written (u .tree));
+            kinds = written-kinds ks os (u .tree) same e;
+            operands = written-operands ks os (u .tree) same e;
+          },
+          w ∙ u .goes ∙ z .1,
+        )
+
+-- the whole check passes exactly for the plans of trees, and reports the tree
+pub plans-checked : (J : Job) → J .count ≤ 64 → (ks os : List ℕ) → ChecksPlan Unit J ks os (plan-answer J ks os)
+unfolding plan-answer
+plans-checked J few ks os =
+    record {
+      before = λ p. tt;
+      passes = λ u t h. ap (λ (a : PlanAnswer). a .verdict) (passes J few ks os t h);
+      tree = λ p. (let f = cons-passed _ _ _ (proceed-passed (first-refusal (plan-checks ks os)) (walk J 0 (nodes-in ks os) (J .plate ∷ []) empty-report) p) in
+          let g = inside-range 4096 (length ks) (cons-passed _ _ _ (f .1) .0) in
+          let t = parsed J few ks os (eqb-true (length ks) (length os) (not-false (eqb (length ks) (length os)) (f .0))) (g .0) (omega (arith, g .1)) p in
+          let e = whole-own J few (t .0) (t .1 .on-plate) in
+          let r = ap (λ (a : PlanAnswer). a .report) (t .2) ∙ e in
+          (t .0, t .1, record { own = r; areas = ap (λ (s : Report). s .pieces + s .waste + s .trim) r ∙ areas-sum J (t .0) (J .plate .0) (J .plate .1) (t .1 .on-plate) }));
+      zeros = proceed-zeros (first-refusal (plan-checks ks os)) _ (walk-zeros J 0 (nodes-in ks os) (J .plate ∷ []) empty-report);
+    }
+
+-- a check before the others
+pub checked-after : {J : Job} {ks os : List ℕ} {a : PlanAnswer} {Before All : Type 0} (v : Checked) → (v ≡ Passed → ChecksPlan Before J ks os a)
+    → (All → (v ≡ Passed) × Before) → (v ≡ Passed → Before → All) → ChecksPlan All J ks os (proceed v a)
+checked-after Passed f apart both =
+    let c = f refl in
+    record { passes = λ b. c .passes (apart b .1); before = λ p. both refl (c .before p); tree = c .tree; zeros = c .zeros }
+checked-after (Refused r) f apart both = record { passes = λ b t h. no-pass (apart b .0); before = λ p. no-pass p; tree = λ p. no-pass p; zeros = λ x e. refl }

@@ -1,0 +1,83 @@
+-- The walk over a tree's nodes passes and adds the tree, where its demands are kept.
+-- Assumes nothing.
+use mathlib.Core.Path.{_≡_, _∙_, refl, ap}
+use mathlib.Core.Bool.{true, false}
+use mathlib.Core.List.{List, _∷_, _++_}
+use Prim.Native.Nat.{ℕ, _+_, _-_, _≤_, _<_}
+use native.Mathlib.Omega.{arith}
+use lib.ListN.{length, getD}
+use borrow.Author.Tests.{le-leb, le-ltb, eq-eqb}
+use Rattle.cutting.specs.declared.Direction.{Direction}
+use Rattle.cutting.specs.declared.Direction.the-variants.{Length, Width}
+use Rattle.cutting.specs.declared.Node.{Node}
+use Rattle.cutting.specs.declared.Node.the-variants.{Waste, Piece, Cut}
+use Rattle.cutting.specs.Tree.{Rect, side, part, Tree, waste, piece, cut, total}
+use Rattle.cutting.specs.Preorder.{preorder, kind-of, operand-of, node-count}
+use Rattle.cutting.specs.Pieces.{fits-in}
+use Rattle.cutting.specs.Job.{Job, GuillotineTree, copies-of}
+use Rattle.refusal.specs.Refusals.{first-refusal, refuse-when}
+use Rattle.refusal.specs.declared.Refusal.the-variants.{Operand}
+use Rattle.refusal.specs.declared.Checked.the-variants.{Passed}
+use Rattle.job.specs.Block.{outside}
+use Rattle.plan.specs.declared.Report.{Report}
+use Rattle.plan.specs.Plan.{node-of, node-checks, parts, counted, proceed, walk}
+use Rattle.plan.proofs.Nodes.{waste-passes, piece-passes, cut-checks}
+use Rattle.plan.proofs.Counts.{added, added-copies, added-length}
+use Rattle.plan.proofs.Preorder.{pair-of, written, node-back, written-cut, count-cut}
+
+-- what the checks ask of a node
+abbrev pub NodeFits : Job → List ℕ → Rect → Node → Type 0
+NodeFits J c r Waste = Unit {0}
+NodeFits J c r (Piece i) = (i < J .count) × (fits-in (J .size i) r ≡ true) × (getD c i 0 < J .demand i)
+NodeFits J c r (Cut d x) = (1 ≤ x) × (x < side d r)
+
+-- a position in a cut's range
+inside : (s x : ℕ) → 1 ≤ x → x < s → outside 1 (s - 1) x ≡ false
+inside s x h l = simp (le-ltb x 1 h, le-ltb (s - 1) x (omega arith))
+
+known : (d : Direction) (x : ℕ) → kind-of (Cut d x) ≤ 3
+known Length x = omega arith
+known Width x = omega arith
+
+-- such a node passes
+pub node-passes : (J : Job) (c : List ℕ) (r : Rect) (k : ℕ) (n : Node) → NodeFits J c r n → first-refusal (node-checks J c r k (kind-of n) (operand-of n)) ≡ Passed
+node-passes J c r k Waste h = waste-passes J c r k 0 refl
+node-passes J c r k (Piece i) h = piece-passes J c r k i (h .0) (h .1) (h .2)
+node-passes J c r k (Cut d x) h = cut-checks J c r k (kind-of (Cut d x)) x d x (known d x) (node-back (Cut d x)) ∙ ap (λ b. refuse-when b (Operand k)) (inside (side d r) x (h .0) (h .1))
+
+-- the walk goes on after a node that fits
+pub node-walks : (J : Job) (k : ℕ) (n : Node) (ns : List (ℕ × ℕ)) (r : Rect) (rs : List Rect) (s : Report) → NodeFits J (s .copies) r n
+    → walk J k (pair-of n ∷ ns) (r ∷ rs) s ≡ walk J (k + 1) ns (parts n r ++ rs) (counted J n r s)
+unfolding walk
+node-walks J k n ns r rs s h =
+    ap (λ v. proceed v (walk J (k + 1) ns (parts (node-of (kind-of n) (operand-of n)) r ++ rs) (counted J (node-of (kind-of n) (operand-of n)) r s))) (node-passes J (s .copies) r k n h)
+    ∙ ap (λ m. walk J (k + 1) ns (parts m r ++ rs) (counted J m r s)) (node-back n)
+
+module _ (J : Job) (few : J .count ≤ 64) where
+  -- a report whose copies, with a tree's, keep every demand
+  abbrev Room : Tree ℕ → Report → Type 0
+  Room t s = (length (s .copies) ≡ 64) × ((i : ℕ) → i < J .count → getD (s .copies) i 0 + copies-of i t ≤ J .demand i)
+
+  -- a guillotine tree's cut, whatever its direction
+  pub cut-parts : (d : Direction) (x : ℕ) (a b : Tree ℕ) (r : Rect) → GuillotineTree J (r .0) (r .1) (cut d x a b)
+      → (1 ≤ x) × (x < side d r) × GuillotineTree J (part d x r .0) (part d x r .1) a × GuillotineTree J (part d (side d r - x) r .0) (part d (side d r - x) r .1) b
+  cut-parts Length x a b r g = g
+  cut-parts Width x a b r g = g
+
+  pub tree-walks : (t : Tree ℕ) (k : ℕ) (ns : List (ℕ × ℕ)) (r : Rect) (rs : List Rect) (s : Report) → GuillotineTree J (r .0) (r .1) t → Room t s
+      → walk J k (written t ++ ns) (r ∷ rs) s ≡ walk J (k + node-count t) ns rs (added J t r s)
+  unfolding preorder node-count added total
+  tree-walks waste k ns r rs s g h = node-walks J k Waste ns r rs s tt
+  tree-walks (piece i) k ns r rs s g h =
+      node-walks J k (Piece i) ns r rs s
+      (g .0, simp (le-leb (J .size i .0) (r .0) (g .1), le-leb (J .size i .1) (r .1) (g .2)), (let e = simp (eq-eqb i i refl) at (h .1 i (g .0)) in omega (arith, e)))
+  tree-walks (cut d x a b) k ns r rs s g h =
+      let p = cut-parts d x a b r g in
+      let m = added J a (part d x r) s in
+      let l = added-length J a (part d x r) s in
+      ap (λ l. walk J k l (r ∷ rs) s) (written-cut d x a b ns)
+      ∙ node-walks J k (Cut d x) (written a ++ (written b ++ ns)) r rs s (p .0, p .1)
+      ∙ tree-walks a (k + 1) (written b ++ ns) (part d x r) (part d (side d r - x) r ∷ rs) s (p .2) (h .0, λ i c. omega (arith, h .1 i c))
+      ∙ tree-walks b (k + 1 + node-count a) ns (part d (side d r - x) r) rs m (p .3)
+      (l ∙ h .0, λ i c. omega (arith, h .1 i c, added-copies J a (part d x r) s i (omega (arith, h .0, c, few))))
+      ∙ ap (λ n. walk J n ns rs (added J b (part d (side d r - x) r) m)) (let e : k + 1 + node-count a + node-count b ≡ k + node-count (cut d x a b) = omega (arith, count-cut d x a b) in e)

@@ -1,0 +1,44 @@
+-- `plan::check_plan` meets its contract: the job is read first; the rest is the check of its arrays. Assumes nothing.
+use mathlib.Core.Path.{_∙_}
+use denote.Ref.{now}
+use Rattle.plan.specs.Plan.{plan-answer}
+use Rattle.plan.proofs.Calls.{read-range, read-on, read-stops, arrays-met}
+use borrow.Author.Needs.{needs}
+use Rattle.plan.proofs.check_plan.Statement.{statement}
+use Rattle.plan.proofs.check_plan.Tie as tie
+
+read-job-requires : tie.Need-read-job-requires
+read-job-requires c κs = search needs
+
+enum-told : tie.Need-enum-told
+enum-told c = search needs
+
+enum-told-2 : tie.Need-enum-told-2
+enum-told-2 c = search needs
+
+without-report-requires : tie.Need-without-report-requires
+without-report-requires c κs = search needs
+
+returns : tie.Need-returns
+returns c = let a = c .before .before .before .before .before .before .before .args in
+    arrays-met (now (a .block)) (now (a .kinds)) (now (a .operands)) (c .without-report .ensures ∙ read-stops (now (a .block)) _ (c .before .before .before .read-job .ensures) (c .before .enum-told2 .given .1))
+
+check-nodes-requires : tie.Need-check-nodes-requires
+check-nodes-requires c κs = read-range (now (c .before .before .before .before .before .before .before .args .block)) (c .before .before .before .read-job .ensures) (c .before .enum-told .given .1)
+
+returns-2 : tie.Need-returns-2
+returns-2 c = let a = c .before .before .before .before .before .before .before .before .args in
+    arrays-met (now (a .block)) (now (a .kinds)) (now (a .operands))
+    (c .check-nodes .ensures ∙ read-on (now (a .block)) (c .before .before .before .before .read-job .ensures) (c .before .before .enum-told .given .1) (λ J. plan-answer J (now (a .kinds)) (now (a .operands))))
+
+pub check-plan-spec : {M : Type 1} → statement M
+check-plan-spec =
+    tie.close
+    (tie.spec
+    read-job-requires
+    enum-told
+    enum-told-2
+    without-report-requires
+    returns
+    check-nodes-requires
+    returns-2)

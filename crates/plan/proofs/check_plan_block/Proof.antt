@@ -1,0 +1,44 @@
+-- `plan::check_plan_block` meets its contract: the job is read first; the rest is the check of the block. Assumes nothing.
+use mathlib.Core.Path.{_∙_}
+use denote.Ref.{now}
+use Rattle.plan.specs.Calls.{plan-block-answer}
+use Rattle.plan.proofs.Calls.{read-range, read-on, read-stops, block-met}
+use borrow.Author.Needs.{needs}
+use Rattle.plan.proofs.check_plan_block.Statement.{statement}
+use Rattle.plan.proofs.check_plan_block.Tie as tie
+
+read-job-requires : tie.Need-read-job-requires
+read-job-requires c κs = search needs
+
+enum-told : tie.Need-enum-told
+enum-told c = search needs
+
+enum-told-2 : tie.Need-enum-told-2
+enum-told-2 c = search needs
+
+without-report-requires : tie.Need-without-report-requires
+without-report-requires c κs = search needs
+
+returns : tie.Need-returns
+returns c = let a = c .before .before .before .before .before .before .args in
+    block-met (now (a .block)) (now (a .plan)) (c .without-report .ensures ∙ read-stops (now (a .block)) _ (c .before .before .before .read-job .ensures) (c .before .enum-told2 .given .1))
+
+check-block-requires : tie.Need-check-block-requires
+check-block-requires c κs = read-range (now (c .before .before .before .before .before .before .args .block)) (c .before .before .before .read-job .ensures) (c .before .enum-told .given .1)
+
+returns-2 : tie.Need-returns-2
+returns-2 c = let a = c .before .before .before .before .before .before .before .args in
+    block-met (now (a .block)) (now (a .plan))
+    (c .check-block .ensures ∙ read-on (now (a .block)) (c .before .before .before .before .read-job .ensures) (c .before .before .enum-told .given .1) (λ J. plan-block-answer J (now (a .plan))))
+
+pub check-plan-block-spec : {M : Type 1} → statement M
+check-plan-block-spec =
+    tie.close
+    (tie.spec
+    read-job-requires
+    enum-told
+    enum-told-2
+    without-report-requires
+    returns
+    check-block-requires
+    returns-2)

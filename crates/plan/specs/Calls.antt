@@ -1,0 +1,54 @@
+-- The public calls: a plan's arrays, or a plan block, for a job block. The job's checks 1 to 7 come first.
+-- Assumes nothing.
+use mathlib.Core.Path.{_≡_}
+use mathlib.Core.Bool.{_||_, not}
+use mathlib.Core.List.{List, [], _∷_, map}
+use Prim.Native.Nat.{ℕ, _+_, _*_}
+use lib.Dec.{ltb, eqb}
+use lib.ListN.{length, take, drop}
+use Rattle.cutting.specs.Lists.{range}
+use Rattle.cutting.specs.Job.{Job}
+use Rattle.refusal.specs.declared.Refusal.the-variants.{PlanLength}
+use Rattle.refusal.specs.declared.Checked.the-variants.{Passed}
+use Rattle.refusal.specs.Refusals.{Check, first-refusal}
+use Rattle.job.specs.Block.{u16-at, job-checks, record-of, job-of}
+use Rattle.plan.specs.declared.PlanAnswer.{PlanAnswer}
+use Rattle.plan.specs.Plan.{proceed, plan-answer}
+
+-- the job of a block
+abbrev pub job-in : List ℕ → Job
+job-in s = job-of (record-of s)
+
+-- what a plan's arrays answer for a job block
+abbrev pub arrays-answer : List ℕ → List ℕ → List ℕ → PlanAnswer
+arrays-answer s kinds operands = proceed (first-refusal (job-checks s)) (plan-answer (job-in s) kinds operands)
+
+-- a plan block: the node count, that many kinds, that many operands
+abbrev pub plan-count : List ℕ → ℕ
+plan-count p = u16-at p 0
+
+abbrev pub plan-kinds : List ℕ → List ℕ
+plan-kinds p = take (plan-count p) (drop 2 p)
+
+unfoldable pub plan-operands : List ℕ → List ℕ
+plan-operands p = map (λ i. u16-at p (2 + plan-count p + 2 * i)) (range 0 (plan-count p))
+
+-- check 10 of a plan block
+abbrev pub block-checks : List ℕ → List Check
+block-checks p = (ltb (length p) 2 || not (eqb (length p) (2 + 3 * plan-count p)), PlanLength) ∷ []
+
+-- what a plan block answers for a job that was read
+unfoldable pub plan-block-answer : Job → List ℕ → PlanAnswer
+plan-block-answer J p = proceed (first-refusal (block-checks p)) (plan-answer J (plan-kinds p) (plan-operands p))
+
+-- what a plan block answers for a job block
+abbrev pub block-answer : List ℕ → List ℕ → PlanAnswer
+block-answer s p = proceed (first-refusal (job-checks s)) (plan-block-answer (job-in s) p)
+
+-- no check of a job block refuses it
+abbrev pub JobPasses : List ℕ → Type 0
+JobPasses s = first-refusal (job-checks s) ≡ Passed
+
+-- and a plan block has the bytes of its nodes
+abbrev pub BlockPasses : List ℕ → Type 0
+BlockPasses p = first-refusal (block-checks p) ≡ Passed

@@ -1,0 +1,45 @@
+-- What a passed plan is: the preorder of a guillotine tree, which the report describes.
+-- Assumes nothing.
+use mathlib.Core.Path.{_≡_}
+use mathlib.Core.List.{List}
+use Prim.Native.Nat.{ℕ, _+_, _*_, _≤_}
+use Rattle.cutting.specs.Tree.{Tree}
+use Rattle.cutting.specs.Preorder.{node-count, kinds-of, operands-of}
+use Rattle.cutting.specs.Job.{Job, OnPlate, profit, copies-of, KeepsDemands, pieces-area-of, waste-area-of, trim-area-of}
+use Rattle.refusal.specs.declared.Refusal.{Refusal}
+use Rattle.refusal.specs.declared.Checked.the-variants.{Passed, Refused}
+use Rattle.job.specs.Block.{entries}
+use Rattle.plan.specs.declared.Report.{Report}
+use Rattle.plan.specs.declared.PlanAnswer.{PlanAnswer}
+use Rattle.plan.specs.Plan.{empty-report}
+
+-- the arrays are the preorder of a guillotine tree on the plate that keeps every demand and has at most 4,095 nodes
+pub record PlanOf (J : Job) (t : Tree ℕ) (ks os : List ℕ) : Type 0 where
+  pub on-plate : OnPlate J t
+  pub demands : KeepsDemands J t
+  pub nodes : node-count t ≤ 4095
+  pub kinds : ks ≡ kinds-of t
+  pub operands : os ≡ operands-of t
+
+-- a tree's own profit, copies of each kind (0 for numbers past the job's), and areas on the plate
+abbrev pub tree-report : Job → Tree ℕ → Report
+tree-report J t = record {
+  profit = profit J t;
+  copies = entries (λ i. copies-of i t) (J .count);
+  pieces = pieces-area-of J t;
+  waste = waste-area-of (J .plate .0) (J .plate .1) t;
+  trim = trim-area-of J (J .plate .0) (J .plate .1) t;
+}
+
+-- a report is a tree's own, and its areas sum to the plate's
+pub record Reports (J : Job) (t : Tree ℕ) (r : Report) : Type 0 where
+  pub own : r ≡ tree-report J t
+  pub areas : r .pieces + r .waste + r .trim ≡ J .plate .0 * J .plate .1
+
+-- where what stands before the plan's checks holds, an answer passes exactly for the plan of a tree; it then reports that tree, and a
+-- refusal reports zeros
+pub record ChecksPlan (Before : Type 0) (J : Job) (ks os : List ℕ) (a : PlanAnswer) : Type 0 where
+  pub passes : Before → (t : Tree ℕ) → PlanOf J t ks os → a .verdict ≡ Passed
+  pub before : a .verdict ≡ Passed → Before
+  pub tree : a .verdict ≡ Passed → (t : Tree ℕ) × PlanOf J t ks os × Reports J t (a .report)
+  pub zeros : (r : Refusal) → a .verdict ≡ Refused r → a .report ≡ empty-report
