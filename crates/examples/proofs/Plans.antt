@@ -1,0 +1,69 @@
+-- What the first node of a plan decides, whatever follows it: its checks refuse the plan, or any refusal comes later.
+-- Assumes nothing.
+use mathlib.Core.Path.{sym, ap, subst}
+use mathlib.Core.Bool.{Bool, true, false}
+use mathlib.Core.List.{List, [], _∷_, _++_}
+use Prim.Native.Nat.{ℕ, suc, _+_, _<_}
+use native.Mathlib.Omega.{arith}
+use Rattle.cutting.specs.Tree.{Rect}
+use Rattle.cutting.specs.Job.{Job}
+use Rattle.refusal.specs.Refusals.{Check, place-of, refuse-when, next, first-refusal}
+use Rattle.refusal.specs.declared.Refusal.{Refusal}
+use Rattle.refusal.specs.declared.Checked.{Checked}
+use Rattle.refusal.specs.declared.Checked.the-variants.{Passed, Refused}
+use Rattle.plan.specs.declared.Report.{Report}
+use Rattle.plan.specs.declared.PlanAnswer.{PlanAnswer}
+use Rattle.plan.specs.Plan.{node-of, node-checks, parts, counted, empty-report, proceed, walk, nodes-in}
+use Rattle.plan.proofs.Whole.{walks-on}
+use Rattle.examples.specs.Examples.{RefusedAs, PassedTo, Beginning}
+
+-- a check whose place is past node j, and what follows it
+check-past : (j : ℕ) (b : Bool) (r : Refusal) (v : Checked) → j < place-of r → PassedTo j v → PassedTo j (next (refuse-when b r) v)
+check-past j true r v h g = h
+check-past j false r v h g = g
+
+proceed-past : (j : ℕ) (v : Checked) (a : PlanAnswer) → PassedTo j v → PassedTo j (a .verdict) → PassedTo j (proceed v a .verdict)
+proceed-past j Passed a h g = g
+proceed-past j (Refused r) a h g = h
+
+proceed-refused : (number place : ℕ) (v : Checked) (a : PlanAnswer) → RefusedAs number place v → RefusedAs number place (proceed v a .verdict)
+proceed-refused number place Passed a h = absurd h
+proceed-refused number place (Refused r) a h = h
+
+-- checks whose places are all past node j
+abbrev AllPast : ℕ → List Check → Type 0
+AllPast j [] = Unit {0}
+AllPast j (c ∷ cs) = (j < place-of (c .1)) × AllPast j cs
+
+checks-past : (j : ℕ) (cs : List Check) → AllPast j cs → PassedTo j (first-refusal cs)
+unfolding first-refusal
+checks-past j [] h = tt
+checks-past j (c ∷ cs) h = check-past j (c .0) (c .1) (first-refusal cs) (h .0) (checks-past j cs (h .1))
+
+-- the walk from node k on refuses at no node before it
+walk-past : (J : Job) (j k : ℕ) → j < k → (ns : List (ℕ × ℕ)) (rs : List Rect) (s : Report) → PassedTo j (walk J k ns rs s .verdict)
+unfolding walk
+walk-past J j k h [] [] s = tt
+walk-past J j k h (n ∷ ns) [] s = h
+walk-past J j k h [] (r ∷ rs) s = h
+walk-past J j k h (n ∷ ns) (r ∷ rs) s =
+    proceed-past j (first-refusal (node-checks J (s .copies) r k (n .0) (n .1))) _ (checks-past j _ (h, (h, (h, (h, (h, tt))))))
+    (walk-past J j (k + 1) (omega arith) ns (parts (node-of (n .0) (n .1)) r ++ rs) (counted J (node-of (n .0) (n .1)) r s))
+
+module _ (J : Job) (kind operand : ℕ) where
+  -- the verdict of the first node's checks
+  abbrev pub first-verdict : Checked
+  first-verdict = first-refusal (node-checks J (empty-report .copies) (J .plate) 0 kind operand)
+
+  -- every plan with this first node goes on from that verdict
+  begins : (P : Checked → Type 0)
+      → ((ns : List (ℕ × ℕ)) → P (proceed first-verdict (walk J 1 ns (parts (node-of kind operand) (J .plate) ++ []) (counted J (node-of kind operand) (J .plate) empty-report)) .verdict))
+      → Beginning J kind operand P
+  unfolding walk
+  begins P h kinds operands e l = subst (λ a. P (a .verdict)) (sym (walks-on J (kind ∷ kinds) (operand ∷ operands) (ap suc e) (omega arith) (omega arith))) (h (nodes-in kinds operands))
+
+  pub begins-refused : (number place : ℕ) → RefusedAs number place first-verdict → Beginning J kind operand (RefusedAs number place)
+  begins-refused number place h = begins (RefusedAs number place) (λ ns. proceed-refused number place first-verdict _ h)
+
+  pub begins-passed : PassedTo 0 first-verdict → Beginning J kind operand (PassedTo 0)
+  begins-passed h = begins (PassedTo 0) (λ ns. proceed-past 0 first-verdict _ h (walk-past J 0 1 (omega arith) ns _ _))
