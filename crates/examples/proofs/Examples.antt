@@ -3,17 +3,17 @@
 -- Assumes nothing.
 use mathlib.Core.Path.{_≡_, sym, _∙_, ap, ap₂, subst}
 use mathlib.Core.Bool.{Bool, _&&_}
-use mathlib.Core.List.{List, [], _∷_, List·Memᴰ}
+use mathlib.Core.List.{List, _∷_, List·Memᴰ}
 use Prim.Native.Nat.{ℕ}
 use native.Mathlib.Omega.{arith}
 use lib.Dec.{T, eqb, eqb→eq}
-use Rattle.cutting.specs.Lists.{range, sum, filter, any, first, greatest, pairs}
+use Rattle.cutting.specs.Lists.{range, sum, filter, any, greatest}
 use Rattle.cutting.specs.Figure.{leaf, best, step, after, figure}
 use Rattle.cutting.specs.Pieces.{sized}
 use Rattle.cutting.specs.Saws.{floor, saw-normal, saw-written}
 use Rattle.cutting.specs.Shares.{by-weight}
 use Rattle.cutting.specs.Normal.{summed, normal?, sides}
-use Rattle.cutting.specs.Choice.{first-cut, choice, plan-within, written}
+use Rattle.cutting.specs.Choice.{choice, plan-within, written}
 use Rattle.cutting.specs.Preorder.{preorder, kinds-of, operands-of}
 use Rattle.cutting.specs.Job.{Job, capacity, pieces, figure-of, bound-of, normal-side, normal-positions, plan-of, bound-plan}
 use Rattle.cutting.proofs.Tests.{T-and}
@@ -22,8 +22,6 @@ use Rattle.cutting.proofs.Reduction.{saw-normal-cuts, saw-figure}
 use Rattle.cutting.proofs.Table.{sides-suffice}
 use Rattle.refusal.specs.Refusals.{first-refusal}
 use Rattle.job.specs.Weights.{weight-in}
-use Rattle.plan.specs.declared.Report.{Report}
-use Rattle.plan.specs.declared.PlanAnswer.{PlanAnswer}
 use Rattle.plan.specs.Plan.{walk, plan-answer}
 use Rattle.table.specs.Table.{words-needed}
 use Rattle.certificate.specs.declared.Certificate.{Certificate}
@@ -92,7 +90,7 @@ sound (line.gap J kinds operands ws profit n) t =
 module _ (price demand weight : ℕ) where
   -- the test, computed over the table
   computed : T (every holds? (marked price demand weight))
-  unfolding marked range sum filter any first greatest pairs leaf best step after figure sized floor saw-normal saw-written by-weight summed normal? sides first-cut choice plan-within written preorder kinds-of operands-of pieces normal-positions plan-of first-refusal walk plan-answer
+  unfolding marked range sum filter any greatest leaf best step after figure sized floor saw-normal saw-written by-weight summed normal? sides choice plan-within written preorder kinds-of operands-of pieces normal-positions plan-of first-refusal walk plan-answer
   computed = tt
 
   -- every marked example holds

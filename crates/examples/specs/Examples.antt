@@ -50,7 +50,7 @@ abbrev pub PassedTo : ℕ → Checked → Type 0
 PassedTo k Passed = Unit {0}
 PassedTo k (Refused r) = k < place-of r
 
--- a property of the verdict of every plan with a first node: as many kinds as operands, at most 4,095 nodes
+-- the verdict of every plan with this first node, as many kinds as operands and at most 4,095 nodes, has a property
 abbrev pub Beginning : Job → ℕ → ℕ → (Checked → Type 0) → Type 0
 Beginning J kind operand P = (kinds operands : List ℕ) → length kinds ≡ length operands → length kinds < 4095 → P (plan-answer J (kind ∷ kinds) (operand ∷ operands) .verdict)
 
@@ -107,9 +107,9 @@ marked price demand weight =
     ∷ best job-s (2 ∷ 1 ∷ 3 ∷ 1 ∷ 1 ∷ []) (2 ∷ 0 ∷ 1 ∷ 1 ∷ 2 ∷ []) (0 ∷ 1 ∷ 0 ∷ []) 16
     ∷ gap job-s (2 ∷ 1 ∷ 3 ∷ 1 ∷ 1 ∷ []) (2 ∷ 0 ∷ 1 ∷ 1 ∷ 2 ∷ []) (0 ∷ 0 ∷ 0 ∷ []) 16 3
     -- Kind 0, operand 0: profit 0, areas 0, 15, 0.
-    ∷ passes job-s (0 ∷ []) (0 ∷ []) 0 [] 0 15 0
+    ∷ passes job-s (0 ∷ []) (0 ∷ []) 0 (0 ∷ 0 ∷ 0 ∷ []) 0 15 0
     -- Kind 1, operand 0: profit 7, areas 6, 0, 9.
-    ∷ passes job-s (1 ∷ []) (0 ∷ []) 7 (1 ∷ []) 6 0 9
+    ∷ passes job-s (1 ∷ []) (0 ∷ []) 7 (1 ∷ 0 ∷ 0 ∷ []) 6 0 9
     -- Kinds 2 1 3 1 3 1 1, operands 2 0 1 1 1 1 1: refusal 16 at node 6.
     ∷ refused job-s (2 ∷ 1 ∷ 3 ∷ 1 ∷ 3 ∷ 1 ∷ 1 ∷ []) (2 ∷ 0 ∷ 1 ∷ 1 ∷ 1 ∷ 1 ∷ 1 ∷ []) 16 6
     -- First node kind 2, operand 5: 14 at node 0. Operand 4 passes there.
