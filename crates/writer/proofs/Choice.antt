@@ -175,21 +175,21 @@ module _ (g : Dimensions) (kind-lengths kind-widths prices weights lengths width
   answer = or-none (eqb value 0) (or-kind (kind-found kind-search) (or-length-cut (cut-found lengths length-search) (or-width-cut (cut-found widths width-search))))
 
 -- the answer is the choice
-module _ (g : Dimensions) (kl kw prices : List ℕ) {weights lengths widths mx my table : List ℕ} (t : Lent g kl kw prices weights lengths widths mx my table) {l w c : ℕ} (at : Cell g l w c) where
+module _ {g : Dimensions} {kl kw prices weights lengths widths mx my table : List ℕ} (t : Lent g kl kw prices weights lengths widths mx my table) {l w c : ℕ} (at : Cell g l w c) where
   answer-figure : answer g kl kw prices weights lengths widths mx my table l w c (figure-of (lent-job g kl kw prices) (weight-in weights) l w c) ≡ chosen-at g kl kw prices weights l w c
   unfolding plan-choice
   answer-figure =
       let v = figure-of (lent-job g kl kw prices) (weight-in weights) l w c in
       sym (searched lengths widths c (eqb v 0) (kind-search g kl kw prices weights lengths widths mx my table l w c v) (length-search g kl kw prices weights lengths widths mx my table l w c v)
       (width-search g kl kw prices weights lengths widths mx my table l w c v)
-      (pair-index t l w c (at .on-length) (at .on-width) (at .in-capacity) Length lengths mx (t .lengths-are) (t .length-floors)) (pair-index t l w c (at .on-length) (at .on-width) (at .in-capacity) Width widths my (t .widths-are) (t .width-floors)))
+      (pair-index (t .tabled) l w c (at .on-length) (at .on-width) (at .in-capacity) Length lengths mx (t .tabled .lengths-are) (t .tabled .length-floors)) (pair-index (t .tabled) l w c (at .on-length) (at .on-width) (at .in-capacity) Width widths my (t .tabled .widths-are) (t .tabled .width-floors)))
 
   -- the value of the cell
   abbrev pub cell : ℕ
   cell = getD table (getD mx l 0 * (g .columns * (g .capacity + 1)) + getD my w 0 * (g .capacity + 1) + c) 0
 
   answer-choice : answer g kl kw prices weights lengths widths mx my table l w c cell ≡ chosen-at g kl kw prices weights l w c
-  answer-choice = ap (λ v. answer g kl kw prices weights lengths widths mx my table l w c v) (cell-figure t l w (at .on-length) (at .on-width) c (at .in-capacity)) ∙ answer-figure
+  answer-choice = ap (λ v. answer g kl kw prices weights lengths widths mx my table l w c v) (cell-figure (t .tabled) l w (at .on-length) (at .on-width) c (at .in-capacity)) ∙ answer-figure
 
   -- each way out of the code answers the choice
   pub none-chosen : cell ≡ 0 → record { node = Waste; share = 0 } ≡ chosen-at g kl kw prices weights l w c

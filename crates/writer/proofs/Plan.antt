@@ -111,19 +111,19 @@ parts at Width x share p q s = record {
 }
 
 -- the plan has at most 1,999,999 nodes
-pub plan-nodes : (g : Dimensions) (kl kw prices : List ℕ) {weights lengths widths mx my table : List ℕ} → Lent g kl kw prices weights lengths widths mx my table → {l w c : ℕ} → Cell g l w c
+pub plan-nodes : {g : Dimensions} {kl kw prices weights lengths widths mx my table : List ℕ} → Lent g kl kw prices weights lengths widths mx my table → {l w c : ℕ} → Cell g l w c
     → node-count (plan-at g kl kw prices weights l w c) < 2000000
-plan-nodes g kl kw prices {weights} t {l} {w} {c} at =
-    let p = plan-tree (lent-job g kl kw prices) (weight-in weights) (t .in-range) l w c (at .on-length) (at .on-width) in
-    let x : l ≤ 1000 = omega (arith, at .on-length, t .in-range .plate-length) in
-    let y : w ≤ 1000 = omega (arith, at .on-width, t .in-range .plate-width) in
+plan-nodes {g} {kl} {kw} {prices} {weights} t {l} {w} {c} at =
+    let p = plan-tree (lent-job g kl kw prices) (weight-in weights) (t .tabled .in-range) l w c (at .on-length) (at .on-width) in
+    let x : l ≤ 1000 = omega (arith, at .on-length, t .tabled .in-range .plate-length) in
+    let y : w ≤ 1000 = omega (arith, at .on-width, t .tabled .in-range .plate-width) in
     omega (arith, nodes-most (lent-job g kl kw prices) (plan-at g kl kw prices weights l w c) l w (p .0) (at .some-length) (at .some-width), mul-le-mul x y)
 
 -- what the node of a choice says of the plan
-module _ (g : Dimensions) (kl kw prices : List ℕ) {weights lengths widths mx my table : List ℕ} (t : Lent g kl kw prices weights lengths widths mx my table) {l w c : ℕ} (at : Cell g l w c)
+module _ {g : Dimensions} {kl kw prices weights lengths widths mx my table : List ℕ} (t : Lent g kl kw prices weights lengths widths mx my table) {l w c : ℕ} (at : Cell g l w c)
     {r : Chosen} (e : r ≡ chosen-at g kl kw prices weights l w c) where
   after : plan-at g kl kw prices weights l w c ≡ plan-after (lent-job g kl kw prices) (weight-in weights) l w (plan-choice (lent-job g kl kw prices) (weight-in weights) l w c)
-  after = plan-recursion (lent-job g kl kw prices) (weight-in weights) (t .in-range) l w c (at .on-length) (at .on-width)
+  after = plan-recursion (lent-job g kl kw prices) (weight-in weights) (t .tabled .in-range) l w c (at .on-length) (at .on-width)
 
   pub waste-plan : r .node ≡ Waste → plan-at g kl kw prices weights l w c ≡ waste
   waste-plan n = after ∙ waste-after (lent-job g kl kw prices) (weight-in weights) l w c (plan-choice (lent-job g kl kw prices) (weight-in weights) l w c) (ap (λ u. u .node) (sym e) ∙ n)

@@ -43,9 +43,8 @@ abbrev pub lent-job : Dimensions → List ℕ → List ℕ → List ℕ → Job
 lent-job g kind-lengths kind-widths prices = job-from (g .length) (g .width) (g .count) kind-lengths kind-widths prices []
 
 -- the lent arrays hold a job in range and its filled table
-abbrev pub Lent : Dimensions → (kind-lengths kind-widths prices weights lengths widths length-map width-map table : List ℕ) → Type 0
-Lent g kind-lengths kind-widths prices weights lengths widths length-map width-map table =
-    Tabled (lent-job g kind-lengths kind-widths prices) weights (g .columns) (g .capacity) lengths widths length-map width-map table
+pub record Lent (g : Dimensions) (kind-lengths kind-widths prices weights lengths widths length-map width-map table : List ℕ) : Type 0 where
+  pub tabled : Tabled (lent-job g kind-lengths kind-widths prices) weights (g .columns) (g .capacity) lengths widths length-map width-map table
 
 -- a rectangle on the plate, no side 0, and a share up to the capacity
 pub record Cell (g : Dimensions) (l w c : ℕ) : Type 0 where

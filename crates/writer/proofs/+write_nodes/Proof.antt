@@ -31,7 +31,9 @@ abbrev write-nodes-below : ℕ → In 11 write-nodes-kinds.ps
 write-nodes-below t =
     and 11 write-nodes-kinds.ps (falls 11 write-nodes-kinds.ps _<_ μ-write-nodes t) write-nodes.Pre
 
-write-nodes-choose-requires : (t : ℕ) → write-nodes-lts.Need-choose-requires (
+-- what the functions that are called ask and teach
+abbrev callees : ℕ → write-nodes-lts.Claims
+callees t = (
   choose-reads.Asked,
   choose-reads.Learnt,
   kind-number-reads.Asked,
@@ -44,237 +46,57 @@ write-nodes-choose-requires : (t : ℕ) → write-nodes-lts.Need-choose-requires
   second-part-reads.Learnt,
   write-nodes-below t,
   write-nodes.Post,
-) (write-nodes-at t) write-nodes.Post
+)
+
+write-nodes-choose-requires : (t : ℕ) → write-nodes-lts.Need-choose-requires (callees t) (write-nodes-at t) write-nodes.Post
 write-nodes-choose-requires t c κs = (c .before .before .before .before .before .before .pre .1 .0, c .before .before .before .before .before .before .pre .1 .1)
 
-write-nodes-kind-number-requires : (t : ℕ) → write-nodes-lts.Need-kind-number-requires (
-  choose-reads.Asked,
-  choose-reads.Learnt,
-  kind-number-reads.Asked,
-  kind-number-reads.Learnt,
-  operand-reads.Asked,
-  operand-reads.Learnt,
-  first-part-reads.Asked,
-  first-part-reads.Learnt,
-  second-part-reads.Asked,
-  second-part-reads.Learnt,
-  write-nodes-below t,
-  write-nodes.Post,
-) (write-nodes-at t) write-nodes.Post
+write-nodes-kind-number-requires : (t : ℕ) → write-nodes-lts.Need-kind-number-requires (callees t) (write-nodes-at t) write-nodes.Post
 write-nodes-kind-number-requires t c κs = search needs
 
-write-nodes-slice-write-kinds : (t : ℕ) → write-nodes-lts.Need-slice-write-kinds (
-  choose-reads.Asked,
-  choose-reads.Learnt,
-  kind-number-reads.Asked,
-  kind-number-reads.Learnt,
-  operand-reads.Asked,
-  operand-reads.Learnt,
-  first-part-reads.Asked,
-  first-part-reads.Learnt,
-  second-part-reads.Asked,
-  second-part-reads.Learnt,
-  write-nodes-below t,
-  write-nodes.Post,
-) (write-nodes-at t) write-nodes.Post
+write-nodes-slice-write-kinds : (t : ℕ) → write-nodes-lts.Need-slice-write-kinds (callees t) (write-nodes-at t) write-nodes.Post
 write-nodes-slice-write-kinds t c = omega (arith, count-some (plan-at (c .before .before .before .before .before .before .before .before .args .g) (c .before .before .before .before .before .before .before .before .args .klengths .now) (c .before .before .before .before .before .before .before .before .args .kwidths .now) (c .before .before .before .before .before .before .before .before .args .prices .now) (c .before .before .before .before .before .before .before .before .args .weights .now) (c .before .before .before .before .before .before .before .before .args .l) (c .before .before .before .before .before .before .before .before .args .w) (c .before .before .before .before .before .before .before .before .args .c)), c .before .before .before .before .before .before .before .before .pre .1 .2, c .before .before .before .before .before .before .before .before .pre .1 .3)
 
-write-nodes-operand-requires : (t : ℕ) → write-nodes-lts.Need-operand-requires (
-  choose-reads.Asked,
-  choose-reads.Learnt,
-  kind-number-reads.Asked,
-  kind-number-reads.Learnt,
-  operand-reads.Asked,
-  operand-reads.Learnt,
-  first-part-reads.Asked,
-  first-part-reads.Learnt,
-  second-part-reads.Asked,
-  second-part-reads.Learnt,
-  write-nodes-below t,
-  write-nodes.Post,
-) (write-nodes-at t) write-nodes.Post
+write-nodes-operand-requires : (t : ℕ) → write-nodes-lts.Need-operand-requires (callees t) (write-nodes-at t) write-nodes.Post
 write-nodes-operand-requires t c κs = search needs
 
-write-nodes-mul-operands : (t : ℕ) → write-nodes-lts.Need-mul-operands (
-  choose-reads.Asked,
-  choose-reads.Learnt,
-  kind-number-reads.Asked,
-  kind-number-reads.Learnt,
-  operand-reads.Asked,
-  operand-reads.Learnt,
-  first-part-reads.Asked,
-  first-part-reads.Learnt,
-  second-part-reads.Asked,
-  second-part-reads.Learnt,
-  write-nodes-below t,
-  write-nodes.Post,
-) (write-nodes-at t) write-nodes.Post
+write-nodes-mul-operands : (t : ℕ) → write-nodes-lts.Need-mul-operands (callees t) (write-nodes-at t) write-nodes.Post
 write-nodes-mul-operands t c = omega (arith, count-some (plan-at (c .before .before .before .before .before .before .before .before .before .args .g) (c .before .before .before .before .before .before .before .before .before .args .klengths .now) (c .before .before .before .before .before .before .before .before .before .args .kwidths .now) (c .before .before .before .before .before .before .before .before .before .args .prices .now) (c .before .before .before .before .before .before .before .before .before .args .weights .now) (c .before .before .before .before .before .before .before .before .before .args .l) (c .before .before .before .before .before .before .before .before .before .args .w) (c .before .before .before .before .before .before .before .before .before .args .c)), c .before .before .before .before .before .before .before .before .before .pre .1 .2, c .before .before .before .before .before .before .before .before .before .pre .1 .3)
 
-write-nodes-slice-write-operands : (t : ℕ) → write-nodes-lts.Need-slice-write-operands (
-  choose-reads.Asked,
-  choose-reads.Learnt,
-  kind-number-reads.Asked,
-  kind-number-reads.Learnt,
-  operand-reads.Asked,
-  operand-reads.Learnt,
-  first-part-reads.Asked,
-  first-part-reads.Learnt,
-  second-part-reads.Asked,
-  second-part-reads.Learnt,
-  write-nodes-below t,
-  write-nodes.Post,
-) (write-nodes-at t) write-nodes.Post
+write-nodes-slice-write-operands : (t : ℕ) → write-nodes-lts.Need-slice-write-operands (callees t) (write-nodes-at t) write-nodes.Post
 write-nodes-slice-write-operands t c = omega (arith, count-some (plan-at (c .before .before .before .before .before .before .before .before .before .args .g) (c .before .before .before .before .before .before .before .before .before .args .klengths .now) (c .before .before .before .before .before .before .before .before .before .args .kwidths .now) (c .before .before .before .before .before .before .before .before .before .args .prices .now) (c .before .before .before .before .before .before .before .before .before .args .weights .now) (c .before .before .before .before .before .before .before .before .before .args .l) (c .before .before .before .before .before .before .before .before .before .args .w) (c .before .before .before .before .before .before .before .before .before .args .c)), c .before .before .before .before .before .before .before .before .before .pre .1 .2, c .before .before .before .before .before .before .before .before .before .pre .1 .3)
 
-write-nodes-add-next : (t : ℕ) → write-nodes-lts.Need-add-next (
-  choose-reads.Asked,
-  choose-reads.Learnt,
-  kind-number-reads.Asked,
-  kind-number-reads.Learnt,
-  operand-reads.Asked,
-  operand-reads.Learnt,
-  first-part-reads.Asked,
-  first-part-reads.Learnt,
-  second-part-reads.Asked,
-  second-part-reads.Learnt,
-  write-nodes-below t,
-  write-nodes.Post,
-) (write-nodes-at t) write-nodes.Post
+write-nodes-add-next : (t : ℕ) → write-nodes-lts.Need-add-next (callees t) (write-nodes-at t) write-nodes.Post
 write-nodes-add-next t c = omega (arith, count-some (plan-at (c .before .before .before .before .before .before .before .before .before .args .g) (c .before .before .before .before .before .before .before .before .before .args .klengths .now) (c .before .before .before .before .before .before .before .before .before .args .kwidths .now) (c .before .before .before .before .before .before .before .before .before .args .prices .now) (c .before .before .before .before .before .before .before .before .before .args .weights .now) (c .before .before .before .before .before .before .before .before .before .args .l) (c .before .before .before .before .before .before .before .before .before .args .w) (c .before .before .before .before .before .before .before .before .before .args .c)), c .before .before .before .before .before .before .before .before .before .pre .1 .2, c .before .before .before .before .before .before .before .before .before .pre .1 .3)
 
-write-nodes-enum-told : (t : ℕ) → write-nodes-lts.Need-enum-told (
-  choose-reads.Asked,
-  choose-reads.Learnt,
-  kind-number-reads.Asked,
-  kind-number-reads.Learnt,
-  operand-reads.Asked,
-  operand-reads.Learnt,
-  first-part-reads.Asked,
-  first-part-reads.Learnt,
-  second-part-reads.Asked,
-  second-part-reads.Learnt,
-  write-nodes-below t,
-  write-nodes.Post,
-) (write-nodes-at t) write-nodes.Post
+write-nodes-enum-told : (t : ℕ) → write-nodes-lts.Need-enum-told (callees t) (write-nodes-at t) write-nodes.Post
 write-nodes-enum-told t c = search needs
 
-write-nodes-enum-told-2 : (t : ℕ) → write-nodes-lts.Need-enum-told-2 (
-  choose-reads.Asked,
-  choose-reads.Learnt,
-  kind-number-reads.Asked,
-  kind-number-reads.Learnt,
-  operand-reads.Asked,
-  operand-reads.Learnt,
-  first-part-reads.Asked,
-  first-part-reads.Learnt,
-  second-part-reads.Asked,
-  second-part-reads.Learnt,
-  write-nodes-below t,
-  write-nodes.Post,
-) (write-nodes-at t) write-nodes.Post
+write-nodes-enum-told-2 : (t : ℕ) → write-nodes-lts.Need-enum-told-2 (callees t) (write-nodes-at t) write-nodes.Post
 write-nodes-enum-told-2 t c = search needs
 
-write-nodes-enum-known-node : (t : ℕ) → write-nodes-lts.Need-enum-known-node (
-  choose-reads.Asked,
-  choose-reads.Learnt,
-  kind-number-reads.Asked,
-  kind-number-reads.Learnt,
-  operand-reads.Asked,
-  operand-reads.Learnt,
-  first-part-reads.Asked,
-  first-part-reads.Learnt,
-  second-part-reads.Asked,
-  second-part-reads.Learnt,
-  write-nodes-below t,
-  write-nodes.Post,
-) (write-nodes-at t) write-nodes.Post
+write-nodes-enum-known-node : (t : ℕ) → write-nodes-lts.Need-enum-known-node (callees t) (write-nodes-at t) write-nodes.Post
 write-nodes-enum-known-node t c = search needs
 
-write-nodes-first-part-requires : (t : ℕ) → write-nodes-lts.Need-first-part-requires (
-  choose-reads.Asked,
-  choose-reads.Learnt,
-  kind-number-reads.Asked,
-  kind-number-reads.Learnt,
-  operand-reads.Asked,
-  operand-reads.Learnt,
-  first-part-reads.Asked,
-  first-part-reads.Learnt,
-  second-part-reads.Asked,
-  second-part-reads.Learnt,
-  write-nodes-below t,
-  write-nodes.Post,
-) (write-nodes-at t) write-nodes.Post
+write-nodes-first-part-requires : (t : ℕ) → write-nodes-lts.Need-first-part-requires (callees t) (write-nodes-at t) write-nodes.Post
 write-nodes-first-part-requires t c κs = search needs
 
-write-nodes-second-part-requires : (t : ℕ) → write-nodes-lts.Need-second-part-requires (
-  choose-reads.Asked,
-  choose-reads.Learnt,
-  kind-number-reads.Asked,
-  kind-number-reads.Learnt,
-  operand-reads.Asked,
-  operand-reads.Learnt,
-  first-part-reads.Asked,
-  first-part-reads.Learnt,
-  second-part-reads.Asked,
-  second-part-reads.Learnt,
-  write-nodes-below t,
-  write-nodes.Post,
-) (write-nodes-at t) write-nodes.Post
-write-nodes-second-part-requires t c κs = cut-position _ (c .before .before .before .before .before .before .before .before .before .before .before .before .before .args .klengths .now) (c .before .before .before .before .before .before .before .before .before .before .before .before .before .args .kwidths .now) (c .before .before .before .before .before .before .before .before .before .before .before .before .before .args .prices .now) (c .before .before .before .before .before .before .before .before .before .before .before .before .before .pre .1 .0) (c .before .before .before .before .before .before .before .before .before .before .before .before .before .pre .1 .1) (c .before .before .before .before .before .before .choose .ensures) (c .before .before .node .given .1) .0
+write-nodes-second-part-requires : (t : ℕ) → write-nodes-lts.Need-second-part-requires (callees t) (write-nodes-at t) write-nodes.Post
+write-nodes-second-part-requires t c κs = cut-position (c .before .before .before .before .before .before .before .before .before .before .before .before .before .pre .1 .0) (c .before .before .before .before .before .before .before .before .before .before .before .before .before .pre .1 .1) (c .before .before .before .before .before .before .choose .ensures) (c .before .before .node .given .1) .0
 
-write-nodes-write-nodes-requires : (t : ℕ) → write-nodes-lts.Need-write-nodes-requires (
-  choose-reads.Asked,
-  choose-reads.Learnt,
-  kind-number-reads.Asked,
-  kind-number-reads.Learnt,
-  operand-reads.Asked,
-  operand-reads.Learnt,
-  first-part-reads.Asked,
-  first-part-reads.Learnt,
-  second-part-reads.Asked,
-  second-part-reads.Learnt,
-  write-nodes-below t,
-  write-nodes.Post,
-) (write-nodes-at t) write-nodes.Post
+write-nodes-write-nodes-requires : (t : ℕ) → write-nodes-lts.Need-write-nodes-requires (callees t) (write-nodes-at t) write-nodes.Post
 write-nodes-write-nodes-requires t c κs =
-    let p = cut-parts _ (c .before .before .before .before .before .before .before .before .before .before .before .before .before .before .before .before .args .klengths .now) (c .before .before .before .before .before .before .before .before .before .before .before .before .before .before .before .before .args .kwidths .now) (c .before .before .before .before .before .before .before .before .before .before .before .before .before .before .before .before .args .prices .now) (c .before .before .before .before .before .before .before .before .before .before .before .before .before .before .before .before .pre .1 .0) (c .before .before .before .before .before .before .before .before .before .before .before .before .before .before .before .before .pre .1 .1) (c .before .before .before .before .before .before .before .before .before .choose .ensures) (c .before .before .before .before .before .node .given .1) (c .before .before .before .first-part .ensures) (c .before .before .second-part .ensures) in
-    let n = cut-count _ (c .before .before .before .before .before .before .before .before .before .before .before .before .before .before .before .before .args .klengths .now) (c .before .before .before .before .before .before .before .before .before .before .before .before .before .before .before .before .args .kwidths .now) (c .before .before .before .before .before .before .before .before .before .before .before .before .before .before .before .before .args .prices .now) (c .before .before .before .before .before .before .before .before .before .before .before .before .before .before .before .before .pre .1 .0) (c .before .before .before .before .before .before .before .before .before .before .before .before .before .before .before .before .pre .1 .1) (c .before .before .before .before .before .before .before .before .before .choose .ensures) (c .before .before .before .before .before .node .given .1) (c .before .before .before .first-part .ensures) (c .before .before .second-part .ensures) in
+    let p = cut-parts (c .before .before .before .before .before .before .before .before .before .before .before .before .before .before .before .before .pre .1 .0) (c .before .before .before .before .before .before .before .before .before .before .before .before .before .before .before .before .pre .1 .1) (c .before .before .before .before .before .before .before .before .before .choose .ensures) (c .before .before .before .before .before .node .given .1) (c .before .before .before .first-part .ensures) (c .before .before .second-part .ensures) in
+    let n = cut-count (c .before .before .before .before .before .before .before .before .before .before .before .before .before .before .before .before .pre .1 .0) (c .before .before .before .before .before .before .before .before .before .before .before .before .before .before .before .before .pre .1 .1) (c .before .before .before .before .before .before .before .before .before .choose .ensures) (c .before .before .before .before .before .node .given .1) (c .before .before .before .first-part .ensures) (c .before .before .second-part .ensures) in
     (omega (arith, p .first-less, c .before .before .before .before .before .before .before .before .before .before .before .before .before .before .before .before .pre .0), (c .before .before .before .before .before .before .before .before .before .before .before .before .before .before .before .before .pre .1 .0, p .first-cell, simp length-set (omega (arith, n, c .before .before .before .before .before .before .before .before .before .before .before .before .before .before .before .before .pre .1 .2)), simp length-set (omega (arith, n, c .before .before .before .before .before .before .before .before .before .before .before .before .before .before .before .before .pre .1 .3))))
 
-write-nodes-sub-write-nodes : (t : ℕ) → write-nodes-lts.Need-sub-write-nodes (
-  choose-reads.Asked,
-  choose-reads.Learnt,
-  kind-number-reads.Asked,
-  kind-number-reads.Learnt,
-  operand-reads.Asked,
-  operand-reads.Learnt,
-  first-part-reads.Asked,
-  first-part-reads.Learnt,
-  second-part-reads.Asked,
-  second-part-reads.Learnt,
-  write-nodes-below t,
-  write-nodes.Post,
-) (write-nodes-at t) write-nodes.Post
-write-nodes-sub-write-nodes t c = cut-position _ (c .before .before .before .before .before .before .before .before .before .before .before .before .before .before .before .before .before .before .before .before .before .args .klengths .now) (c .before .before .before .before .before .before .before .before .before .before .before .before .before .before .before .before .before .before .before .before .before .args .kwidths .now) (c .before .before .before .before .before .before .before .before .before .before .before .before .before .before .before .before .before .before .before .before .before .args .prices .now) (c .before .before .before .before .before .before .before .before .before .before .before .before .before .before .before .before .before .before .before .before .before .pre .1 .0) (c .before .before .before .before .before .before .before .before .before .before .before .before .before .before .before .before .before .before .before .before .before .pre .1 .1) (c .before .before .before .before .before .before .before .before .before .before .before .before .before .before .choose .ensures) (c .before .before .before .before .before .before .before .before .before .before .node .given .1) .1
+write-nodes-sub-write-nodes : (t : ℕ) → write-nodes-lts.Need-sub-write-nodes (callees t) (write-nodes-at t) write-nodes.Post
+write-nodes-sub-write-nodes t c = cut-position (c .before .before .before .before .before .before .before .before .before .before .before .before .before .before .before .before .before .before .before .before .before .pre .1 .0) (c .before .before .before .before .before .before .before .before .before .before .before .before .before .before .before .before .before .before .before .before .before .pre .1 .1) (c .before .before .before .before .before .before .before .before .before .before .before .before .before .before .choose .ensures) (c .before .before .before .before .before .before .before .before .before .before .node .given .1) .1
 
-write-nodes-write-nodes-requires-2 : (t : ℕ) → write-nodes-lts.Need-write-nodes-requires-2 (
-  choose-reads.Asked,
-  choose-reads.Learnt,
-  kind-number-reads.Asked,
-  kind-number-reads.Learnt,
-  operand-reads.Asked,
-  operand-reads.Learnt,
-  first-part-reads.Asked,
-  first-part-reads.Learnt,
-  second-part-reads.Asked,
-  second-part-reads.Learnt,
-  write-nodes-below t,
-  write-nodes.Post,
-) (write-nodes-at t) write-nodes.Post
+write-nodes-write-nodes-requires-2 : (t : ℕ) → write-nodes-lts.Need-write-nodes-requires-2 (callees t) (write-nodes-at t) write-nodes.Post
 write-nodes-write-nodes-requires-2 t c κs =
-    let p = cut-parts _ (c .before .before .before .before .before .before .before .before .before .before .before .before .before .before .before .before .before .before .before .before .before .before .before .args .klengths .now) (c .before .before .before .before .before .before .before .before .before .before .before .before .before .before .before .before .before .before .before .before .before .before .before .args .kwidths .now) (c .before .before .before .before .before .before .before .before .before .before .before .before .before .before .before .before .before .before .before .before .before .before .before .args .prices .now) (c .before .before .before .before .before .before .before .before .before .before .before .before .before .before .before .before .before .before .before .before .before .before .before .pre .1 .0) (c .before .before .before .before .before .before .before .before .before .before .before .before .before .before .before .before .before .before .before .before .before .before .before .pre .1 .1) (c .before .before .before .before .before .before .before .before .before .before .before .before .before .before .before .before .choose .ensures) (c .before .before .before .before .before .before .before .before .before .before .before .before .node .given .1) (c .before .before .before .before .before .before .before .before .before .before .first-part .ensures) (c .before .before .before .before .before .before .before .before .before .second-part .ensures) in
-    let n = cut-count _ (c .before .before .before .before .before .before .before .before .before .before .before .before .before .before .before .before .before .before .before .before .before .before .before .args .klengths .now) (c .before .before .before .before .before .before .before .before .before .before .before .before .before .before .before .before .before .before .before .before .before .before .before .args .kwidths .now) (c .before .before .before .before .before .before .before .before .before .before .before .before .before .before .before .before .before .before .before .before .before .before .before .args .prices .now) (c .before .before .before .before .before .before .before .before .before .before .before .before .before .before .before .before .before .before .before .before .before .before .before .pre .1 .0) (c .before .before .before .before .before .before .before .before .before .before .before .before .before .before .before .before .before .before .before .before .before .before .before .pre .1 .1) (c .before .before .before .before .before .before .before .before .before .before .before .before .before .before .before .before .choose .ensures) (c .before .before .before .before .before .before .before .before .before .before .before .before .node .given .1) (c .before .before .before .before .before .before .before .before .before .before .first-part .ensures) (c .before .before .before .before .before .before .before .before .before .second-part .ensures) in (
+    let p = cut-parts (c .before .before .before .before .before .before .before .before .before .before .before .before .before .before .before .before .before .before .before .before .before .before .before .pre .1 .0) (c .before .before .before .before .before .before .before .before .before .before .before .before .before .before .before .before .before .before .before .before .before .before .before .pre .1 .1) (c .before .before .before .before .before .before .before .before .before .before .before .before .before .before .before .before .choose .ensures) (c .before .before .before .before .before .before .before .before .before .before .before .before .node .given .1) (c .before .before .before .before .before .before .before .before .before .before .first-part .ensures) (c .before .before .before .before .before .before .before .before .before .second-part .ensures) in
+    let n = cut-count (c .before .before .before .before .before .before .before .before .before .before .before .before .before .before .before .before .before .before .before .before .before .before .before .pre .1 .0) (c .before .before .before .before .before .before .before .before .before .before .before .before .before .before .before .before .before .before .before .before .before .before .before .pre .1 .1) (c .before .before .before .before .before .before .before .before .before .before .before .before .before .before .before .before .choose .ensures) (c .before .before .before .before .before .before .before .before .before .before .before .before .node .given .1) (c .before .before .before .before .before .before .before .before .before .before .first-part .ensures) (c .before .before .before .before .before .before .before .before .before .second-part .ensures) in (
       omega (arith, p .second-less, c .before .before .before .before .before .before .before .before .before .before .before .before .before .before .before .before .before .before .before .before .before .before .before .pre .0),
       (
         c .before .before .before .before .before .before .before .before .before .before .before .before .before .before .before .before .before .before .before .before .before .before .before .pre .1 .0,
@@ -284,178 +106,48 @@ write-nodes-write-nodes-requires-2 t c κs =
       ),
     )
 
-write-nodes-same-length : (t : ℕ) → write-nodes-lts.Need-same-length (
-  choose-reads.Asked,
-  choose-reads.Learnt,
-  kind-number-reads.Asked,
-  kind-number-reads.Learnt,
-  operand-reads.Asked,
-  operand-reads.Learnt,
-  first-part-reads.Asked,
-  first-part-reads.Learnt,
-  second-part-reads.Asked,
-  second-part-reads.Learnt,
-  write-nodes-below t,
-  write-nodes.Post,
-) (write-nodes-at t) write-nodes.Post
+write-nodes-same-length : (t : ℕ) → write-nodes-lts.Need-same-length (callees t) (write-nodes-at t) write-nodes.Post
 write-nodes-same-length t c = simp length-set
 
-write-nodes-same-length-2 : (t : ℕ) → write-nodes-lts.Need-same-length-2 (
-  choose-reads.Asked,
-  choose-reads.Learnt,
-  kind-number-reads.Asked,
-  kind-number-reads.Learnt,
-  operand-reads.Asked,
-  operand-reads.Learnt,
-  first-part-reads.Asked,
-  first-part-reads.Learnt,
-  second-part-reads.Asked,
-  second-part-reads.Learnt,
-  write-nodes-below t,
-  write-nodes.Post,
-) (write-nodes-at t) write-nodes.Post
+write-nodes-same-length-2 : (t : ℕ) → write-nodes-lts.Need-same-length-2 (callees t) (write-nodes-at t) write-nodes.Post
 write-nodes-same-length-2 t c = simp length-set
 
-write-nodes-returns : (t : ℕ) → write-nodes-lts.Need-returns (
-  choose-reads.Asked,
-  choose-reads.Learnt,
-  kind-number-reads.Asked,
-  kind-number-reads.Learnt,
-  operand-reads.Asked,
-  operand-reads.Learnt,
-  first-part-reads.Asked,
-  first-part-reads.Learnt,
-  second-part-reads.Asked,
-  second-part-reads.Learnt,
-  write-nodes-below t,
-  write-nodes.Post,
-) (write-nodes-at t) write-nodes.Post
+write-nodes-returns : (t : ℕ) → write-nodes-lts.Need-returns (callees t) (write-nodes-at t) write-nodes.Post
 write-nodes-returns t c = (
-  omega (arith, waste-count _ (c .before .before .before .before .before .before .before .before .before .before .before .args .klengths .now) (c .before .before .before .before .before .before .before .before .before .before .before .args .kwidths .now) (c .before .before .before .before .before .before .before .before .before .before .before .args .prices .now) (c .before .before .before .before .before .before .before .before .before .before .before .pre .1 .0) (c .before .before .before .before .before .before .before .before .before .before .before .pre .1 .1) (c .before .before .before .before .choose .ensures) (c .enum-told .given .1)),
-  leaf-kinds _ _ _ _ (c .before .before .before .kind-number .ensures) (waste-preorder _ (c .before .before .before .before .before .before .before .before .before .before .before .args .klengths .now) (c .before .before .before .before .before .before .before .before .before .before .before .args .kwidths .now) (c .before .before .before .before .before .before .before .before .before .before .before .args .prices .now) (c .before .before .before .before .before .before .before .before .before .before .before .pre .1 .0) (c .before .before .before .before .before .before .before .before .before .before .before .pre .1 .1) (c .before .before .before .before .choose .ensures) (c .enum-told .given .1)),
-  leaf-operands _ _ _ _ (c .before .before .operand .ensures) (waste-preorder _ (c .before .before .before .before .before .before .before .before .before .before .before .args .klengths .now) (c .before .before .before .before .before .before .before .before .before .before .before .args .kwidths .now) (c .before .before .before .before .before .before .before .before .before .before .before .args .prices .now) (c .before .before .before .before .before .before .before .before .before .before .before .pre .1 .0) (c .before .before .before .before .before .before .before .before .before .before .before .pre .1 .1) (c .before .before .before .before .choose .ensures) (c .enum-told .given .1)),
+  omega (arith, waste-count (c .before .before .before .before .before .before .before .before .before .before .before .pre .1 .0) (c .before .before .before .before .before .before .before .before .before .before .before .pre .1 .1) (c .before .before .before .before .choose .ensures) (c .enum-told .given .1)),
+  leaf-kinds _ _ _ _ (c .before .before .before .kind-number .ensures) (waste-preorder (c .before .before .before .before .before .before .before .before .before .before .before .pre .1 .0) (c .before .before .before .before .before .before .before .before .before .before .before .pre .1 .1) (c .before .before .before .before .choose .ensures) (c .enum-told .given .1)),
+  leaf-operands _ _ _ _ (c .before .before .operand .ensures) (waste-preorder (c .before .before .before .before .before .before .before .before .before .before .before .pre .1 .0) (c .before .before .before .before .before .before .before .before .before .before .before .pre .1 .1) (c .before .before .before .before .choose .ensures) (c .enum-told .given .1)),
 )
 
-write-nodes-same-length-3 : (t : ℕ) → write-nodes-lts.Need-same-length-3 (
-  choose-reads.Asked,
-  choose-reads.Learnt,
-  kind-number-reads.Asked,
-  kind-number-reads.Learnt,
-  operand-reads.Asked,
-  operand-reads.Learnt,
-  first-part-reads.Asked,
-  first-part-reads.Learnt,
-  second-part-reads.Asked,
-  second-part-reads.Learnt,
-  write-nodes-below t,
-  write-nodes.Post,
-) (write-nodes-at t) write-nodes.Post
+write-nodes-same-length-3 : (t : ℕ) → write-nodes-lts.Need-same-length-3 (callees t) (write-nodes-at t) write-nodes.Post
 write-nodes-same-length-3 t c = simp length-set
 
-write-nodes-same-length-4 : (t : ℕ) → write-nodes-lts.Need-same-length-4 (
-  choose-reads.Asked,
-  choose-reads.Learnt,
-  kind-number-reads.Asked,
-  kind-number-reads.Learnt,
-  operand-reads.Asked,
-  operand-reads.Learnt,
-  first-part-reads.Asked,
-  first-part-reads.Learnt,
-  second-part-reads.Asked,
-  second-part-reads.Learnt,
-  write-nodes-below t,
-  write-nodes.Post,
-) (write-nodes-at t) write-nodes.Post
+write-nodes-same-length-4 : (t : ℕ) → write-nodes-lts.Need-same-length-4 (callees t) (write-nodes-at t) write-nodes.Post
 write-nodes-same-length-4 t c = simp length-set
 
-write-nodes-returns-2 : (t : ℕ) → write-nodes-lts.Need-returns-2 (
-  choose-reads.Asked,
-  choose-reads.Learnt,
-  kind-number-reads.Asked,
-  kind-number-reads.Learnt,
-  operand-reads.Asked,
-  operand-reads.Learnt,
-  first-part-reads.Asked,
-  first-part-reads.Learnt,
-  second-part-reads.Asked,
-  second-part-reads.Learnt,
-  write-nodes-below t,
-  write-nodes.Post,
-) (write-nodes-at t) write-nodes.Post
+write-nodes-returns-2 : (t : ℕ) → write-nodes-lts.Need-returns-2 (callees t) (write-nodes-at t) write-nodes.Post
 write-nodes-returns-2 t c = (
-  omega (arith, piece-count _ (c .before .before .before .before .before .before .before .before .before .before .before .args .klengths .now) (c .before .before .before .before .before .before .before .before .before .before .before .args .kwidths .now) (c .before .before .before .before .before .before .before .before .before .before .before .args .prices .now) (c .before .before .before .before .before .before .before .before .before .before .before .pre .1 .0) (c .before .before .before .before .before .before .before .before .before .before .before .pre .1 .1) (c .before .before .before .before .choose .ensures) _ (c .enum-told2 .given .1)),
-  leaf-kinds _ _ _ _ (c .before .before .before .kind-number .ensures) (piece-preorder _ (c .before .before .before .before .before .before .before .before .before .before .before .args .klengths .now) (c .before .before .before .before .before .before .before .before .before .before .before .args .kwidths .now) (c .before .before .before .before .before .before .before .before .before .before .before .args .prices .now) (c .before .before .before .before .before .before .before .before .before .before .before .pre .1 .0) (c .before .before .before .before .before .before .before .before .before .before .before .pre .1 .1) (c .before .before .before .before .choose .ensures) _ (c .enum-told2 .given .1)),
-  leaf-operands _ _ _ _ (c .before .before .operand .ensures) (piece-preorder _ (c .before .before .before .before .before .before .before .before .before .before .before .args .klengths .now) (c .before .before .before .before .before .before .before .before .before .before .before .args .kwidths .now) (c .before .before .before .before .before .before .before .before .before .before .before .args .prices .now) (c .before .before .before .before .before .before .before .before .before .before .before .pre .1 .0) (c .before .before .before .before .before .before .before .before .before .before .before .pre .1 .1) (c .before .before .before .before .choose .ensures) _ (c .enum-told2 .given .1)),
+  omega (arith, piece-count (c .before .before .before .before .before .before .before .before .before .before .before .pre .1 .0) (c .before .before .before .before .before .before .before .before .before .before .before .pre .1 .1) (c .before .before .before .before .choose .ensures) _ (c .enum-told2 .given .1)),
+  leaf-kinds _ _ _ _ (c .before .before .before .kind-number .ensures) (piece-preorder (c .before .before .before .before .before .before .before .before .before .before .before .pre .1 .0) (c .before .before .before .before .before .before .before .before .before .before .before .pre .1 .1) (c .before .before .before .before .choose .ensures) _ (c .enum-told2 .given .1)),
+  leaf-operands _ _ _ _ (c .before .before .operand .ensures) (piece-preorder (c .before .before .before .before .before .before .before .before .before .before .before .pre .1 .0) (c .before .before .before .before .before .before .before .before .before .before .before .pre .1 .1) (c .before .before .before .before .choose .ensures) _ (c .enum-told2 .given .1)),
 )
 
-write-nodes-same-length-5 : (t : ℕ) → write-nodes-lts.Need-same-length-5 (
-  choose-reads.Asked,
-  choose-reads.Learnt,
-  kind-number-reads.Asked,
-  kind-number-reads.Learnt,
-  operand-reads.Asked,
-  operand-reads.Learnt,
-  first-part-reads.Asked,
-  first-part-reads.Learnt,
-  second-part-reads.Asked,
-  second-part-reads.Learnt,
-  write-nodes-below t,
-  write-nodes.Post,
-) (write-nodes-at t) write-nodes.Post
+write-nodes-same-length-5 : (t : ℕ) → write-nodes-lts.Need-same-length-5 (callees t) (write-nodes-at t) write-nodes.Post
 write-nodes-same-length-5 t c = c .before .before .before .before .write-nodes2 .kept .1 .1 .1 .0 ∙ c .before .before .before .before .before .before .before .before .before .before .before .write-nodes .kept .1 .1 .1 .0 ∙ length-set (c .before .before .before .before .before .before .before .before .before .before .before .before .before .before .before .before .before .before .before .before .before .before .before .before .before .before .before .before .args .kinds .now) (c .before .before .before .before .before .before .before .before .before .before .before .before .before .before .before .before .before .before .before .before .before .before .before .before .before .before .before .before .args .at) (c .before .before .before .before .before .before .before .before .before .before .before .before .before .before .before .before .before .before .before .before .kind-number .result)
 
-write-nodes-same-length-6 : (t : ℕ) → write-nodes-lts.Need-same-length-6 (
-  choose-reads.Asked,
-  choose-reads.Learnt,
-  kind-number-reads.Asked,
-  kind-number-reads.Learnt,
-  operand-reads.Asked,
-  operand-reads.Learnt,
-  first-part-reads.Asked,
-  first-part-reads.Learnt,
-  second-part-reads.Asked,
-  second-part-reads.Learnt,
-  write-nodes-below t,
-  write-nodes.Post,
-) (write-nodes-at t) write-nodes.Post
+write-nodes-same-length-6 : (t : ℕ) → write-nodes-lts.Need-same-length-6 (callees t) (write-nodes-at t) write-nodes.Post
 write-nodes-same-length-6 t c = c .before .before .before .before .write-nodes2 .kept .1 .1 .1 .1 .0 ∙ c .before .before .before .before .before .before .before .before .before .before .before .write-nodes .kept .1 .1 .1 .1 .0 ∙ length-set (c .before .before .before .before .before .before .before .before .before .before .before .before .before .before .before .before .before .before .before .before .before .before .before .before .before .before .before .before .args .operands .now) (c .before .before .before .before .before .before .before .before .before .before .before .before .before .before .before .before .before .before .before .before .before .before .before .before .before .before .before .before .args .at) (c .before .before .before .before .before .before .before .before .before .before .before .before .before .before .before .before .before .before .before .operand .result)
 
-write-nodes-returns-3 : (t : ℕ) → write-nodes-lts.Need-returns-3 (
-  choose-reads.Asked,
-  choose-reads.Learnt,
-  kind-number-reads.Asked,
-  kind-number-reads.Learnt,
-  operand-reads.Asked,
-  operand-reads.Learnt,
-  first-part-reads.Asked,
-  first-part-reads.Learnt,
-  second-part-reads.Asked,
-  second-part-reads.Learnt,
-  write-nodes-below t,
-  write-nodes.Post,
-) (write-nodes-at t) write-nodes.Post
+write-nodes-returns-3 : (t : ℕ) → write-nodes-lts.Need-returns-3 (callees t) (write-nodes-at t) write-nodes.Post
 write-nodes-returns-3 t c =
-    let e = cut-preorder _ (c .before .before .before .before .before .before .before .before .before .before .before .before .before .before .before .before .before .before .before .before .before .before .before .before .before .before .before .before .args .klengths .now) (c .before .before .before .before .before .before .before .before .before .before .before .before .before .before .before .before .before .before .before .before .before .before .before .before .before .before .before .before .args .kwidths .now) (c .before .before .before .before .before .before .before .before .before .before .before .before .before .before .before .before .before .before .before .before .before .before .before .before .before .before .before .before .args .prices .now) (c .before .before .before .before .before .before .before .before .before .before .before .before .before .before .before .before .before .before .before .before .before .before .before .before .before .before .before .before .pre .1 .0) (c .before .before .before .before .before .before .before .before .before .before .before .before .before .before .before .before .before .before .before .before .before .before .before .before .before .before .before .before .pre .1 .1) (c .before .before .before .before .before .before .before .before .before .before .before .before .before .before .before .before .before .before .before .before .before .choose .ensures) (c .before .before .before .before .before .before .before .before .before .before .before .before .before .before .before .before .before .node .given .1) (c .before .before .before .before .before .before .before .before .before .before .before .before .before .before .before .first-part .ensures) (c .before .before .before .before .before .before .before .before .before .before .before .before .before .before .second-part .ensures) in (
-      omega (arith, cut-count _ (c .before .before .before .before .before .before .before .before .before .before .before .before .before .before .before .before .before .before .before .before .before .before .before .before .before .before .before .before .args .klengths .now) (c .before .before .before .before .before .before .before .before .before .before .before .before .before .before .before .before .before .before .before .before .before .before .before .before .before .before .before .before .args .kwidths .now) (c .before .before .before .before .before .before .before .before .before .before .before .before .before .before .before .before .before .before .before .before .before .before .before .before .before .before .before .before .args .prices .now) (c .before .before .before .before .before .before .before .before .before .before .before .before .before .before .before .before .before .before .before .before .before .before .before .before .before .before .before .before .pre .1 .0) (c .before .before .before .before .before .before .before .before .before .before .before .before .before .before .before .before .before .before .before .before .before .before .before .before .before .before .before .before .pre .1 .1) (c .before .before .before .before .before .before .before .before .before .before .before .before .before .before .before .before .before .before .before .before .before .choose .ensures) (c .before .before .before .before .before .before .before .before .before .before .before .before .before .before .before .before .before .node .given .1) (c .before .before .before .before .before .before .before .before .before .before .before .before .before .before .before .first-part .ensures) (c .before .before .before .before .before .before .before .before .before .before .before .before .before .before .second-part .ensures), c .before .before .before .before .write-nodes2 .ensures .0, c .before .before .before .before .before .before .before .before .before .before .before .write-nodes .ensures .0),
+    let e = cut-preorder (c .before .before .before .before .before .before .before .before .before .before .before .before .before .before .before .before .before .before .before .before .before .before .before .before .before .before .before .before .pre .1 .0) (c .before .before .before .before .before .before .before .before .before .before .before .before .before .before .before .before .before .before .before .before .before .before .before .before .before .before .before .before .pre .1 .1) (c .before .before .before .before .before .before .before .before .before .before .before .before .before .before .before .before .before .before .before .before .before .choose .ensures) (c .before .before .before .before .before .before .before .before .before .before .before .before .before .before .before .before .before .node .given .1) (c .before .before .before .before .before .before .before .before .before .before .before .before .before .before .before .first-part .ensures) (c .before .before .before .before .before .before .before .before .before .before .before .before .before .before .second-part .ensures) in (
+      omega (arith, cut-count (c .before .before .before .before .before .before .before .before .before .before .before .before .before .before .before .before .before .before .before .before .before .before .before .before .before .before .before .before .pre .1 .0) (c .before .before .before .before .before .before .before .before .before .before .before .before .before .before .before .before .before .before .before .before .before .before .before .before .before .before .before .before .pre .1 .1) (c .before .before .before .before .before .before .before .before .before .before .before .before .before .before .before .before .before .before .before .before .before .choose .ensures) (c .before .before .before .before .before .before .before .before .before .before .before .before .before .before .before .before .before .node .given .1) (c .before .before .before .before .before .before .before .before .before .before .before .before .before .before .before .first-part .ensures) (c .before .before .before .before .before .before .before .before .before .before .before .before .before .before .second-part .ensures), c .before .before .before .before .write-nodes2 .ensures .0, c .before .before .before .before .before .before .before .before .before .before .before .write-nodes .ensures .0),
       cut-kinds _ _ _ _ _ _ e (c .before .before .before .before .before .before .before .before .before .before .before .write-nodes .ensures .0) (c .before .before .before .before .before .before .before .before .before .before .before .before .before .before .before .before .before .before .before .before .kind-number .ensures) (c .before .before .before .before .before .before .before .before .before .before .before .write-nodes .ensures .1) (c .before .before .before .before .write-nodes2 .ensures .1),
       cut-operands _ _ _ _ _ _ e (c .before .before .before .before .before .before .before .before .before .before .before .write-nodes .ensures .0) (c .before .before .before .before .before .before .before .before .before .before .before .before .before .before .before .before .before .before .before .operand .ensures) (c .before .before .before .before .before .before .before .before .before .before .before .write-nodes .ensures .2) (c .before .before .before .before .write-nodes2 .ensures .2),
     )
 
 pub +write-nodes-spec : {M : Type 1} → statement M
-+write-nodes-spec = close μ-write-nodes λ t. write-nodes-lts.spec (
-  choose-reads.Asked,
-  choose-reads.Learnt,
-  kind-number-reads.Asked,
-  kind-number-reads.Learnt,
-  operand-reads.Asked,
-  operand-reads.Learnt,
-  first-part-reads.Asked,
-  first-part-reads.Learnt,
-  second-part-reads.Asked,
-  second-part-reads.Learnt,
-  write-nodes-below t,
-  write-nodes.Post,
-)
++write-nodes-spec = close μ-write-nodes λ t. write-nodes-lts.spec (callees t)
     (write-nodes-at t)
     write-nodes.Post
     (write-nodes-choose-requires t)
