@@ -3,3 +3,4 @@ pub mod Rows
 pub mod Choice
 pub mod Preorder
 pub mod Plan
+pub mod Write

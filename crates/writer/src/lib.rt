@@ -1,17 +1,27 @@
 // The plan behind the bound, written from a filled table: the choice at a rectangle and a share, the number of the plan's nodes, and
 // its preorder into two lent arrays. Counting and writing share one choice; the job's arrays are lent, so that a frame of the recursion
 // holds references and small numbers.
+use bound::BoundReport;
 use cutting::Direction;
 use cutting::Node;
+use job::JobRecord;
+use positions::floor_map;
+use refusal::Refusal;
 ghost use mathlib.Core.Path.{_≡_};
+ghost use mathlib.Core.Bool.{_||_};
 ghost use Prim.Native.Nat.{ℕ, _+_, _-_, _≤_, _<_};
+ghost use lib.Dec.{ltb};
 ghost use lib.ListN.{length};
 ghost use lib.Seq.{sets};
 ghost use Rattle.cutting.specs.Lists.{range, first};
 ghost use Rattle.cutting.specs.Tree.{side, part};
 ghost use Rattle.cutting.specs.Preorder.{kind-of, operand-of, kinds-of, operands-of, node-count};
+ghost use Rattle.job.specs.Block.{job-of};
+ghost use Rattle.job.specs.Weights.{weight-in};
+ghost use Rattle.bound.specs.Bound.{report-of};
 ghost use Rattle.writer.specs.Search.{earns-alone, kind-test, kind-found, first-index, cut-found, Searchable};
 ghost use Rattle.writer.specs.Plan.{Lent, Cell, chosen-at, plan-at, sides-of};
+ghost use Rattle.writer.specs.Write.{Filled, Planned};
 
 // What a search over the kinds found.
 pub enum KindFound {
@@ -44,6 +54,21 @@ pub struct Dimensions {
     pub count: u16,
     pub columns: u16,
     pub capacity: u16,
+}
+
+// What the writing call reports: what the bound call does, and the number of the plan's nodes.
+pub struct WriteReport {
+    pub bound: u64,
+    pub capacity: u16,
+    pub lengths: u16,
+    pub widths: u16,
+    pub nodes: u64,
+}
+
+// What the writing call answers.
+pub enum WriteAnswer {
+    Written(WriteReport),
+    Refused(Refusal),
 }
 
 // A number as an index.
@@ -448,4 +473,89 @@ pub fn write_nodes(
             )
         }
     }
+}
+
+// Whether a plan needs above 4,095 nodes, or more than an array of m or of n entries holds.
+fn too_long(nodes: u64, m: usize, n: usize) -> bool
+    ensures { λ r. ⌜ r ≡ (ltb 4095 nodes || ltb m nodes) || ltb n nodes ⌝ }
+{
+    if 4095 < nodes {
+        return true;
+    }
+    if (m as u64) < nodes {
+        return true;
+    }
+    (n as u64) < nodes
+}
+
+// The plan of a job whose lists and table are filled: refusal 21 with the nodes needed, or the plan in preorder.
+pub fn plan_of_job(
+    job: JobRecord,
+    weights: &[u8],
+    report: BoundReport,
+    lengths: &[u16],
+    widths: &[u16],
+    table: &[u64],
+    kinds: &mut [u8],
+    operands: &mut [u16],
+) -> WriteAnswer
+    requires { ⌜ Filled (job-of job) (now weights) (now lengths) (now widths) (now table) × (report ≡ report-of (job-of job) (weight-in (now weights))) ⌝ }
+    ensures { λ r. ⌜ Planned (job-of job) (weight-in (now (weights .entry))) (now (kinds .entry)) (now (operands .entry)) (now (kinds .exit)) (now (operands .exit)) r ⌝ }
+{
+    let klengths = job.lengths;
+    let kwidths = job.widths;
+    let prices = job.prices;
+    let lengthmap = floor_map(lengths, report.lengths, job.length);
+    let widthmap = floor_map(widths, report.widths, job.width);
+    let q = report.capacity;
+    let g = Dimensions {
+        length: job.length,
+        width: job.width,
+        count: job.count,
+        columns: report.widths,
+        capacity: q,
+    };
+    let nodes = count_nodes(
+        job.length,
+        job.width,
+        q,
+        g,
+        &klengths,
+        &kwidths,
+        &prices,
+        weights,
+        lengths,
+        widths,
+        &lengthmap,
+        &widthmap,
+        table,
+    );
+    if too_long(nodes, kinds.len(), operands.len()) {
+        return WriteAnswer::Refused(Refusal::PlanLong(nodes));
+    }
+    write_nodes(
+        job.length,
+        job.width,
+        q,
+        kinds,
+        operands,
+        0,
+        g,
+        &klengths,
+        &kwidths,
+        &prices,
+        weights,
+        lengths,
+        widths,
+        &lengthmap,
+        &widthmap,
+        table,
+    );
+    WriteAnswer::Written(WriteReport {
+        bound: report.bound,
+        capacity: q,
+        lengths: report.lengths,
+        widths: report.widths,
+        nodes: nodes,
+    })
 }

@@ -1,0 +1,71 @@
+-- The writing call: check 21, its answer with the paper's number and values, and what it leaves in the plan arrays.
+-- Assumes nothing.
+use mathlib.Core.Path.{_≡_}
+use mathlib.Core.Bool.{_||_}
+use mathlib.Core.List.{List, [], _∷_}
+use Prim.Native.Nat.{ℕ, _≤_}
+use lib.Dec.{ltb}
+use lib.ListN.{length}
+use Rattle.cutting.specs.declared.Direction.the-variants.{Length, Width}
+use Rattle.cutting.specs.Tree.{Tree}
+use Rattle.cutting.specs.Preorder.{kinds-of, operands-of, node-count}
+use Rattle.cutting.specs.Job.{Job, InRange, OnPlate, profit, weight-of, capacity, bound-of, plan-of}
+use Rattle.refusal.specs.Refusals.{Check, Outcome, first-refusal, refused-as}
+use Rattle.refusal.specs.declared.Checked.{Checked}
+use Rattle.refusal.specs.declared.Checked.the-variants.{Passed, Refused}
+use Rattle.refusal.specs.declared.Refusal.the-variants.{PlanLong}
+use Rattle.job.specs.Weights.{weight-in}
+use Rattle.table.specs.Table.{position-count, words-needed, Figures}
+use Rattle.bound.specs.Bound.{list-after}
+use Rattle.writer.specs.Plan.{Listed}
+use Rattle.writer.specs.declared.WriteReport.{WriteReport}
+use Rattle.writer.specs.declared.WriteAnswer.{WriteAnswer}
+use Rattle.writer.specs.declared.WriteAnswer.the-variants as answer
+
+-- the plan behind the bound: from the plate and the capacity downward
+abbrev pub bound-plan : Job → (ℕ → ℕ) → Tree ℕ
+bound-plan J weight = plan-of J weight (J .plate .0) (J .plate .1) (capacity J weight)
+
+-- check 21: the plan needs above 4,095 nodes, or more than an array of m or of n entries holds, with the nodes needed
+abbrev pub plan-check : Tree ℕ → ℕ → ℕ → Check
+plan-check t m n = ((ltb 4095 (node-count t) || ltb m (node-count t)) || ltb n (node-count t), PlanLong (node-count t))
+
+-- what the writing call reports of a job and weights: the bound, Q, p, r and the node count
+abbrev pub report-of : Job → (ℕ → ℕ) → WriteReport
+report-of J weight = record {
+  bound = bound-of J weight;
+  capacity = capacity J weight;
+  lengths = position-count J Length;
+  widths = position-count J Width;
+  nodes = node-count (bound-plan J weight);
+}
+
+-- the report, or the refusal
+abbrev pub answer-by : Checked → WriteReport → WriteAnswer
+answer-by Passed b = answer.Written b
+answer-by (Refused r) b = answer.Refused r
+
+-- an answer's number and values: the bound, Q, p, r and the node count
+abbrev pub write-outcome : WriteAnswer → Outcome
+write-outcome (answer.Written b) = (0, b .bound ∷ b .capacity ∷ b .lengths ∷ b .widths ∷ b .nodes ∷ [])
+write-outcome (answer.Refused r) = refused-as r
+
+-- a job and weights that were accepted, with lists and table filled
+pub record Filled (J : Job) (weights lengths widths table : List ℕ) : Type 0 where
+  pub in-range : InRange J
+  pub weighed : J .count ≤ length weights
+  pub capacity-most : capacity J (weight-in weights) ≤ 4095
+  pub lengths-are : Listed J Length lengths
+  pub widths-are : Listed J Width widths
+  pub words-there : words-needed J (capacity J (weight-in weights)) ≤ length table
+  pub figures : Figures J (weight-in weights) (capacity J (weight-in weights)) table
+
+-- the verdict of check 21 over the two plan arrays
+abbrev pub plan-verdict : Job → (ℕ → ℕ) → List ℕ → List ℕ → Checked
+plan-verdict J weight kinds operands = first-refusal (plan-check (bound-plan J weight) (length kinds) (length operands) ∷ [])
+
+-- the answer of a filled table, and what it leaves in the plan arrays
+pub record Planned (J : Job) (weight : ℕ → ℕ) (kinds operands new-kinds new-operands : List ℕ) (r : WriteAnswer) : Type 0 where
+  pub answer : r ≡ answer-by (plan-verdict J weight kinds operands) (report-of J weight)
+  pub kinds-left : new-kinds ≡ list-after (plan-verdict J weight kinds operands) (kinds-of (bound-plan J weight)) kinds
+  pub operands-left : new-operands ≡ list-after (plan-verdict J weight kinds operands) (operands-of (bound-plan J weight)) operands
