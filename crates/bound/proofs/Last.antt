@@ -1,17 +1,47 @@
 -- The bound is the table's last word: the figure of the last normal length and width at the whole capacity is that of the plate.
 -- Assumes nothing.
-use mathlib.Core.Path.{_≡_, sym, _∙_, ap₂}
+use mathlib.Core.Path.{_≡_, sym, _∙_, ap, ap₂}
 use mathlib.Core.List.{List}
 use Prim.Native.Nat.{ℕ, _+_, _-_, _*_, _≤_, _<_}
-use native.Mathlib.Nat.{mul-le-mul-right}
+use native.Mathlib.Nat.{mul-le-mul}
 use native.Mathlib.Omega.{arith}
-use lib.ListN.{length, getD}
+use lib.ListN.{getD, take, drop}
+use lib.Seq.{take-append-seam}
 use Rattle.cutting.specs.declared.Direction.{Direction}
 use Rattle.cutting.specs.declared.Direction.the-variants.{Length, Width}
+use Rattle.cutting.specs.Lists.{over}
 use Rattle.cutting.specs.Tree.{side}
 use Rattle.cutting.specs.Job.{Job, InRange, figure-of, bound-of, capacity, normal-positions, normal-floor}
-use Rattle.cutting.proofs.Table.{positions-some, positions-normal, positions-floor, figure-floor}
+use Rattle.cutting.proofs.Table.{positions-some, positions-length, positions-normal, positions-floor, figure-floor}
 use Rattle.table.specs.Table.{position-count, position, words-needed, word, Figures}
+use Rattle.bound.specs.declared.Counts.{Counts}
+use Rattle.bound.specs.Bound.{counts-of, Begins}
+
+-- p and r are at most 1,001
+pub count-most : (J : Job) → InRange J → (d : Direction) → position-count J d ≤ 1001
+count-most J h Length = omega (arith, positions-length J Length, h .plate-length .1)
+count-most J h Width = omega (arith, positions-length J Width, h .plate-width .1)
+
+-- the words counted are the words needed
+pub words-are : (J : Job) {c : Counts} {n q k : ℕ} → c ≡ counts-of J → n ≡ c .lengths * c .widths * (q + 1) → q ≡ k → n ≡ words-needed J k
+words-are J {q = q} e f g = f ∙ ap (λ (x : Counts). x .lengths * x .widths * (q + 1)) e ∙ ap (λ k. words-needed J k) g
+
+-- a list that was written over begins with what was written
+pub begins : (J : Job) (d : Direction) (old : List ℕ) {xs : List ℕ} → xs ≡ over (normal-positions J d) old → Begins J d xs
+begins J d old e = ap (λ l. take (position-count J d) l) e ∙ take-append-seam (normal-positions J d) (drop (position-count J d) old)
+
+-- a table needs a word, and fewer than 2 to the 32nd
+pub words-some : (J : Job) (q : ℕ) → 1 ≤ words-needed J q
+words-some J q =
+    let a = positions-some J Length in
+    let b = positions-some J Width in
+    let c : 1 ≤ q + 1 = omega arith in
+    omega (arith, mul-le-mul (mul-le-mul a b) c)
+
+pub words-most : (J : Job) → InRange J → (q : ℕ) → q ≤ 4095 → words-needed J q ≤ 4104196096
+words-most J h q l =
+    let c : q + 1 ≤ 4096 = omega arith in
+    omega (arith, mul-le-mul (mul-le-mul (count-most J h Length) (count-most J h Width)) c)
 
 -- the last normal position is the largest not above the plate's side
 last-position : (J : Job) (d : Direction) → position J d (position-count J d - 1) ≡ normal-floor J d (side d (J .plate))

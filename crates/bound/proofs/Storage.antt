@@ -6,6 +6,7 @@ use mathlib.Core.List.{List, [], _∷_}
 use Prim.Native.Nat.{ℕ, _+_, _≤_, _<_}
 use lib.Dec.{ltb}
 use lib.ListN.{length}
+use native.Mathlib.Omega.{arith}
 use borrow.Author.Tests.{lt-ltb, le-ltb}
 use Rattle.cutting.specs.declared.Direction.the-variants.{Length, Width}
 use Rattle.cutting.specs.Lists.{over}
@@ -14,9 +15,20 @@ use Rattle.refusal.specs.Refusals.{next, refuse-when, first-refusal}
 use Rattle.refusal.specs.declared.Checked.the-variants.{Passed, Refused}
 use Rattle.refusal.specs.declared.Refusal.the-variants.{ListShort, TableShort}
 use Rattle.table.specs.Table.{words-needed, Figures, Kept}
-use Rattle.bound.specs.Bound.{Memory, Leaves, list-check, table-check, list-after, TableAfter, memory-checks, answer-by, report-of}
+use Rattle.bound.specs.Bound.{Memory, Leaves, list-check, table-check, list-after, TableAfter, memory-checks, answer-by, report-of, Bounded}
 use Rattle.bound.specs.declared.BoundAnswer.the-variants as answer
+use Rattle.bound.specs.declared.BoundReport.{BoundReport}
 use Rattle.bound.specs.declared.Counts.{Counts}
+
+-- one of two tests that passes
+or-true : (a : Bool) {b : Bool} → b ≡ true → (a || b) ≡ true
+or-true true e = refl
+or-true false e = e
+
+-- a report of the four figures
+pub report-is : {b b′ q q′ p p′ r r′ : ℕ} → b ≡ b′ → q ≡ q′ → p ≡ p′ → r ≡ r′
+    → _≡_ {A = BoundReport} (record { bound = b; capacity = q; lengths = p; widths = r }) (record { bound = b′; capacity = q′; lengths = p′; widths = r′ })
+report-is a b c d = cc
 
 -- two counts are p and r
 pub counts-are : {a b p r : ℕ} → a ≡ p → b ≡ r → _≡_ {A = Counts} (record { lengths = a; widths = b }) (record { lengths = p; widths = r })
@@ -42,39 +54,52 @@ module _ (J : Job) (weight : ℕ → ℕ) (old new : Memory) where
       ∙ ap (λ x. next (refuse-when b ListShort) (next (refuse-when x (TableShort (words-needed J (capacity J weight)))) Passed)) f
 
   -- a list is short: refusal 19, and nothing is changed
-  pub lists-short : short ≡ true → new .lengths ≡ old .lengths → new .widths ≡ old .widths → new .table ≡ old .table
-      → (answer.Refused ListShort ≡ answer-by (first-refusal (memory-checks J weight old)) (report-of J weight)) × Leaves Passed J weight old new
-  lists-short e l w t = (
-    sym (ap (λ v. answer-by v (report-of J weight)) (storage-by true small e refl)),
-    record {
+  lists-short : short ≡ true → new .lengths ≡ old .lengths → new .widths ≡ old .widths → new .table ≡ old .table → Bounded J weight old new (answer.Refused ListShort)
+  lists-short e l w t = record {
+    answer = sym (ap (λ v. answer-by v (report-of J weight)) (storage-by true small e refl));
+    memory = record {
       lengths = l ∙ sym (ap (λ v. list-after v (normal-positions J Length) (old .lengths)) (lists-by true e));
       widths = w ∙ sym (ap (λ v. list-after v (normal-positions J Width) (old .widths)) (lists-by true e));
       table = rw (storage-by true small e refl) t;
-    },
-  )
+    };
+  }
 
-  -- the table is short: refusal 20 with the words needed; the lists are filled and the table is untouched
-  pub table-short : short ≡ false → small ≡ true → new .lengths ≡ over (normal-positions J Length) (old .lengths) → new .widths ≡ over (normal-positions J Width) (old .widths)
-      → new .table ≡ old .table
-      → (answer.Refused (TableShort (words-needed J (capacity J weight))) ≡ answer-by (first-refusal (memory-checks J weight old)) (report-of J weight)) × Leaves Passed J weight old new
-  table-short e f l w t = (
-    sym (ap (λ v. answer-by v (report-of J weight)) (storage-by false true e f)),
-    record {
-      lengths = l ∙ sym (ap (λ v. list-after v (normal-positions J Length) (old .lengths)) (lists-by false e));
-      widths = w ∙ sym (ap (λ v. list-after v (normal-positions J Width) (old .widths)) (lists-by false e));
-      table = rw (storage-by false true e f) t;
-    },
-  )
+  pub lengths-short : length (old .lengths) ≤ J .plate .0 → new .lengths ≡ old .lengths → new .widths ≡ old .widths → new .table ≡ old .table
+      → Bounded J weight old new (answer.Refused ListShort)
+  lengths-short h l w t = lists-short (simp (lt-ltb (length (old .lengths)) (J .plate .0 + 1) (omega arith))) l w t
 
-  -- there is room: the report, the lists and the figures
-  pub room : short ≡ false → small ≡ false → new .lengths ≡ over (normal-positions J Length) (old .lengths) → new .widths ≡ over (normal-positions J Width) (old .widths)
-      → Figures J weight (capacity J weight) (new .table) → Kept (words-needed J (capacity J weight)) (old .table) (new .table)
-      → (answer.Answered (report-of J weight) ≡ answer-by (first-refusal (memory-checks J weight old)) (report-of J weight)) × Leaves Passed J weight old new
-  room e f l w g k = (
-    sym (ap (λ v. answer-by v (report-of J weight)) (storage-by false false e f)),
-    record {
-      lengths = l ∙ sym (ap (λ v. list-after v (normal-positions J Length) (old .lengths)) (lists-by false e));
-      widths = w ∙ sym (ap (λ v. list-after v (normal-positions J Width) (old .widths)) (lists-by false e));
-      table = rw (storage-by false false e f) (g, k);
-    },
-  )
+  pub widths-short : length (old .widths) ≤ J .plate .1 → new .lengths ≡ old .lengths → new .widths ≡ old .widths → new .table ≡ old .table
+      → Bounded J weight old new (answer.Refused ListShort)
+  widths-short h l w t = lists-short (or-true (ltb (length (old .lengths)) (J .plate .0 + 1)) (lt-ltb (length (old .widths)) (J .plate .1 + 1) (omega arith))) l w t
+
+  module _ (long : J .plate .0 < length (old .lengths)) (wide : J .plate .1 < length (old .widths))
+      (lengths : new .lengths ≡ over (normal-positions J Length) (old .lengths)) (widths : new .widths ≡ over (normal-positions J Width) (old .widths)) where
+    none-short : short ≡ false
+    none-short = simp (le-ltb (length (old .lengths)) (J .plate .0 + 1) (omega arith), le-ltb (length (old .widths)) (J .plate .1 + 1) (omega arith))
+
+    -- the lists are filled in both cases
+    leaves : (b : Bool) → small ≡ b → TableAfter (next (refuse-when b (TableShort (words-needed J (capacity J weight)))) Passed) J weight (old .table) (new .table) → Leaves Passed J weight old new
+    leaves b f t = record {
+      lengths = lengths ∙ sym (ap (λ v. list-after v (normal-positions J Length) (old .lengths)) (lists-by false none-short));
+      widths = widths ∙ sym (ap (λ v. list-after v (normal-positions J Width) (old .widths)) (lists-by false none-short));
+      table = rw (storage-by false b none-short f) t;
+    }
+
+    -- the table is short: refusal 20 with the words needed, and the table is untouched
+    pub table-short : (n : ℕ) → n ≡ words-needed J (capacity J weight) → length (old .table) < n → new .table ≡ old .table → Bounded J weight old new (answer.Refused (TableShort n))
+    table-short n e h t =
+        let f : small ≡ true = lt-ltb (length (old .table)) (words-needed J (capacity J weight)) (omega arith) in
+        record {
+          answer = ap (λ k. answer.Refused (TableShort k)) e ∙ sym (ap (λ v. answer-by v (report-of J weight)) (storage-by false true none-short f));
+          memory = leaves true f t;
+        }
+
+    -- there is room: the report and the figures
+    pub reported : (r : BoundReport) → r ≡ report-of J weight → words-needed J (capacity J weight) ≤ length (old .table) → Figures J weight (capacity J weight) (new .table)
+        → Kept (words-needed J (capacity J weight)) (old .table) (new .table) → Bounded J weight old new (answer.Answered r)
+    reported r e h g k =
+        let f : small ≡ false = le-ltb (length (old .table)) (words-needed J (capacity J weight)) h in
+        record {
+          answer = ap (λ x. answer.Answered x) e ∙ sym (ap (λ v. answer-by v (report-of J weight)) (storage-by false false none-short f));
+          memory = leaves false f (g, k);
+        }

@@ -3,24 +3,29 @@
 use mathlib.Core.Path.{_≡_}
 use mathlib.Core.Bool.{_||_}
 use mathlib.Core.List.{List, [], _∷_, _++_}
-use Prim.Native.Nat.{ℕ, _+_}
+use Prim.Native.Nat.{ℕ, _+_, _≤_}
 use lib.Dec.{ltb}
-use lib.ListN.{length}
+use lib.ListN.{length, take}
 use Rattle.cutting.specs.declared.Direction.{Direction}
 use Rattle.cutting.specs.declared.Direction.the-variants.{Length, Width}
 use Rattle.cutting.specs.Lists.{over}
-use Rattle.cutting.specs.Job.{Job, bound-of, capacity, normal-positions}
-use Rattle.refusal.specs.Refusals.{Check, next, first-refusal}
+use Rattle.cutting.specs.Tree.{Tree}
+use Rattle.cutting.specs.Job.{Job, OnPlate, KeepsDemands, profit, weight-of, capacity, figure-of, bound-of, normal-positions}
+use Rattle.refusal.specs.Refusals.{Check, Outcome, next, first-refusal, refused-as, outcome-by}
 use Rattle.refusal.specs.declared.Checked.{Checked}
 use Rattle.refusal.specs.declared.Checked.the-variants.{Passed, Refused}
 use Rattle.refusal.specs.declared.Refusal.the-variants.{ListShort, TableShort}
 use Rattle.job.specs.Block.{job-checks}
-use Rattle.job.specs.Weights.{block-job, weight-in, weight-checks}
+use Rattle.job.specs.Weights.{block-job, weight-in, weight-checks, Accepted}
 use Rattle.table.specs.Table.{position-count, words-needed, Figures, Kept}
 use Rattle.bound.specs.declared.Counts.{Counts}
 use Rattle.bound.specs.declared.BoundReport.{BoundReport}
 use Rattle.bound.specs.declared.BoundAnswer.{BoundAnswer}
 use Rattle.bound.specs.declared.BoundAnswer.the-variants as answer
+
+-- a list begins with the normal positions of a side
+abbrev pub Begins : Job → Direction → List ℕ → Type 0
+Begins J d xs = take (position-count J d) xs ≡ normal-positions J d
 
 -- check 19: a list shorter than L + 1 or W + 1
 abbrev pub list-check : Job → ℕ → ℕ → Check
@@ -63,6 +68,10 @@ pub record Memory : Type 0 where
   pub widths : List ℕ
   pub table : List ℕ
 
+-- memory of two lists and a table
+abbrev pub lent : List ℕ → List ℕ → List ℕ → Memory
+lent lengths widths table = record { lengths = lengths; widths = widths; table = table }
+
 -- the storage checks of lent memory
 abbrev pub memory-checks : Job → (ℕ → ℕ) → Memory → List Check
 memory-checks J weight m = storage-checks J (capacity J weight) (length (m .lengths)) (length (m .widths)) (length (m .table))
@@ -72,3 +81,56 @@ pub record Leaves (before : Checked) (J : Job) (weight : ℕ → ℕ) (old new :
   pub lengths : new .lengths ≡ list-after (next before (first-refusal (list-check J (length (old .lengths)) (length (old .widths)) ∷ []))) (normal-positions J Length) (old .lengths)
   pub widths : new .widths ≡ list-after (next before (first-refusal (list-check J (length (old .lengths)) (length (old .widths)) ∷ []))) (normal-positions J Width) (old .widths)
   pub table : TableAfter (next before (first-refusal (memory-checks J weight old))) J weight (old .table) (new .table)
+
+-- the answer of a job and weights that were accepted, and what it leaves in lent memory
+pub record Bounded (J : Job) (weight : ℕ → ℕ) (old new : Memory) (r : BoundAnswer) : Type 0 where
+  pub answer : r ≡ answer-by (first-refusal (memory-checks J weight old)) (report-of J weight)
+  pub memory : Leaves Passed J weight old new
+
+-- the verdict of the checks that stand before the storage's, 1 to 9
+abbrev pub accept-verdict : List ℕ → List ℕ → Checked
+accept-verdict s ws = first-refusal (job-checks s ++ weight-checks (block-job s) ws)
+
+-- the verdict of the bound call: 1 to 9, 19, 20
+abbrev pub bound-verdict : List ℕ → List ℕ → Memory → Checked
+bound-verdict s ws m = next (accept-verdict s ws) (first-refusal (memory-checks (block-job s) (weight-in ws) m))
+
+-- what the bound call answers
+abbrev pub bound-answer : List ℕ → List ℕ → Memory → BoundAnswer
+bound-answer s ws m = answer-by (bound-verdict s ws m) (report-of (block-job s) (weight-in ws))
+
+-- a report's values: the bound, Q, p and r
+abbrev pub report-values : BoundReport → List ℕ
+report-values b = b .bound ∷ b .capacity ∷ b .lengths ∷ b .widths ∷ []
+
+-- an answer's number and values
+abbrev pub bound-outcome : BoundAnswer → Outcome
+bound-outcome (answer.Answered b) = (0, report-values b)
+bound-outcome (answer.Refused r) = refused-as r
+
+-- the number and values that the call answers
+abbrev pub bound-said : List ℕ → List ℕ → Memory → Outcome
+bound-said s ws m = outcome-by (bound-verdict s ws m) (report-values (report-of (block-job s) (weight-in ws)))
+
+-- for an accepted job and weights, no guillotine tree on the plate of weight at most Q earns more than the bound
+abbrev pub NoTreeAbove : List ℕ → List ℕ → Type 0
+NoTreeAbove s ws = Accepted s ws → (t : Tree ℕ) → OnPlate (block-job s) t → weight-of (weight-in ws) t ≤ capacity (block-job s) (weight-in ws)
+    → profit (block-job s) t ≤ bound-of (block-job s) (weight-in ws)
+
+-- and some such tree earns it
+abbrev pub SomeTreeEarns : List ℕ → List ℕ → Type 0
+SomeTreeEarns s ws = Accepted s ws → (t : Tree ℕ) × OnPlate (block-job s) t × (weight-of (weight-in ws) t ≤ capacity (block-job s) (weight-in ws))
+    × (profit (block-job s) t ≡ bound-of (block-job s) (weight-in ws))
+
+-- every guillotine tree on the plate that keeps the demands earns at most the bound
+abbrev pub DemandsWithin : List ℕ → List ℕ → Type 0
+DemandsWithin s ws = Accepted s ws → (t : Tree ℕ) → OnPlate (block-job s) t → KeepsDemands (block-job s) t → profit (block-job s) t ≤ bound-of (block-job s) (weight-in ws)
+
+-- the bound is at most 1,000,000,000,000
+abbrev pub BelowCeiling : List ℕ → List ℕ → Type 0
+BelowCeiling s ws = Accepted s ws → bound-of (block-job s) (weight-in ws) ≤ 1000000000000
+
+-- the bound is the recursion's figure at the plate and the capacity
+abbrev pub IsFigure : List ℕ → List ℕ → Type 0
+IsFigure s ws = report-of (block-job s) (weight-in ws) .bound
+    ≡ figure-of (block-job s) (weight-in ws) (block-job s .plate .0) (block-job s .plate .1) (capacity (block-job s) (weight-in ws))

@@ -6,7 +6,8 @@ use Prim.Native.Nat.{ℕ, _+_, _*_, _≤_, _<_}
 use lib.ListN.{length, getD, drop}
 use Rattle.cutting.specs.declared.Direction.{Direction}
 use Rattle.cutting.specs.declared.Direction.the-variants.{Length, Width}
-use Rattle.cutting.specs.Job.{Job, figure-of, normal-positions}
+use Rattle.cutting.specs.Tree.{side}
+use Rattle.cutting.specs.Job.{Job, figure-of, normal-positions, normal-floor}
 
 -- p and r: the number of normal lengths, and of normal widths
 abbrev pub position-count : Job → Direction → ℕ
@@ -15,6 +16,14 @@ position-count J d = length (normal-positions J d)
 -- the a-th normal length, or normal width, counted from 0
 abbrev pub position : Job → Direction → ℕ → ℕ
 position J d a = getD (normal-positions J d) a 0
+
+-- a list holds the normal positions of a side
+abbrev pub Listed : Job → Direction → List ℕ → Type 0
+Listed J d xs = (position-count J d ≤ length xs) × ((i : ℕ) → i < position-count J d → getD xs i 0 ≡ position J d i)
+
+-- a map holds for each length up to the plate's side the index of the largest normal position not above it
+abbrev pub Mapped : Job → Direction → List ℕ → Type 0
+Mapped J d map = (x : ℕ) → x ≤ side d (J .plate) → (getD map x 0 < position-count J d) × (position J d (getD map x 0) ≡ normal-floor J d x)
 
 -- the words that a table needs: p · r · (Q + 1)
 abbrev pub words-needed : Job → ℕ → ℕ

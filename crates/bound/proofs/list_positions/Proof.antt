@@ -9,35 +9,26 @@ use Rattle.positions.proofs.Fitting.{lengths-found, widths-found}
 use borrow.Author.Needs.{needs}
 use Rattle.bound.proofs.list_positions.Statement.{statement}
 use Rattle.bound.proofs.list_positions.Tie as tie
-use Rattle.bound.proofs.list_positions.Reads as reads
-use Rattle.bound.proofs.list_positions.Lts as lts
-use Rattle.positions.proofs.normal_positions.Reads as normal-positions-reads
 
--- src/lib.rt:50:9
 normal-positions-requires : tie.Need-normal-positions-requires
 normal-positions-requires c κs = let h = c .before .before .before .before .before .before .before .pre in (h .0 .kinds .1, h .0 .plate-length .1, h .1, λ i l. h .0 .lengths i l .0)
 
--- src/lib.rt:51:9
 normal-positions-requires-2 : tie.Need-normal-positions-requires-2
 normal-positions-requires-2 c κs = let h = c .before .before .before .before .before .before .before .before .before .before .before .before .before .pre in (h .0 .kinds .1, h .0 .plate-width .1, h .2, λ i l. h .0 .widths i l .0)
 
--- src/lib.rt:43:1
 same-length : tie.Need-same-length
 same-length c = search needs
 
--- src/lib.rt:43:1
 same-length-2 : tie.Need-same-length-2
 same-length-2 c = search needs
 
--- src/lib.rt:43:1
 returns : tie.Need-returns
 returns c =
     let j = c .before .before .before .before .before .before .before .before .before .before .before .before .before .before .before .before .args .job in
     let first = c .before .before .before .before .before .before .before .before .normal-positions .ensures in
     let second = c .before .before .normal-positions2 .ensures in
     let l = lengths-found (job-of j) (j .lengths) (j .widths) (λ i h. refl) in
-    let w = widths-found (job-of j) (j .lengths) (j .widths) (λ i h. refl) in
-    (
+    let w = widths-found (job-of j) (j .lengths) (j .widths) (λ i h. refl) in (
       counts-are (first .number ∙ ap length l) (second .number ∙ ap length w),
       first .contents ∙ ap (λ xs. over xs (now (c .before .before .before .before .before .before .before .before .before .before .before .before .before .before .before .before .args .lengths))) l,
       second .contents ∙ ap (λ xs. over xs (now (c .before .before .before .before .before .before .before .before .before .before .before .before .before .before .before .before .args .widths))) w,

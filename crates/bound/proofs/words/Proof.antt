@@ -5,24 +5,18 @@ use native.Mathlib.Omega.{arith}
 use borrow.Author.Needs.{needs}
 use Rattle.bound.proofs.words.Statement.{statement}
 use Rattle.bound.proofs.words.Tie as tie
-use Rattle.bound.proofs.words.Reads as reads
-use Rattle.bound.proofs.words.Lts as lts
 
--- src/lib.rt:39:5
 mul-result : tie.Need-mul-result
 mul-result c = record { fits = omega (arith, mul-le-mul (c .pre .0) (c .pre .1)) }
 
--- src/lib.rt:39:32
 add-result : tie.Need-add-result
 add-result c = search needs
 
--- src/lib.rt:39:5
 mul-result-2 : tie.Need-mul-result-2
 mul-result-2 c =
     let h : c .args .q + 1 ≤ 4096 = omega arith in
     record { fits = omega (arith, mul-le-mul (mul-le-mul (c .pre .0) (c .pre .1)) h) }
 
--- src/lib.rt:35:1
 returns : tie.Need-returns
 returns c = search needs
 

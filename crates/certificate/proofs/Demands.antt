@@ -1,0 +1,72 @@
+-- The promises of specs/Demands, proved.
+-- Assumes nothing.
+use mathlib.Core.Path.{_≡_, sym, _∙_, ap}
+use mathlib.Core.List.{List, _++_}
+use Prim.Native.Nat.{ℕ, _+_, _≤_}
+use native.Mathlib.Omega.{arith}
+use Rattle.cutting.specs.Tree.{Tree}
+use Rattle.cutting.specs.Job.{Job, profit, bound-of}
+use Rattle.cutting.proofs.Job.{bound-most, bound-earned, bound-holds}
+use Rattle.refusal.specs.declared.Checked.the-variants.{Passed}
+use Rattle.refusal.specs.Refusals.{first-refusal}
+use Rattle.job.specs.Block.{job-checks}
+use Rattle.job.specs.Weights.{block-job, weight-in, weight-checks}
+use Rattle.job.proofs.Checks.{passed-both, append-passed}
+use Rattle.job.proofs.Read.{read-in-range}
+use Rattle.plan.specs.declared.Report.{Report}
+use Rattle.plan.specs.Plan.{plan-answer}
+use Rattle.plan.specs.Trees.{PlanOf}
+use Rattle.plan.proofs.Plans.{plans-checked}
+use Rattle.bound.specs.Bound.{Memory, memory-checks}
+use Rattle.certificate.specs.Certificate.{certify-verdict, plan-verdict, compared}
+use Rattle.certificate.specs.Demands.{NoneAbove, MostWithin, Earns, PlansJudged, BoundExact, BestIsBest, GapHolds}
+use Rattle.certificate.proofs.Compare.{best-passed, gap-passed, best-equal, gap-differs}
+
+-- a passed plan's report is its tree's own, and it earns at most the bound
+module _ (s ws kinds operands : List ℕ) (good : first-refusal (job-checks s) ≡ Passed) (walked : plan-answer (block-job s) kinds operands .verdict ≡ Passed) where
+  abbrev J : Job
+  J = block-job s
+
+  pub drawn : Earns J kinds operands (plan-answer J kinds operands .report .profit)
+  drawn =
+      let t = plans-checked J (read-in-range s good .kinds .1) kinds operands .tree walked in
+      (t .0, t .1, sym (ap (λ (r : Report). r .profit) (t .2 .own)))
+
+  pub drawn-most : plan-answer J kinds operands .report .profit ≤ bound-of J (weight-in ws)
+  drawn-most = let t = drawn in omega (arith, t .2, bound-holds J (weight-in ws) (t .0) (t .1 .on-plate) (t .1 .demands))
+
+module _ (s ws kinds operands : List ℕ) (m : Memory) (passed : certify-verdict s ws kinds operands m ≡ Passed) where
+  -- what stands behind a certificate
+  pub behind : (first-refusal (job-checks s) ≡ Passed) × (plan-answer (block-job s) kinds operands .verdict ≡ Passed)
+  behind =
+      let a = passed-both (plan-verdict s ws kinds operands) (first-refusal (memory-checks (block-job s) (weight-in ws) m)) passed in
+      let b = passed-both (first-refusal (job-checks s ++ weight-checks (block-job s) ws)) (plan-answer (block-job s) kinds operands .verdict) (a .0) in
+      (append-passed (job-checks s) (weight-checks (block-job s) ws) (b .0) .0, b .1)
+
+pub plans-judged : PlansJudged
+plans-judged s kinds operands good =
+    let J = block-job s in
+    let c = plans-checked J (read-in-range s good .kinds .1) kinds operands in
+    (λ p. (let t = c .tree p in (t .0, t .1, t .2 .own)), λ t h. c .passes tt t h)
+
+pub bound-exact : BoundExact
+bound-exact s ws accepted =
+    let J = block-job s in
+    ((bound-most J (weight-in ws), bound-earned J (weight-in ws)), λ t g k. bound-holds J (weight-in ws) t g k)
+
+pub best-is-best : BestIsBest
+best-is-best s ws kinds operands m n e =
+    let a = best-passed _ _ n e in
+    let b = behind s ws kinds operands m (a .0) in
+    let f = best-equal _ _ n (a .1) in
+    let d = drawn s ws kinds operands (b .0) (b .1) in
+    ((d .0, d .1, d .2 ∙ f .0), λ t g k. omega (arith, f .1, bound-holds (block-job s) (weight-in ws) t g k))
+
+pub gap-holds : GapHolds
+gap-holds s ws kinds operands m n gap e =
+    let a = gap-passed _ _ n gap e in
+    let b = behind s ws kinds operands m (a .0) in
+    let f = gap-differs _ _ n gap (a .1) in
+    let d = drawn s ws kinds operands (b .0) (b .1) in
+    let most = drawn-most s ws kinds operands (b .0) (b .1) in
+    ((d .0, d .1, d .2 ∙ f .0), omega (arith, f .1, most, f .2), λ t g k. omega (arith, f .0, f .1, most, bound-holds (block-job s) (weight-in ws) t g k))
