@@ -12,12 +12,12 @@ use lib.ListN.{length, getD, set}
 use Rattle.cutting.specs.Lists.{range, greatest}
 use Rattle.cutting.proofs.Lists.{range-mem, mem-range}
 use Rattle.cutting.proofs.Greatest.{most, most-ge, most-le, greatest-ge, greatest-le, greatest-cong}
-use Rattle.table.specs.Words.{Outside, Run, Cells, Finished, Cuts, joined, rises-at, beyond, cut-most}
-use Rattle.table.proofs.Words.{outside-none, run-more, run-cong, cells-run, cell-before, cells-more, cells-again, cells-cong}
+use Rattle.table.specs.Words.{Run, Cells, joined, Finished, rises-at}
+use Rattle.table.proofs.Words.{run-more, run-cong, cell-before, cells-more}
 
 -- the greatest of f over a run of numbers, by index
-pub greatest-range : (f : ℕ → ℕ) (a n : ℕ) → greatest f (range a n) ≡ most n (λ i. f (a + i))
-greatest-range f a n = omega (arith, greatest-le f (most n at) (range a n) up, most-le n at (greatest f (range a n)) (λ i h. greatest-ge f (range-mem a n (a + i) (omega arith) (omega arith))))
+pub greatest-run : (f : ℕ → ℕ) (a n : ℕ) → greatest f (range a n) ≡ most n (λ i. f (a + i))
+greatest-run f a n = omega (arith, greatest-le f (most n at) (range a n) up, most-le n at (greatest f (range a n)) (λ i h. greatest-ge f (range-mem a n (a + i) (omega arith) (omega arith))))
   where
     at : ℕ → ℕ
     at i = f (a + i)
@@ -25,13 +25,18 @@ greatest-range f a n = omega (arith, greatest-le f (most n at) (range a n) up, m
     up : (x : ℕ) → List·Memᴰ x (range a n) → f x ≤ most n at
     up x m = let h = mem-range a n x m in let e : a + (x - a) ≡ x = omega arith in rw e at (most-ge n at (x - a) (omega arith))
 
+-- the greatest of f over one number more
+pub greatest-more : (f : ℕ → ℕ) (n : ℕ) → greatest f (range 0 (n + 1)) ≡ max (greatest f (range 0 n)) (f n)
+unfolding most
+greatest-more f n = let e : n + 1 ≡ suc n = omega arith in rw e (omega (arith, simp zero-add at (greatest-run f 0 (suc n)), simp zero-add at (greatest-run f 0 n)))
+
 -- what a division of share c gives whose first part has share i
-abbrev division : List ℕ → ℕ → ℕ → ℕ → ℕ → ℕ
+abbrev pub division : List ℕ → ℕ → ℕ → ℕ → ℕ → ℕ
 division xs x y c i = getD xs (x + i) 0 + getD xs (y + (c - i)) 0
 
 pub joined-most : (xs : List ℕ) (x y c : ℕ) → joined xs x y c ≡ most (suc c) (division xs x y c)
 unfolding joined
-joined-most xs x y c = greatest-range (division xs x y c) 0 (suc c) ∙ simp zero-add
+joined-most xs x y c = greatest-run (division xs x y c) 0 (suc c) ∙ simp zero-add
 
 -- the most that the divisions of share c give whose first part has a share below k
 unfoldable pub joined-below : List ℕ → ℕ → ℕ → ℕ → ℕ → ℕ
@@ -147,75 +152,17 @@ words-cells at x y r n old xs e w = rw e record {
   rest = (let i : r * 1 ≡ r = omega arith in rw i (w .rest));
 }
 
--- no cut tried
-pub cut-none : (xs list map : List ℕ) (b base step c : ℕ) → cut-most xs list map b 1 base step c ≡ 0
-unfolding cut-most greatest range
-cut-none xs list map b base step c = refl
+-- what two cells give is at most the sum of their bounds
+pub joined-le : (xs : List ℕ) (x y n c p q : ℕ) → c < n → ((k : ℕ) → k < n → getD xs (x + k) 0 ≤ p) → ((k : ℕ) → k < n → getD xs (y + k) 0 ≤ q) → joined xs x y c ≤ p + q
+joined-le xs x y n c p q h f g = omega (arith, joined-most xs x y c, most-le (suc c) (division xs x y c) (p + q) (λ k l. omega (arith, f k (omega arith), g (c - k) (omega arith))))
 
--- one cut more
-pub cut-more : (xs list map : List ℕ) (b k base step c : ℕ) → 1 ≤ k
-    → cut-most xs list map b (k + 1) base step c ≡ max (cut-most xs list map b k base step c) (joined xs (base + k * step) (base + beyond list map b k * step) c)
-unfolding cut-most most
-cut-more xs list map b k base step c h =
-    let e : k + 1 - 1 ≡ suc (k - 1) = omega arith in
-    let i : 1 + (k - 1) ≡ k = omega arith in
-    rw e (omega (arith, greatest-range at 1 (suc (k - 1)), greatest-range at 1 (k - 1), ap at i))
-  where
-    at : ℕ → ℕ
-    at i = joined xs (base + i * step) (base + beyond list map b i * step) c
-
--- one cut more of a run of cells
-pub rows-more : (at base step a i y r n : ℕ) (list map old xs ys : List ℕ) → 1 ≤ i → i < a → beyond list map a i < a → y ≡ beyond list map a i → at ≡ base + a * step → r * n ≤ step
-    → Cells (λ b c. max (getD old (at + (b * n + c)) 0) (cut-most old list map a i (base + b * n) step c)) at r n old xs
-    → Cells (λ b c. max (getD xs (at + (b * n + c)) 0) (joined xs (base + i * step + b * n) (base + y * step + b * n) c)) at r n xs ys
-    → Cells (λ b c. max (getD old (at + (b * n + c)) 0) (cut-most old list map a (i + 1) (base + b * n) step c)) at r n old ys
-rows-more at base step a i y r n list map old xs ys p hi hy e f m w u = cells-again _ _ at r n old xs ys w (cells-cong _ _ at r n xs ys
-    (λ b c h l.
-    (let x : base + i * step + b * n ≡ base + b * n + i * step = omega arith in
-    let z : base + y * step + b * n ≡ base + b * n + beyond list map a i * step = omega (arith, ap (λ y. y * step) e) in
-    omega (
-      arith,
-      w .here b c h l,
-      cut-more old list map a i (base + b * n) step c p,
-      ap₂ (λ s t. joined old s t c) x z,
-      joined-cong (base + i * step + b * n) (base + y * step + b * n) n c xs old l
-          (λ k j. w .rest .before (base + i * step + b * n + k) (omega (arith, cell-before b r n h, cell-before i a step hi)))
-          (λ k j. w .rest .before (base + y * step + b * n + k) (omega (arith, cell-before b r n h, cell-before (beyond list map a i) a step hy, ap (λ y. y * step) e))),
-    )))
-    u)
-
--- no cut tried yet
-pub rows-none : (at base step a r n : ℕ) (list map xs : List ℕ) → Cells (λ b c. max (getD xs (at + (b * n + c)) 0) (cut-most xs list map a 1 (base + b * n) step c)) at r n xs xs
-rows-none at base step a r n list map xs = record { here = λ b c h l. omega (arith, cut-none xs list map a (base + b * n) step c); rest = outside-none at (at + r * n) xs }
-
--- the index that the map gives, as the code reads it
-pub beyond-is : (list map : List ℕ) (a i whole part y : ℕ) → whole ≡ getD list a 0 → part ≡ getD list i 0 → y ≡ getD map (whole - part) 0 → y ≡ beyond list map a i
-beyond-is list map a i whole part y e f g = cc
-
--- so it is an earlier entry's
-pub beyond-earlier : (list map : List ℕ) (a k i whole part y : ℕ) → Cuts list map a k → 1 ≤ i → i < k → whole ≡ getD list a 0 → part ≡ getD list i 0 → y ≡ getD map (whole - part) 0 → y < a
-beyond-earlier list map a k i whole part y s h l e f g = rw (beyond-is list map a i whole part y e f g) (s .earlier i h l)
-
--- the words of an earlier entry come before those of entry a
-pub entry-before : (at base step a i : ℕ) → i < a → at ≡ base + a * step → base + i * step + step ≤ at
-entry-before at base step a i h e = omega (arith, cell-before i a step h)
-
--- one cut more of a cell of one word
-pub word-more : (xs list map : List ℕ) (b i base y : ℕ) → 1 ≤ i → y ≡ beyond list map b i
-    → cut-most xs list map b (i + 1) base 1 0 ≡ max (cut-most xs list map b i base 1 0) (getD xs (base + i) 0 + getD xs (base + y) 0)
-unfolding most
-word-more xs list map b i base y h e =
-    let p : base + i * 1 + 0 ≡ base + i = omega arith in
-    let q : base + beyond list map b i * 1 + (0 - 0) ≡ base + y = omega arith in
-    omega (arith, cut-more xs list map b i base 1 0 h, rw (p, q) at (joined-most xs (base + i * 1) (base + beyond list map b i * 1) 0))
-
--- a cell of one word
-pub word-cell : (b k base n : ℕ) (list map old xs : List ℕ) → n ≡ 1 → Run (λ c. max (getD old (base + b + c) 0) (cut-most old list map b k base 1 c)) (base + b) 1 old xs
-    → Run (λ c. max (getD old (base + b * n + c) 0) (cut-most old list map b k base n c)) (base + b * n) n old xs
-word-cell b k base n list map old xs e w = let z : b * 1 ≡ b = omega arith in rw e (rw z w)
-
--- a run of one cell
-pub single-cell : (at b k base n : ℕ) (list map old xs : List ℕ) → Cells (λ d c. max (getD old (at + (d * n + c)) 0) (cut-most old list map b k (base + d * n) n c)) at 1 n old xs
-    → Run (λ c. max (getD old (at + c) 0) (cut-most old list map b k base n c)) at n old xs
-single-cell at b k base n list map old xs w = cells-run _ _ at n old xs
-    (λ c h. (let p : at + (0 * n + c) ≡ at + c = omega arith in let q : base + 0 * n ≡ base = omega arith in ap₂ (λ i j. max (getD old i 0) (cut-most old list map b k j n c)) p q)) w
+-- what two cells give does not fall from share to share
+pub joined-rising : (xs : List ℕ) (x y n c : ℕ) → c + 1 < n → Finished xs y n → joined xs x y c ≤ joined xs x y (c + 1)
+joined-rising xs x y n c h f = omega (
+  arith,
+  joined-most xs x y c,
+  joined-most xs x y (c + 1),
+  most-le (suc c) (division xs x y c) (most (suc (c + 1)) (division xs x y (c + 1))) (λ k l.
+      (let e : c - k + 1 ≡ c + 1 - k = omega arith in
+      omega (arith, rw e at (f .rising (c - k) (omega arith)), most-ge (suc (c + 1)) (division xs x y (c + 1)) k (omega arith)))),
+)

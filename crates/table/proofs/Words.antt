@@ -1,14 +1,14 @@
 -- Laws of written runs and cells: one word or one cell more, and the words of a combined cell share by share.
 -- Assumes nothing.
-use mathlib.Core.Path.{_≡_, refl, sym, _∙_, ap, ap₂}
+use mathlib.Core.Path.{_≡_, refl, _∙_, ap, ap₂}
 use mathlib.Core.List.{List}
-use Prim.Native.Nat.{ℕ, suc, _+_, _-_, _*_, _≤_, _<_, max}
-use native.Mathlib.Omega.{arith}
+use Prim.Native.Nat.{ℕ, _+_, _*_, _≤_, _<_, max}
 use native.Mathlib.Nat.{not-suc-le-zero, mul-le-mul-right}
+use native.Mathlib.Omega.{arith}
 use borrow.Author.Count.{below-more}
 use lib.ListN.{length, getD, set}
 use lib.Seq.{getD-set-same, getD-set-other}
-use Rattle.table.specs.Words.{Outside, Run, Cells, Finished, joined}
+use Rattle.table.specs.Words.{Outside, Run, Cells, Finished}
 
 pub outside-none : (at end : ℕ) (xs : List ℕ) → Outside at end xs xs
 outside-none at end xs = record { before = λ i h. refl; after = λ i h. refl }
@@ -101,3 +101,7 @@ cells-run f g at n old xs e w = record {
 -- a finished cell, as the only one of a run
 pub finished-single : (x n b : ℕ) (xs : List ℕ) → b < 1 → Finished xs x n → Finished xs (x + b * n) n
 finished-single x n b xs h f = let z : b ≡ 0 = omega arith in let i : x + 0 * n ≡ x = omega arith in rw z (rw i f)
+
+-- one word more from the table's beginning
+pub first-more : (f : ℕ → ℕ) (j : ℕ) (old xs : List ℕ) (v : ℕ) → j < length xs → v ≡ f j → Run f 0 j old xs → Run f 0 (j + 1) old (set xs j v)
+first-more f j old xs v l e w = let z : 0 + j ≡ j = omega arith in rw z at (run-more f 0 j old xs v (omega arith) e w)

@@ -3,7 +3,7 @@
 use mathlib.Core.Path.{_≡_}
 use mathlib.Core.List.{List}
 use Prim.Native.Nat.{ℕ, _+_, _*_, _≤_, _<_}
-use lib.ListN.{length, getD, drop}
+use lib.ListN.{length, getD, take, drop}
 use Rattle.cutting.specs.declared.Direction.{Direction}
 use Rattle.cutting.specs.declared.Direction.the-variants.{Length, Width}
 use Rattle.cutting.specs.Tree.{side}
@@ -41,3 +41,20 @@ Figures J weight q xs = (a b c : ℕ) → a < position-count J Length → b < po
 -- the words from n on are as they were
 abbrev pub Kept : ℕ → List ℕ → List ℕ → Type 0
 Kept n old new = (length new ≡ length old) × (drop n new ≡ drop n old)
+
+-- the job of a plate and of arrays with the sizes and prices of its kinds: the figures do not read the demands
+abbrev pub kinds-job : ℕ → ℕ → ℕ → List ℕ → List ℕ → List ℕ → Job
+kinds-job l w n lengths widths prices = record {
+  plate = (l, w);
+  count = n;
+  size = λ i. (getD lengths i 0, getD widths i 0);
+  price = λ i. getD prices i 0;
+  demand = λ i. 0;
+}
+
+-- a list begins with the p normal positions of one side of a job, and a map gives the index of the largest one not above each length
+pub record Positions (J : Job) (d : Direction) (p : ℕ) (list map : List ℕ) : Type 0 where
+  pub counted : p ≡ position-count J d
+  pub listed : take p list ≡ normal-positions J d
+  pub mapped : side d (J .plate) < length map
+  pub floored : (x : ℕ) → x ≤ side d (J .plate) → (getD map x 0 < position-count J d) × (position J d (getD map x 0) ≡ normal-floor J d x)

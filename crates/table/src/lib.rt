@@ -1,8 +1,14 @@
 // The table of figures.
 ghost use mathlib.Core.Path.{_≡_};
 ghost use Prim.Native.Nat.{ℕ, _+_, _*_, _-_, _≤_, _<_, max};
+ghost use mathlib.Core.Bool.{_&&_};
+ghost use lib.Dec.{leb};
 ghost use lib.ListN.{length, getD};
-ghost use Rattle.table.specs.Words.{Run, Cells, Finished, Half, Cuts, rises-at, joined, cut-most};
+ghost use Rattle.cutting.specs.Lists.{range, only, greatest};
+ghost use Rattle.cutting.specs.declared.Direction.the-variants.{Length, Width};
+ghost use Rattle.cutting.specs.Job.{InRange};
+ghost use Rattle.table.specs.Table.{kinds-job, Positions, words-needed, Figures, Kept};
+ghost use Rattle.table.specs.Words.{Run, Cells, Finished, Half, Cuts, Axis, Row, CutRow, rises-at, joined, cut-most, added};
 
 // The greater of two figures.
 fn larger(a: u64, b: u64) -> u64
@@ -165,4 +171,175 @@ fn cut_cell(table: &mut [u64], list: &[u16], map: &[u16], b: usize, k: usize, ba
         return;
     }
     cut_rows(table, list, map, b, k, base + b * n, base, n, 1, n);
+}
+
+// The m words from `at` on become those from `from` on, which lie before.
+fn copy(table: &mut [u64], from: usize, at: usize, m: usize)
+    requires { ⌜ (from + m ≤ at) × (at + m ≤ length (now table)) ⌝ }
+    ensures { λ _. ⌜ Run (λ j. getD (now (table .entry)) (from + j) 0) at m (now (table .entry)) (now (table .exit)) ⌝ }
+{
+    for j in 0..m {
+        table[at + j] = table[from + j];
+    }
+}
+
+// The first m words become 0.
+fn clear(table: &mut [u64], m: usize)
+    requires { ⌜ m ≤ length (now table) ⌝ }
+    ensures { λ _. ⌜ Run (λ j. 0) 0 m (now (table .entry)) (now (table .exit)) ⌝ }
+{
+    for j in 0..m {
+        table[j] = 0;
+    }
+}
+
+// A kind on a row of r cells: its price, from its weight on, in each cell that is wide enough.
+fn place(
+    table: &mut [u64],
+    at: usize,
+    wide: &[u16],
+    r: usize,
+    n: usize,
+    width: u16,
+    weight: usize,
+    price: u64,
+)
+    requires { ⌜ (r ≤ length (now wide)) × (weight ≤ n) × (at + r * n ≤ length (now table)) ⌝ }
+    ensures { λ _. ⌜ Cells (λ b c. max (getD (now (table .entry)) (at + (b * n + c)) 0) (only (leb width (getD (now (wide .entry)) b 0) && leb weight c) price)) at r n (now (table .entry)) (now (table .exit)) ⌝ }
+{
+    let mut cell = at;
+    for b in 0..r {
+        if width <= wide[b] {
+            raise(table, cell + weight, n - weight, price);
+        }
+        cell = cell + n;
+    }
+}
+
+// A kind on a row of length l: nothing where the row before, of length `below`, is long enough for it already.
+fn place_kind(
+    table: &mut [u64],
+    at: usize,
+    below: u16,
+    l: u16,
+    wide: &[u16],
+    r: usize,
+    n: usize,
+    size: u16,
+    width: u16,
+    weight: usize,
+    price: u64,
+)
+    requires { ⌜ (r ≤ length (now wide)) × (at + r * n ≤ length (now table)) ⌝ }
+    ensures { λ _. ⌜ Cells (λ b c. max (getD (now (table .entry)) (at + (b * n + c)) 0) (added below l (getD (now (wide .entry)) b 0) c size width weight price)) at r n (now (table .entry)) (now (table .exit)) ⌝ }
+{
+    if size <= below {
+        return;
+    }
+    if l < size {
+        return;
+    }
+    if n <= weight {
+        return;
+    }
+    place(table, at, wide, r, n, width, weight, price);
+}
+
+// All kinds on a row of length l, after a row of length `below`.
+fn place_kinds(
+    table: &mut [u64],
+    at: usize,
+    lengths: &[u16; 64],
+    widths: &[u16; 64],
+    prices: &[u32; 64],
+    weights: &[u8],
+    count: usize,
+    below: u16,
+    l: u16,
+    wide: &[u16],
+    r: usize,
+    n: usize,
+)
+    requires { ⌜ (count ≤ 64) × (count ≤ length (now weights)) × (r ≤ length (now wide)) × (at + r * n ≤ length (now table))
+        × ((i : ℕ) → i < count → getD (now prices) i 0 ≤ 1000000) ⌝ }
+    ensures { λ _. ⌜ Cells (λ b c. max (getD (now (table .entry)) (at + (b * n + c)) 0)
+        (greatest (λ i. added below l (getD (now (wide .entry)) b 0) c (getD (now (lengths .entry)) i 0) (getD (now (widths .entry)) i 0) (getD (now (weights .entry)) i 0) (getD (now (prices .entry)) i 0)) (range 0 count)))
+        at r n (now (table .entry)) (now (table .exit)) ⌝ }
+{
+    for i in 0..count {
+        let size = lengths[i];
+        let width = widths[i];
+        let weight = weights[i] as usize;
+        let price = prices[i] as u64;
+        place_kind(table, at, below, l, wide, r, n, size, width, weight, price);
+    }
+}
+
+// Each cell of a row, one for each entry of a list, takes the cuts of its entry; the cells before it are then finished.
+fn cut_widths(table: &mut [u64], list: &[u16], map: &[u16], at: usize, r: usize, n: usize)
+    requires { ⌜ (1 ≤ r) × Axis (now list) (now map) r × (at + r * n ≤ length (now table)) × Row (now list) at r n (now table) ⌝ }
+    ensures { λ _. ⌜ CutRow (now (list .entry)) (now (map .entry)) at r n (now (table .entry)) (now (table .exit)) ⌝ }
+{
+    let mut k: usize = 1;
+    for b in 1..r {
+        k = half(list, k, b);
+        cut_cell(table, list, map, b, k, at, n);
+    }
+}
+
+// The table of a job: row after row, and in a row cell after cell, each word from earlier words. A row begins as the row before, takes
+// the kinds that are new in it, then its length cuts, then its width cuts. The row of length 0 holds 0.
+pub fn fill(
+    l: u16,
+    w: u16,
+    lengths: &[u16; 64],
+    widths: &[u16; 64],
+    prices: &[u32; 64],
+    weights: &[u8],
+    count: u16,
+    long: &[u16],
+    longmap: &[u16],
+    p: u16,
+    wide: &[u16],
+    widemap: &[u16],
+    r: u16,
+    q: u16,
+    table: &mut [u64],
+)
+    requires { ⌜ InRange (kinds-job l w count (now lengths) (now widths) (now prices)) × (count ≤ length (now weights)) × (q ≤ 4095)
+        × Positions (kinds-job l w count (now lengths) (now widths) (now prices)) Length p (now long) (now longmap)
+        × Positions (kinds-job l w count (now lengths) (now widths) (now prices)) Width r (now wide) (now widemap)
+        × (words-needed (kinds-job l w count (now lengths) (now widths) (now prices)) q ≤ length (now table)) ⌝ }
+    ensures { λ _. ⌜ Figures (kinds-job l w count (now (lengths .entry)) (now (widths .entry)) (now (prices .entry))) (λ i. getD (now (weights .entry)) i 0) q (now (table .exit))
+        × Kept (words-needed (kinds-job l w count (now (lengths .entry)) (now (widths .entry)) (now (prices .entry))) q) (now (table .entry)) (now (table .exit)) ⌝ }
+{
+    let n = (q as usize) + 1;
+    let cells = r as usize;
+    let rows = p as usize;
+    let kinds = count as usize;
+    let row = cells * n;
+    clear(table, row);
+    let mut at = row;
+    let mut k: usize = 1;
+    for a in 1..rows {
+        k = half(long, k, a);
+        copy(table, at - row, at, row);
+        place_kinds(
+            table,
+            at,
+            lengths,
+            widths,
+            prices,
+            weights,
+            kinds,
+            long[a - 1],
+            long[a],
+            wide,
+            cells,
+            n,
+        );
+        cut_rows(table, long, longmap, a, k, at + n, n, row, cells - 1, n);
+        cut_widths(table, wide, widemap, at, cells, n);
+        at = at + row;
+    }
 }

@@ -1,3 +1,5 @@
+-- `table::combine` meets its contract. The loop's invariant: each word has the most over the divisions whose first part has a share below k. A share at which the first cell does not rise changes nothing, as the second cell's words rise.
+-- Assumes nothing.
 use borrow.Author.Needs.{needs}
 use native.Mathlib.Omega.{arith}
 use mathlib.Core.Path.{_≡_, _∙_, sym, refl}

@@ -1,3 +1,5 @@
+-- `table::combine_cells` meets its contract. The loop's invariant: the cells passed are combined, every other word is as it was.
+-- Assumes nothing.
 use borrow.Author.Needs.{needs}
 use native.Mathlib.Omega.{arith}
 use mathlib.Core.Path.{_≡_, _∙_, refl}

@@ -1,3 +1,5 @@
+-- `table::combine_rows` meets its contract. Cells of one word are the words of one run; all others are combined cell by cell.
+-- Assumes nothing.
 use borrow.Author.Needs.{needs}
 use native.Mathlib.Omega.{arith}
 use Rattle.table.proofs.Words.{finished-word, single-words}

@@ -1,8 +1,10 @@
+-- `table::cut_cell` meets its contract. A cell of one word takes its cuts in a register; any other as a run of one cell.
+-- Assumes nothing.
 use borrow.Author.Needs.{needs}
 use native.Mathlib.Omega.{arith}
 use mathlib.Core.Path.{refl}
 use Rattle.table.proofs.Words.{finished-word, finished-single, single-words}
-use Rattle.table.proofs.Divisions.{word-cell, single-cell}
+use Rattle.table.proofs.Cuts.{word-cell, single-cell}
 use Rattle.table.proofs.cut_cell.Statement.{statement}
 use Rattle.table.proofs.cut_cell.Tie as tie
 

@@ -1,3 +1,5 @@
+-- `table::cut_rows` meets its contract. The loop's invariant: the cells have taken the cuts at the entries from 1 to i less 1. Both parts lie before the run.
+-- Assumes nothing.
 use borrow.Author.Needs.{needs}
 use native.Mathlib.Omega.{arith}
 use mathlib.Core.Path.{_≡_, _∙_, refl}
@@ -6,7 +8,7 @@ use lib.ListN.{length, getD}
 use denote.Ref.{now}
 use Rattle.table.specs.Words.{Cells, beyond, cut-most}
 use Rattle.table.proofs.Words.{finished-kept, cell-before}
-use Rattle.table.proofs.Divisions.{rows-more, rows-none, beyond-is, beyond-earlier, entry-before}
+use Rattle.table.proofs.Cuts.{cut-rows-more, cut-rows-none, beyond-is, beyond-earlier, entry-before}
 use Rattle.table.proofs.cut_rows.Statement.{statement}
 use Rattle.table.proofs.cut_rows.Tie as tie
 
@@ -23,7 +25,7 @@ add-x : tie.Need-add-x Inv-loop μ-loop
 add-x c = omega (arith, entry-before (c .before .before .before .before .args .at) (c .before .before .before .before .args .base) (c .before .before .before .before .args .step) (c .before .before .before .before .args .a) 0 (omega arith) (c .before .before .before .before .pre .1))
 
 loop-holds : tie.Need-loop-holds Inv-loop μ-loop
-loop-holds c = (omega arith, c .before .before .before .before .pre .0 .least, omega arith, c .entry .ensures .0, refl, rows-none _ _ _ _ _ _ _ _ _)
+loop-holds c = (omega arith, c .before .before .before .before .pre .0 .least, omega arith, c .entry .ensures .0, refl, cut-rows-none _ _ _ _ _ _ _ _ _)
 
 entry-requires-2 : tie.Need-entry-requires-2 Inv-loop μ-loop
 entry-requires-2 c κs = search needs
@@ -81,7 +83,7 @@ loop-again c = (
   omega (arith, c .before .before .before .before .before .before .before .loop .inv .2),
   c .before .before .before .before .before .before .before .loop .inv .3,
   c .before .before .combine-rows .kept .0 ∙ c .before .before .before .before .before .before .before .loop .inv .4,
-  rows-more (c .before .before .before .before .before .before .before .before .before .before .before .before .args .at) (c .before .before .before .before .before .before .before .before .before .before .before .before .args .base) (c .before .before .before .before .before .before .before .before .before .before .before .before .args .step) (c .before .before .before .before .before .before .before .before .before .before .before .before .args .a) (c .before .before .before .before .before .before .before .loop .i) (c .before .before .before .before .entry3 .result) (c .before .before .before .before .before .before .before .before .before .before .before .before .args .r) (c .before .before .before .before .before .before .before .before .before .before .before .before .args .n) (now (c .before .before .before .before .before .before .before .before .before .before .before .before .args .list)) (now (c .before .before .before .before .before .before .before .before .before .before .before .before .args .map)) _ _ _
+  cut-rows-more (c .before .before .before .before .before .before .before .before .before .before .before .before .args .at) (c .before .before .before .before .before .before .before .before .before .before .before .before .args .base) (c .before .before .before .before .before .before .before .before .before .before .before .before .args .step) (c .before .before .before .before .before .before .before .before .before .before .before .before .args .a) (c .before .before .before .before .before .before .before .loop .i) (c .before .before .before .before .entry3 .result) (c .before .before .before .before .before .before .before .before .before .before .before .before .args .r) (c .before .before .before .before .before .before .before .before .before .before .before .before .args .n) (now (c .before .before .before .before .before .before .before .before .before .before .before .before .args .list)) (now (c .before .before .before .before .before .before .before .before .before .before .before .before .args .map)) _ _ _
       (omega arith) (omega arith) (c .before .before .before .before .before .before .before .before .before .before .before .before .pre .0 .earlier (c .before .before .before .before .before .before .before .loop .i) (omega arith) (omega arith)) (rest-is (c .before .before .before .before)) (c .before .before .before .before .before .before .before .before .before .before .before .before .pre .1) (c .before .before .before .before .before .before .before .before .before .before .before .before .pre .2) (c .before .before .before .before .before .before .before .loop .inv .5) (rw (c .before .before .before .before .before .before .before .loop .inv .2) at (c .before .before .combine-rows .ensures)),
 )
 

@@ -1,3 +1,5 @@
+-- `table::cut_word` meets its contract. The loop's invariant: `best` is the most over the word and its cuts at the entries from 1 to i less 1.
+-- Assumes nothing.
 use borrow.Author.Needs.{needs}
 use native.Mathlib.Omega.{arith}
 use mathlib.Core.Path.{_≡_, _∙_, ap}
@@ -6,7 +8,7 @@ use lib.ListN.{getD}
 use denote.Ref.{now}
 use Rattle.table.specs.Words.{cut-most}
 use Rattle.table.proofs.Words.{run-one}
-use Rattle.table.proofs.Divisions.{word-more, cut-none, beyond-is, beyond-earlier}
+use Rattle.table.proofs.Cuts.{cut-word-more, cut-none, beyond-is, beyond-earlier}
 use Rattle.table.proofs.cut_word.Statement.{statement}
 use Rattle.table.proofs.cut_word.Tie as tie
 
@@ -84,7 +86,7 @@ loop-again c = (
     arith,
     c .before .before .before .before .before .before .loop .inv .3,
     c .larger .ensures,
-    word-more (now (c .before .before .before .before .before .before .before .before .before .before .before .before .args .table)) (now (c .before .before .before .before .before .before .before .before .before .before .before .before .args .list)) (now (c .before .before .before .before .before .before .before .before .before .before .before .before .args .map)) (c .before .before .before .before .before .before .before .before .before .before .before .before .args .b) (c .before .before .before .before .before .before .loop .i) (c .before .before .before .before .before .before .before .before .before .before .before .before .args .base) (c .before .before .before .entry3 .result) (omega arith)
+    cut-word-more (now (c .before .before .before .before .before .before .before .before .before .before .before .before .args .table)) (now (c .before .before .before .before .before .before .before .before .before .before .before .before .args .list)) (now (c .before .before .before .before .before .before .before .before .before .before .before .before .args .map)) (c .before .before .before .before .before .before .before .before .before .before .before .before .args .b) (c .before .before .before .before .before .before .loop .i) (c .before .before .before .before .before .before .before .before .before .before .before .before .args .base) (c .before .before .before .entry3 .result) (omega arith)
         (beyond-is (now (c .before .before .before .before .before .before .before .before .before .before .before .before .args .list)) (now (c .before .before .before .before .before .before .before .before .before .before .before .before .args .map)) (c .before .before .before .before .before .before .before .before .before .before .before .before .args .b) (c .before .before .before .before .before .before .loop .i) (c .before .before .before .before .before .before .before .before .entry .result) (c .before .before .before .before .entry2 .result) (c .before .before .before .entry3 .result) (c .before .before .before .before .before .before .loop .inv .2) (c .before .before .before .before .entry2 .ensures .0) (c .before .before .before .entry3 .ensures .0)),
   ),
 )

@@ -1,3 +1,5 @@
+-- `table::half` meets its contract. The loop's invariant: every entry from 1 to k less 1 is up to half of entry b. It stops before entry b, which is past its own half.
+-- Assumes nothing.
 use borrow.Author.Needs.{needs}
 use native.Mathlib.Omega.{arith}
 use mathlib.Core.Path.{_≡_}

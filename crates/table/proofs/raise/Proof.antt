@@ -1,3 +1,5 @@
+-- `table::raise` meets its contract. The loop's invariant: the words passed are raised, every other word is as it was.
+-- Assumes nothing.
 use borrow.Author.Needs.{needs}
 use native.Mathlib.Omega.{arith}
 use mathlib.Core.Path.{_≡_, refl}

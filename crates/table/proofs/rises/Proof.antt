@@ -1,3 +1,5 @@
+-- `table::rises` meets its contract. Each answer is the test that the definition makes there.
+-- Assumes nothing.
 use borrow.Author.Needs.{needs}
 use borrow.Author.Tests.{eq-eqb, ne-eqb}
 use Rattle.table.proofs.rises.Statement.{statement}
