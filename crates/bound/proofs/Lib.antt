@@ -1,3 +1,4 @@
 pub mod Storage
 pub mod Last
+pub mod Filled
 pub mod Calls

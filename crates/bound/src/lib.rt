@@ -1,15 +1,19 @@
 // The bound call: a job block and weights are accepted or refused, the normal positions of both sides go into the lent lists, the
 // figures into the lent table, and the table's last word is the bound. Refusals 1 to 9, 19 and 20.
 use job::JobRecord;
+use job::WeightsAnswer;
+use refusal::Checked;
 use refusal::Refusal;
 ghost use mathlib.Core.Path.{_≡_};
 ghost use Prim.Native.Nat.{ℕ, _+_, _*_, _≤_, _<_};
 ghost use lib.ListN.{length};
 ghost use Rattle.cutting.specs.declared.Direction.the-variants.{Length, Width};
 ghost use Rattle.cutting.specs.Lists.{over};
-ghost use Rattle.cutting.specs.Job.{InRange, normal-positions};
+ghost use Rattle.cutting.specs.Job.{InRange, capacity, normal-positions};
 ghost use Rattle.job.specs.Block.{job-of};
-ghost use Rattle.bound.specs.Bound.{counts-of};
+ghost use Rattle.job.specs.Weights.{block-job, weight-in};
+ghost use Rattle.table.specs.Table.{position-count, words-needed, Figures, Kept};
+ghost use Rattle.bound.specs.Bound.{counts-of, Begins, lent, Bounded, Leaves, accept-verdict, bound-answer, bound-outcome, bound-said, IsFigure, NoTreeAbove, SomeTreeEarns, DemandsWithin, BelowCeiling};
 
 // What the bound call reports: the bound, the capacity Q, and the numbers p and r of normal lengths and widths.
 pub struct BoundReport {
@@ -52,5 +56,119 @@ fn list_positions(job: JobRecord, lengths: &mut [u16], widths: &mut [u16]) -> Co
     Counts {
         lengths: p,
         widths: r,
+    }
+}
+
+// The figures of a job, into a table that is long enough: the maps of remainders first, then row after row.
+fn fill_table(
+    job: JobRecord,
+    weights: &[u8],
+    q: u16,
+    lengths: &[u16],
+    widths: &[u16],
+    counts: Counts,
+    table: &mut [u64],
+)
+    requires { ⌜ InRange (job-of job) × (job .count ≤ length (now weights)) × (q ≤ 4095) × (counts ≡ counts-of (job-of job))
+        × Begins (job-of job) Length (now lengths) × Begins (job-of job) Width (now widths) × (words-needed (job-of job) q ≤ length (now table)) ⌝ }
+    ensures { λ _. ⌜ Figures (job-of job) (weight-in (now (weights .entry))) q (now (table .exit)) × Kept (words-needed (job-of job) q) (now (table .entry)) (now (table .exit)) ⌝ }
+{
+    let p = counts.lengths;
+    let r = counts.widths;
+    let length = job.length;
+    let width = job.width;
+    let lengthmap = positions::floor_map(lengths, p, length);
+    let widthmap = positions::floor_map(widths, r, width);
+    let along = job.lengths;
+    let across = job.widths;
+    let prices = job.prices;
+    table::fill(
+        length,
+        width,
+        &along,
+        &across,
+        &prices,
+        weights,
+        job.count,
+        lengths,
+        &lengthmap,
+        p,
+        widths,
+        &widthmap,
+        r,
+        q,
+        table,
+    );
+}
+
+// The bound of a job that was read and weights that were accepted: refusals 19 and 20, then the lists, the table and the report.
+pub fn bound_of_job(
+    job: JobRecord,
+    weights: &[u8],
+    q: u16,
+    lengths: &mut [u16],
+    widths: &mut [u16],
+    table: &mut [u64],
+) -> BoundAnswer
+    requires { ⌜ InRange (job-of job) × (job .count ≤ length (now weights)) × (q ≡ capacity (job-of job) (weight-in (now weights))) × (q ≤ 4095) ⌝ }
+    ensures { λ r. ⌜ Bounded (job-of job) (weight-in (now (weights .entry)))
+        (lent (now (lengths .entry)) (now (widths .entry)) (now (table .entry)))
+        (lent (now (lengths .exit)) (now (widths .exit)) (now (table .exit))) r ⌝ }
+{
+    let length = job.length;
+    let width = job.width;
+    if lengths.len() <= length as usize {
+        return BoundAnswer::Refused(Refusal::ListShort);
+    }
+    if widths.len() <= width as usize {
+        return BoundAnswer::Refused(Refusal::ListShort);
+    }
+    let counts = list_positions(job, lengths, widths);
+    let p = counts.lengths;
+    let r = counts.widths;
+    let needed = words(p, r, q);
+    if (table.len() as u64) < needed {
+        return BoundAnswer::Refused(Refusal::TableShort(needed));
+    }
+    fill_table(job, weights, q, &lengths[..], &widths[..], counts, table);
+    let last = needed as usize - 1;
+    BoundAnswer::Answered(BoundReport {
+        bound: table[last],
+        capacity: q,
+        lengths: p,
+        widths: r,
+    })
+}
+
+// The bound of a job block and weights. The answer and the memory it leaves are the definitions'; whatever storage is lent, for every
+// accepted job and weights the bound is the figure at the plate and the capacity, the most that a guillotine tree within the capacity
+// earns, no less than any tree that keeps the demands earns, and at most 1,000,000,000,000.
+pub fn bound(
+    block: &[u8],
+    weights: &[u8],
+    lengths: &mut [u16],
+    widths: &mut [u16],
+    table: &mut [u64],
+) -> BoundAnswer
+    ensures answers { λ r. ⌜ r ≡ bound-answer (now (block .entry)) (now (weights .entry)) (lent (now (lengths .entry)) (now (widths .entry)) (now (table .entry))) ⌝ }
+    ensures outcome { λ r. ⌜ bound-outcome r ≡ bound-said (now (block .entry)) (now (weights .entry)) (lent (now (lengths .entry)) (now (widths .entry)) (now (table .entry))) ⌝ }
+    ensures memory { λ _. ⌜ Leaves (accept-verdict (now (block .entry)) (now (weights .entry))) (block-job (now (block .entry))) (weight-in (now (weights .entry)))
+        (lent (now (lengths .entry)) (now (widths .entry)) (now (table .entry))) (lent (now (lengths .exit)) (now (widths .exit)) (now (table .exit))) ⌝ }
+    ensures figure { λ _. ⌜ IsFigure (now (block .entry)) (now (weights .entry)) ⌝ }
+    ensures upper { λ _. ⌜ NoTreeAbove (now (block .entry)) (now (weights .entry)) ⌝ }
+    ensures attained { λ _. ⌜ SomeTreeEarns (now (block .entry)) (now (weights .entry)) ⌝ }
+    ensures demands { λ _. ⌜ DemandsWithin (now (block .entry)) (now (weights .entry)) ⌝ }
+    ensures ceiling { λ _. ⌜ BelowCeiling (now (block .entry)) (now (weights .entry)) ⌝ }
+{
+    let answer = job::read_job(block);
+    let read = answer.verdict;
+    if let Checked::Refused(r) = read {
+        return BoundAnswer::Refused(r);
+    }
+    let record = answer.job;
+    let accepted = job::check_weights(record, weights);
+    match accepted {
+        WeightsAnswer::Refused(r) => BoundAnswer::Refused(r),
+        WeightsAnswer::Capacity(q) => bound_of_job(record, weights, q, lengths, widths, table),
     }
 }
