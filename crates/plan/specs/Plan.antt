@@ -102,7 +102,8 @@ abbrev pub proceed : Checked → PlanAnswer → PlanAnswer
 proceed Passed a = a
 proceed (Refused r) a = refused r
 
--- the walk from node k on, over the nodes left and the rectangles still to be filled, the next one first
+-- the walk from node k on, over the nodes left and the rectangles still to be filled, the next one first: 17 gives the node count, for
+-- all k nodes are read, and 18 the first node left over
 unfoldable pub walk : Job → ℕ → List (ℕ × ℕ) → List Rect → Report → PlanAnswer
 walk J k [] [] s = passed s
 walk J k (n ∷ ns) [] s = refused (NodeLeft k)

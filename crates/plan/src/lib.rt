@@ -62,6 +62,7 @@ fn wide(x: u32) -> u64
     x as u64
 }
 
+// One copy more, below the demand.
 fn one_more(copies: u16, demand: u16) -> u16
     requires { ⌜ copies < demand ⌝ }
     ensures { λ r. ⌜ r ≡ copies + 1 ⌝ }
@@ -69,6 +70,7 @@ fn one_more(copies: u16, demand: u16) -> u16
     copies + 1
 }
 
+// The area of a rectangle.
 fn area(l: u16, w: u16) -> u64
     ensures { λ r. ⌜ (r ≡ l * w) × (r < 2 ^ 32) ⌝ }
 {
@@ -114,6 +116,7 @@ fn outside_cut(d: Direction, x: u16, l: u16, w: u16) -> bool
     cut_side(d, l, w) <= x
 }
 
+// The first part of a cut: x on the side that is cut, the other side whole.
 fn first_part(d: Direction, x: u16, l: u16, w: u16) -> Sides
     ensures { λ r. ⌜ (r .l, r .w) ≡ part d x (l, w) ⌝ }
 {
@@ -123,6 +126,7 @@ fn first_part(d: Direction, x: u16, l: u16, w: u16) -> Sides
     }
 }
 
+// The second part of a cut: the rest of the side.
 fn second_part(d: Direction, x: u16, l: u16, w: u16) -> Sides
     requires { ⌜ x < side d (l, w) ⌝ }
     ensures { λ r. ⌜ (r .l, r .w) ≡ part d (side d (l, w) - x) (l, w) ⌝ }
@@ -133,6 +137,7 @@ fn second_part(d: Direction, x: u16, l: u16, w: u16) -> Sides
     }
 }
 
+// The walk ends with a refusal.
 fn refuse(r: Refusal, t: Tally) -> Walked
     ensures { λ a. ⌜ a ≡ stopped r t ⌝ }
 {
@@ -213,15 +218,19 @@ fn place_piece(
     let price = wide(prices[k]);
     let room = area(l, w);
     let used = area(a, b);
+    let next = at + 1;
+    let profit = t.profit + price;
+    let pieces = t.pieces + used;
+    let trim = t.trim + (room - used);
     copies[k] = one_more(have, most);
     Walked {
         verdict: Checked::Passed,
         tally: Tally {
-            at: at + 1,
-            profit: t.profit + price,
-            pieces: t.pieces + used,
+            at: next,
+            profit: profit,
+            pieces: pieces,
             waste: t.waste,
-            trim: t.trim + (room - used),
+            trim: trim,
         },
     }
 }
@@ -303,12 +312,12 @@ fn check_tree(
 fn without_report(verdict: Checked) -> PlanAnswer
     ensures { λ r. ⌜ r ≡ unreported verdict ⌝ }
 {
-    let copies = [0u16; 64];
+    let none = [0u16; 64];
     PlanAnswer {
         verdict: verdict,
         report: Report {
             profit: 0,
-            copies: copies,
+            copies: none,
             pieces: 0,
             waste: 0,
             trim: 0,

@@ -72,6 +72,21 @@ area-requires c κs = search needs
 area-requires-2 : tie.Need-area-requires-2
 area-requires-2 c κs = search needs
 
+add-next : tie.Need-add-next
+add-next c = search needs
+
+add-profit : tie.Need-add-profit
+add-profit c = search needs
+
+add-pieces : tie.Need-add-pieces
+add-pieces c = search needs
+
+sub-trim : tie.Need-sub-trim
+sub-trim c = omega (arith, c .before .before .area2 .ensures .0, c .before .before .before .area .ensures .0, fits-area _ _ (c .before .before .before .before .before .before .before .before .before .before .before .before .before .before .args .l) (c .before .before .before .before .before .before .before .before .before .before .before .before .before .before .args .w) (sym (c .before .before .before .before .before .before .before .before .before .before .fits2 .ensures) ∙ not-false _ (c .before .before .before .before .before .before .before .before .before .if2 .left)))
+
+add-trim : tie.Need-add-trim
+add-trim c = search needs
+
 one-more-requires : tie.Need-one-more-requires
 one-more-requires c κs = search needs
 
@@ -81,24 +96,9 @@ mul-copies c = search needs
 element-write-copies : tie.Need-element-write-copies
 element-write-copies c = search needs
 
-add-t25 : tie.Need-add-t25
-add-t25 c = search needs
-
-add-t41 : tie.Need-add-t41
-add-t41 c = search needs
-
-add-t42 : tie.Need-add-t42
-add-t42 c = search needs
-
-sub-t43 : tie.Need-sub-t43
-sub-t43 c = omega (arith, c .before .before .before .area2 .ensures .0, c .before .before .before .before .area .ensures .0, fits-area _ _ (c .before .before .before .before .before .before .before .before .before .before .before .before .before .before .before .args .l) (c .before .before .before .before .before .before .before .before .before .before .before .before .before .before .before .args .w) (sym (c .before .before .before .before .before .before .before .before .before .before .before .fits2 .ensures) ∙ not-false _ (c .before .before .before .before .before .before .before .before .before .before .if2 .left)))
-
-add-t44 : tie.Need-add-t44
-add-t44 c = search needs
-
 returns-4 : tie.Need-returns-4
 returns-4 c = λ p q. let a = c .before .before .before .before .before .before .before .before .before .before .before .before .before .before .before .before .args in let J = job-from p q (a .count) (now (a .lengths)) (now (a .widths)) (now (a .prices)) (now (a .demands)) in
-    piece-placed J (a .i) (a .l, a .w) (a .t) (now (a .copies)) (c .before .before .before .before .before .before .wide .result) (c .before .before .before .before .before .area .result) (c .before .before .before .before .area2 .result) (c .before .before .before .one-more .result) (c .before .before .before .before .before .before .before .before .before .before .before .before .before .before .before .before .pre .0) (c .before .before .before .before .before .before .before .before .before .before .before .before .before .before .before .before .pre .1) (c .before .before .before .before .before .before .before .before .before .before .before .before .before .before .before .if1 .left) (sym (c .before .before .before .before .before .before .before .before .before .before .before .before .fits2 .ensures) ∙ not-false _ (c .before .before .before .before .before .before .before .before .before .before .before .if2 .left)) (c .before .before .before .before .before .before .before .before .if3 .left) (c .before .before .before .before .before .before .wide .ensures .0) (c .before .before .before .before .before .area .ensures .0) (c .before .before .before .before .area2 .ensures .0) (c .before .before .before .one-more .ensures) (c .before .before .before .before .before .before .wide .ensures .1) (c .before .before .before .before .before .area .ensures .1) (c .before .before .before .before .area2 .ensures .1)
+    piece-placed J (a .i) (a .l, a .w) (a .t) (now (a .copies)) (c .before .before .before .before .before .before .wide .result) (c .before .before .before .before .before .area .result) (c .before .before .before .before .area2 .result) (c .one-more .result) (c .before .before .before .before .before .before .before .before .before .before .before .before .before .before .before .before .pre .0) (c .before .before .before .before .before .before .before .before .before .before .before .before .before .before .before .before .pre .1) (c .before .before .before .before .before .before .before .before .before .before .before .before .before .before .before .if1 .left) (sym (c .before .before .before .before .before .before .before .before .before .before .before .before .fits2 .ensures) ∙ not-false _ (c .before .before .before .before .before .before .before .before .before .before .before .if2 .left)) (c .before .before .before .before .before .before .before .before .if3 .left) (c .before .before .before .before .before .before .wide .ensures .0) (c .before .before .before .before .before .area .ensures .0) (c .before .before .before .before .area2 .ensures .0) (c .one-more .ensures) (c .before .before .before .before .before .before .wide .ensures .1) (c .before .before .before .before .before .area .ensures .1) (c .before .before .before .before .area2 .ensures .1)
 
 pub place-piece-spec : {M : Type 1} → statement M
 place-piece-spec =
@@ -124,12 +124,12 @@ place-piece-spec =
     wide-requires
     area-requires
     area-requires-2
+    add-next
+    add-profit
+    add-pieces
+    sub-trim
+    add-trim
     one-more-requires
     mul-copies
     element-write-copies
-    add-t25
-    add-t41
-    add-t42
-    sub-t43
-    add-t44
     returns-4)
