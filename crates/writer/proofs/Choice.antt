@@ -29,9 +29,9 @@ use Rattle.writer.specs.declared.KindFound.{KindFound}
 use Rattle.writer.specs.declared.KindFound.the-variants as kind
 use Rattle.writer.specs.declared.CutFound.{CutFound}
 use Rattle.writer.specs.declared.CutFound.the-variants as found
-use Rattle.writer.specs.Search.{kind-test, kind-found, pair-test, first-index, cut-found}
+use Rattle.writer.specs.Search.{kind-test, kind-found, pair-test, first-index, cut-found, or-width-cut, or-length-cut, Searchable}
 use Rattle.writer.specs.Plan.{Listed, Mapped, Tabled, lent-job, Lent, Cell, chosen-of, chosen-at}
-use Rattle.writer.proofs.Rows.{stride-of, base-of, figure-at, row-figure, mapped-figure, cell-figure}
+use Rattle.writer.proofs.Rows.{stride-of, base-of, figure-at, row-figure, mapped-figure, cell-figure, cell-there, cell-sizes, searchable}
 
 -- searches over mapped lists
 module _ {A B : Type 0} where
@@ -81,15 +81,7 @@ pair-figures : (J : Job) (weight : ℕ → ℕ) (d : Direction) (l w c : ℕ) (u
 pair-figures J weight Length l w c u = refl
 pair-figures J weight Width l w c u = refl
 
--- the answer as the searches give it: waste where the value is 0, or the kind, or the length cut, or the width cut
-abbrev pub or-width-cut : CutFound → Chosen
-or-width-cut found.Missing = record { node = Waste; share = 0 }
-or-width-cut (found.At x k) = record { node = Cut Width x; share = k }
-
-abbrev pub or-length-cut : CutFound → Chosen → Chosen
-or-length-cut found.Missing r = r
-or-length-cut (found.At x k) r = record { node = Cut Length x; share = k }
-
+-- the answer as the searches give it: waste where the value is 0, or the kind, or a cut
 abbrev pub or-kind : KindFound → Chosen → Chosen
 or-kind kind.Missing r = r
 or-kind (kind.Kind i) r = record { node = Piece i; share = 0 }
@@ -148,16 +140,18 @@ module _ (z : Bool) (k : KindFound) where
   exit-kind : (r : Chosen) {i : ℕ} → z ≡ false → k ≡ kind.Kind i → or-none z (or-kind k r) ≡ record { node = Piece i; share = 0 }
   exit-kind r e f = rw (e, f) refl
 
-  exit-length : (a b : CutFound) {x s : ℕ} → z ≡ false → k ≡ kind.Missing → a ≡ found.At x s → or-none z (or-kind k (or-length-cut a (or-width-cut b))) ≡ record { node = Cut Length x; share = s }
-  exit-length a b e f h = rw (e, f, h) refl
+  exit-cut : (r : Chosen) → z ≡ false → k ≡ kind.Missing → or-none z (or-kind k r) ≡ r
+  exit-cut r e f = rw (e, f) refl
 
-  exit-width : (a b : CutFound) {x s : ℕ} → z ≡ false → k ≡ kind.Missing → a ≡ found.Missing → b ≡ found.At x s
-      → or-none z (or-kind k (or-length-cut a (or-width-cut b))) ≡ record { node = Cut Width x; share = s }
-  exit-width a b e f h i = rw (e, f, h, i) refl
+-- and out of the search for a cut
+pub length-out : {f : CutFound} {x s : ℕ} (r : Chosen) → f ≡ found.At x s → record { node = Cut Length x; share = s } ≡ or-length-cut f r
+length-out r e = rw e refl
 
-  exit-nothing : (a b : CutFound) → z ≡ false → k ≡ kind.Missing → a ≡ found.Missing → b ≡ found.Missing
-      → or-none z (or-kind k (or-length-cut a (or-width-cut b))) ≡ record { node = Waste; share = 0 }
-  exit-nothing a b e f h i = rw (e, f, h, i) refl
+pub width-out : {f g : CutFound} {x s : ℕ} → f ≡ found.Missing → g ≡ found.At x s → record { node = Cut Width x; share = s } ≡ or-length-cut f (or-width-cut g)
+width-out e h = rw (e, h) refl
+
+pub waste-out : {f g : CutFound} → f ≡ found.Missing → g ≡ found.Missing → record { node = Waste; share = 0 } ≡ or-length-cut f (or-width-cut g)
+waste-out e h = rw (e, h) refl
 
 -- the searches that the choice makes over lent arrays, at a cell of a value
 module _ (g : Dimensions) (kind-lengths kind-widths prices weights lengths widths length-map width-map table : List ℕ) (l w c value : ℕ) where
@@ -184,6 +178,20 @@ module _ {g : Dimensions} {kl kw prices weights lengths widths mx my table : Lis
       (width-search g kl kw prices weights lengths widths mx my table l w c v)
       (pair-index (t .tabled) l w c (at .on-length) (at .on-width) (at .in-capacity) Length lengths mx (t .tabled .lengths-are) (t .tabled .length-floors)) (pair-index (t .tabled) l w c (at .on-length) (at .on-width) (at .in-capacity) Width widths my (t .tabled .widths-are) (t .tabled .width-floors)))
 
+  -- what the code multiplies and reads is in reach
+  pub sizes : (getD mx l 0 < 1002) × (getD my w 0 < 1002) × (g .columns * (g .capacity + 1) ≤ 4100096) × (getD mx l 0 * (g .columns * (g .capacity + 1)) ≤ 4104196096) × (getD my w 0 * (g .capacity + 1) ≤ 4100096)
+  sizes = cell-sizes (t .tabled) l w (at .on-length) (at .on-width)
+
+  pub there : getD mx l 0 * (g .columns * (g .capacity + 1)) + getD my w 0 * (g .capacity + 1) + c < length table
+  there = cell-there (t .tabled) l w (at .on-length) (at .on-width) c (at .in-capacity)
+
+  pub cuts-searchable : Searchable lengths mx table l (getD mx l 0) (g .columns * (g .capacity + 1)) (getD my w 0 * (g .capacity + 1)) c
+      × Searchable widths my table w (getD my w 0) (g .capacity + 1) (getD mx l 0 * (g .columns * (g .capacity + 1))) c
+  cuts-searchable = (
+    searchable (t .tabled) l w (at .on-length) (at .on-width) Length lengths mx (t .tabled .lengths-are) (t .tabled .length-floors) c (at .in-capacity),
+    searchable (t .tabled) l w (at .on-length) (at .on-width) Width widths my (t .tabled .widths-are) (t .tabled .width-floors) c (at .in-capacity),
+  )
+
   -- the value of the cell
   abbrev pub cell : ℕ
   cell = getD table (getD mx l 0 * (g .columns * (g .capacity + 1)) + getD my w 0 * (g .capacity + 1) + c) 0
@@ -200,16 +208,7 @@ module _ {g : Dimensions} {kl kw prices weights lengths widths mx my table : Lis
         → record { node = Piece i; share = 0 } ≡ chosen-at g kl kw prices weights l w c
     kind-chosen k = sym (exit-kind _ _ _ (ne-eqb cell 0 z) k) ∙ answer-choice
 
-    module _ (k : kind-found (kind-search g kl kw prices weights lengths widths mx my table l w c cell) ≡ kind.Missing) where
-      pub length-chosen : {x s : ℕ} → cut-found lengths (length-search g kl kw prices weights lengths widths mx my table l w c cell) ≡ found.At x s
-          → record { node = Cut Length x; share = s } ≡ chosen-at g kl kw prices weights l w c
-      length-chosen a = sym (exit-length _ _ _ (cut-found widths (width-search g kl kw prices weights lengths widths mx my table l w c cell)) (ne-eqb cell 0 z) k a) ∙ answer-choice
-
-      module _ (a : cut-found lengths (length-search g kl kw prices weights lengths widths mx my table l w c cell) ≡ found.Missing) where
-        pub width-chosen : {x s : ℕ} → cut-found widths (width-search g kl kw prices weights lengths widths mx my table l w c cell) ≡ found.At x s
-            → record { node = Cut Width x; share = s } ≡ chosen-at g kl kw prices weights l w c
-        width-chosen b = sym (exit-width _ _ _ _ (ne-eqb cell 0 z) k a b) ∙ answer-choice
-
-        pub nothing-chosen : cut-found widths (width-search g kl kw prices weights lengths widths mx my table l w c cell) ≡ found.Missing
-            → record { node = Waste; share = 0 } ≡ chosen-at g kl kw prices weights l w c
-        nothing-chosen b = sym (exit-nothing _ _ _ _ (ne-eqb cell 0 z) k a b) ∙ answer-choice
+    pub cut-chosen : kind-found (kind-search g kl kw prices weights lengths widths mx my table l w c cell) ≡ kind.Missing
+        → or-length-cut (cut-found lengths (length-search g kl kw prices weights lengths widths mx my table l w c cell)) (or-width-cut (cut-found widths (width-search g kl kw prices weights lengths widths mx my table l w c cell)))
+        ≡ chosen-at g kl kw prices weights l w c
+    cut-chosen k = sym (exit-cut _ _ _ (ne-eqb cell 0 z) k) ∙ answer-choice

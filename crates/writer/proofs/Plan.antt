@@ -25,7 +25,7 @@ use Rattle.writer.specs.declared.Chosen.{Chosen}
 use Rattle.writer.specs.declared.Dimensions.{Dimensions}
 use Rattle.writer.specs.declared.Sides.{Sides}
 use Rattle.writer.specs.Plan.{Lent, Cell, lent-job, chosen-of, chosen-at, plan-at, sides-of}
-use Rattle.writer.proofs.Preorder.{count-waste, count-piece, count-cut, nodes-most}
+use Rattle.writer.proofs.Preorder.{count-waste, count-piece, count-cut, count-some, nodes-most}
 
 module _ (J : Job) (weight : ℕ → ℕ) (l w c : ℕ) where
   -- a cut in range, and shares that sum to the cell's
@@ -118,6 +118,11 @@ plan-nodes {g} {kl} {kw} {prices} {weights} t {l} {w} {c} at =
     let x : l ≤ 1000 = omega (arith, at .on-length, t .tabled .in-range .plate-length) in
     let y : w ≤ 1000 = omega (arith, at .on-width, t .tabled .in-range .plate-width) in
     omega (arith, nodes-most (lent-job g kl kw prices) (plan-at g kl kw prices weights l w c) l w (p .0) (at .some-length) (at .some-width), mul-le-mul x y)
+
+-- and at least one
+pub plan-some : {g : Dimensions} {kl kw prices weights lengths widths mx my table : List ℕ} → Lent g kl kw prices weights lengths widths mx my table → {l w c : ℕ} → Cell g l w c
+    → 1 ≤ node-count (plan-at g kl kw prices weights l w c)
+plan-some t at = count-some _
 
 -- what the node of a choice says of the plan
 module _ {g : Dimensions} {kl kw prices weights lengths widths mx my table : List ℕ} (t : Lent g kl kw prices weights lengths widths mx my table) {l w c : ℕ} (at : Cell g l w c)

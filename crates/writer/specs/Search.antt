@@ -7,7 +7,10 @@ use mathlib.Core.List.{List}
 use Prim.Native.Nat.{ℕ, _+_, _-_, _*_, _≤_, _<_}
 use lib.Dec.{leb, eqb}
 use lib.ListN.{length, getD}
+use Rattle.cutting.specs.declared.Direction.the-variants.{Length, Width}
+use Rattle.cutting.specs.declared.Node.the-variants.{Waste, Cut}
 use Rattle.cutting.specs.Lists.{range, first, pairs}
+use Rattle.writer.specs.declared.Chosen.{Chosen}
 use Rattle.writer.specs.declared.KindFound.{KindFound}
 use Rattle.writer.specs.declared.KindFound.the-variants as kind
 use Rattle.writer.specs.declared.CutFound.{CutFound}
@@ -40,6 +43,16 @@ first-index positions map table side last stride base c value = first (pair-test
 abbrev pub cut-found : List ℕ → Option (ℕ × ℕ) → CutFound
 cut-found positions none = cut.Missing
 cut-found positions (some u) = cut.At (getD positions (u .0) 0) (u .1)
+
+-- a width cut that was found, or waste
+abbrev pub or-width-cut : CutFound → Chosen
+or-width-cut cut.Missing = record { node = Waste; share = 0 }
+or-width-cut (cut.At x k) = record { node = Cut Width x; share = k }
+
+-- a length cut that was found, or what follows
+abbrev pub or-length-cut : CutFound → Chosen → Chosen
+or-length-cut cut.Missing r = r
+or-length-cut (cut.At x k) r = record { node = Cut Length x; share = k }
 
 -- a row of the table, from a share up to c: its words are there, and the sum of two of them does not wrap
 abbrev pub Row : List ℕ → ℕ → ℕ → ℕ → ℕ → Type 0

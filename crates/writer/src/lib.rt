@@ -9,7 +9,7 @@ use positions::floor_map;
 use refusal::Refusal;
 ghost use mathlib.Core.Path.{_≡_};
 ghost use mathlib.Core.Bool.{_||_};
-ghost use Prim.Native.Nat.{ℕ, _+_, _-_, _≤_, _<_};
+ghost use Prim.Native.Nat.{ℕ, _+_, _-_, _*_, _≤_, _<_};
 ghost use lib.Dec.{ltb};
 ghost use lib.ListN.{length};
 ghost use lib.Seq.{sets};
@@ -19,7 +19,7 @@ ghost use Rattle.cutting.specs.Preorder.{kind-of, operand-of, kinds-of, operand
 ghost use Rattle.job.specs.Block.{job-of};
 ghost use Rattle.job.specs.Weights.{weight-in};
 ghost use Rattle.bound.specs.Bound.{report-of};
-ghost use Rattle.writer.specs.Search.{earns-alone, kind-test, kind-found, first-index, cut-found, Searchable};
+ghost use Rattle.writer.specs.Search.{earns-alone, kind-test, kind-found, first-index, cut-found, or-width-cut, or-length-cut, Searchable};
 ghost use Rattle.writer.specs.Plan.{Lent, Cell, chosen-at, plan-at, sides-of};
 ghost use Rattle.writer.specs.Write.{Filled, Planned};
 
@@ -167,8 +167,48 @@ fn find_cut(
     found
 }
 
-// The choice at a rectangle and a share: figure 0 gives waste; otherwise the lowest-numbered kind that earns the figure; otherwise the
-// first length cut, and failing all the first width cut. A row of the table has the words of one normal length.
+// The first length cut that earns a value, or failing all the first width cut, or waste. A row of the table has the words of one normal
+// length, which begin at a * row; those of one normal width begin at b * shares in it.
+fn choose_cut(
+    l: usize,
+    w: usize,
+    c: usize,
+    value: u64,
+    a: usize,
+    b: usize,
+    row: usize,
+    shares: usize,
+    lengths: &[u16],
+    widths: &[u16],
+    lengthmap: &[u16; 1001],
+    widthmap: &[u16; 1001],
+    table: &[u64],
+) -> Chosen
+    requires { ⌜ Searchable (now lengths) (now lengthmap) (now table) l a row (b * shares) c × Searchable (now widths) (now widthmap) (now table) w b shares (a * row) c ⌝ }
+    ensures { λ r. ⌜ r ≡ or-length-cut (cut-found (now (lengths .entry)) (first-index (now (lengths .entry)) (now (lengthmap .entry)) (now (table .entry)) l a row (b * shares) c value))
+        (or-width-cut (cut-found (now (widths .entry)) (first-index (now (widths .entry)) (now (widthmap .entry)) (now (table .entry)) w b shares (a * row) c value))) ⌝ }
+{
+    let along = find_cut(lengths, lengthmap, table, l, a, row, b * shares, c, value);
+    if let CutFound::At(x, k) = along {
+        return Chosen {
+            node: Node::Cut(Direction::Length, x),
+            share: k,
+        };
+    }
+    let across = find_cut(widths, widthmap, table, w, b, shares, a * row, c, value);
+    if let CutFound::At(x, k) = across {
+        return Chosen {
+            node: Node::Cut(Direction::Width, x),
+            share: k,
+        };
+    }
+    Chosen {
+        node: Node::Waste,
+        share: 0,
+    }
+}
+
+// The choice at a rectangle and a share: figure 0 gives waste; otherwise the lowest-numbered kind that earns the figure; otherwise a cut.
 pub fn choose(
     l: u16,
     w: u16,
@@ -192,9 +232,7 @@ pub fn choose(
     let share = c as usize;
     let shares = g.capacity as usize + 1;
     let row = g.columns as usize * shares;
-    let along = a * row;
-    let across = b * shares;
-    let value = table[along + across + share];
+    let value = table[a * row + b * shares + share];
     if value == 0 {
         return Chosen {
             node: Node::Waste,
@@ -208,44 +246,21 @@ pub fn choose(
             share: 0,
         };
     }
-    let found = find_cut(
-        lengths,
-        lengthmap,
-        table,
+    choose_cut(
         l as usize,
-        a,
-        row,
-        across,
+        w as usize,
         share,
         value,
-    );
-    if let CutFound::At(x, k) = found {
-        return Chosen {
-            node: Node::Cut(Direction::Length, x),
-            share: k,
-        };
-    }
-    let found = find_cut(
+        a,
+        b,
+        row,
+        shares,
+        lengths,
         widths,
+        lengthmap,
         widthmap,
         table,
-        w as usize,
-        b,
-        shares,
-        along,
-        share,
-        value,
-    );
-    if let CutFound::At(x, k) = found {
-        return Chosen {
-            node: Node::Cut(Direction::Width, x),
-            share: k,
-        };
-    }
-    Chosen {
-        node: Node::Waste,
-        share: 0,
-    }
+    )
 }
 
 // A node's kind as a number.

@@ -1,7 +1,6 @@
 -- `writer::write_nodes` meets its contract. The measure is the half perimeter. Assumes nothing.
-use Rattle.writer.proofs.Plan.{waste-count, piece-count, cut-position, cut-parts, cut-count, waste-preorder, piece-preorder, cut-preorder}
-use Rattle.writer.proofs.Preorder.{count-some, leaf-kinds, leaf-operands, cut-kinds, cut-operands}
-use Rattle.writer.specs.Plan.{plan-at}
+use Rattle.writer.proofs.Plan.{plan-some, waste-count, piece-count, cut-position, cut-parts, cut-count, waste-preorder, piece-preorder, cut-preorder}
+use Rattle.writer.proofs.Preorder.{leaf-kinds, leaf-operands, cut-kinds, cut-operands}
 use lib.ListN.{length-set}
 use native.Mathlib.Omega.{arith}
 use borrow.Author.Needs.{needs}
@@ -55,19 +54,19 @@ write-nodes-kind-number-requires : (t : ℕ) → write-nodes-lts.Need-kind-numbe
 write-nodes-kind-number-requires t c κs = search needs
 
 write-nodes-slice-write-kinds : (t : ℕ) → write-nodes-lts.Need-slice-write-kinds (callees t) (write-nodes-at t) write-nodes.Post
-write-nodes-slice-write-kinds t c = omega (arith, count-some (plan-at (c .before .before .before .before .before .before .before .before .args .g) (c .before .before .before .before .before .before .before .before .args .klengths .now) (c .before .before .before .before .before .before .before .before .args .kwidths .now) (c .before .before .before .before .before .before .before .before .args .prices .now) (c .before .before .before .before .before .before .before .before .args .weights .now) (c .before .before .before .before .before .before .before .before .args .l) (c .before .before .before .before .before .before .before .before .args .w) (c .before .before .before .before .before .before .before .before .args .c)), c .before .before .before .before .before .before .before .before .pre .1 .2, c .before .before .before .before .before .before .before .before .pre .1 .3)
+write-nodes-slice-write-kinds t c = omega (arith, plan-some (c .before .before .before .before .before .before .before .before .pre .1 .0) (c .before .before .before .before .before .before .before .before .pre .1 .1), c .before .before .before .before .before .before .before .before .pre .1 .2, c .before .before .before .before .before .before .before .before .pre .1 .3)
 
 write-nodes-operand-requires : (t : ℕ) → write-nodes-lts.Need-operand-requires (callees t) (write-nodes-at t) write-nodes.Post
 write-nodes-operand-requires t c κs = search needs
 
 write-nodes-mul-operands : (t : ℕ) → write-nodes-lts.Need-mul-operands (callees t) (write-nodes-at t) write-nodes.Post
-write-nodes-mul-operands t c = omega (arith, count-some (plan-at (c .before .before .before .before .before .before .before .before .before .args .g) (c .before .before .before .before .before .before .before .before .before .args .klengths .now) (c .before .before .before .before .before .before .before .before .before .args .kwidths .now) (c .before .before .before .before .before .before .before .before .before .args .prices .now) (c .before .before .before .before .before .before .before .before .before .args .weights .now) (c .before .before .before .before .before .before .before .before .before .args .l) (c .before .before .before .before .before .before .before .before .before .args .w) (c .before .before .before .before .before .before .before .before .before .args .c)), c .before .before .before .before .before .before .before .before .before .pre .1 .2, c .before .before .before .before .before .before .before .before .before .pre .1 .3)
+write-nodes-mul-operands t c = omega (arith, plan-some (c .before .before .before .before .before .before .before .before .before .pre .1 .0) (c .before .before .before .before .before .before .before .before .before .pre .1 .1), c .before .before .before .before .before .before .before .before .before .pre .1 .2, c .before .before .before .before .before .before .before .before .before .pre .1 .3)
 
 write-nodes-slice-write-operands : (t : ℕ) → write-nodes-lts.Need-slice-write-operands (callees t) (write-nodes-at t) write-nodes.Post
-write-nodes-slice-write-operands t c = omega (arith, count-some (plan-at (c .before .before .before .before .before .before .before .before .before .args .g) (c .before .before .before .before .before .before .before .before .before .args .klengths .now) (c .before .before .before .before .before .before .before .before .before .args .kwidths .now) (c .before .before .before .before .before .before .before .before .before .args .prices .now) (c .before .before .before .before .before .before .before .before .before .args .weights .now) (c .before .before .before .before .before .before .before .before .before .args .l) (c .before .before .before .before .before .before .before .before .before .args .w) (c .before .before .before .before .before .before .before .before .before .args .c)), c .before .before .before .before .before .before .before .before .before .pre .1 .2, c .before .before .before .before .before .before .before .before .before .pre .1 .3)
+write-nodes-slice-write-operands t c = omega (arith, plan-some (c .before .before .before .before .before .before .before .before .before .pre .1 .0) (c .before .before .before .before .before .before .before .before .before .pre .1 .1), c .before .before .before .before .before .before .before .before .before .pre .1 .2, c .before .before .before .before .before .before .before .before .before .pre .1 .3)
 
 write-nodes-add-next : (t : ℕ) → write-nodes-lts.Need-add-next (callees t) (write-nodes-at t) write-nodes.Post
-write-nodes-add-next t c = omega (arith, count-some (plan-at (c .before .before .before .before .before .before .before .before .before .args .g) (c .before .before .before .before .before .before .before .before .before .args .klengths .now) (c .before .before .before .before .before .before .before .before .before .args .kwidths .now) (c .before .before .before .before .before .before .before .before .before .args .prices .now) (c .before .before .before .before .before .before .before .before .before .args .weights .now) (c .before .before .before .before .before .before .before .before .before .args .l) (c .before .before .before .before .before .before .before .before .before .args .w) (c .before .before .before .before .before .before .before .before .before .args .c)), c .before .before .before .before .before .before .before .before .before .pre .1 .2, c .before .before .before .before .before .before .before .before .before .pre .1 .3)
+write-nodes-add-next t c = omega (arith, plan-some (c .before .before .before .before .before .before .before .before .before .pre .1 .0) (c .before .before .before .before .before .before .before .before .before .pre .1 .1), c .before .before .before .before .before .before .before .before .before .pre .1 .2, c .before .before .before .before .before .before .before .before .before .pre .1 .3)
 
 write-nodes-enum-told : (t : ℕ) → write-nodes-lts.Need-enum-told (callees t) (write-nodes-at t) write-nodes.Post
 write-nodes-enum-told t c = search needs

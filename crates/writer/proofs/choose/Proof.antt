@@ -1,7 +1,5 @@
 -- `writer::choose` meets its contract. Assumes nothing.
-use Rattle.writer.proofs.Choice.{none-chosen, kind-chosen, length-chosen, width-chosen, nothing-chosen}
-use Rattle.writer.proofs.Rows.{cell-sizes, cell-there, searchable}
-use Rattle.cutting.specs.declared.Direction.the-variants.{Length, Width}
+use Rattle.writer.proofs.Choice.{sizes, there, cuts-searchable, none-chosen, kind-chosen, cut-chosen}
 use native.Mathlib.Omega.{arith}
 use mathlib.Core.Path.{_∙_, sym}
 use borrow.Author.Needs.{needs}
@@ -15,7 +13,7 @@ element-copy-out-a : tie.Need-element-copy-out-a
 element-copy-out-a c = search needs
 
 cast-a : tie.Need-cast-a
-cast-a c = omega (arith, cell-sizes (c .before .before .before .before .before .pre .0 .tabled) (c .before .before .before .before .before .args .l) (c .before .before .before .before .before .args .w) (search needs) (search needs))
+cast-a c = omega (arith, sizes (c .before .before .before .before .before .pre .0) (c .before .before .before .before .before .pre .1))
 
 mul-b : tie.Need-mul-b
 mul-b c = search needs
@@ -24,7 +22,7 @@ element-copy-out-b : tie.Need-element-copy-out-b
 element-copy-out-b c = search needs
 
 cast-b : tie.Need-cast-b
-cast-b c = omega (arith, cell-sizes (c .before .before .before .before .before .before .pre .0 .tabled) (c .before .before .before .before .before .before .args .l) (c .before .before .before .before .before .before .args .w) (search needs) (search needs))
+cast-b c = omega (arith, sizes (c .before .before .before .before .before .before .pre .0) (c .before .before .before .before .before .before .pre .1))
 
 cast-shares : tie.Need-cast-shares
 cast-shares c = search needs
@@ -36,25 +34,25 @@ cast-row : tie.Need-cast-row
 cast-row c = search needs
 
 mul-row : tie.Need-mul-row
-mul-row c = omega (arith, cell-sizes (c .before .before .before .before .before .before .before .before .pre .0 .tabled) (c .before .before .before .before .before .before .before .before .args .l) (c .before .before .before .before .before .before .before .before .args .w) (search needs) (search needs))
-
-mul-along : tie.Need-mul-along
-mul-along c = omega (arith, cell-sizes (c .before .before .before .before .before .before .before .before .pre .0 .tabled) (c .before .before .before .before .before .before .before .before .args .l) (c .before .before .before .before .before .before .before .before .args .w) (search needs) (search needs))
-
-mul-across : tie.Need-mul-across
-mul-across c = omega (arith, cell-sizes (c .before .before .before .before .before .before .before .before .pre .0 .tabled) (c .before .before .before .before .before .before .before .before .args .l) (c .before .before .before .before .before .before .before .before .args .w) (search needs) (search needs))
-
-add-value : tie.Need-add-value
-add-value c = omega (arith, cell-sizes (c .before .before .before .before .before .before .before .before .pre .0 .tabled) (c .before .before .before .before .before .before .before .before .args .l) (c .before .before .before .before .before .before .before .before .args .w) (search needs) (search needs))
-
-add-value-2 : tie.Need-add-value-2
-add-value-2 c = omega (arith, cell-sizes (c .before .before .before .before .before .before .before .before .pre .0 .tabled) (c .before .before .before .before .before .before .before .before .args .l) (c .before .before .before .before .before .before .before .before .args .w) (search needs) (search needs))
+mul-row c = omega (arith, sizes (c .before .before .before .before .before .before .before .before .pre .0) (c .before .before .before .before .before .before .before .before .pre .1))
 
 mul-value : tie.Need-mul-value
-mul-value c = omega (arith, cell-sizes (c .before .before .before .before .before .before .before .before .pre .0 .tabled) (c .before .before .before .before .before .before .before .before .args .l) (c .before .before .before .before .before .before .before .before .args .w) (search needs) (search needs))
+mul-value c = omega (arith, sizes (c .before .before .before .before .before .before .before .before .pre .0) (c .before .before .before .before .before .before .before .before .pre .1))
+
+mul-value-2 : tie.Need-mul-value-2
+mul-value-2 c = omega (arith, sizes (c .before .before .before .before .before .before .before .before .pre .0) (c .before .before .before .before .before .before .before .before .pre .1))
+
+add-value : tie.Need-add-value
+add-value c = omega (arith, sizes (c .before .before .before .before .before .before .before .before .pre .0) (c .before .before .before .before .before .before .before .before .pre .1))
+
+add-value-2 : tie.Need-add-value-2
+add-value-2 c = omega (arith, sizes (c .before .before .before .before .before .before .before .before .pre .0) (c .before .before .before .before .before .before .before .before .pre .1))
+
+mul-value-3 : tie.Need-mul-value-3
+mul-value-3 c = omega (arith, sizes (c .before .before .before .before .before .before .before .before .pre .0) (c .before .before .before .before .before .before .before .before .pre .1))
 
 shared-slice-read-value : tie.Need-shared-slice-read-value
-shared-slice-read-value c = cell-there (c .before .before .before .before .before .before .before .before .before .pre .0 .tabled) (c .before .before .before .before .before .before .before .before .before .args .l) (c .before .before .before .before .before .before .before .before .before .args .w) (search needs) (search needs) (c .before .before .before .before .before .before .before .before .before .args .c) (search needs)
+shared-slice-read-value c = there (c .before .before .before .before .before .before .before .before .before .pre .0) (c .before .before .before .before .before .before .before .before .before .pre .1)
 
 returns : tie.Need-returns
 returns c = none-chosen (c .before .before .before .before .before .before .before .before .before .before .pre .0) (c .before .before .before .before .before .before .before .before .before .before .pre .1) (c .if1 .taken)
@@ -71,32 +69,11 @@ returns-2 c = kind-chosen (c .before .before .before .before .before .before .be
 enum-told : tie.Need-enum-told
 enum-told c = search needs
 
-find-cut-requires : tie.Need-find-cut-requires
-find-cut-requires c κs = searchable (c .before .before .before .before .before .before .before .before .before .before .before .before .before .pre .0 .tabled) (c .before .before .before .before .before .before .before .before .before .before .before .before .before .args .l) (c .before .before .before .before .before .before .before .before .before .before .before .before .before .args .w) (search needs) (search needs) Length _ _ (c .before .before .before .before .before .before .before .before .before .before .before .before .before .pre .0 .tabled .lengths-are) (c .before .before .before .before .before .before .before .before .before .before .before .before .before .pre .0 .tabled .length-floors) (c .before .before .before .before .before .before .before .before .before .before .before .before .before .args .c) (search needs)
-
-enum-known-found : tie.Need-enum-known-found
-enum-known-found c = search needs
+choose-cut-requires : tie.Need-choose-cut-requires
+choose-cut-requires c κs = cuts-searchable (c .before .before .before .before .before .before .before .before .before .before .before .before .before .pre .0) (c .before .before .before .before .before .before .before .before .before .before .before .before .before .pre .1)
 
 returns-3 : tie.Need-returns-3
-returns-3 c = length-chosen (c .before .before .before .before .before .before .before .before .before .before .before .before .before .before .before .before .before .pre .0) (c .before .before .before .before .before .before .before .before .before .before .before .before .before .before .before .before .before .pre .1) (c .before .before .before .before .before .before .before .if1 .left) (sym (c .before .before .before .before .before .before .find-kind .ensures) ∙ c .before .before .before .before .enum-told .given .1) (sym (c .before .before .before .find-cut .ensures) ∙ c .before .found .given .1)
-
-enum-told-2 : tie.Need-enum-told-2
-enum-told-2 c = search needs
-
-find-cut-requires-2 : tie.Need-find-cut-requires-2
-find-cut-requires-2 c κs = searchable (c .before .before .before .before .before .before .before .before .before .before .before .before .before .before .before .before .pre .0 .tabled) (c .before .before .before .before .before .before .before .before .before .before .before .before .before .before .before .before .args .l) (c .before .before .before .before .before .before .before .before .before .before .before .before .before .before .before .before .args .w) (search needs) (search needs) Width _ _ (c .before .before .before .before .before .before .before .before .before .before .before .before .before .before .before .before .pre .0 .tabled .widths-are) (c .before .before .before .before .before .before .before .before .before .before .before .before .before .before .before .before .pre .0 .tabled .width-floors) (c .before .before .before .before .before .before .before .before .before .before .before .before .before .before .before .before .args .c) (search needs)
-
-enum-known-found-2 : tie.Need-enum-known-found-2
-enum-known-found-2 c = search needs
-
-returns-4 : tie.Need-returns-4
-returns-4 c = width-chosen (c .before .before .before .before .before .before .before .before .before .before .before .before .before .before .before .before .before .before .before .before .pre .0) (c .before .before .before .before .before .before .before .before .before .before .before .before .before .before .before .before .before .before .before .before .pre .1) (c .before .before .before .before .before .before .before .before .before .before .if1 .left) (sym (c .before .before .before .before .before .before .before .before .before .find-kind .ensures) ∙ c .before .before .before .before .before .before .before .enum-told .given .1) (sym (c .before .before .before .before .before .before .find-cut .ensures) ∙ c .before .before .before .before .enum-told2 .given .1) (sym (c .before .before .before .find-cut2 .ensures) ∙ c .before .found2 .given .1)
-
-enum-told-3 : tie.Need-enum-told-3
-enum-told-3 c = search needs
-
-returns-5 : tie.Need-returns-5
-returns-5 c = nothing-chosen (c .before .before .before .before .before .before .before .before .before .before .before .before .before .before .before .before .before .before .before .pre .0) (c .before .before .before .before .before .before .before .before .before .before .before .before .before .before .before .before .before .before .before .pre .1) (c .before .before .before .before .before .before .before .before .before .if1 .left) (sym (c .before .before .before .before .before .before .before .before .find-kind .ensures) ∙ c .before .before .before .before .before .before .enum-told .given .1) (sym (c .before .before .before .before .before .find-cut .ensures) ∙ c .before .before .before .enum-told2 .given .1) (sym (c .before .before .find-cut2 .ensures) ∙ c .enum-told3 .given .1)
+returns-3 c = c .choose-cut .ensures ∙ cut-chosen (c .before .before .before .before .before .before .before .before .before .before .before .before .before .before .pre .0) (c .before .before .before .before .before .before .before .before .before .before .before .before .before .before .pre .1) (c .before .before .before .before .if1 .left) (sym (c .before .before .before .find-kind .ensures) ∙ c .before .enum-told .given .1)
 
 pub choose-spec : {M : Type 1} → statement M
 choose-spec =
@@ -112,23 +89,16 @@ choose-spec =
     add-shares
     cast-row
     mul-row
-    mul-along
-    mul-across
+    mul-value
+    mul-value-2
     add-value
     add-value-2
-    mul-value
+    mul-value-3
     shared-slice-read-value
     returns
     find-kind-requires
     enum-known-kind
     returns-2
     enum-told
-    find-cut-requires
-    enum-known-found
-    returns-3
-    enum-told-2
-    find-cut-requires-2
-    enum-known-found-2
-    returns-4
-    enum-told-3
-    returns-5)
+    choose-cut-requires
+    returns-3)
