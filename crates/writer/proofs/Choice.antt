@@ -22,7 +22,7 @@ use Rattle.cutting.proofs.Lists.{mem-range, mem-pairs, range-length, range-entr
 use Rattle.cutting.proofs.Positions.{between-length, between-entry}
 use Rattle.cutting.proofs.Table.{normal-zero}
 use Rattle.job.specs.Weights.{weight-in}
-use Rattle.table.specs.Table.{position-count, position}
+use Rattle.table.specs.Table.{position-count, position, Listed, Mapped}
 use Rattle.writer.specs.declared.Chosen.{Chosen}
 use Rattle.writer.specs.declared.Dimensions.{Dimensions}
 use Rattle.writer.specs.declared.KindFound.{KindFound}
@@ -30,7 +30,7 @@ use Rattle.writer.specs.declared.KindFound.the-variants as kind
 use Rattle.writer.specs.declared.CutFound.{CutFound}
 use Rattle.writer.specs.declared.CutFound.the-variants as found
 use Rattle.writer.specs.Search.{kind-test, kind-found, pair-test, first-index, cut-found, or-width-cut, or-length-cut, Searchable}
-use Rattle.writer.specs.Plan.{Listed, Mapped, Tabled, lent-job, Lent, Cell, chosen-of, chosen-at}
+use Rattle.writer.specs.Plan.{Tabled, lent-job, Lent, Cell, chosen-of, chosen-at}
 use Rattle.writer.proofs.Rows.{stride-of, base-of, figure-at, row-figure, mapped-figure, cell-figure, cell-there, cell-sizes, searchable}
 
 -- searches over mapped lists

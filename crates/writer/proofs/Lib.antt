@@ -4,3 +4,4 @@ pub mod Choice
 pub mod Preorder
 pub mod Plan
 pub mod Write
+pub mod Call

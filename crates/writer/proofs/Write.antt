@@ -23,12 +23,12 @@ use Rattle.job.specs.Block.{job-from, job-of}
 use Rattle.job.specs.Weights.{weight-in}
 use Rattle.positions.specs.Positions.{Rising, Floors}
 use Rattle.positions.proofs.Positions.{positions-rising, floors-found}
-use Rattle.table.specs.Table.{position-count}
+use Rattle.table.specs.Table.{position-count, Listed, Mapped}
 use Rattle.bound.specs.declared.BoundReport.{BoundReport}
 use Rattle.bound.specs.Bound as bound
 use Rattle.writer.specs.declared.Dimensions.{Dimensions}
 use Rattle.writer.specs.declared.WriteAnswer.the-variants as answer
-use Rattle.writer.specs.Plan.{Listed, Mapped, Tabled, Lent, Cell, plan-at}
+use Rattle.writer.specs.Plan.{Tabled, Lent, Cell, plan-at}
 use Rattle.writer.specs.Write.{bound-plan, report-of, answer-by, Filled, plan-verdict, Planned}
 
 -- a list that holds the normal positions begins with them

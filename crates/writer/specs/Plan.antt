@@ -12,18 +12,10 @@ use Rattle.cutting.specs.Choice.{Choice, as-waste, as-piece, as-cut}
 use Rattle.cutting.specs.Job.{Job, InRange, normal-floor, plan-of, plan-choice}
 use Rattle.job.specs.Block.{job-from}
 use Rattle.job.specs.Weights.{weight-in}
-use Rattle.table.specs.Table.{position-count, position, words-needed, Figures}
+use Rattle.table.specs.Table.{position-count, Listed, Mapped, words-needed, Figures}
 use Rattle.writer.specs.declared.Chosen.{Chosen}
 use Rattle.writer.specs.declared.Dimensions.{Dimensions}
 use Rattle.writer.specs.declared.Sides.{Sides}
-
--- a list holds the normal positions of a side
-abbrev pub Listed : Job → Direction → List ℕ → Type 0
-Listed J d xs = (position-count J d ≤ length xs) × ((i : ℕ) → i < position-count J d → getD xs i 0 ≡ position J d i)
-
--- a map holds for each length up to the plate's side the index of the largest normal position not above it
-abbrev pub Mapped : Job → Direction → List ℕ → Type 0
-Mapped J d map = (x : ℕ) → x ≤ side d (J .plate) → (getD map x 0 < position-count J d) × (position J d (getD map x 0) ≡ normal-floor J d x)
 
 -- what the writer reads: a job in range with its weights, both lists, both maps and the filled table
 pub record Tabled (J : Job) (weights : List ℕ) (columns q : ℕ) (lengths widths length-map width-map table : List ℕ) : Type 0 where

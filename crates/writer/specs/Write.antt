@@ -10,14 +10,13 @@ use Rattle.cutting.specs.declared.Direction.the-variants.{Length, Width}
 use Rattle.cutting.specs.Tree.{Tree}
 use Rattle.cutting.specs.Preorder.{kinds-of, operands-of, node-count}
 use Rattle.cutting.specs.Job.{Job, InRange, OnPlate, profit, weight-of, capacity, bound-of, plan-of}
-use Rattle.refusal.specs.Refusals.{Check, Outcome, first-refusal, refused-as}
+use Rattle.refusal.specs.Refusals.{Check, Outcome, next, first-refusal, refused-as, outcome-by}
 use Rattle.refusal.specs.declared.Checked.{Checked}
 use Rattle.refusal.specs.declared.Checked.the-variants.{Passed, Refused}
 use Rattle.refusal.specs.declared.Refusal.the-variants.{PlanLong}
-use Rattle.job.specs.Weights.{weight-in}
-use Rattle.table.specs.Table.{position-count, words-needed, Figures}
-use Rattle.bound.specs.Bound.{list-after}
-use Rattle.writer.specs.Plan.{Listed}
+use Rattle.job.specs.Weights.{block-job, weight-in, Accepted}
+use Rattle.table.specs.Table.{position-count, Listed, words-needed, Figures}
+use Rattle.bound.specs.Bound.{Memory, list-after, bound-verdict}
 use Rattle.writer.specs.declared.WriteReport.{WriteReport}
 use Rattle.writer.specs.declared.WriteAnswer.{WriteAnswer}
 use Rattle.writer.specs.declared.WriteAnswer.the-variants as answer
@@ -45,9 +44,13 @@ abbrev pub answer-by : Checked → WriteReport → WriteAnswer
 answer-by Passed b = answer.Written b
 answer-by (Refused r) b = answer.Refused r
 
--- an answer's number and values: the bound, Q, p, r and the node count
+-- a report's values: the bound, Q, p, r and the node count
+abbrev pub report-values : WriteReport → List ℕ
+report-values b = b .bound ∷ b .capacity ∷ b .lengths ∷ b .widths ∷ b .nodes ∷ []
+
+-- an answer's number and values
 abbrev pub write-outcome : WriteAnswer → Outcome
-write-outcome (answer.Written b) = (0, b .bound ∷ b .capacity ∷ b .lengths ∷ b .widths ∷ b .nodes ∷ [])
+write-outcome (answer.Written b) = (0, report-values b)
 write-outcome (answer.Refused r) = refused-as r
 
 -- a job and weights that were accepted, with lists and table filled
@@ -69,3 +72,28 @@ pub record Planned (J : Job) (weight : ℕ → ℕ) (kinds operands new-kinds ne
   pub answer : r ≡ answer-by (plan-verdict J weight kinds operands) (report-of J weight)
   pub kinds-left : new-kinds ≡ list-after (plan-verdict J weight kinds operands) (kinds-of (bound-plan J weight)) kinds
   pub operands-left : new-operands ≡ list-after (plan-verdict J weight kinds operands) (operands-of (bound-plan J weight)) operands
+
+-- the plan behind the bound of a job block and weights
+abbrev pub block-plan : List ℕ → List ℕ → Tree ℕ
+block-plan s ws = bound-plan (block-job s) (weight-in ws)
+
+-- the verdict of the writing call: 1 to 9, 19, 20, then 21
+abbrev pub write-verdict : List ℕ → List ℕ → Memory → List ℕ → List ℕ → Checked
+write-verdict s ws m kinds operands = next (bound-verdict s ws m) (plan-verdict (block-job s) (weight-in ws) kinds operands)
+
+-- what the writing call answers
+abbrev pub write-answer : List ℕ → List ℕ → Memory → List ℕ → List ℕ → WriteAnswer
+write-answer s ws m kinds operands = answer-by (write-verdict s ws m kinds operands) (report-of (block-job s) (weight-in ws))
+
+-- the number and values that the call answers
+abbrev pub write-said : List ℕ → List ℕ → Memory → List ℕ → List ℕ → Outcome
+write-said s ws m kinds operands = outcome-by (write-verdict s ws m kinds operands) (report-values (report-of (block-job s) (weight-in ws)))
+
+-- a plan array after the call: the plan over its old contents where all checks pass, and else as it was
+abbrev pub array-after : List ℕ → List ℕ → Memory → List ℕ → List ℕ → List ℕ → List ℕ → List ℕ
+array-after s ws m kinds operands xs old = list-after (write-verdict s ws m kinds operands) xs old
+
+-- for an accepted job and weights, the plan is a guillotine tree on the plate, weighs at most Q and earns the bound
+abbrev pub PlanEarnsBound : List ℕ → List ℕ → Type 0
+PlanEarnsBound s ws = Accepted s ws → OnPlate (block-job s) (block-plan s ws) × (weight-of (weight-in ws) (block-plan s ws) ≤ capacity (block-job s) (weight-in ws))
+    × (profit (block-job s) (block-plan s ws) ≡ bound-of (block-job s) (weight-in ws))

@@ -1,10 +1,13 @@
 // The plan behind the bound, written from a filled table: the choice at a rectangle and a share, the number of the plan's nodes, and
 // its preorder into two lent arrays. Counting and writing share one choice; the job's arrays are lent, so that a frame of the recursion
 // holds references and small numbers.
+use bound::BoundAnswer;
 use bound::BoundReport;
+use bound::bound;
 use cutting::Direction;
 use cutting::Node;
 use job::JobRecord;
+use job::read_job;
 use positions::floor_map;
 use refusal::Refusal;
 ghost use mathlib.Core.Path.{_≡_};
@@ -17,11 +20,11 @@ ghost use Rattle.cutting.specs.Lists.{range, first};
 ghost use Rattle.cutting.specs.Tree.{side, part};
 ghost use Rattle.cutting.specs.Preorder.{kind-of, operand-of, kinds-of, operands-of, node-count};
 ghost use Rattle.job.specs.Block.{job-of};
-ghost use Rattle.job.specs.Weights.{weight-in};
-ghost use Rattle.bound.specs.Bound.{report-of};
+ghost use Rattle.job.specs.Weights.{block-job, weight-in};
+ghost use Rattle.bound.specs.Bound.{report-of, lent, Leaves, accept-verdict};
 ghost use Rattle.writer.specs.Search.{earns-alone, kind-test, kind-found, first-index, cut-found, or-width-cut, or-length-cut, Searchable};
 ghost use Rattle.writer.specs.Plan.{Lent, Cell, chosen-at, plan-at, sides-of};
-ghost use Rattle.writer.specs.Write.{Filled, Planned};
+ghost use Rattle.writer.specs.Write.{Filled, Planned, block-plan, write-answer, write-outcome, write-said, array-after, PlanEarnsBound};
 
 // What a search over the kinds found.
 pub enum KindFound {
@@ -573,4 +576,46 @@ pub fn plan_of_job(
         widths: report.widths,
         nodes: nodes,
     })
+}
+
+// The plan behind the bound of a job block and weights, in preorder in the two plan arrays. Lists and table are left as the bound call
+// leaves them; where a check refuses, the plan arrays are untouched. Whatever storage is lent, for every accepted job and weights the plan
+// is a guillotine tree on the plate, weighs at most the capacity and earns the bound.
+pub fn write_plan(
+    block: &[u8],
+    weights: &[u8],
+    lengths: &mut [u16],
+    widths: &mut [u16],
+    table: &mut [u64],
+    kinds: &mut [u8],
+    operands: &mut [u16],
+) -> WriteAnswer
+    ensures answers { λ r. ⌜ r ≡ write-answer (now (block .entry)) (now (weights .entry)) (lent (now (lengths .entry)) (now (widths .entry)) (now (table .entry))) (now (kinds .entry)) (now (operands .entry)) ⌝ }
+    ensures outcome { λ r. ⌜ write-outcome r ≡ write-said (now (block .entry)) (now (weights .entry)) (lent (now (lengths .entry)) (now (widths .entry)) (now (table .entry))) (now (kinds .entry)) (now (operands .entry)) ⌝ }
+    ensures memory { λ _. ⌜ Leaves (accept-verdict (now (block .entry)) (now (weights .entry))) (block-job (now (block .entry))) (weight-in (now (weights .entry)))
+        (lent (now (lengths .entry)) (now (widths .entry)) (now (table .entry))) (lent (now (lengths .exit)) (now (widths .exit)) (now (table .exit))) ⌝ }
+    ensures kinds { λ _. ⌜ now (kinds .exit) ≡ array-after (now (block .entry)) (now (weights .entry)) (lent (now (lengths .entry)) (now (widths .entry)) (now (table .entry))) (now (kinds .entry)) (now (operands .entry))
+        (kinds-of (block-plan (now (block .entry)) (now (weights .entry)))) (now (kinds .entry)) ⌝ }
+    ensures operands { λ _. ⌜ now (operands .exit) ≡ array-after (now (block .entry)) (now (weights .entry)) (lent (now (lengths .entry)) (now (widths .entry)) (now (table .entry))) (now (kinds .entry)) (now (operands .entry))
+        (operands-of (block-plan (now (block .entry)) (now (weights .entry)))) (now (operands .entry)) ⌝ }
+    ensures plan { λ _. ⌜ PlanEarnsBound (now (block .entry)) (now (weights .entry)) ⌝ }
+{
+    let bounded = bound(block, weights, lengths, widths, table);
+    match bounded {
+        BoundAnswer::Refused(r) => WriteAnswer::Refused(r),
+        BoundAnswer::Answered(report) => {
+            let answer = read_job(block);
+            let job = answer.job;
+            plan_of_job(
+                job,
+                weights,
+                report,
+                &lengths[..],
+                &widths[..],
+                &table[..],
+                kinds,
+                operands,
+            )
+        }
+    }
 }
