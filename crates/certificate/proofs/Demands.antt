@@ -18,9 +18,9 @@ use Rattle.plan.specs.Plan.{plan-answer}
 use Rattle.plan.specs.Trees.{PlanOf}
 use Rattle.plan.proofs.Plans.{plans-checked}
 use Rattle.bound.specs.Bound.{Memory, memory-checks}
-use Rattle.certificate.specs.Certificate.{certify-verdict, plan-verdict, compared}
-use Rattle.certificate.specs.Demands.{NoneAbove, MostWithin, Earns, PlansJudged, BoundExact, BestIsBest, GapHolds}
-use Rattle.certificate.proofs.Compare.{best-passed, gap-passed, best-equal, gap-differs}
+use Rattle.certificate.specs.Certificate.{certify-verdict, plan-verdict, certificate-of}
+use Rattle.certificate.specs.Demands.{Earns, PlansJudged, BoundExact, BestSaid, GapSaid, CertificatesHold}
+use Rattle.certificate.proofs.Comparison.{best-passed, gap-passed, best-equal, gap-differs}
 
 -- a passed plan's report is its tree's own, and it earns at most the bound
 module _ (s ws kinds operands : List ℕ) (good : first-refusal (job-checks s) ≡ Passed) (walked : plan-answer (block-job s) kinds operands .verdict ≡ Passed) where
@@ -54,19 +54,23 @@ bound-exact s ws accepted =
     let J = block-job s in
     ((bound-most J (weight-in ws), bound-earned J (weight-in ws)), λ t g k. bound-holds J (weight-in ws) t g k)
 
-pub best-is-best : BestIsBest
-best-is-best s ws kinds operands m n e =
-    let a = best-passed _ _ n e in
-    let b = behind s ws kinds operands m (a .0) in
-    let f = best-equal _ _ n (a .1) in
-    let d = drawn s ws kinds operands (b .0) (b .1) in
-    ((d .0, d .1, d .2 ∙ f .0), λ t g k. omega (arith, f .1, bound-holds (block-job s) (weight-in ws) t g k))
+module _ (s ws kinds operands : List ℕ) (m : Memory) where
+  best-holds : BestSaid (block-job s) kinds operands (certificate-of s ws kinds operands m)
+  best-holds n e =
+      let a = best-passed _ _ n e in
+      let b = behind s ws kinds operands m (a .0) in
+      let f = best-equal _ _ n (a .1) in
+      let d = drawn s ws kinds operands (b .0) (b .1) in
+      ((d .0, d .1, d .2 ∙ f .0), λ t g k. omega (arith, f .1, bound-holds (block-job s) (weight-in ws) t g k))
 
-pub gap-holds : GapHolds
-gap-holds s ws kinds operands m n gap e =
-    let a = gap-passed _ _ n gap e in
-    let b = behind s ws kinds operands m (a .0) in
-    let f = gap-differs _ _ n gap (a .1) in
-    let d = drawn s ws kinds operands (b .0) (b .1) in
-    let most = drawn-most s ws kinds operands (b .0) (b .1) in
-    ((d .0, d .1, d .2 ∙ f .0), omega (arith, f .1, most, f .2), λ t g k. omega (arith, f .0, f .1, most, bound-holds (block-job s) (weight-in ws) t g k))
+  gap-holds : GapSaid (block-job s) kinds operands (certificate-of s ws kinds operands m)
+  gap-holds n gap e =
+      let a = gap-passed _ _ n gap e in
+      let b = behind s ws kinds operands m (a .0) in
+      let f = gap-differs _ _ n gap (a .1) in
+      let d = drawn s ws kinds operands (b .0) (b .1) in
+      let most = drawn-most s ws kinds operands (b .0) (b .1) in
+      ((d .0, d .1, d .2 ∙ f .0), omega (arith, f .1, most, f .2), λ t g k. omega (arith, f .0, f .1, most, bound-holds (block-job s) (weight-in ws) t g k))
+
+pub certificates-hold : CertificatesHold
+certificates-hold s ws kinds operands m = (best-holds s ws kinds operands m, gap-holds s ws kinds operands m)

@@ -1,2 +1,3 @@
-pub mod Compare
+pub mod Comparison
 pub mod Demands
+pub mod Calls

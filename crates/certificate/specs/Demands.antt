@@ -13,6 +13,7 @@ use Rattle.plan.specs.Plan.{plan-answer}
 use Rattle.plan.specs.Trees.{PlanOf, tree-report}
 use Rattle.bound.specs.Bound.{Memory, report-of}
 use Rattle.certificate.specs.Certificate.{certificate-of}
+use Rattle.certificate.specs.declared.Certificate.{Certificate}
 use Rattle.certificate.specs.declared.Certificate.the-variants.{Best, Gap}
 
 -- no guillotine tree on the plate that keeps every demand earns more than n
@@ -43,13 +44,15 @@ BoundExact = (s ws : List ℕ) → Accepted s ws
     → MostWithin (block-job s) (weight-in ws) (report-of (block-job s) (weight-in ws) .capacity) (report-of (block-job s) (weight-in ws) .bound)
     × NoneAbove (block-job s) (report-of (block-job s) (weight-in ws) .bound)
 
--- third demand: the arrays of a plan that is called best are those of a tree that keeps every demand and earns the profit named, and
--- no such tree on the plate earns more
-abbrev pub BestIsBest : Type 0
-BestIsBest = (s ws kinds operands : List ℕ) (m : Memory) (n : ℕ) → certificate-of s ws kinds operands m ≡ Best n
-    → Earns (block-job s) kinds operands n × NoneAbove (block-job s) n
+-- what "best" says: the plan's arrays are those of a tree that keeps every demand and earns the profit named, and none earns more
+abbrev pub BestSaid : Job → List ℕ → List ℕ → Certificate → Type 0
+BestSaid J kinds operands r = (n : ℕ) → r ≡ Best n → Earns J kinds operands n × NoneAbove J n
 
--- and a gap is positive, and no such tree earns more than the plan's profit and the gap
-abbrev pub GapHolds : Type 0
-GapHolds = (s ws kinds operands : List ℕ) (m : Memory) (n gap : ℕ) → certificate-of s ws kinds operands m ≡ Gap n gap
-    → Earns (block-job s) kinds operands n × (0 < gap) × NoneAbove (block-job s) (n + gap)
+-- what a gap says: the same of the plan, the gap is positive, and no tree that keeps every demand earns more than profit and gap
+abbrev pub GapSaid : Job → List ℕ → List ℕ → Certificate → Type 0
+GapSaid J kinds operands r = (n gap : ℕ) → r ≡ Gap n gap → Earns J kinds operands n × (0 < gap) × NoneAbove J (n + gap)
+
+-- third demand: a plan that is called best is best, whoever drew it, and a gap holds
+abbrev pub CertificatesHold : Type 0
+CertificatesHold = (s ws kinds operands : List ℕ) (m : Memory)
+    → BestSaid (block-job s) kinds operands (certificate-of s ws kinds operands m) × GapSaid (block-job s) kinds operands (certificate-of s ws kinds operands m)
