@@ -1,0 +1,135 @@
+/* The guillotine cutting planner from C: one plate, up to 64 kinds of piece, edge-to-edge cuts.
+ * Link the static library that `rt staticlib planner_c` writes (target/staticlib/libplanner_c.a). */
+#ifndef PLANNER_H
+#define PLANNER_H
+
+#include <stddef.h>
+#include <stdint.h>
+
+#ifdef __cplusplus
+extern "C" {
+#endif
+
+/* Slices. Each is a pointer, then the number of its elements. The pointer is never NULL and is
+ * aligned for its element, also where the number is 0. A slice that a call writes must not overlap
+ * any other slice of that call. The library keeps no pointer and allocates nothing.
+ *
+ * Job block. Plate length, plate width, number n of kinds; then n sizes (length, width); all of two
+ * bytes, lowest byte first. Then n pairs of price (four bytes) and demand (two bytes). 6 + 10n bytes.
+ *
+ * Weights. One byte for each kind. The capacity is the sum of demand times weight.
+ *
+ * Plan. A tree in preorder, as two arrays of one length: the kind of each node and its operand.
+ *   0 waste, operand 0
+ *   1 piece, operand its number
+ *   2 cut of the length, operand the first part's length
+ *   3 cut of the width, operand the first part's width
+ * A plan block is the node count (two bytes), the kinds (a byte each), the operands (two bytes each).
+ *
+ * Storage. `lengths` needs plate length + 1 words, `widths` plate width + 1, `table` p * r *
+ * (capacity + 1), where p and r are the numbers of normal lengths and widths. A call that fills them
+ * leaves the p normal lengths and the r normal widths in the lists, rising, and in the table at word
+ * (a * r + b) * (capacity + 1) + c the figure of the a-th normal length, the b-th normal width and
+ * share c, all counted from 0. All later words keep what they held.
+ *
+ * Return value.
+ *   0        done; `answer` holds the words that the function names, and its later words are kept
+ *   1 to 21  refused, see below; answer[0] is the place, and the other words of `answer` are kept
+ *   100      `answer` has fewer words than the function names; nothing was changed
+ *
+ * Refusals, in the order of the checks, the first one met, with their places.
+ *    1  job of fewer than 6 bytes                              0
+ *    2  plate length or width outside 1 to 1000                0
+ *    3  number of kinds outside 1 to 64                        0
+ *    4  job not 6 + 10n bytes                                  0
+ *    5  a side of a kind outside 1 to 1000                     kind
+ *    6  price above 1000000                                    kind
+ *    7  demand above 255                                       kind
+ *    8  not n weights                                          0
+ *    9  capacity above 4095                                    0
+ *   10  plan arrays differ in length, or plan block under      0
+ *       2 bytes or not 2 + 3 * count bytes
+ *   11  no node, or above 4095                                 0
+ *   12  kind of node above 3                                   node
+ *   13  piece number n or more                                 node
+ *   14  cut outside 1 to side - 1, or waste operand not 0      node
+ *   15  piece does not fit                                     node
+ *   16  this copy passes its demand                            node
+ *   17  a node is wanted and none is left                      node count
+ *   18  nodes left over                                        first of them
+ *   19  a list too short                                       0
+ *   20  table too short                                        words needed
+ *   21  plan needs above 4095 nodes, or more than an array     nodes needed
+ *       of the plan holds
+ * Numbers 1 to 19 change no lent memory but answer[0]. On 20 the lists are filled and the table is
+ * untouched. On 21 lists and table are filled and the plan arrays untouched. */
+
+enum {
+    PLANNER_DONE = 0,
+    PLANNER_ANSWER_TOO_SHORT = 100
+};
+
+/* Words of `answer`. */
+enum {
+    PLANNER_REPORT_WORDS = 68,
+    PLANNER_BOUND_WORDS = 4,
+    PLANNER_PLAN_WORDS = 5,
+    PLANNER_CERTIFICATE_WORDS = 3
+};
+
+/* Checks a plan (refusals 1 to 7 and 10 to 18).
+ * answer[0] profit, the sum of the prices; answer[1] area of the pieces, answer[2] of the waste
+ * nodes, answer[3] of the trim; answer[4 + i] copies of kind i, 0 past the job's kinds. */
+uint32_t planner_check_plan(
+    const uint8_t *job, size_t job_len,
+    const uint8_t *kinds, size_t kinds_len,
+    const uint16_t *operands, size_t operands_len,
+    uint64_t *answer, size_t answer_len);
+
+/* The same for a plan block. */
+uint32_t planner_check_plan_block(
+    const uint8_t *job, size_t job_len,
+    const uint8_t *plan, size_t plan_len,
+    uint64_t *answer, size_t answer_len);
+
+/* Computes the relaxed bound (refusals 1 to 9, 19, 20) and fills the storage.
+ * answer[0] bound, answer[1] capacity, answer[2] p, answer[3] r. */
+uint32_t planner_bound(
+    const uint8_t *job, size_t job_len,
+    const uint8_t *weights, size_t weights_len,
+    uint16_t *lengths, size_t lengths_len,
+    uint16_t *widths, size_t widths_len,
+    uint64_t *table, size_t table_len,
+    uint64_t *answer, size_t answer_len);
+
+/* Writes the plan behind the bound (refusals 1 to 9, 19 to 21) and fills the storage. The plan may
+ * exceed demands. Entries of the arrays past the plan keep what they held.
+ * answer[0] bound, answer[1] capacity, answer[2] p, answer[3] r, answer[4] node count. */
+uint32_t planner_write_plan(
+    const uint8_t *job, size_t job_len,
+    const uint8_t *weights, size_t weights_len,
+    uint16_t *lengths, size_t lengths_len,
+    uint16_t *widths, size_t widths_len,
+    uint64_t *table, size_t table_len,
+    uint8_t *kinds, size_t kinds_len,
+    uint16_t *operands, size_t operands_len,
+    uint64_t *answer, size_t answer_len);
+
+/* Certifies a plan (refusals 1 to 20) and fills the storage.
+ * answer[0] gap, bound less profit: 0 says that no plan within the demands earns more;
+ * answer[1] bound, answer[2] profit. */
+uint32_t planner_certify(
+    const uint8_t *job, size_t job_len,
+    const uint8_t *weights, size_t weights_len,
+    const uint8_t *kinds, size_t kinds_len,
+    const uint16_t *operands, size_t operands_len,
+    uint16_t *lengths, size_t lengths_len,
+    uint16_t *widths, size_t widths_len,
+    uint64_t *table, size_t table_len,
+    uint64_t *answer, size_t answer_len);
+
+#ifdef __cplusplus
+}
+#endif
+
+#endif

@@ -1,0 +1,63 @@
+/* The baseline in C: the tabled algorithm with no proofs, as fast as we know how to write it.
+ * Jobs are taken as accepted and storage as large enough. */
+#ifndef BASELINE_H
+#define BASELINE_H
+
+#include <stddef.h>
+#include <stdint.h>
+
+enum { MOST_KINDS = 64, MOST_SIDE = 1000, MOST_NODES = 4095 };
+
+typedef struct {
+    int length, width;
+} Size;
+
+typedef struct {
+    Size plate;
+    int kinds, capacity;
+    Size size[MOST_KINDS];
+    uint64_t price[MOST_KINDS];
+    int weight[MOST_KINDS];
+} Job;
+
+/* A side's normal positions, and for each unit the index of the largest one not above it. */
+typedef struct {
+    int side, count;
+    uint16_t at[MOST_SIDE + 1];
+    uint16_t index[MOST_SIDE + 1];
+} Positions;
+
+enum { LENGTH, WIDTH };
+
+typedef struct {
+    Job job;
+    Positions on[2];
+} Plate;
+
+void read_plate(Plate *plate, const uint8_t *job, const uint8_t *weights);
+void fill_one_share(const Plate *plate, uint64_t *table);
+void fill_shares(const Plate *plate, uint64_t *table);
+size_t write_nodes(const Plate *plate, const uint64_t *table, uint8_t *kinds, uint16_t *operands);
+
+static inline int fits(Size piece, Size rectangle)
+{
+    return piece.length <= rectangle.length && piece.width <= rectangle.width;
+}
+
+/* The greater of two figures, which both are below 2^63, without a comparison: 64-bit comparisons
+ * are slow in SSE2. */
+static inline uint64_t greater(uint64_t a, uint64_t b)
+{
+    int64_t over = (int64_t)(b - a);
+    return a + (uint64_t)(over & ~(over >> 63));
+}
+
+/* Raises the sums of one value with each word of `second`. */
+static inline void raise_by(uint64_t *restrict sums, uint64_t value,
+                            const uint64_t *restrict second, int count)
+{
+    for (int i = 0; i < count; i++)
+        sums[i] = greater(sums[i], value + second[i]);
+}
+
+#endif

@@ -1,0 +1,89 @@
+/* Reading a job, its capacity and its normal positions.
+ * The two exported calls of the baseline stand at the end. */
+#include "baseline.h"
+#include <string.h>
+
+static int two(const uint8_t *at)
+{
+    return at[0] | at[1] << 8;
+}
+
+static void read_job(Job *job, const uint8_t *block, const uint8_t *weights)
+{
+    job->plate = (Size){two(block), two(block + 2)};
+    job->kinds = two(block + 4);
+    job->capacity = 0;
+    const uint8_t *sizes = block + 6, *pairs = sizes + 4 * job->kinds;
+    for (int i = 0; i < job->kinds; i++) {
+        const uint8_t *pair = pairs + 6 * i;
+        job->size[i] = (Size){two(sizes + 4 * i), two(sizes + 4 * i + 2)};
+        job->price[i] = (uint64_t)two(pair) | (uint64_t)two(pair + 2) << 16;
+        job->weight[i] = weights[i];
+        job->capacity += two(pair + 4) * weights[i];
+    }
+}
+
+static void find_positions(Positions *found, int side, const uint16_t *sides, int count)
+{
+    uint8_t normal[MOST_SIDE + 1] = {1};
+    for (int x = 0; x <= side; x++)
+        if (normal[x])
+            for (int i = 0; i < count; i++)
+                if (sides[i] <= side - x)
+                    normal[x + sides[i]] = 1;
+    found->side = side;
+    found->count = 0;
+    for (int x = 0; x <= side; x++) {
+        if (normal[x])
+            found->at[found->count++] = (uint16_t)x;
+        found->index[x] = (uint16_t)(found->count - 1);
+    }
+}
+
+void read_plate(Plate *plate, const uint8_t *block, const uint8_t *weights)
+{
+    uint16_t lengths[MOST_KINDS], widths[MOST_KINDS];
+    int count = 0;
+    Job *job = &plate->job;
+    read_job(job, block, weights);
+    for (int i = 0; i < job->kinds; i++)
+        if (fits(job->size[i], job->plate)) {
+            lengths[count] = (uint16_t)job->size[i].length;
+            widths[count++] = (uint16_t)job->size[i].width;
+        }
+    find_positions(&plate->on[LENGTH], job->plate.length, lengths, count);
+    find_positions(&plate->on[WIDTH], job->plate.width, widths, count);
+}
+
+static void fill(const uint8_t *job, const uint8_t *weights, Plate *plate,
+                 uint16_t *lengths, uint16_t *widths, uint64_t *table, uint64_t *answer)
+{
+    read_plate(plate, job, weights);
+    int p = plate->on[LENGTH].count, r = plate->on[WIDTH].count, capacity = plate->job.capacity;
+    memcpy(lengths, plate->on[LENGTH].at, (size_t)p * sizeof *lengths);
+    memcpy(widths, plate->on[WIDTH].at, (size_t)r * sizeof *widths);
+    if (capacity == 0)
+        fill_one_share(plate, table);
+    else
+        fill_shares(plate, table);
+    answer[0] = table[(size_t)p * r * (capacity + 1) - 1];
+    answer[1] = (uint64_t)capacity;
+    answer[2] = (uint64_t)p;
+    answer[3] = (uint64_t)r;
+}
+
+void baseline_bound(const uint8_t *job, const uint8_t *weights,
+                    uint16_t *lengths, uint16_t *widths, uint64_t *table, uint64_t *answer)
+{
+    Plate plate;
+    fill(job, weights, &plate, lengths, widths, table, answer);
+}
+
+void baseline_write_plan(const uint8_t *job, const uint8_t *weights,
+                         uint16_t *lengths, uint16_t *widths, uint64_t *table,
+                         uint8_t *kinds, uint16_t *operands, uint64_t *answer)
+{
+    Plate plate;
+    fill(job, weights, &plate, lengths, widths, table, answer);
+    answer[4] = write_nodes(&plate, table, kinds, operands);
+}

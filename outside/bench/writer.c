@@ -1,0 +1,118 @@
+/* The plan behind the bound, read off the table with a list of waiting rectangles.
+ * A position is looked into only where both parts at the whole share could earn the value. */
+#include "baseline.h"
+#include <string.h>
+
+/* A rectangle and its share. */
+typedef struct {
+    int side[2];
+    int share;
+} Part;
+
+typedef struct {
+    int kind, operand, share;
+} Choice;
+
+typedef struct {
+    const Plate *plate;
+    const uint64_t *table;
+    size_t step[2]; /* words from a cell to its next neighbour in each direction */
+} Tabled;
+
+static const uint64_t *cell(const Tabled *tabled, const Part *part)
+{
+    const uint64_t *at = tabled->table;
+    for (int d = LENGTH; d <= WIDTH; d++)
+        at += tabled->plate->on[d].index[part->side[d]] * tabled->step[d];
+    return at;
+}
+
+static int find_piece(const Job *job, const Part *part, uint64_t value)
+{
+    Size rectangle = {part->side[LENGTH], part->side[WIDTH]};
+    for (int i = 0; i < job->kinds; i++)
+        if (job->price[i] == value && fits(job->size[i], rectangle) && job->weight[i] <= part->share)
+            return i;
+    return -1;
+}
+
+/* The first share of the first part that earns the value, or -1. */
+static int find_share(const uint64_t *first, const uint64_t *second, int share, uint64_t value)
+{
+    if (first[share] + second[share] >= value)
+        for (int c = 0; c <= share; c++)
+            if (first[c] + second[share - c] == value)
+                return c;
+    return -1;
+}
+
+static int find_cut(const Tabled *tabled, const Part *part, int direction, uint64_t value,
+                    Choice *chosen)
+{
+    const Positions *positions = &tabled->plate->on[direction];
+    size_t step = tabled->step[direction];
+    int side = part->side[direction], last = positions->index[side];
+    const uint64_t *origin = cell(tabled, part) - last * step;
+    for (int i = 1; i < last; i++) {
+        int rest = positions->index[side - positions->at[i]];
+        int c = find_share(origin + i * step, origin + rest * step, part->share, value);
+        if (c >= 0) {
+            *chosen = (Choice){2 + direction, positions->at[i], c};
+            return 1;
+        }
+    }
+    return 0;
+}
+
+static Choice choose(const Tabled *tabled, const Part *part)
+{
+    Choice chosen = {0, 0, 0};
+    uint64_t value = cell(tabled, part)[part->share];
+    if (value == 0)
+        return chosen;
+    int i = find_piece(&tabled->plate->job, part, value);
+    if (i >= 0)
+        return (Choice){1, i, 0};
+    if (!find_cut(tabled, part, LENGTH, value, &chosen))
+        find_cut(tabled, part, WIDTH, value, &chosen);
+    return chosen;
+}
+
+/* Puts the two parts of a cut into the list, the first one last. */
+static void split(Part *waiting, Choice cut)
+{
+    int direction = cut.kind - 2;
+    waiting[1] = waiting[0];
+    waiting[0].side[direction] -= cut.operand;
+    waiting[0].share -= cut.share;
+    waiting[1].side[direction] = cut.operand;
+    waiting[1].share = cut.share;
+}
+
+size_t write_nodes(const Plate *plate, const uint64_t *table, uint8_t *kinds, uint16_t *operands)
+{
+    const Job *job = &plate->job;
+    size_t shares = (size_t)job->capacity + 1;
+    Tabled tabled = {plate, table, {plate->on[WIDTH].count * shares, shares}};
+    Part waiting[2 * MOST_SIDE];
+    uint8_t kind[MOST_NODES];
+    uint16_t operand[MOST_NODES];
+    size_t count = 0;
+    waiting[0] = (Part){{job->plate.length, job->plate.width}, job->capacity};
+    for (int left = 1; left > 0; count++) {
+        Choice chosen = choose(&tabled, &waiting[left - 1]);
+        if (count < MOST_NODES) {
+            kind[count] = (uint8_t)chosen.kind;
+            operand[count] = (uint16_t)chosen.operand;
+        }
+        if (chosen.kind < 2)
+            left--;
+        else
+            split(&waiting[left++ - 1], chosen);
+    }
+    if (count <= MOST_NODES) {
+        memcpy(kinds, kind, count);
+        memcpy(operands, operand, count * sizeof *operands);
+    }
+    return count;
+}

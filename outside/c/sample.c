@@ -1,0 +1,100 @@
+/* Job S of the paper from C: the bound, the plan behind it, its check and its certificate.
+ * The script `run` compiles this file against planner.h and compares what it prints with sample.out. */
+#include "planner.h"
+#include <inttypes.h>
+#include <stdio.h>
+
+static const uint8_t JOB[] = {
+    5, 0, 3, 0, 3, 0,                                     /* plate 5 by 3, three kinds */
+    2, 0, 3, 0, 3, 0, 1, 0, 2, 0, 2, 0,                   /* 2 by 3, 3 by 1, 2 by 2 */
+    7, 0, 0, 0, 1, 0, 4, 0, 0, 0, 2, 0, 5, 0, 0, 0, 1, 0, /* price and demand of each */
+};
+static const uint8_t WEIGHTS[] = {0, 1, 0};
+
+enum { TABLE_WORDS = 60, NODES = 16 };
+
+static uint16_t lengths[6], widths[4];
+static uint64_t table[TABLE_WORDS];
+
+static void refused(uint32_t number, const uint64_t *answer)
+{
+    printf("refused %" PRIu32 " place %" PRIu64 "\n", number, answer[0]);
+}
+
+static void bound(size_t table_words)
+{
+    uint64_t answer[PLANNER_BOUND_WORDS];
+    uint32_t number = planner_bound(JOB, sizeof JOB, WEIGHTS, sizeof WEIGHTS, lengths, 6, widths, 4,
+                                    table, table_words, answer, PLANNER_BOUND_WORDS);
+    if (number == PLANNER_DONE)
+        printf("bound %" PRIu64 " capacity %" PRIu64 " p %" PRIu64 " r %" PRIu64 "\n", answer[0],
+               answer[1], answer[2], answer[3]);
+    else
+        refused(number, answer);
+}
+
+static size_t write_plan(uint8_t *kinds, uint16_t *operands)
+{
+    uint64_t answer[PLANNER_PLAN_WORDS];
+    uint32_t number = planner_write_plan(JOB, sizeof JOB, WEIGHTS, sizeof WEIGHTS, lengths, 6,
+                                         widths, 4, table, TABLE_WORDS, kinds, NODES, operands,
+                                         NODES, answer, PLANNER_PLAN_WORDS);
+    if (number != PLANNER_DONE) {
+        refused(number, answer);
+        return 0;
+    }
+    for (size_t i = 0; i < answer[4]; i++)
+        printf("%d %d\n", kinds[i], operands[i]);
+    return (size_t)answer[4];
+}
+
+static void check(const uint8_t *kinds, const uint16_t *operands, size_t nodes)
+{
+    uint64_t answer[PLANNER_REPORT_WORDS];
+    uint32_t number = planner_check_plan(JOB, sizeof JOB, kinds, nodes, operands, nodes, answer,
+                                         PLANNER_REPORT_WORDS);
+    if (number == PLANNER_DONE)
+        printf("profit %" PRIu64 " areas %" PRIu64 " %" PRIu64 " %" PRIu64 "\n", answer[0],
+               answer[1], answer[2], answer[3]);
+    else
+        refused(number, answer);
+}
+
+static void check_block(const uint8_t *plan, size_t bytes)
+{
+    uint64_t answer[PLANNER_REPORT_WORDS];
+    uint32_t number = planner_check_plan_block(JOB, sizeof JOB, plan, bytes, answer,
+                                               PLANNER_REPORT_WORDS);
+    if (number == PLANNER_DONE)
+        printf("waste %" PRIu64 "\n", answer[2]);
+    else
+        refused(number, answer);
+}
+
+static void certify(const uint8_t *kinds, const uint16_t *operands, size_t nodes)
+{
+    uint64_t answer[PLANNER_CERTIFICATE_WORDS];
+    uint32_t number = planner_certify(JOB, sizeof JOB, WEIGHTS, sizeof WEIGHTS, kinds, nodes,
+                                      operands, nodes, lengths, 6, widths, 4, table, TABLE_WORDS,
+                                      answer, PLANNER_CERTIFICATE_WORDS);
+    if (number == PLANNER_DONE)
+        printf("gap %" PRIu64 " bound %" PRIu64 " profit %" PRIu64 "\n", answer[0], answer[1],
+               answer[2]);
+    else
+        refused(number, answer);
+}
+
+int main(void)
+{
+    static const uint8_t waste[] = {1, 0, 0, 0, 0};
+    uint8_t kinds[NODES];
+    uint16_t operands[NODES];
+    bound(TABLE_WORDS);
+    bound(TABLE_WORDS - 1);
+    size_t nodes = write_plan(kinds, operands);
+    check(kinds, operands, nodes);
+    check(kinds, operands, nodes - 1);
+    check_block(waste, sizeof waste);
+    certify(kinds, operands, nodes);
+    return 0;
+}

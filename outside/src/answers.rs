@@ -1,0 +1,111 @@
+// What the calls answer, what they borrow, and how an answer is laid out in words.
+// Wrapper, reference and baselines share these types.
+
+/// Answer of a call whose `answer` slice is too short.
+pub const ANSWER_TOO_SHORT: u32 = 100;
+
+/// A refusal: its number and its place.
+#[derive(Clone, Copy, Debug, PartialEq, Eq)]
+pub struct Refusal {
+    pub number: u32,
+    pub place: u64,
+}
+
+/// What a passed plan reports. Copies are 0 past the job's kinds.
+#[derive(Clone, Copy, Debug, PartialEq, Eq)]
+pub struct Report {
+    pub profit: u64,
+    pub pieces: u64,
+    pub waste: u64,
+    pub trim: u64,
+    pub copies: [u64; 64],
+}
+
+/// The bound, the capacity and the numbers of normal lengths and widths.
+#[derive(Clone, Copy, Debug, PartialEq, Eq)]
+pub struct Bound {
+    pub bound: u64,
+    pub capacity: u64,
+    pub lengths: u64,
+    pub widths: u64,
+}
+
+/// The bound and the number of nodes of the plan that was written behind it.
+#[derive(Clone, Copy, Debug, PartialEq, Eq)]
+pub struct Written {
+    pub bound: Bound,
+    pub nodes: u64,
+}
+
+/// Bound less profit (0: the plan is best), with both.
+#[derive(Clone, Copy, Debug, PartialEq, Eq)]
+pub struct Certificate {
+    pub gap: u64,
+    pub bound: u64,
+    pub profit: u64,
+}
+
+/// The lent lists and table.
+pub struct Storage<'a> {
+    pub lengths: &'a mut [u16],
+    pub widths: &'a mut [u16],
+    pub table: &'a mut [u64],
+}
+
+/// The lent arrays that a plan is written to.
+pub struct PlanArrays<'a> {
+    pub kinds: &'a mut [u8],
+    pub operands: &'a mut [u16],
+}
+
+/// An answer as the words of planner.h.
+pub trait Words<const N: usize>: Sized {
+    fn to_words(&self) -> [u64; N];
+    fn from_words(words: [u64; N]) -> Self;
+}
+
+impl Words<68> for Report {
+    fn to_words(&self) -> [u64; 68] {
+        let mut words = [0; 68];
+        words[..4].copy_from_slice(&[self.profit, self.pieces, self.waste, self.trim]);
+        words[4..].copy_from_slice(&self.copies);
+        words
+    }
+
+    fn from_words(words: [u64; 68]) -> Report {
+        let mut copies = [0; 64];
+        copies.copy_from_slice(&words[4..]);
+        Report { profit: words[0], pieces: words[1], waste: words[2], trim: words[3], copies }
+    }
+}
+
+impl Words<4> for Bound {
+    fn to_words(&self) -> [u64; 4] {
+        [self.bound, self.capacity, self.lengths, self.widths]
+    }
+
+    fn from_words([bound, capacity, lengths, widths]: [u64; 4]) -> Bound {
+        Bound { bound, capacity, lengths, widths }
+    }
+}
+
+impl Words<5> for Written {
+    fn to_words(&self) -> [u64; 5] {
+        let b = self.bound;
+        [b.bound, b.capacity, b.lengths, b.widths, self.nodes]
+    }
+
+    fn from_words([bound, capacity, lengths, widths, nodes]: [u64; 5]) -> Written {
+        Written { bound: Bound { bound, capacity, lengths, widths }, nodes }
+    }
+}
+
+impl Words<3> for Certificate {
+    fn to_words(&self) -> [u64; 3] {
+        [self.gap, self.bound, self.profit]
+    }
+
+    fn from_words([gap, bound, profit]: [u64; 3]) -> Certificate {
+        Certificate { gap, bound, profit }
+    }
+}

@@ -1,0 +1,4 @@
+// The same algorithm without proofs, once in Rust and once in C, for the benchmark.
+// Both take jobs as accepted and storage as large enough.
+pub mod c;
+pub mod rust;

@@ -1,0 +1,39 @@
+// The baseline in Rust: the tabled algorithm as fast as we know how to write it.
+// Jobs are taken as accepted and storage as large enough.
+mod one_share;
+mod plate;
+mod shares;
+mod writer;
+
+use crate::answers::{Bound, PlanArrays, Storage, Written};
+use plate::{Plate, LENGTH, WIDTH};
+
+pub fn bound(job: &[u8], weights: &[u8], storage: Storage) -> Bound {
+    fill(&Plate::read(job, weights), storage)
+}
+
+pub fn write_plan(job: &[u8], weights: &[u8], storage: Storage, plan: PlanArrays) -> Written {
+    let Storage { lengths, widths, table } = storage;
+    let plate = Plate::read(job, weights);
+    let bound = fill(&plate, Storage { lengths, widths, table });
+    Written { bound, nodes: writer::write_nodes(&plate, table, plan) as u64 }
+}
+
+fn fill(plate: &Plate, storage: Storage) -> Bound {
+    let (lengths, widths) = (&plate.on[LENGTH].at, &plate.on[WIDTH].at);
+    let (p, r) = (lengths.len(), widths.len());
+    storage.lengths[..p].copy_from_slice(lengths);
+    storage.widths[..r].copy_from_slice(widths);
+    let table = &mut storage.table[..p * r * (plate.capacity + 1)];
+    if plate.capacity == 0 {
+        one_share::fill(plate, table);
+    } else {
+        shares::fill(plate, table);
+    }
+    Bound {
+        bound: table[table.len() - 1],
+        capacity: plate.capacity as u64,
+        lengths: p as u64,
+        widths: r as u64,
+    }
+}

@@ -1,0 +1,121 @@
+// Reading a job, its capacity and its normal positions.
+// Also the two loops that all the work is in.
+
+pub const LENGTH: usize = 0;
+pub const WIDTH: usize = 1;
+
+pub struct Kind {
+    pub side: [usize; 2],
+    pub price: u64,
+    pub weight: usize,
+}
+
+/// A side's normal positions, and for each unit the index of the largest one not above it.
+pub struct Positions {
+    pub side: usize,
+    pub at: Vec<u16>,
+    pub index: Vec<u16>,
+}
+
+pub struct Plate {
+    pub kinds: Vec<Kind>,
+    pub capacity: usize,
+    pub on: [Positions; 2],
+}
+
+impl Plate {
+    pub fn read(job: &[u8], weights: &[u8]) -> Plate {
+        let plate = [two(job, 0), two(job, 2)];
+        let n = two(job, 4);
+        let (sizes, pairs) = (&job[6..], &job[6 + 4 * n..]);
+        let mut capacity = 0;
+        let mut kinds = Vec::with_capacity(n);
+        for (i, &weight) in weights.iter().enumerate() {
+            let side = [two(sizes, 4 * i), two(sizes, 4 * i + 2)];
+            let price = (two(pairs, 6 * i) + (two(pairs, 6 * i + 2) << 16)) as u64;
+            let weight = usize::from(weight);
+            capacity += two(pairs, 6 * i + 4) * weight;
+            kinds.push(Kind { side, price, weight });
+        }
+        let on = [LENGTH, WIDTH].map(|d| Positions::find(plate, &kinds, d));
+        Plate { kinds, capacity, on }
+    }
+
+    /// The plate's length and width.
+    pub fn sides(&self) -> [usize; 2] {
+        [self.on[LENGTH].side, self.on[WIDTH].side]
+    }
+}
+
+impl Kind {
+    pub fn fits(&self, rectangle: [usize; 2]) -> bool {
+        self.side[LENGTH] <= rectangle[LENGTH] && self.side[WIDTH] <= rectangle[WIDTH]
+    }
+}
+
+impl Positions {
+    fn find(plate: [usize; 2], kinds: &[Kind], direction: usize) -> Positions {
+        let side = plate[direction];
+        let mut normal = vec![false; side + 1];
+        normal[0] = true;
+        for kind in kinds.iter().filter(|kind| kind.fits(plate)) {
+            for x in kind.side[direction]..=side {
+                normal[x] |= normal[x - kind.side[direction]];
+            }
+        }
+        let (mut at, mut index) = (Vec::with_capacity(side + 1), Vec::with_capacity(side + 1));
+        for (x, is_normal) in normal.into_iter().enumerate() {
+            if is_normal {
+                at.push(x as u16);
+            }
+            index.push((at.len() - 1) as u16);
+        }
+        Positions { side, at, index }
+    }
+
+    /// The index of the largest normal position not above `x`.
+    pub fn floor(&self, x: usize) -> usize {
+        self.index[x].into()
+    }
+
+    /// The i-th normal position.
+    pub fn position(&self, i: usize) -> usize {
+        self.at[i].into()
+    }
+
+    /// The cuts of the i-th position, up to its half, that leave a normal remainder, as the indices
+    /// of both parts.
+    pub fn halves(&self, i: usize) -> impl Iterator<Item = (usize, usize)> + '_ {
+        let side = self.position(i);
+        let firsts = (1..i).take_while(move |&j| 2 * self.position(j) <= side);
+        firsts.filter_map(move |j| {
+            let rest = self.floor(side - self.position(j));
+            (self.position(j) + self.position(rest) == side).then_some((j, rest))
+        })
+    }
+}
+
+/// Raises the sums of one value with each word of `second`. Most sums are no more than what is there
+/// already, and 64-bit maxima are slow in SSE2: a store behind a test is faster.
+pub fn raise_by(sums: &mut [u64], value: u64, second: &[u64]) {
+    for (best, y) in sums.iter_mut().zip(second) {
+        raise(best, value + y);
+    }
+}
+
+/// Raises the sums, word by word, of two rows.
+pub fn raise_rows(sums: &mut [u64], first: &[u64], second: &[u64]) {
+    for ((best, x), y) in sums.iter_mut().zip(first).zip(second) {
+        raise(best, x + y);
+    }
+}
+
+fn raise(best: &mut u64, sum: u64) {
+    if sum > *best {
+        *best = sum;
+    }
+}
+
+fn two(bytes: &[u8], at: usize) -> usize {
+    u16::from_le_bytes([bytes[at], bytes[at + 1]]).into()
+}

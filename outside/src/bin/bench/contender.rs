@@ -1,0 +1,72 @@
+// The implementations that are measured, and the memory that they are lent.
+// The memory is touched before the first call and never cleared between calls.
+use crate::jobs::Job;
+use outside::answers::{Bound, PlanArrays, Storage, Written};
+use outside::{baseline, planner};
+
+pub struct Contender {
+    pub bound: fn(&Job, &mut Memory) -> Bound,
+    pub write_plan: fn(&Job, &mut Memory) -> Written,
+}
+
+pub struct Memory {
+    pub lengths: Vec<u16>,
+    pub widths: Vec<u16>,
+    pub table: Vec<u64>,
+    pub kinds: Vec<u8>,
+    pub operands: Vec<u16>,
+}
+
+/// Ours, the baseline in Rust, the baseline in C.
+pub const CONTENDERS: [Contender; 3] = [
+    Contender {
+        bound: |job, memory| {
+            planner::bound(&job.block, &job.weights, memory.split().0).expect("an accepted job")
+        },
+        write_plan: |job, memory| {
+            let (storage, plan) = memory.split();
+            planner::write_plan(&job.block, &job.weights, storage, plan).expect("an accepted job")
+        },
+    },
+    Contender {
+        bound: |job, memory| baseline::rust::bound(&job.block, &job.weights, memory.split().0),
+        write_plan: |job, memory| {
+            let (storage, plan) = memory.split();
+            baseline::rust::write_plan(&job.block, &job.weights, storage, plan)
+        },
+    },
+    Contender {
+        // The generated jobs are accepted, and the memory is enough: the proved call has said so.
+        bound: |job, memory| unsafe {
+            baseline::c::bound(&job.block, &job.weights, memory.split().0)
+        },
+        write_plan: |job, memory| unsafe {
+            let (storage, plan) = memory.split();
+            baseline::c::write_plan(&job.block, &job.weights, storage, plan)
+        },
+    },
+];
+
+impl Memory {
+    pub fn new(words: usize) -> Memory {
+        Memory {
+            lengths: vec![0xAAAA; 1001],
+            widths: vec![0xAAAA; 1001],
+            table: vec![0xAAAA_AAAA_AAAA_AAAA; words],
+            kinds: vec![0xAA; 4095],
+            operands: vec![0xAAAA; 4095],
+        }
+    }
+
+    /// The memory that a job needs, as the proved call answers it.
+    pub fn enough_for(job: &Job) -> Memory {
+        let mut none = Memory::new(0);
+        let refusal = planner::bound(&job.block, &job.weights, none.split().0);
+        Memory::new(refusal.expect_err("no table is lent").place as usize)
+    }
+
+    pub fn split(&mut self) -> (Storage<'_>, PlanArrays<'_>) {
+        let Memory { lengths, widths, table, kinds, operands } = self;
+        (Storage { lengths, widths, table }, PlanArrays { kinds, operands })
+    }
+}

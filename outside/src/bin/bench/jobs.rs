@@ -1,0 +1,84 @@
+// The jobs that are measured. All are generated from fixed seeds, so every run has the same.
+// Prices are areas with a premium of up to a quarter; demands are raised until Q is as wanted.
+use outside::blocks::{job_block, job_s, Kind};
+use outside::random::Random;
+
+pub struct Job {
+    pub name: String,
+    pub block: Vec<u8>,
+    pub weights: Vec<u8>,
+}
+
+/// What a generated job is drawn from.
+struct Draw {
+    plate: u16,
+    kinds: usize,
+    sides: (usize, usize),
+    weights: &'static [u8],
+    capacity: usize,
+}
+
+const FREE: &[u8] = &[0];
+
+/// The fixed set.
+pub fn named() -> Vec<Job> {
+    let small = Draw { plate: 100, kinds: 20, sides: (8, 60), weights: FREE, capacity: 0 };
+    let few = Draw { weights: &[0, 1], capacity: 30, ..small };
+    let half = Draw { plate: 500, kinds: 40, sides: (30, 250), ..small };
+    let full = Draw { plate: 1000, kinds: 50, sides: (100, 500), ..small };
+    let shares = Draw {
+        plate: 300,
+        kinds: 15,
+        sides: (45, 150),
+        weights: &[0, 1, 2, 3, 5, 8],
+        capacity: 200,
+    };
+    let many = Draw { sides: (20, 50), weights: &[0, 16, 48], capacity: 4000, ..small };
+    let mut jobs = vec![Job { name: "S".into(), block: job_s(), weights: vec![0, 1, 0] }];
+    jobs.extend([small, few, half, full, shares, many].iter().map(draw));
+    jobs
+}
+
+/// Weights 0 on larger and larger plates.
+pub fn growing_plates() -> Vec<Job> {
+    let plates = [125, 250, 500, 1000];
+    plates.map(|plate| draw(&Draw { plate, kinds: 30, sides: (20, 60), weights: FREE, capacity: 0 })).into()
+}
+
+/// One plate with a larger and larger capacity.
+pub fn growing_capacities() -> Vec<Job> {
+    let weights = &[1, 2, 3, 5, 8, 13];
+    let capacities = [60, 250, 1000, 4000];
+    let sides = (12, 40);
+    capacities.map(|capacity| draw(&Draw { plate: 80, kinds: 16, sides, weights, capacity })).into()
+}
+
+fn draw(from: &Draw) -> Job {
+    let random = &mut Random::new(u64::from(from.plate) + from.kinds as u64);
+    let mut kinds: Vec<Kind> = (0..from.kinds).map(|_| draw_kind(random, from.sides)).collect();
+    let weights: Vec<u8> = (0..from.kinds).map(|_| random.pick(from.weights)).collect();
+    let capacity = raise_demands(&mut kinds, &weights, from.capacity);
+    let Draw { plate, sides: (low, high), .. } = from;
+    let name = format!("{plate}×{plate}, {} kinds of sides {low}–{high}, Q {capacity}", kinds.len());
+    Job { name, block: job_block(*plate, *plate, &kinds), weights }
+}
+
+fn draw_kind(random: &mut Random, (low, high): (usize, usize)) -> Kind {
+    let (length, width) = (random.from(low, high), random.from(low, high));
+    let area = length * width;
+    (length as u16, width as u16, (area + random.from(0, area / 4)) as u32, 1)
+}
+
+/// Adds copies, one kind after the other, as long as the capacity stays within the limit.
+fn raise_demands(kinds: &mut [Kind], weights: &[u8], limit: usize) -> usize {
+    let mut capacity: usize = weights.iter().map(|&weight| usize::from(weight)).sum();
+    for _ in 1..255 {
+        for (kind, &weight) in kinds.iter_mut().zip(weights) {
+            if weight > 0 && capacity + usize::from(weight) <= limit {
+                capacity += usize::from(weight);
+                kind.3 += 1;
+            }
+        }
+    }
+    capacity
+}

@@ -1,0 +1,33 @@
+// Building job blocks and plan blocks.
+// Nothing is checked: a block may be one that the planner refuses.
+
+/// A kind: length, width, price, demand.
+pub type Kind = (u16, u16, u32, u16);
+
+pub fn job_block(length: u16, width: u16, kinds: &[Kind]) -> Vec<u8> {
+    let mut block = Vec::with_capacity(6 + 10 * kinds.len());
+    for field in [length, width, kinds.len() as u16] {
+        block.extend(field.to_le_bytes());
+    }
+    for (length, width, _, _) in kinds {
+        block.extend(length.to_le_bytes());
+        block.extend(width.to_le_bytes());
+    }
+    for (_, _, price, demand) in kinds {
+        block.extend(price.to_le_bytes());
+        block.extend(demand.to_le_bytes());
+    }
+    block
+}
+
+pub fn plan_block(kinds: &[u8], operands: &[u16]) -> Vec<u8> {
+    let mut block = Vec::from((kinds.len() as u16).to_le_bytes());
+    block.extend(kinds);
+    block.extend(operands.iter().flat_map(|operand| operand.to_le_bytes()));
+    block
+}
+
+/// Job S of the paper: plate 5 by 3, three kinds.
+pub fn job_s() -> Vec<u8> {
+    job_block(5, 3, &[(2, 3, 7, 1), (3, 1, 4, 2), (2, 2, 5, 1)])
+}

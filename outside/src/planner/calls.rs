@@ -1,0 +1,85 @@
+// The functions of planner.h on slices: the code that C gets, and the answer as words.
+// Safe: borrowed slices are valid, aligned and do not overlap where they are written.
+use super::foreign;
+use crate::answers::{PlanArrays, Storage};
+use crate::calls::Calls;
+
+pub const CALLS: Calls =
+    Calls { name: "proved", check_plan, check_plan_block, bound, write_plan, certify };
+
+pub fn check_plan(job: &[u8], kinds: &[u8], operands: &[u16], answer: &mut [u64]) -> u32 {
+    unsafe {
+        foreign::planner_check_plan(
+            job.as_ptr(), job.len(),
+            kinds.as_ptr(), kinds.len(),
+            operands.as_ptr(), operands.len(),
+            answer.as_mut_ptr(), answer.len(),
+        )
+    }
+}
+
+pub fn check_plan_block(job: &[u8], plan: &[u8], answer: &mut [u64]) -> u32 {
+    unsafe {
+        foreign::planner_check_plan_block(
+            job.as_ptr(), job.len(),
+            plan.as_ptr(), plan.len(),
+            answer.as_mut_ptr(), answer.len(),
+        )
+    }
+}
+
+pub fn bound(job: &[u8], weights: &[u8], storage: Storage, answer: &mut [u64]) -> u32 {
+    unsafe {
+        foreign::planner_bound(
+            job.as_ptr(), job.len(),
+            weights.as_ptr(), weights.len(),
+            storage.lengths.as_mut_ptr(), storage.lengths.len(),
+            storage.widths.as_mut_ptr(), storage.widths.len(),
+            storage.table.as_mut_ptr(), storage.table.len(),
+            answer.as_mut_ptr(), answer.len(),
+        )
+    }
+}
+
+pub fn write_plan(
+    job: &[u8],
+    weights: &[u8],
+    storage: Storage,
+    plan: PlanArrays,
+    answer: &mut [u64],
+) -> u32 {
+    unsafe {
+        foreign::planner_write_plan(
+            job.as_ptr(), job.len(),
+            weights.as_ptr(), weights.len(),
+            storage.lengths.as_mut_ptr(), storage.lengths.len(),
+            storage.widths.as_mut_ptr(), storage.widths.len(),
+            storage.table.as_mut_ptr(), storage.table.len(),
+            plan.kinds.as_mut_ptr(), plan.kinds.len(),
+            plan.operands.as_mut_ptr(), plan.operands.len(),
+            answer.as_mut_ptr(), answer.len(),
+        )
+    }
+}
+
+pub fn certify(
+    job: &[u8],
+    weights: &[u8],
+    kinds: &[u8],
+    operands: &[u16],
+    storage: Storage,
+    answer: &mut [u64],
+) -> u32 {
+    unsafe {
+        foreign::planner_certify(
+            job.as_ptr(), job.len(),
+            weights.as_ptr(), weights.len(),
+            kinds.as_ptr(), kinds.len(),
+            operands.as_ptr(), operands.len(),
+            storage.lengths.as_mut_ptr(), storage.lengths.len(),
+            storage.widths.as_mut_ptr(), storage.widths.len(),
+            storage.table.as_mut_ptr(), storage.table.len(),
+            answer.as_mut_ptr(), answer.len(),
+        )
+    }
+}

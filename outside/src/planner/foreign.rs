@@ -1,0 +1,47 @@
+// The functions of planner.h, as C declares them.
+// Every slice is a pointer and a length.
+extern "C" {
+    pub fn planner_check_plan(
+        job: *const u8, job_len: usize,
+        kinds: *const u8, kinds_len: usize,
+        operands: *const u16, operands_len: usize,
+        answer: *mut u64, answer_len: usize,
+    ) -> u32;
+
+    pub fn planner_check_plan_block(
+        job: *const u8, job_len: usize,
+        plan: *const u8, plan_len: usize,
+        answer: *mut u64, answer_len: usize,
+    ) -> u32;
+
+    pub fn planner_bound(
+        job: *const u8, job_len: usize,
+        weights: *const u8, weights_len: usize,
+        lengths: *mut u16, lengths_len: usize,
+        widths: *mut u16, widths_len: usize,
+        table: *mut u64, table_len: usize,
+        answer: *mut u64, answer_len: usize,
+    ) -> u32;
+
+    pub fn planner_write_plan(
+        job: *const u8, job_len: usize,
+        weights: *const u8, weights_len: usize,
+        lengths: *mut u16, lengths_len: usize,
+        widths: *mut u16, widths_len: usize,
+        table: *mut u64, table_len: usize,
+        kinds: *mut u8, kinds_len: usize,
+        operands: *mut u16, operands_len: usize,
+        answer: *mut u64, answer_len: usize,
+    ) -> u32;
+
+    pub fn planner_certify(
+        job: *const u8, job_len: usize,
+        weights: *const u8, weights_len: usize,
+        kinds: *const u8, kinds_len: usize,
+        operands: *const u16, operands_len: usize,
+        lengths: *mut u16, lengths_len: usize,
+        widths: *mut u16, widths_len: usize,
+        table: *mut u64, table_len: usize,
+        answer: *mut u64, answer_len: usize,
+    ) -> u32;
+}

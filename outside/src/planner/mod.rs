@@ -1,0 +1,52 @@
+// The safe wrapper over planner.h: the proved calls with typed answers.
+// `calls` has the same calls with the answer as the words that C sees.
+pub mod calls;
+mod foreign;
+
+use crate::answers::{Bound, Certificate, PlanArrays, Refusal, Report, Storage, Words, Written};
+
+/// Checks a plan given as two arrays.
+pub fn check_plan(job: &[u8], kinds: &[u8], operands: &[u16]) -> Result<Report, Refusal> {
+    typed(|answer| calls::check_plan(job, kinds, operands, answer))
+}
+
+/// Checks a plan block.
+pub fn check_plan_block(job: &[u8], plan: &[u8]) -> Result<Report, Refusal> {
+    typed(|answer| calls::check_plan_block(job, plan, answer))
+}
+
+/// Computes the bound and fills the storage.
+pub fn bound(job: &[u8], weights: &[u8], storage: Storage) -> Result<Bound, Refusal> {
+    typed(|answer| calls::bound(job, weights, storage, answer))
+}
+
+/// Writes the plan behind the bound and fills the storage.
+pub fn write_plan(
+    job: &[u8],
+    weights: &[u8],
+    storage: Storage,
+    plan: PlanArrays,
+) -> Result<Written, Refusal> {
+    typed(|answer| calls::write_plan(job, weights, storage, plan, answer))
+}
+
+/// Certifies a plan and fills the storage.
+pub fn certify(
+    job: &[u8],
+    weights: &[u8],
+    kinds: &[u8],
+    operands: &[u16],
+    storage: Storage,
+) -> Result<Certificate, Refusal> {
+    typed(|answer| calls::certify(job, weights, kinds, operands, storage, answer))
+}
+
+fn typed<const N: usize, A: Words<N>>(
+    call: impl FnOnce(&mut [u64]) -> u32,
+) -> Result<A, Refusal> {
+    let mut words = [0; N];
+    match call(&mut words) {
+        0 => Ok(A::from_words(words)),
+        number => Err(Refusal { number, place: words[0] }),
+    }
+}

@@ -1,0 +1,64 @@
+// The bound: refusals 1 to 9, 19 and 20, and the contents of lists and table.
+// The writer and the certificate prepare their storage by the same steps.
+use super::figures::Figures;
+use super::job::{Job, Kind};
+use super::normal::normal_positions;
+use super::refuse_if;
+use super::weights::capacity;
+use crate::answers::{Bound, Refusal, Storage};
+
+/// What the writer goes on with.
+pub struct Tabled {
+    pub bound: Bound,
+    pub figures: Figures,
+    pub lengths: Vec<usize>,
+    pub widths: Vec<usize>,
+}
+
+pub fn bound(job: &[u8], weights: &[u8], storage: Storage) -> Result<Bound, Refusal> {
+    let job = Job::read(job)?;
+    let capacity = capacity(&job, weights)?;
+    Ok(tabled(&job, weights, capacity, storage)?.bound)
+}
+
+pub fn tabled(
+    job: &Job,
+    weights: &[u8],
+    capacity: usize,
+    storage: Storage,
+) -> Result<Tabled, Refusal> {
+    let short = storage.lengths.len() <= job.length || storage.widths.len() <= job.width;
+    refuse_if(short, 19, 0)?;
+    let lengths = normal_positions(job.length, &sides(job, |kind| kind.length));
+    let widths = normal_positions(job.width, &sides(job, |kind| kind.width));
+    fill(storage.lengths, &lengths);
+    fill(storage.widths, &widths);
+    let needed = lengths.len() * widths.len() * (capacity + 1);
+    refuse_if(storage.table.len() < needed, 20, needed)?;
+    let figures = Figures::of(job, weights, capacity);
+    let mut words = storage.table.chunks_exact_mut(capacity + 1);
+    for &length in &lengths {
+        for &width in &widths {
+            let cell = words.next().expect("the table has the words needed");
+            cell.copy_from_slice(figures.shares_of(length, width));
+        }
+    }
+    let bound = Bound {
+        bound: figures.at(job.length, job.width, capacity),
+        capacity: capacity as u64,
+        lengths: lengths.len() as u64,
+        widths: widths.len() as u64,
+    };
+    Ok(Tabled { bound, figures, lengths, widths })
+}
+
+fn sides(job: &Job, side: impl Fn(&Kind) -> usize) -> Vec<usize> {
+    let fitting = job.kinds.iter().filter(|kind| kind.fits(job.length, job.width));
+    fitting.map(side).collect()
+}
+
+fn fill(list: &mut [u16], positions: &[usize]) {
+    for (word, &position) in list.iter_mut().zip(positions) {
+        *word = position as u16;
+    }
+}

@@ -1,0 +1,59 @@
+// The reference's calls with codes and answer words, as planner.h has them.
+// A short answer is told before anything else is looked at.
+use crate::answers::{PlanArrays, Refusal, Storage, Words, ANSWER_TOO_SHORT};
+use crate::calls::Calls;
+
+pub const CALLS: Calls =
+    Calls { name: "reference", check_plan, check_plan_block, bound, write_plan, certify };
+
+pub fn check_plan(job: &[u8], kinds: &[u8], operands: &[u16], answer: &mut [u64]) -> u32 {
+    coded(answer, || super::check_plan(job, kinds, operands))
+}
+
+pub fn check_plan_block(job: &[u8], plan: &[u8], answer: &mut [u64]) -> u32 {
+    coded(answer, || super::check_plan_block(job, plan))
+}
+
+pub fn bound(job: &[u8], weights: &[u8], storage: Storage, answer: &mut [u64]) -> u32 {
+    coded(answer, || super::bound(job, weights, storage))
+}
+
+pub fn write_plan(
+    job: &[u8],
+    weights: &[u8],
+    storage: Storage,
+    plan: PlanArrays,
+    answer: &mut [u64],
+) -> u32 {
+    coded(answer, || super::write_plan(job, weights, storage, plan))
+}
+
+pub fn certify(
+    job: &[u8],
+    weights: &[u8],
+    kinds: &[u8],
+    operands: &[u16],
+    storage: Storage,
+    answer: &mut [u64],
+) -> u32 {
+    coded(answer, || super::certify(job, weights, kinds, operands, storage))
+}
+
+fn coded<const N: usize, A: Words<N>>(
+    answer: &mut [u64],
+    call: impl FnOnce() -> Result<A, Refusal>,
+) -> u32 {
+    if answer.len() < N {
+        return ANSWER_TOO_SHORT;
+    }
+    match call() {
+        Ok(told) => {
+            answer[..N].copy_from_slice(&told.to_words());
+            0
+        }
+        Err(refusal) => {
+            answer[0] = refusal.place;
+            refusal.number
+        }
+    }
+}

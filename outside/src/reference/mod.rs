@@ -1,0 +1,31 @@
+// An independent implementation of the planner's calls, written for clearness: figures of every
+// whole rectangle with a cut at every unit, plans walked with a list of waiting rectangles.
+mod bound;
+pub mod calls;
+mod certificate;
+mod figures;
+mod job;
+mod normal;
+mod plan;
+mod weights;
+mod writer;
+
+pub use bound::bound;
+pub use certificate::certify;
+pub use figures::Figures;
+pub use job::{Job, Kind};
+pub use normal::normal_positions;
+pub use plan::{check_plan, check_plan_block};
+pub use weights::capacity;
+pub use writer::write_plan;
+
+use crate::answers::Refusal;
+
+/// Passes where the condition of a refusal does not hold.
+fn refuse_if(condition: bool, number: u32, place: usize) -> Result<(), Refusal> {
+    if condition {
+        Err(Refusal { number, place: place as u64 })
+    } else {
+        Ok(())
+    }
+}

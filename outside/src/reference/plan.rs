@@ -1,0 +1,86 @@
+// The plan check: refusals 10 to 18, and the report.
+// Rectangles that wait for their node are kept in a list, the next one last.
+use super::job::Job;
+use super::refuse_if;
+use crate::answers::{Refusal, Report};
+
+const WASTE: u8 = 0;
+const PIECE: u8 = 1;
+const CUT_LENGTH: u8 = 2;
+
+pub fn check_plan(job: &[u8], kinds: &[u8], operands: &[u16]) -> Result<Report, Refusal> {
+    check(&Job::read(job)?, kinds, operands)
+}
+
+pub fn check_plan_block(job: &[u8], plan: &[u8]) -> Result<Report, Refusal> {
+    let job = Job::read(job)?;
+    refuse_if(plan.len() < 2, 10, 0)?;
+    let count = usize::from(u16::from_le_bytes([plan[0], plan[1]]));
+    refuse_if(plan.len() != 2 + 3 * count, 10, 0)?;
+    let (kinds, operands) = plan[2..].split_at(count);
+    let operands = operands.chunks(2).map(|two| u16::from_le_bytes([two[0], two[1]]));
+    check(&job, kinds, &operands.collect::<Vec<u16>>())
+}
+
+pub fn check(job: &Job, kinds: &[u8], operands: &[u16]) -> Result<Report, Refusal> {
+    refuse_if(kinds.len() != operands.len(), 10, 0)?;
+    refuse_if(kinds.is_empty() || kinds.len() > 4095, 11, 0)?;
+    let mut walk = Walk::of(job);
+    let mut next = 0;
+    while let Some(rectangle) = walk.waiting.pop() {
+        refuse_if(next == kinds.len(), 17, next)?;
+        walk.node(next, kinds[next], operands[next].into(), rectangle)?;
+        next += 1;
+    }
+    refuse_if(next < kinds.len(), 18, next)?;
+    Ok(walk.report)
+}
+
+struct Walk<'a> {
+    job: &'a Job,
+    waiting: Vec<(usize, usize)>,
+    report: Report,
+}
+
+impl Walk<'_> {
+    fn of(job: &Job) -> Walk<'_> {
+        let report = Report { profit: 0, pieces: 0, waste: 0, trim: 0, copies: [0; 64] };
+        Walk { job, waiting: vec![(job.length, job.width)], report }
+    }
+
+    fn node(
+        &mut self,
+        at: usize,
+        kind: u8,
+        operand: usize,
+        (length, width): (usize, usize),
+    ) -> Result<(), Refusal> {
+        refuse_if(kind > 3, 12, at)?;
+        if kind == WASTE {
+            refuse_if(operand != 0, 14, at)?;
+            self.report.waste += (length * width) as u64;
+        } else if kind == PIECE {
+            self.piece(at, operand, length, width)?;
+        } else if kind == CUT_LENGTH {
+            refuse_if(operand < 1 || operand >= length, 14, at)?;
+            self.waiting.extend([(length - operand, width), (operand, width)]);
+        } else {
+            refuse_if(operand < 1 || operand >= width, 14, at)?;
+            self.waiting.extend([(length, width - operand), (length, operand)]);
+        }
+        Ok(())
+    }
+
+    fn piece(&mut self, at: usize, i: usize, length: usize, width: usize) -> Result<(), Refusal> {
+        refuse_if(i >= self.job.kinds.len(), 13, at)?;
+        let kind = &self.job.kinds[i];
+        refuse_if(!kind.fits(length, width), 15, at)?;
+        refuse_if(self.report.copies[i] == kind.demand, 16, at)?;
+        let area = kind.length * kind.width;
+        self.report.copies[i] += 1;
+        self.report.profit += kind.price;
+        self.report.pieces += area as u64;
+        self.report.trim += (length * width - area) as u64;
+        Ok(())
+    }
+}

@@ -1,0 +1,53 @@
+// The benchmark's baselines against the reference: same answer and same memory on accepted jobs.
+// What they take as given is given here: an accepted job and storage that the reference found enough.
+use crate::inputs::{draw, Scale};
+use crate::lent::{Lent, Sizes};
+use crate::run::Input;
+use outside::answers::{PlanArrays, Storage, Words, Written};
+use outside::random::Random;
+use outside::{baseline, reference};
+
+const ROOM: Sizes =
+    Sizes { lengths: 120, widths: 120, table: 1 << 18, kinds: 4095, operands: 4095, answer: 5 };
+
+type WritePlan = fn(&[u8], &[u8], Storage<'_>, PlanArrays<'_>) -> Written;
+
+fn in_c(job: &[u8], weights: &[u8], storage: Storage, plan: PlanArrays) -> Written {
+    unsafe { baseline::c::write_plan(job, weights, storage, plan) }
+}
+
+fn written(input: &Input, write_plan: WritePlan) -> Lent {
+    let mut lent = Lent::new(ROOM);
+    let (storage, plan, answer) = lent.split();
+    answer.copy_from_slice(&write_plan(&input.job, &input.weights, storage, plan).to_words());
+    lent
+}
+
+fn baselines_agree(seed: u64, jobs: usize, scale: Scale) {
+    let random = &mut Random::new(seed);
+    for _ in 0..jobs {
+        let input = draw(random, scale);
+        let mut expected = Lent::new(ROOM);
+        let (storage, plan, answer) = expected.split();
+        let Input { job, weights, .. } = &input;
+        if reference::calls::write_plan(job, weights, storage, plan, answer) == 0 {
+            for write_plan in [baseline::rust::write_plan, in_c] {
+                assert_eq!(expected.differences(&written(&input, write_plan)), [""; 0], "{input:?}");
+            }
+        }
+    }
+}
+
+#[test]
+fn baselines_agree_with_shares() {
+    let scale =
+        Scale { plate: 12, side: 7, kinds: 6, price: 30, demand: 4, weight: 3, work: usize::MAX };
+    baselines_agree(11, 1500, scale);
+}
+
+#[test]
+fn baselines_agree_without_weights() {
+    let scale =
+        Scale { plate: 60, side: 40, kinds: 9, price: 400, demand: 4, weight: 0, work: usize::MAX };
+    baselines_agree(12, 200, scale);
+}

@@ -1,0 +1,157 @@
+// The marked examples of the paper, on the reference and on the proved calls.
+// Each says what a call answers; refusals are a number and a place.
+use crate::lent::{Lent, Sizes};
+use crate::run::{Call, Input, IMPLEMENTATIONS};
+use outside::blocks::{job_block, job_s, plan_block};
+
+/// A node: kind and operand.
+pub type Node = (u8, u16);
+
+const AMPLE: Sizes =
+    Sizes { lengths: 1001, widths: 1001, table: 1 << 15, kinds: 4095, operands: 4095, answer: 68 };
+
+pub fn input(job: Vec<u8>, weights: &[u8], nodes: &[Node]) -> Input {
+    let kinds: Vec<u8> = nodes.iter().map(|node| node.0).collect();
+    let operands: Vec<u16> = nodes.iter().map(|node| node.1).collect();
+    let plan = plan_block(&kinds, &operands);
+    Input { job, weights: weights.to_vec(), kinds, operands, plan }
+}
+
+/// Expects each implementation to answer these words.
+pub fn answers(call: Call, input: &Input, words: &[u64]) {
+    for_each(call, input, 0, words);
+}
+
+/// Expects each implementation to refuse.
+pub fn refuses(call: Call, input: &Input, number: u32, place: u64) {
+    for_each(call, input, number, &[place]);
+}
+
+/// Expects a plan check, of arrays and block, to report profit, areas and copies.
+pub fn reports(input: &Input, profit: u64, areas: [u64; 3], copies: &[u64]) {
+    let mut words = vec![profit, areas[0], areas[1], areas[2]];
+    words.extend(copies);
+    words.resize(68, 0);
+    answers(Call::CheckPlan, input, &words);
+    answers(Call::CheckPlanBlock, input, &words);
+}
+
+/// Expects a plan check, of arrays and block, and the certificate to refuse.
+pub fn plan_refused(input: &Input, number: u32, place: u64) {
+    for call in [Call::CheckPlan, Call::CheckPlanBlock, Call::Certify] {
+        refuses(call, input, number, place);
+    }
+}
+
+/// Expects a written plan of these nodes, and the bound.
+pub fn writes(job: Vec<u8>, weights: &[u8], bound: u64, nodes: &[Node]) {
+    let expected = input(job, weights, nodes);
+    for calls in IMPLEMENTATIONS {
+        let mut lent = Lent::new(AMPLE);
+        assert_eq!(Call::WritePlan.run(&calls, &expected, &mut lent), 0, "{}", calls.name);
+        let answer = lent.answer.words();
+        assert_eq!((answer[0], answer[4]), (bound, nodes.len() as u64), "{}", calls.name);
+        assert_eq!(lent.kinds.words()[..nodes.len()], expected.kinds, "{}", calls.name);
+        assert_eq!(lent.operands.words()[..nodes.len()], expected.operands, "{}", calls.name);
+    }
+}
+
+/// Expects the lists that a bound leaves.
+pub fn lists(job: Vec<u8>, weights: &[u8], lengths: &[u16], widths: &[u16]) {
+    let input = input(job, weights, &[]);
+    for calls in IMPLEMENTATIONS {
+        let mut lent = Lent::new(AMPLE);
+        assert_eq!(Call::Bound.run(&calls, &input, &mut lent), 0, "{}", calls.name);
+        assert_eq!(lent.lengths.words()[..lengths.len()], *lengths, "{}", calls.name);
+        assert_eq!(lent.widths.words()[..widths.len()], *widths, "{}", calls.name);
+        let counts = [lengths.len() as u64, widths.len() as u64];
+        assert_eq!(lent.answer.words()[2..4], counts, "{}", calls.name);
+    }
+}
+
+fn for_each(call: Call, input: &Input, code: u32, words: &[u64]) {
+    for calls in IMPLEMENTATIONS {
+        let mut lent = Lent::new(AMPLE);
+        assert_eq!(call.run(&calls, input, &mut lent), code, "{} {call:?}", calls.name);
+        assert_eq!(lent.answer.words()[..words.len()], *words, "{} {call:?}", calls.name);
+    }
+}
+
+const BEST_OF_S: [Node; 5] = [(2, 2), (1, 0), (3, 1), (1, 1), (1, 2)];
+
+#[test]
+fn normal_positions_of_s() {
+    lists(job_s(), &[0, 0, 0], &[0, 2, 3, 4, 5], &[0, 1, 2, 3]);
+}
+
+#[test]
+fn bounds_of_s() {
+    answers(Call::Bound, &input(job_s(), &[0, 0, 0], &[]), &[19, 0, 5, 4]);
+    answers(Call::Bound, &input(job_s(), &[0, 1, 0], &[]), &[16, 2, 5, 4]);
+}
+
+#[test]
+fn table_words_of_s() {
+    for (weights, words) in [([0, 0, 0], 20), ([0, 1, 0], 60)] {
+        for calls in IMPLEMENTATIONS {
+            let sizes = Sizes { table: words - 1, ..AMPLE };
+            let (mut short, mut enough) = (Lent::new(sizes), Lent::new(AMPLE));
+            let input = input(job_s(), &weights, &[]);
+            assert_eq!(Call::Bound.run(&calls, &input, &mut short), 20);
+            assert_eq!(short.answer.words()[0], words as u64);
+            assert_eq!(Call::Bound.run(&calls, &input, &mut enough), 0);
+            let fresh = Lent::new(AMPLE);
+            assert_eq!(enough.table.words()[words..], fresh.table.words()[words..]);
+        }
+    }
+}
+
+#[test]
+fn best_plan_of_s() {
+    let best = input(job_s(), &[0, 1, 0], &BEST_OF_S);
+    reports(&best, 16, [13, 0, 2], &[1, 1, 1]);
+    answers(Call::Certify, &best, &[0, 16, 16]);
+    answers(Call::Certify, &input(job_s(), &[0, 0, 0], &BEST_OF_S), &[3, 19, 16]);
+}
+
+#[test]
+fn written_plan_of_s() {
+    writes(job_s(), &[0, 1, 0], 16, &BEST_OF_S);
+}
+
+#[test]
+fn single_nodes_of_s() {
+    reports(&input(job_s(), &[0, 0, 0], &[(0, 0)]), 0, [0, 15, 0], &[]);
+    reports(&input(job_s(), &[0, 0, 0], &[(1, 0)]), 7, [6, 0, 9], &[1]);
+}
+
+#[test]
+fn third_copy_passes_its_demand() {
+    let nodes = [(2, 2), (1, 0), (3, 1), (1, 1), (3, 1), (1, 1), (1, 1)];
+    plan_refused(&input(job_s(), &[0, 0, 0], &nodes), 16, 6);
+}
+
+#[test]
+fn cut_positions_of_s() {
+    plan_refused(&input(job_s(), &[0, 0, 0], &[(2, 5), (0, 0), (0, 0)]), 14, 0);
+    reports(&input(job_s(), &[0, 0, 0], &[(2, 4), (0, 0), (0, 0)]), 0, [0, 15, 0], &[]);
+}
+
+#[test]
+fn too_few_and_too_many_nodes() {
+    plan_refused(&input(job_s(), &[0, 0, 0], &[(2, 2), (1, 0)]), 17, 2);
+    plan_refused(&input(job_s(), &[0, 0, 0], &[(0, 0), (0, 0)]), 18, 1);
+}
+
+#[test]
+fn nothing_fits() {
+    let job = job_block(1, 1, &[(2, 2, 5, 1)]);
+    lists(job.clone(), &[0], &[0], &[0]);
+    writes(job, &[0], 0, &[(0, 0)]);
+}
+
+#[test]
+fn demand_zero_is_open_to_the_bound() {
+    let job = job_block(2, 3, &[(2, 3, 7, 0)]);
+    answers(Call::Bound, &input(job, &[0], &[]), &[7, 0, 2, 2]);
+}

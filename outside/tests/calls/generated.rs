@@ -1,0 +1,184 @@
+// Every call on many thousands of generated inputs, valid and damaged, with storage that is ample,
+// exact or short: code, answer and all lent memory must be the reference's.
+use crate::damage::damage;
+use crate::inputs::{draw, Scale};
+use crate::lent::{Lent, Sizes};
+use crate::run::{compare, Call, Input, ALL_CALLS};
+use outside::blocks::plan_block;
+use outside::random::Random;
+use outside::reference::{capacity, normal_positions, Job, Kind};
+use std::collections::BTreeMap;
+
+/// How often each call gave each code, and how many certificates of a plan that earns something were
+/// "best" and "gap".
+#[derive(Default)]
+struct Tally {
+    codes: BTreeMap<(Call, u32), usize>,
+    best: usize,
+    gaps: usize,
+}
+
+impl Tally {
+    fn count(&mut self, call: Call, code: u32, lent: &Lent) {
+        *self.codes.entry((call, code)).or_default() += 1;
+        if (call, code) == (Call::Certify, 0) && lent.answer.words()[2] > 0 {
+            self.best += usize::from(lent.answer.words()[0] == 0);
+            self.gaps += usize::from(lent.answer.words()[0] > 0);
+        }
+    }
+}
+
+const SMALL: Scale =
+    Scale { plate: 7, side: 5, kinds: 4, price: 9, demand: 3, weight: 2, work: 300_000 };
+const LONG: Scale = Scale {
+    plate: 1000,
+    side: 1000,
+    kinds: 64,
+    price: 1_000_000,
+    demand: 255,
+    weight: 255,
+    work: 20_000_000,
+};
+
+#[test]
+fn small_inputs_agree() {
+    let mut tally = Tally::default();
+    agree(1, 30_000, SMALL, &mut tally);
+    for call in ALL_CALLS {
+        let seen = |code: &u32| tally.codes.get(&(call, *code)).copied().unwrap_or(0);
+        for code in codes(call) {
+            assert!(seen(&code) >= 20, "{call:?} gave {code} only {} times", seen(&code));
+        }
+    }
+    assert!(tally.best >= 100 && tally.gaps >= 100, "{} best, {} gaps", tally.best, tally.gaps);
+}
+
+#[test]
+fn medium_inputs_agree() {
+    let scale = Scale { plate: 18, kinds: 8, side: 9, price: 60, demand: 4, weight: 3, ..LONG };
+    agree(2, 2000, scale, &mut Tally::default());
+}
+
+#[test]
+fn many_kinds_agree() {
+    let scale = Scale { plate: 9, side: 9, kinds: 64, demand: 2, weight: 1, ..LONG };
+    agree(3, 2000, scale, &mut Tally::default());
+}
+
+#[test]
+fn large_plates_agree() {
+    let scale = Scale { plate: 120, side: 60, kinds: 12, price: 5000, weight: 0, ..LONG };
+    agree(4, 200, scale, &mut Tally::default());
+}
+
+#[test]
+fn large_capacities_agree() {
+    let scale = Scale { plate: 4, side: 3, kinds: 3, price: 50, demand: 12, weight: 60, ..LONG };
+    agree(5, 400, scale, &mut Tally::default());
+}
+
+/// The codes that a call can give.
+fn codes(call: Call) -> Vec<u32> {
+    let others: &[u32] = match call {
+        Call::CheckPlan | Call::CheckPlanBlock => &[10, 11, 12, 13, 14, 15, 16, 17, 18],
+        Call::Bound => &[8, 9, 19, 20],
+        Call::WritePlan => &[8, 9, 19, 20, 21],
+        Call::Certify => &[8, 9, 10, 11, 12, 13, 14, 15, 16, 17, 18, 19, 20],
+    };
+    (0..=7).chain(others.iter().copied()).chain([100]).collect()
+}
+
+fn agree(seed: u64, inputs: usize, scale: Scale, tally: &mut Tally) {
+    let random = &mut Random::new(seed);
+    for _ in 0..inputs {
+        let input = draw_affordable(random, scale);
+        for call in ALL_CALLS {
+            let sizes = draw_sizes(random, call, &input);
+            let (code, lent) = compare(call, &input, sizes);
+            assert!(codes(call).contains(&code), "{call:?} gave {code}");
+            tally.count(call, code, &lent);
+            if (call, code) == (Call::WritePlan, 0) {
+                let nodes = lent.answer.words()[4] as usize;
+                let kinds = lent.kinds.words()[..nodes].to_vec();
+                let operands = lent.operands.words()[..nodes].to_vec();
+                written_plan_agrees(random, &input, sizes, (kinds, operands), tally);
+            }
+        }
+    }
+}
+
+/// The written plan again, into arrays that just hold it or do not; and as input of the checks.
+fn written_plan_agrees(
+    random: &mut Random,
+    input: &Input,
+    sizes: Sizes,
+    (kinds, operands): (Vec<u8>, Vec<u16>),
+    tally: &mut Tally,
+) {
+    let nodes = kinds.len();
+    let short = random.pick(&[(0, 0), (0, 0), (1, 0), (0, 1), (nodes, nodes)]);
+    let tight = Sizes { kinds: nodes - short.0, operands: nodes - short.1, ..sizes };
+    let (code, lent) = compare(Call::WritePlan, input, tight);
+    tally.count(Call::WritePlan, code, &lent);
+    if random.one_in(4) {
+        let plan = plan_block(&kinds, &operands);
+        let planned = Input { kinds, operands, plan, ..input.clone() };
+        for call in [Call::CheckPlan, Call::CheckPlanBlock, Call::Certify] {
+            let (code, lent) = compare(call, &planned, Sizes { answer: 68, ..sizes });
+            tally.count(call, code, &lent);
+        }
+    }
+}
+
+/// Draws an input, damages it, and draws again where the reference would take too long.
+fn draw_affordable(random: &mut Random, scale: Scale) -> Input {
+    loop {
+        let mut input = draw(random, scale);
+        damage(random, &mut input);
+        if work(&input) <= scale.work {
+            return input;
+        }
+    }
+}
+
+/// The sums that the reference forms, about.
+fn work(input: &Input) -> usize {
+    let Ok(job) = Job::read(&input.job) else { return 0 };
+    let Ok(capacity) = capacity(&job, &input.weights) else { return 0 };
+    let cuts = job.length * job.width * (job.length + job.width) / 2;
+    cuts * (capacity + 1) * (capacity + 2) / 2
+}
+
+fn draw_sizes(random: &mut Random, call: Call, input: &Input) -> Sizes {
+    let (lengths, widths, table) = needs(input);
+    Sizes {
+        lengths: near(random, lengths),
+        widths: near(random, widths),
+        table: near(random, table),
+        kinds: 4095,
+        operands: 4095,
+        answer: near(random, call.answer_words()),
+    }
+}
+
+/// Mostly enough, at times exactly, one short or nothing.
+fn near(random: &mut Random, needed: usize) -> usize {
+    match random.from(0, 31) {
+        0 | 1 => needed - 1,
+        2 => random.from(0, needed - 1),
+        3..=20 => needed,
+        _ => needed + random.from(1, 9),
+    }
+}
+
+/// The words that lists and table need; anything for a job that is refused.
+fn needs(input: &Input) -> (usize, usize, usize) {
+    let Ok(job) = Job::read(&input.job) else { return (4, 4, 16) };
+    let shares = capacity(&job, &input.weights).map_or(1, |q| q + 1);
+    let fitting = || job.kinds.iter().filter(|kind| kind.fits(job.length, job.width));
+    let count = |side, of: fn(&Kind) -> usize| {
+        normal_positions(side, &fitting().map(of).collect::<Vec<_>>()).len()
+    };
+    let cells = count(job.length, |kind| kind.length) * count(job.width, |kind| kind.width);
+    (job.length + 1, job.width + 1, cells * shares)
+}

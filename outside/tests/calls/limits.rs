@@ -1,0 +1,125 @@
+// The greatest and the first refused values: sides, kinds, demands, capacities, nodes.
+// Also how the answer slice itself is treated.
+use crate::examples::{answers, input, plan_refused, refuses, reports, Node};
+use crate::lent::{Lent, Sizes};
+use crate::run::{compare, Call, ALL_CALLS};
+use outside::answers::ANSWER_TOO_SHORT;
+use outside::blocks::{job_block, job_s, Kind};
+
+const ROOM: Sizes =
+    Sizes { lengths: 1001, widths: 1001, table: 1 << 17, kinds: 4095, operands: 4095, answer: 68 };
+
+#[test]
+fn sides_up_to_1000() {
+    let plate = |l, w| input(job_block(l, w, &[(500, 1, 3, 1)]), &[0], &[(0, 0)]);
+    answers(Call::Bound, &plate(1000, 1), &[6, 0, 3, 2]);
+    answers(Call::Bound, &plate(1, 1000), &[0, 0, 1, 1]);
+    for (l, w) in [(1001, 1), (1, 1001), (0, 1), (1, 0)] {
+        refuses(Call::Bound, &plate(l, w), 2, 0);
+    }
+    let side = |l, w| input(job_block(5, 5, &[(1, 1, 1, 1), (l, w, 3, 1)]), &[0, 0], &[(0, 0)]);
+    answers(Call::Bound, &side(1000, 1000), &[25, 0, 6, 6]);
+    for (l, w) in [(1001, 1), (1, 1001), (0, 1), (1, 0)] {
+        refuses(Call::Bound, &side(l, w), 5, 1);
+    }
+}
+
+#[test]
+fn up_to_64_kinds() {
+    let kinds: Vec<Kind> = (0..65).map(|i| (1 + i % 13, 9 - i % 7, 1 + u32::from(i), 1)).collect();
+    let job = |n: usize| input(job_block(13, 9, &kinds[..n]), &vec![1; n], &[(1, 63)]);
+    for call in ALL_CALLS {
+        assert_eq!(compare(call, &job(64), ROOM).0, 0);
+        refuses(call, &job(65), 3, 0);
+    }
+}
+
+#[test]
+fn capacity_up_to_4095() {
+    let job = |weight| input(job_block(2, 2, &[(1, 1, 3, 255)]), &[weight], &[(1, 0)]);
+    let (code, lent) = compare(Call::Bound, &job(16), ROOM);
+    assert_eq!((code, &lent.answer.words()[..4]), (0, &[12, 4080, 3, 3][..]));
+    for call in [Call::Bound, Call::WritePlan, Call::Certify] {
+        refuses(call, &job(17), 9, 0);
+    }
+    let exactly = input(job_block(1, 1, &[(1, 1, 3, 255), (1, 1, 4, 15)]), &[16, 1], &[]);
+    answers(Call::Bound, &exactly, &[4, 4095, 2, 2]);
+    let above = input(job_block(1, 1, &[(1, 1, 3, 255), (1, 1, 4, 16)]), &[16, 1], &[]);
+    refuses(Call::Bound, &above, 9, 0);
+}
+
+#[test]
+fn capacity_does_not_wrap() {
+    let kinds: Vec<Kind> = vec![(1, 1, 1, 255); 64];
+    refuses(Call::Bound, &input(job_block(1, 1, &kinds), &[255; 64], &[]), 9, 0);
+}
+
+#[test]
+fn words_needed_are_counted_in_64_bits() {
+    let job = job_block(1000, 1000, &[(1, 1, 1, 255), (1, 1, 1, 15)]);
+    let (code, lent) = compare(Call::Bound, &input(job, &[16, 1], &[]), ROOM);
+    assert_eq!((code, lent.answer.words()[0]), (20, 4_104_196_096));
+}
+
+#[test]
+fn prices_and_demands() {
+    let job = |price, demand| input(job_block(1, 1, &[(1, 1, price, demand)]), &[0], &[(1, 0)]);
+    reports(&job(1_000_000, 255), 1_000_000, [1, 0, 0], &[1]);
+    plan_refused(&job(1_000_001, 255), 6, 0);
+    plan_refused(&job(1_000_000, 256), 7, 0);
+    plan_refused(&job(1_000_000, 0), 16, 0);
+}
+
+/// A grid of the 64 by 32 plate into units, whose leaves are given by their number.
+fn grid(leaf: impl Fn(usize) -> Node) -> Vec<Node> {
+    let mut nodes = Vec::new();
+    for column in 0..64 {
+        nodes.extend((column < 63).then_some((2, 1)));
+        for row in 0..32 {
+            nodes.extend((row < 31).then_some((3, 1)));
+            nodes.push(leaf(32 * column + row));
+        }
+    }
+    nodes
+}
+
+#[test]
+fn plans_of_4095_nodes_pass() {
+    let kinds: Vec<Kind> = vec![(1, 1, 1_000_000, 32); 64];
+    let nodes = grid(|i| (1, (i / 32) as u16));
+    assert_eq!(nodes.len(), 4095);
+    let full = input(job_block(64, 32, &kinds), &[0; 64], &nodes);
+    reports(&full, 2_048_000_000, [2048, 0, 0], &[32; 64]);
+    answers(Call::Certify, &full, &[0, 2_048_000_000, 2_048_000_000]);
+}
+
+#[test]
+fn one_demand_is_passed_late_in_a_long_plan() {
+    let mut kinds: Vec<Kind> = vec![(1, 1, 1, 32); 64];
+    kinds[63].3 = 31;
+    let nodes = grid(|i| (1, (i / 32) as u16));
+    plan_refused(&input(job_block(64, 32, &kinds), &[0; 64], &nodes), 16, 4094);
+}
+
+#[test]
+fn plans_of_4096_nodes_are_refused() {
+    let mut nodes = grid(|_| (0, 0));
+    let job = job_block(64, 32, &[(1, 1, 1, 1)]);
+    reports(&input(job.clone(), &[0], &nodes), 0, [0, 2048, 0], &[]);
+    nodes.push((0, 0));
+    plan_refused(&input(job.clone(), &[0], &nodes), 11, 0);
+    plan_refused(&input(job, &[0], &vec![(0, 0); 65_535]), 11, 0);
+}
+
+#[test]
+fn short_answers_change_nothing() {
+    let input = input(job_s(), &[0, 1, 0], &[(0, 0)]);
+    for call in ALL_CALLS {
+        for answer in [0, 1, call.answer_words() - 1] {
+            let sizes = Sizes { answer, table: 60, ..ROOM };
+            let (code, lent) = compare(call, &input, sizes);
+            assert_eq!(code, ANSWER_TOO_SHORT);
+            assert!(lent.differences(&Lent::new(sizes)).is_empty());
+        }
+    }
+}

@@ -1,0 +1,15 @@
+// Tests of the calls of planner.h: the proved archive and the reference on the paper's examples,
+// and the one against the other, with all lent memory, on generated inputs.
+mod baselines;
+mod damage;
+#[cfg(proved_archive)]
+mod deep;
+mod examples;
+mod generated;
+mod inputs;
+mod lent;
+mod limits;
+mod readings;
+mod run;
+#[cfg(proved_archive)]
+mod wrapper;

@@ -1,0 +1,73 @@
+// One call on one input with fresh memory, and the same call on two implementations.
+use crate::lent::{Lent, Sizes};
+use outside::calls::Calls;
+#[cfg(proved_archive)]
+use outside::planner as proved;
+use outside::reference;
+#[cfg(not(proved_archive))]
+use outside::reference as proved;
+
+#[derive(Clone, Copy, Debug, PartialEq, Eq, PartialOrd, Ord)]
+pub enum Call {
+    CheckPlan,
+    CheckPlanBlock,
+    Bound,
+    WritePlan,
+    Certify,
+}
+
+pub const ALL_CALLS: [Call; 5] =
+    [Call::CheckPlan, Call::CheckPlanBlock, Call::Bound, Call::WritePlan, Call::Certify];
+
+/// What a call reads. The plan stands as arrays and as a block.
+#[derive(Clone, Debug, Default)]
+pub struct Input {
+    pub job: Vec<u8>,
+    pub weights: Vec<u8>,
+    pub kinds: Vec<u8>,
+    pub operands: Vec<u16>,
+    pub plan: Vec<u8>,
+}
+
+/// The implementations that must pass every example.
+pub const IMPLEMENTATIONS: [Calls; 2] = [reference::calls::CALLS, proved::calls::CALLS];
+
+impl Call {
+    /// The words of its answer.
+    pub fn answer_words(self) -> usize {
+        match self {
+            Call::CheckPlan | Call::CheckPlanBlock => 68,
+            Call::Bound => 4,
+            Call::WritePlan => 5,
+            Call::Certify => 3,
+        }
+    }
+
+    pub fn run(self, calls: &Calls, input: &Input, lent: &mut Lent) -> u32 {
+        let (storage, plan, answer) = lent.split();
+        let Input { job, weights, kinds, operands, plan: block } = input;
+        match self {
+            Call::CheckPlan => (calls.check_plan)(job, kinds, operands, answer),
+            Call::CheckPlanBlock => (calls.check_plan_block)(job, block, answer),
+            Call::Bound => (calls.bound)(job, weights, storage, answer),
+            Call::WritePlan => (calls.write_plan)(job, weights, storage, plan, answer),
+            Call::Certify => (calls.certify)(job, weights, kinds, operands, storage, answer),
+        }
+    }
+}
+
+/// Runs a call on both implementations and compares code and memory; gives both back.
+pub fn compare(call: Call, input: &Input, sizes: Sizes) -> (u32, Lent) {
+    let [expected, given] = IMPLEMENTATIONS.map(|calls| {
+        let mut lent = Lent::new(sizes);
+        (call.run(&calls, input, &mut lent), lent)
+    });
+    let differences = expected.1.differences(&given.1);
+    assert!(
+        expected.0 == given.0 && differences.is_empty(),
+        "{call:?} answers {} and not {}, memory differs in {differences:?}\n{input:?}\n{sizes:?}",
+        given.0,
+        expected.0,
+    );
+    expected
+}
