@@ -32,7 +32,7 @@ use Rattle.bound.specs.Bound as bound
 use Rattle.writer.specs.declared.WriteReport.{WriteReport}
 use Rattle.writer.specs.declared.WriteAnswer.{WriteAnswer}
 use Rattle.writer.specs.declared.WriteAnswer.the-variants as answer
-use Rattle.writer.specs.Write.{report-of, answer-by, report-values, write-outcome, Filled, plan-verdict, Planned, block-plan, write-verdict, write-answer, write-said, array-after, PlanEarnsBound}
+use Rattle.writer.specs.Write.{write-report, write-answer-by, write-values, write-outcome, Filled, plan-verdict, Planned, block-plan, write-verdict, write-answer, write-said, array-after, PlanEarnsBound}
 
 -- an answer of the bound call is its report, where no check refuses
 answered-by : (v : Checked) (b : BoundReport) {r : BoundReport} → bounded.Answered r ≡ bound.answer-by v b → (v ≡ Passed) × (r ≡ b)
@@ -43,7 +43,7 @@ refused-by : (v : Checked) (b : BoundReport) {x : Refusal} → bounded.Refused x
 refused-by Passed b e = absurd (let z : _≡_ {A = ℕ} 0 1 = cc in omega arith)
 refused-by (Refused y) b e = cc
 
-said-by : (v : Checked) (b : WriteReport) → write-outcome (answer-by v b) ≡ outcome-by v (report-values b)
+said-by : (v : Checked) (b : WriteReport) → write-outcome (write-answer-by v b) ≡ outcome-by v (write-values b)
 said-by Passed b = refl
 said-by (Refused r) b = refl
 
@@ -66,15 +66,15 @@ Promised s ws old new kinds operands new-kinds new-operands r = (r ≡ write-ans
 
 module _ (s ws : List ℕ) {old new : bound.Memory} (left : bound.Leaves (bound.accept-verdict s ws) (block-job s) (weight-in ws) old new) (kinds operands : List ℕ) where
   -- the answer and the arrays give the rest
-  promised : {new-kinds new-operands : List ℕ} {r : WriteAnswer} (v : Checked) → write-verdict s ws old kinds operands ≡ v → r ≡ answer-by v (report-of (block-job s) (weight-in ws))
+  promised : {new-kinds new-operands : List ℕ} {r : WriteAnswer} (v : Checked) → write-verdict s ws old kinds operands ≡ v → r ≡ write-answer-by v (write-report (block-job s) (weight-in ws))
       → new-kinds ≡ bound.list-after v (kinds-of (block-plan s ws)) kinds → new-operands ≡ bound.list-after v (operands-of (block-plan s ws)) operands
       → Promised s ws old new kinds operands new-kinds new-operands r
   promised v e a k o =
-      let b = report-of (block-job s) (weight-in ws) in
+      let b = write-report (block-job s) (weight-in ws) in
       let earns : PlanEarnsBound s ws = λ h. plan-bound (block-job s) (weight-in ws) (accepted-in-range s ws h) in (
-        a ∙ sym (ap (λ v. answer-by v b) e),
+        a ∙ sym (ap (λ v. write-answer-by v b) e),
         (
-          ap write-outcome a ∙ said-by v b ∙ sym (ap (λ v. outcome-by v (report-values b)) e),
+          ap write-outcome a ∙ said-by v b ∙ sym (ap (λ v. outcome-by v (write-values b)) e),
           (
             left,
             (k ∙ sym (ap (λ v. bound.list-after v (kinds-of (block-plan s ws)) kinds) e), (o ∙ sym (ap (λ v. bound.list-after v (operands-of (block-plan s ws)) operands) e), earns)),

@@ -29,7 +29,7 @@ use Rattle.bound.specs.Bound as bound
 use Rattle.writer.specs.declared.Dimensions.{Dimensions}
 use Rattle.writer.specs.declared.WriteAnswer.the-variants as answer
 use Rattle.writer.specs.Plan.{Tabled, Lent, Cell, plan-at}
-use Rattle.writer.specs.Write.{bound-plan, report-of, answer-by, Filled, plan-verdict, Planned}
+use Rattle.writer.specs.Write.{bound-plan, write-report, write-answer-by, Filled, plan-verdict, Planned}
 
 -- a list that holds the normal positions begins with them
 module _ (J : Job) (d : Direction) (list : List ℕ) (listed : Listed J d list) where
@@ -160,7 +160,7 @@ module _ (job : JobRecord) {weights lengths widths table : List ℕ} (f : Filled
         let J = job-of job in
         let T = bound-plan J (weight-in weights) in
         record {
-          answer = sym (ap (λ v. answer-by v (report-of J (weight-in weights))) v);
+          answer = sym (ap (λ v. write-answer-by v (write-report J (weight-in weights))) v);
           kinds-left = sym (ap (λ v. bound.list-after v (kinds-of T) kinds) v);
           operands-left = sym (ap (λ v. bound.list-after v (operands-of T) operands) v);
         }
@@ -184,7 +184,7 @@ module _ (job : JobRecord) {weights lengths widths table : List ℕ} (f : Filled
         let a : new-kinds ≡ over (kinds-of T) kinds = p ∙ ap (λ u. sets kinds 0 (kinds-of u)) plan-is ∙ over-kinds T kinds (omega (arith, count-is)) in
         let b : new-operands ≡ over (operands-of T) operands = q ∙ ap (λ u. sets operands 0 (operands-of u)) plan-is ∙ over-operands T operands (omega (arith, count-is)) in
         record {
-          answer = rw (e, count-is) (sym (ap (λ v. answer-by v (report-of J (weight-in weights))) v));
+          answer = rw (e, count-is) (sym (ap (λ v. write-answer-by v (write-report J (weight-in weights))) v));
           kinds-left = a ∙ sym (ap (λ v. bound.list-after v (kinds-of T) kinds) v);
           operands-left = b ∙ sym (ap (λ v. bound.list-after v (operands-of T) operands) v);
         }

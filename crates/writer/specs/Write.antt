@@ -30,8 +30,8 @@ abbrev pub plan-check : Tree ℕ → ℕ → ℕ → Check
 plan-check t m n = ((ltb 4095 (node-count t) || ltb m (node-count t)) || ltb n (node-count t), PlanLong (node-count t))
 
 -- what the writing call reports of a job and weights: the bound, Q, p, r and the node count
-abbrev pub report-of : Job → (ℕ → ℕ) → WriteReport
-report-of J weight = record {
+abbrev pub write-report : Job → (ℕ → ℕ) → WriteReport
+write-report J weight = record {
   bound = bound-of J weight;
   capacity = capacity J weight;
   lengths = position-count J Length;
@@ -40,17 +40,17 @@ report-of J weight = record {
 }
 
 -- the report, or the refusal
-abbrev pub answer-by : Checked → WriteReport → WriteAnswer
-answer-by Passed b = answer.Written b
-answer-by (Refused r) b = answer.Refused r
+abbrev pub write-answer-by : Checked → WriteReport → WriteAnswer
+write-answer-by Passed b = answer.Written b
+write-answer-by (Refused r) b = answer.Refused r
 
 -- a report's values: the bound, Q, p, r and the node count
-abbrev pub report-values : WriteReport → List ℕ
-report-values b = b .bound ∷ b .capacity ∷ b .lengths ∷ b .widths ∷ b .nodes ∷ []
+abbrev pub write-values : WriteReport → List ℕ
+write-values b = b .bound ∷ b .capacity ∷ b .lengths ∷ b .widths ∷ b .nodes ∷ []
 
 -- an answer's number and values
 abbrev pub write-outcome : WriteAnswer → Outcome
-write-outcome (answer.Written b) = (0, report-values b)
+write-outcome (answer.Written b) = (0, write-values b)
 write-outcome (answer.Refused r) = refused-as r
 
 -- a job and weights that were accepted, with lists and table filled
@@ -69,7 +69,7 @@ plan-verdict J weight kinds operands = first-refusal (plan-check (bound-plan J w
 
 -- the answer of a filled table, and what it leaves in the plan arrays
 pub record Planned (J : Job) (weight : ℕ → ℕ) (kinds operands new-kinds new-operands : List ℕ) (r : WriteAnswer) : Type 0 where
-  pub answer : r ≡ answer-by (plan-verdict J weight kinds operands) (report-of J weight)
+  pub answer : r ≡ write-answer-by (plan-verdict J weight kinds operands) (write-report J weight)
   pub kinds-left : new-kinds ≡ list-after (plan-verdict J weight kinds operands) (kinds-of (bound-plan J weight)) kinds
   pub operands-left : new-operands ≡ list-after (plan-verdict J weight kinds operands) (operands-of (bound-plan J weight)) operands
 
@@ -83,11 +83,11 @@ write-verdict s ws m kinds operands = next (bound-verdict s ws m) (plan-verdict 
 
 -- what the writing call answers
 abbrev pub write-answer : List ℕ → List ℕ → Memory → List ℕ → List ℕ → WriteAnswer
-write-answer s ws m kinds operands = answer-by (write-verdict s ws m kinds operands) (report-of (block-job s) (weight-in ws))
+write-answer s ws m kinds operands = write-answer-by (write-verdict s ws m kinds operands) (write-report (block-job s) (weight-in ws))
 
 -- the number and values that the call answers
 abbrev pub write-said : List ℕ → List ℕ → Memory → List ℕ → List ℕ → Outcome
-write-said s ws m kinds operands = outcome-by (write-verdict s ws m kinds operands) (report-values (report-of (block-job s) (weight-in ws)))
+write-said s ws m kinds operands = outcome-by (write-verdict s ws m kinds operands) (write-values (write-report (block-job s) (weight-in ws)))
 
 -- a plan array after the call: the plan over its old contents where all checks pass, and else as it was
 abbrev pub array-after : List ℕ → List ℕ → Memory → List ℕ → List ℕ → List ℕ → List ℕ → List ℕ
