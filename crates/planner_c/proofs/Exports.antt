@@ -1,0 +1,58 @@
+-- Values at the front of the answer words, and the two cases of every exported function: too few words, and enough.
+-- Assumes nothing.
+use mathlib.Core.Path.{_≡_, refl, sym, _∙_, ap, subst}
+use mathlib.Core.List.{List, [], _∷_}
+use Prim.Native.Nat.{ℕ, _+_, _≤_, _<_}
+use native.Mathlib.Omega.{arith}
+use lib.ListN.{length, set}
+use lib.Seq.{sets, length-sets, sets-eq}
+use borrow.Author.Tests.{lt-ltb, le-ltb}
+use Rattle.cutting.specs.Lists.{over}
+use Rattle.refusal.specs.Refusals.{Outcome, number-of, place-of, refused-as}
+use Rattle.refusal.specs.declared.Refusal.{Refusal}
+use Rattle.bound.specs.Bound.{bound-outcome}
+use Rattle.bound.specs.declared.BoundReport.{BoundReport}
+use Rattle.bound.specs.declared.BoundAnswer.{BoundAnswer}
+use Rattle.bound.specs.declared.BoundAnswer.the-variants as bound
+use Rattle.planner_c.specs.Exports.{returned-by, returned, answered-by, answered, Left-by, Left, Gives}
+
+-- a run of stores from word 0 on puts the values at the front
+pub front : (values old : List ℕ) → length values ≤ length old → sets old 0 values ≡ over values old
+front values old h = let e : 0 + length values ≡ length values = omega arith in rw e at (sets-eq values old 0 (omega arith))
+
+-- a run of stores keeps the length
+pub still : (n : ℕ) (values old : List ℕ) {new : List ℕ} → new ≡ sets old 0 values → n ≤ length old → n ≤ length new
+still n values old e h = subst (λ k. n ≤ k) (sym (ap length e ∙ length-sets old 0 values)) h
+
+-- an outcome is given where an equal one is
+pub given : {A : Type 0} (f : A → Outcome) {a b : A} {number : ℕ} (old : List ℕ) {new : List ℕ} → a ≡ b → Gives (f b) number old new → Gives (f a) number old new
+given f {a} {b} {number} old {new} e g = subst (λ x. Gives (f x) number old new) (sym e) g
+
+-- values stored from word 0 on are given under the number 0
+values-given : (values old : List ℕ) {new : List ℕ} → length values ≤ length old → new ≡ sets old 0 values → Gives (0, values) 0 old new
+values-given values old h e = (refl, e ∙ front values old h)
+
+pub refusal-given : (r : Refusal) (old : List ℕ) {number place : ℕ} → 0 < length old → number ≡ number-of r → place ≡ place-of r → Gives (refused-as r) number old (set old 0 place)
+refusal-given r old h e p = (e, ap (λ x. set old 0 x) p ∙ front (place-of r ∷ []) old h)
+
+pub bound-given : {a : BoundAnswer} {b : BoundReport} (old : List ℕ) {new : List ℕ} → a ≡ bound.Answered b → 4 ≤ length old
+    → new ≡ sets old 0 (b .bound ∷ b .capacity ∷ b .lengths ∷ b .widths ∷ []) → Gives (bound-outcome a) 0 old new
+bound-given {a} {b} old e h p = given bound-outcome old e (values-given (b .bound ∷ b .capacity ∷ b .lengths ∷ b .widths ∷ []) old h p)
+
+module _ (n : ℕ) (o : Outcome) (old : List ℕ) where
+  -- what an exported function answers
+  abbrev pub Answers : ℕ → List ℕ → Type 0
+  Answers number new = (number ≡ returned n old o) × (new ≡ answered n old o)
+
+  pub short : length old < n → Answers 100 old
+  short h = let e = lt-ltb (length old) n h in (sym (ap (λ b. returned-by b o) e), sym (ap (λ b. answered-by b old o) e))
+
+  pub enough : {number : ℕ} {new : List ℕ} → n ≤ length old → Gives o number old new → Answers number new
+  enough h g = let e = le-ltb (length old) n h in (g .0 ∙ sym (ap (λ b. returned-by b o) e), g .1 ∙ sym (ap (λ b. answered-by b old o) e))
+
+module _ {A : Type 0} (n : ℕ) (words : List ℕ) (Leaves : A → A → Type 0) where
+  pub untouched : (m : A) → length words < n → Left n words Leaves m m
+  untouched m h = subst (λ b. Left-by b Leaves m m) (sym (lt-ltb (length words) n h)) refl
+
+  pub called : {old new : A} → n ≤ length words → Leaves old new → Left n words Leaves old new
+  called {old} {new} h l = subst (λ b. Left-by b Leaves old new) (sym (le-ltb (length words) n h)) l

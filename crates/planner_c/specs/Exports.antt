@@ -1,0 +1,39 @@
+-- The C interface: a call's number is returned, its values or its place stand in the answer words, and the rest of them is as it was.
+-- Assumes nothing.
+use mathlib.Core.Path.{_≡_}
+use mathlib.Core.Bool.{Bool, true, false}
+use mathlib.Core.List.{List}
+use Prim.Native.Nat.{ℕ}
+use lib.Dec.{ltb}
+use lib.ListN.{length}
+use Rattle.cutting.specs.Lists.{over}
+use Rattle.refusal.specs.Refusals.{Outcome}
+
+abbrev pub returned-by : Bool → Outcome → ℕ
+returned-by true o = 100
+returned-by false o = o .0
+
+-- the number returned: 100 where the answer has fewer than n words, and else the outcome's
+abbrev pub returned : ℕ → List ℕ → Outcome → ℕ
+returned n words o = returned-by (ltb (length words) n) o
+
+abbrev pub answered-by : Bool → List ℕ → Outcome → List ℕ
+answered-by true words o = words
+answered-by false words o = over (o .1) words
+
+-- the answer words after the call: the outcome's values, or its place, over the old ones; as they were where there are too few
+abbrev pub answered : ℕ → List ℕ → Outcome → List ℕ
+answered n words o = answered-by (ltb (length words) n) words o
+
+module _ {A : Type 0} where
+  abbrev pub Left-by : Bool → (A → A → Type 0) → A → A → Type 0
+  Left-by true Leaves old new = new ≡ old
+  Left-by false Leaves old new = Leaves old new
+
+  -- lent memory after the call: as the proved call leaves it, and as it was where the answer has fewer than n words
+  abbrev pub Left : ℕ → List ℕ → (A → A → Type 0) → A → A → Type 0
+  Left n words Leaves old new = Left-by (ltb (length words) n) Leaves old new
+
+-- an outcome handed over in answer words that are enough: its number is returned, its values stand at the front
+abbrev pub Gives : Outcome → ℕ → List ℕ → List ℕ → Type 0
+Gives o number old new = (number ≡ o .0) × (new ≡ over (o .1) old)
