@@ -1,0 +1,175 @@
+// The bound printer: splits the input into a job block and weights, and prints the bound and the plan behind it, or the refusal.
+// What decides is proved here or in the crates below: where the job ends, the plan with its profit, whether it keeps the demands.
+use job::read_job;
+use job::read_u16;
+use libc::STDOUT_FILENO;
+use plan::check_plan;
+use refusal::Checked;
+use refusal::Refusal;
+use writer::WriteAnswer;
+use writer::WriteReport;
+use writer::write_plan;
+ghost use mathlib.Core.Path.{_≡_};
+ghost use Prim.Native.Nat.{_≤_};
+ghost use lib.ListN.{length};
+ghost use Rattle.plan.specs.Calls.{job-in, JobPasses};
+ghost use Rattle.printer.specs.Printer.{job-end, Keeps};
+
+// Where the job ends in the input.
+pub fn job_end(input: &[u8]) -> usize
+    ensures { λ r. ⌜ (r ≡ job-end (now (input .entry))) × (r ≤ length (now (input .entry))) ⌝ }
+{
+    let all = input.len();
+    if all < 6 {
+        return all;
+    }
+    let end = 6 + 10 * (read_u16(input, 4) as usize);
+    if all < end {
+        return all;
+    }
+    end
+}
+
+// Whether two arrays are a plan of the job that keeps every demand.
+pub fn keeps_demands(block: &[u8], kinds: &[u8], operands: &[u16]) -> bool
+    ensures { λ r. ⌜ Keeps (JobPasses (now (block .entry))) (job-in (now (block .entry))) (now (kinds .entry)) (now (operands .entry)) r ⌝ }
+{
+    let answer = check_plan(block, kinds, operands);
+    let verdict = answer.verdict;
+    match verdict {
+        Checked::Passed => true,
+        Checked::Refused(_) => false,
+    }
+}
+
+fn print_word(word: &[u8]) {
+    io::write_all(STDOUT_FILENO, word);
+}
+
+fn print_number(n: u64) {
+    io::print_decimal(STDOUT_FILENO, n);
+}
+
+fn print_small(n: u16) {
+    print_number(n as u64);
+}
+
+fn print_byte(n: u8) {
+    print_number(n as u64);
+}
+
+// The line of a refusal.
+fn print_refusal(r: Refusal) {
+    print_word(b"refused ");
+    print_small(refusal::number(r));
+    print_word(b" place ");
+    print_number(refusal::place(r));
+    print_word(b"\n");
+}
+
+// The line of the plate's sides and the number of kinds.
+fn print_plate(block: &[u8]) {
+    let read = read_job(block);
+    let job = read.job;
+    print_word(b"plate ");
+    print_small(job.length);
+    print_word(b" ");
+    print_small(job.width);
+    print_word(b" pieces ");
+    print_small(job.count);
+    print_word(b"\n");
+}
+
+// The line of the weights and the capacity.
+fn print_weights(weights: &[u8], capacity: u16) {
+    print_word(b"weights");
+    for i in 0..weights.len() {
+        print_word(b" ");
+        print_byte(weights[i]);
+    }
+    print_word(b" capacity ");
+    print_small(capacity);
+    print_word(b"\n");
+}
+
+// The line of the bound.
+fn print_bound(bound: u64) {
+    print_word(b"bound ");
+    print_number(bound);
+    print_word(b"\n");
+}
+
+// One line a node: kind, operand.
+fn print_nodes(kinds: &[u8], operands: &[u16])
+    requires { ⌜ length (now kinds) ≡ length (now operands) ⌝ }
+{
+    for i in 0..kinds.len() {
+        print_byte(kinds[i]);
+        print_word(b" ");
+        print_small(operands[i]);
+        print_word(b"\n");
+    }
+}
+
+// The line of the plan's profit, which is the bound, and of its standing.
+fn print_profit(profit: u64, best: bool) {
+    print_word(b"profit ");
+    print_number(profit);
+    if best {
+        print_word(b" best\n");
+    } else {
+        print_word(b" relaxed\n");
+    }
+}
+
+// The lines of a written plan.
+fn print_report(block: &[u8], weights: &[u8], report: WriteReport, kinds: &[u8], operands: &[u16])
+    requires { ⌜ length (now kinds) ≡ length (now operands) ⌝ }
+{
+    print_plate(block);
+    print_weights(weights, report.capacity);
+    print_bound(report.bound);
+    print_nodes(kinds, operands);
+    print_profit(report.bound, keeps_demands(block, kinds, operands));
+}
+
+// A number of nodes as an index: a written plan has at most the 4,095 that its arrays hold.
+fn nodes_held(nodes: u64) -> usize
+    ensures { λ r. ⌜ r ≤ 4095 ⌝ }
+{
+    if 4095 < nodes {
+        return 4095;
+    }
+    nodes as usize
+}
+
+// The bound and the plan of a job block and weights, or the refusal.
+fn print_answer(block: &[u8], weights: &[u8]) {
+    let mut lengths = [0u16; 1001];
+    let mut widths = [0u16; 1001];
+    let mut table = [0u64; 8192];
+    let mut kinds = [0u8; 4095];
+    let mut operands = [0u16; 4095];
+    let answer = write_plan(
+        block,
+        weights,
+        &mut lengths,
+        &mut widths,
+        &mut table,
+        &mut kinds,
+        &mut operands,
+    );
+    match answer {
+        WriteAnswer::Refused(r) => print_refusal(r),
+        WriteAnswer::Written(report) => {
+            let nodes = nodes_held(report.nodes);
+            print_report(block, weights, report, &kinds[..nodes], &operands[..nodes]);
+        }
+    }
+}
+
+// The bound and the plan of an input: a job block, then its weights.
+pub fn print_plan(input: &[u8]) {
+    let end = job_end(input);
+    print_answer(&input[..end], &input[end..]);
+}
