@@ -10,10 +10,6 @@ use borrow.Author.Tests.{lt-ltb, le-ltb}
 use Rattle.cutting.specs.Lists.{over}
 use Rattle.refusal.specs.Refusals.{Outcome, number-of, place-of, refused-as}
 use Rattle.refusal.specs.declared.Refusal.{Refusal}
-use Rattle.bound.specs.Bound.{bound-outcome}
-use Rattle.bound.specs.declared.BoundReport.{BoundReport}
-use Rattle.bound.specs.declared.BoundAnswer.{BoundAnswer}
-use Rattle.bound.specs.declared.BoundAnswer.the-variants as bound
 use Rattle.planner_c.specs.Exports.{returned-by, returned, answered-by, answered, Left-by, Left, Gives}
 
 -- a run of stores from word 0 on puts the values at the front
@@ -28,16 +24,13 @@ still n values old e h = subst (λ k. n ≤ k) (sym (ap length e ∙ length-sets
 pub given : {A : Type 0} (f : A → Outcome) {a b : A} {number : ℕ} (old : List ℕ) {new : List ℕ} → a ≡ b → Gives (f b) number old new → Gives (f a) number old new
 given f {a} {b} {number} old {new} e g = subst (λ x. Gives (f x) number old new) (sym e) g
 
--- values stored from word 0 on are given under the number 0
-values-given : (values old : List ℕ) {new : List ℕ} → length values ≤ length old → new ≡ sets old 0 values → Gives (0, values) 0 old new
-values-given values old h e = (refl, e ∙ front values old h)
-
 pub refusal-given : (r : Refusal) (old : List ℕ) {number place : ℕ} → 0 < length old → number ≡ number-of r → place ≡ place-of r → Gives (refused-as r) number old (set old 0 place)
 refusal-given r old h e p = (e, ap (λ x. set old 0 x) p ∙ front (place-of r ∷ []) old h)
 
-pub bound-given : {a : BoundAnswer} {b : BoundReport} (old : List ℕ) {new : List ℕ} → a ≡ bound.Answered b → 4 ≤ length old
-    → new ≡ sets old 0 (b .bound ∷ b .capacity ∷ b .lengths ∷ b .widths ∷ []) → Gives (bound-outcome a) 0 old new
-bound-given {a} {b} old e h p = given bound-outcome old e (values-given (b .bound ∷ b .capacity ∷ b .lengths ∷ b .widths ∷ []) old h p)
+-- values stored from word 0 on are given under the number 0
+pub values-given : {A : Type 0} (f : A → Outcome) {a b : A} (values old : List ℕ) {new : List ℕ} → a ≡ b → f b ≡ (0, values) → length values ≤ length old
+    → new ≡ sets old 0 values → Gives (f a) 0 old new
+values-given f values old e o h p = given f old e (given (λ x. x) old o (refl, p ∙ front values old h))
 
 module _ (n : ℕ) (o : Outcome) (old : List ℕ) where
   -- what an exported function answers

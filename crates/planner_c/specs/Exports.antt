@@ -7,7 +7,10 @@ use Prim.Native.Nat.{ℕ}
 use lib.Dec.{ltb}
 use lib.ListN.{length}
 use Rattle.cutting.specs.Lists.{over}
+use Rattle.cutting.specs.Preorder.{kinds-of, operands-of}
 use Rattle.refusal.specs.Refusals.{Outcome}
+use Rattle.bound.specs.Bound.{Memory}
+use Rattle.writer.specs.Write.{array-after, block-plan}
 
 abbrev pub returned-by : Bool → Outcome → ℕ
 returned-by true o = 100
@@ -37,3 +40,9 @@ module _ {A : Type 0} where
 -- an outcome handed over in answer words that are enough: its number is returned, its values stand at the front
 abbrev pub Gives : Outcome → ℕ → List ℕ → List ℕ → Type 0
 Gives o number old new = (number ≡ o .0) × (new ≡ over (o .1) old)
+
+-- what the writing call leaves in the two plan arrays, kinds and operands: the plan over their old contents where all checks pass
+abbrev pub PlanLeft : List ℕ → List ℕ → Memory → List ℕ × List ℕ → List ℕ × List ℕ → Type 0
+PlanLeft s ws m old new =
+    (new .0 ≡ array-after s ws m (old .0) (old .1) (kinds-of (block-plan s ws)) (old .0))
+    × (new .1 ≡ array-after s ws m (old .0) (old .1) (operands-of (block-plan s ws)) (old .1))

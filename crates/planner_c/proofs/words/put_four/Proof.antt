@@ -1,12 +1,12 @@
--- `planner_c::put_four` meets its contract: three stores and one more. Assumes nothing.
+-- `planner_c::words::put_four` meets its contract: three stores and one more. Assumes nothing.
 use mathlib.Core.Path.{ap}
 use mathlib.Core.List.{[], _∷_}
 use denote.Ref.{now}
 use lib.ListN.{set}
 use Rattle.planner_c.proofs.Exports.{still}
 use borrow.Author.Needs.{needs}
-use Rattle.planner_c.proofs.put_four.Statement.{statement}
-use Rattle.planner_c.proofs.put_four.Tie as tie
+use Rattle.planner_c.proofs.words.put_four.Statement.{statement}
+use Rattle.planner_c.proofs.words.put_four.Tie as tie
 
 put-three-requires : tie.Need-put-three-requires
 put-three-requires c κs = search needs

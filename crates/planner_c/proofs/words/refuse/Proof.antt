@@ -1,9 +1,9 @@
--- `planner_c::refuse` meets its contract: the place in word 0, the number returned. Assumes nothing.
+-- `planner_c::words::refuse` meets its contract: the place in word 0, the number returned. Assumes nothing.
 use denote.Ref.{now}
 use Rattle.planner_c.proofs.Exports.{refusal-given}
 use borrow.Author.Needs.{needs}
-use Rattle.planner_c.proofs.refuse.Statement.{statement}
-use Rattle.planner_c.proofs.refuse.Tie as tie
+use Rattle.planner_c.proofs.words.refuse.Statement.{statement}
+use Rattle.planner_c.proofs.words.refuse.Tie as tie
 
 place-requires : tie.Need-place-requires
 place-requires c κs = search needs

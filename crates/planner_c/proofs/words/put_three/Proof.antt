@@ -1,11 +1,11 @@
--- `planner_c::put_three` meets its contract: stores from word 0 on. Assumes nothing.
+-- `planner_c::words::put_three` meets its contract: stores from word 0 on. Assumes nothing.
 use mathlib.Core.List.{[], _∷_}
 use native.Mathlib.Omega.{arith}
 use denote.Ref.{now}
 use lib.Seq.{lt-length-set, lt-length-sets}
 use borrow.Author.Needs.{needs}
-use Rattle.planner_c.proofs.put_three.Statement.{statement}
-use Rattle.planner_c.proofs.put_three.Tie as tie
+use Rattle.planner_c.proofs.words.put_three.Statement.{statement}
+use Rattle.planner_c.proofs.words.put_three.Tie as tie
 
 slice-write-answer : tie.Need-slice-write-answer
 slice-write-answer c = search needs

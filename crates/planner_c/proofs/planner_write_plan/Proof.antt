@@ -1,0 +1,69 @@
+-- `planner_c::planner_write_plan` meets its contract: too few words, or the writing call's outcome. Assumes nothing.
+use mathlib.Core.Path.{sym}
+use denote.Ref.{now}
+use Rattle.job.specs.Weights.{block-job, weight-in}
+use Rattle.bound.specs.Bound.{lent, Leaves, accept-verdict}
+use Rattle.writer.specs.Write.{write-said}
+use Rattle.planner_c.specs.Exports.{PlanLeft}
+use Rattle.planner_c.proofs.Exports.{given, short, enough, untouched, called}
+use borrow.Author.Needs.{needs}
+use Rattle.planner_c.proofs.planner_write_plan.Statement.{statement}
+use Rattle.planner_c.proofs.planner_write_plan.Tie as tie
+
+returns : tie.Need-returns
+returns c =
+    let a = c .before .before .before .before .before .before .before .before .before .args in
+    let h = c .if1 .taken in
+    let m = (lent (now (a .lengths)) (now (a .widths)) (now (a .table))) in
+    let s = short 5 (write-said (now (a .block)) (now (a .weights)) m (now (a .kinds)) (now (a .operands))) (now (a .answer)) h in
+    let l = Leaves (accept-verdict (now (a .block)) (now (a .weights))) (block-job (now (a .block))) (weight-in (now (a .weights))) in
+    (s .0, (s .1, (untouched 5 (now (a .answer)) l m h, untouched 5 (now (a .answer)) (PlanLeft (now (a .block)) (now (a .weights)) m) (now (a .kinds), now (a .operands)) h)))
+
+write-plan-requires : tie.Need-write-plan-requires
+write-plan-requires c κs = search needs
+
+put-write-requires : tie.Need-put-write-requires
+put-write-requires c κs = search needs
+
+same-length : tie.Need-same-length
+same-length c = search needs
+
+same-length-2 : tie.Need-same-length-2
+same-length-2 c = search needs
+
+same-length-3 : tie.Need-same-length-3
+same-length-3 c = search needs
+
+same-length-4 : tie.Need-same-length-4
+same-length-4 c = search needs
+
+same-length-5 : tie.Need-same-length-5
+same-length-5 c = search needs
+
+same-length-6 : tie.Need-same-length-6
+same-length-6 c = search needs
+
+returns-2 : tie.Need-returns-2
+returns-2 c =
+    let a = c .before .before .before .before .before .before .before .before .before .before .before .before .before .before .before .before .before .before .before .before .before .before .before .before .before .before .before .before .before .args in
+    let h = c .before .before .before .before .before .before .before .before .before .before .before .before .before .before .before .before .before .before .before .before .if1 .left in
+    let e = c .before .before .before .before .before .before .before .before .before .before .before .before .before .before .write-plan .ensures in
+    let m = (lent (now (a .lengths)) (now (a .widths)) (now (a .table))) in
+    let s = enough 5 (write-said (now (a .block)) (now (a .weights)) m (now (a .kinds)) (now (a .operands))) (now (a .answer)) h (given (λ o. o) (now (a .answer)) (sym (e .1 .0)) (c .before .before .put-write .ensures)) in
+    let l = Leaves (accept-verdict (now (a .block)) (now (a .weights))) (block-job (now (a .block))) (weight-in (now (a .weights))) in
+    (s .0, (s .1, (called 5 (now (a .answer)) l h (e .1 .1 .0), called 5 (now (a .answer)) (PlanLeft (now (a .block)) (now (a .weights)) m) h (e .1 .1 .1 .0, e .1 .1 .1 .1 .0))))
+
+pub planner-write-plan-spec : {M : Type 1} → statement M
+planner-write-plan-spec =
+    tie.close
+    (tie.spec
+    returns
+    write-plan-requires
+    put-write-requires
+    same-length
+    same-length-2
+    same-length-3
+    same-length-4
+    same-length-5
+    same-length-6
+    returns-2)

@@ -1,0 +1,94 @@
+// Answers in words: a call's values at the front of the answer, or a refusal's place in the first word, and the number returned. Each
+// function asks for the words that it fills; the exported functions compare their number first.
+use bound::BoundAnswer;
+use refusal::Refusal;
+use writer::WriteAnswer;
+use writer::WriteReport;
+ghost use mathlib.Core.Path.{_≡_};
+ghost use mathlib.Core.List.{[], _∷_};
+ghost use Prim.Native.Nat.{_≤_, _<_};
+ghost use lib.ListN.{length};
+ghost use lib.Seq.{sets};
+ghost use Rattle.refusal.specs.Refusals.{refused-as};
+ghost use Rattle.bound.specs.Bound.{bound-outcome};
+ghost use Rattle.writer.specs.Write.{write-values, write-outcome};
+ghost use Rattle.planner_c.specs.Exports.{Gives};
+
+// A refusal: its number is returned, its place put in the first word.
+fn refuse(r: Refusal, answer: &mut [u64]) -> u32
+    requires { ⌜ 0 < length (now answer) ⌝ }
+    ensures { λ n. ⌜ Gives (refused-as r) n (now (answer .entry)) (now (answer .exit)) ⌝ }
+{
+    answer[0] = refusal::place(r);
+    refusal::number(r) as u32
+}
+
+// Three values, into the first three words.
+fn put_three(a: u64, b: u64, c: u64, answer: &mut [u64])
+    requires { ⌜ 3 ≤ length (now answer) ⌝ }
+    ensures { λ _. ⌜ now (answer .exit) ≡ sets (now (answer .entry)) 0 (a ∷ b ∷ c ∷ []) ⌝ }
+{
+    answer[0] = a;
+    answer[1] = b;
+    answer[2] = c;
+}
+
+// Four values, into the first four words.
+fn put_four(a: u64, b: u64, c: u64, d: u64, answer: &mut [u64])
+    requires { ⌜ 4 ≤ length (now answer) ⌝ }
+    ensures { λ _. ⌜ now (answer .exit) ≡ sets (now (answer .entry)) 0 (a ∷ b ∷ c ∷ d ∷ []) ⌝ }
+{
+    put_three(a, b, c, answer);
+    answer[3] = d;
+}
+
+// A bound and three counts, into the first four words.
+fn put_bounds(bound: u64, capacity: u16, lengths: u16, widths: u16, answer: &mut [u64])
+    requires { ⌜ 4 ≤ length (now answer) ⌝ }
+    ensures { λ _. ⌜ now (answer .exit) ≡ sets (now (answer .entry)) 0 (bound ∷ capacity ∷ lengths ∷ widths ∷ []) ⌝ }
+{
+    put_four(
+        bound,
+        capacity as u64,
+        lengths as u64,
+        widths as u64,
+        answer,
+    );
+}
+
+// What the bound call answers: the bound, the capacity and the numbers of normal lengths and widths.
+pub fn put_bound(a: BoundAnswer, answer: &mut [u64]) -> u32
+    requires { ⌜ 4 ≤ length (now answer) ⌝ }
+    ensures { λ n. ⌜ Gives (bound-outcome a) n (now (answer .entry)) (now (answer .exit)) ⌝ }
+{
+    match a {
+        BoundAnswer::Refused(r) => refuse(r, answer),
+        BoundAnswer::Answered(b) => {
+            put_bounds(b.bound, b.capacity, b.lengths, b.widths, answer);
+            0
+        }
+    }
+}
+
+// What the writing call reports: what the bound call does, and the node count.
+fn put_written(b: WriteReport, answer: &mut [u64])
+    requires { ⌜ 5 ≤ length (now answer) ⌝ }
+    ensures { λ _. ⌜ now (answer .exit) ≡ sets (now (answer .entry)) 0 (write-values b) ⌝ }
+{
+    put_bounds(b.bound, b.capacity, b.lengths, b.widths, answer);
+    answer[4] = b.nodes;
+}
+
+// What the writing call answers.
+pub fn put_write(a: WriteAnswer, answer: &mut [u64]) -> u32
+    requires { ⌜ 5 ≤ length (now answer) ⌝ }
+    ensures { λ n. ⌜ Gives (write-outcome a) n (now (answer .entry)) (now (answer .exit)) ⌝ }
+{
+    match a {
+        WriteAnswer::Refused(r) => refuse(r, answer),
+        WriteAnswer::Written(b) => {
+            put_written(b, answer);
+            0
+        }
+    }
+}
