@@ -133,16 +133,6 @@ fn print_report(block: &[u8], weights: &[u8], report: WriteReport, kinds: &[u8],
     print_profit(report.bound, keeps_demands(block, kinds, operands));
 }
 
-// A number of nodes as an index: a written plan has at most the 4,095 that its arrays hold.
-fn nodes_held(nodes: u64) -> usize
-    ensures { λ r. ⌜ r ≤ 4095 ⌝ }
-{
-    if 4095 < nodes {
-        return 4095;
-    }
-    nodes as usize
-}
-
 // The bound and the plan of a job block and weights, or the refusal.
 fn print_answer(block: &[u8], weights: &[u8]) {
     let mut lengths = [0u16; 1001];
@@ -162,7 +152,7 @@ fn print_answer(block: &[u8], weights: &[u8]) {
     match answer {
         WriteAnswer::Refused(r) => print_refusal(r),
         WriteAnswer::Written(report) => {
-            let nodes = nodes_held(report.nodes);
+            let nodes = report.nodes as usize;
             print_report(block, weights, report, &kinds[..nodes], &operands[..nodes]);
         }
     }

@@ -3,24 +3,23 @@
 use mathlib.Core.Path.{_≡_, refl, sym, _∙_, ap, subst}
 use mathlib.Core.Bool.{Bool, false}
 use mathlib.Core.List.{List, [], _∷_}
-use Prim.Native.Nat.{ℕ, _≤_, _<_}
+use Prim.Native.Nat.{ℕ, _≤_}
 use native.Mathlib.Omega.{arith}
 use borrow.Author.Tests.{ltb-false}
 use lib.ListN.{length, drop, length-append, List·getD-append}
 use Rattle.cutting.specs.declared.Direction.{Direction}
 use Rattle.cutting.specs.declared.Direction.the-variants.{Length, Width}
 use Rattle.cutting.specs.Lists.{over}
-use Rattle.cutting.specs.Preorder.{kinds-of, operands-of}
+use Rattle.cutting.specs.Preorder.{kinds-of, operands-of, node-count}
 use Rattle.cutting.specs.Job.{Job, capacity, normal-positions}
 use Rattle.cutting.proofs.Plan.{plan-bound}
 use Rattle.refusal.specs.Refusals.{next, refuse-when, first-refusal, outcome-by}
 use Rattle.refusal.specs.declared.Refusal.{Refusal}
 use Rattle.refusal.specs.declared.Checked.{Checked}
 use Rattle.refusal.specs.declared.Checked.the-variants.{Passed, Refused}
-use Rattle.job.specs.declared.JobRecord.{JobRecord}
 use Rattle.job.specs.declared.JobAnswer.{JobAnswer}
 use Rattle.job.specs.Block.{record-of, read-of, job-of}
-use Rattle.job.specs.Weights.{block-job, weight-in, Accepted}
+use Rattle.job.specs.Weights.{block-job, weight-in}
 use Rattle.job.proofs.Checks.{passed-both, cons-passed}
 use Rattle.job.proofs.Read.{answered, read-verdict}
 use Rattle.job.proofs.Weights.{accepted-both, weights-passed, accepted-in-range}
@@ -32,7 +31,8 @@ use Rattle.bound.specs.Bound as bound
 use Rattle.writer.specs.declared.WriteReport.{WriteReport}
 use Rattle.writer.specs.declared.WriteAnswer.{WriteAnswer}
 use Rattle.writer.specs.declared.WriteAnswer.the-variants as answer
-use Rattle.writer.specs.Write.{write-report, write-answer-by, write-values, write-outcome, Filled, plan-verdict, Planned, block-plan, write-verdict, write-answer, write-said, array-after, PlanEarnsBound}
+use Rattle.writer.specs.Write.{plan-check, write-report, write-answer-by, write-values, write-outcome, Filled, plan-verdict, Planned, block-plan, write-verdict, write-answer, write-said, array-after, PlanEarnsBound}
+use Rattle.writer.proofs.Write.{none-long}
 
 -- an answer of the bound call is its report, where no check refuses
 answered-by : (v : Checked) (b : BoundReport) {r : BoundReport} → bounded.Answered r ≡ bound.answer-by v b → (v ≡ Passed) × (r ≡ b)
@@ -135,3 +135,16 @@ module _ (s ws : List ℕ) {old new : bound.Memory} (left : bound.Leaves (bound.
           let q : Planned (block-job s) (weight-in ws) kinds operands new-kinds new-operands r = subst (λ j. Planned (job-of j) (weight-in ws) kinds operands new-kinds new-operands r) record-is p in
           let v : bound.bound-verdict s ws old ≡ Passed = ap (λ u. next u (first-refusal (bound.memory-checks (block-job s) (weight-in ws) old))) (passed .0) ∙ passed .1 in
           promised (plan-verdict (block-job s) (weight-in ws) kinds operands) (ap (λ u. next u (plan-verdict (block-job s) (weight-in ws) kinds operands)) v) (q .answer) (q .kinds-left) (q .operands-left)
+
+written-by : (v : Checked) (b : WriteReport) {report : WriteReport} → answer.Written report ≡ write-answer-by v b → (v ≡ Passed) × (report ≡ b)
+written-by Passed b e = (refl, cc)
+written-by (Refused x) b e = absurd (let z : _≡_ {A = ℕ} 0 1 = cc in omega arith)
+
+-- a plan that was written has at most 4,095 nodes, and each array holds them
+pub written-fits : (s ws : List ℕ) (m : bound.Memory) (kinds operands : List ℕ) {r : WriteAnswer} {report : WriteReport} → r ≡ write-answer s ws m kinds operands → r ≡ answer.Written report
+    → (report .nodes ≤ 4095) × (report .nodes ≤ length kinds) × (report .nodes ≤ length operands)
+written-fits s ws m kinds operands e f =
+    let w = written-by (write-verdict s ws m kinds operands) (write-report (block-job s) (weight-in ws)) (sym f ∙ e) in
+    let v = passed-both (bound.bound-verdict s ws m) (plan-verdict (block-job s) (weight-in ws) kinds operands) (w .0) in
+    let check = plan-check (block-plan s ws) (length kinds) (length operands) in
+    rw (w .1) (none-long (node-count (block-plan s ws)) (length kinds) (length operands) (cons-passed (check .0) (check .1) [] (v .1) .0))

@@ -1,13 +1,13 @@
 -- Writing the plan of a job whose lists and table are filled: what the maps, the count and the writer ask, and what the answers say.
 -- Assumes nothing.
-use mathlib.Core.Path.{_≡_, refl, sym, _∙_, ap, ap₂}
+use mathlib.Core.Path.{_≡_, refl, sym, _∙_, ap}
 use mathlib.Core.Bool.{Bool, true, false, _||_}
 use mathlib.Core.List.{List, [], _∷_}
 use Prim.Native.Nat.{ℕ, _+_, _≤_, _<_}
 use native.Mathlib.Omega.{arith}
 use borrow.Author.Tests.{ltb-false}
 use lib.Dec.{ltb}
-use lib.ListN.{length, getD, take, length-map}
+use lib.ListN.{length, take, length-map}
 use lib.Seq.{ext-getD, getD-take, length-take-le, sets, sets-eq}
 use Rattle.cutting.specs.declared.Direction.{Direction}
 use Rattle.cutting.specs.declared.Direction.the-variants.{Length, Width}
@@ -16,7 +16,6 @@ use Rattle.cutting.specs.Tree.{side, Tree}
 use Rattle.cutting.specs.Preorder.{preorder, kind-of, operand-of, kinds-of, operands-of, node-count}
 use Rattle.cutting.specs.Job.{Job, InRange, pieces, figure-of, normal-positions, capacity, plan-of}
 use Rattle.refusal.specs.Refusals.{first-refusal}
-use Rattle.refusal.specs.declared.Checked.the-variants.{Passed, Refused}
 use Rattle.refusal.specs.declared.Refusal.the-variants.{PlanLong}
 use Rattle.job.specs.declared.JobRecord.{JobRecord}
 use Rattle.job.specs.Block.{job-from, job-of}
@@ -93,7 +92,7 @@ unfolding operands-of node-count
 over-operands t old h = over-sets (operands-of t) old (omega (arith, length-map (preorder t) (λ n. operand-of n)))
 
 -- three tests of which none holds
-none-long : (n a b : ℕ) → (ltb 4095 n || ltb a n) || ltb b n ≡ false → (n ≤ 4095) × (n ≤ a) × (n ≤ b)
+pub none-long : (n a b : ℕ) → (ltb 4095 n || ltb a n) || ltb b n ≡ false → (n ≤ 4095) × (n ≤ a) × (n ≤ b)
 none-long n a b e = go (ltb 4095 n) (ltb a n) (ltb b n) refl refl refl e
   where
     go : (x y z : Bool) → ltb 4095 n ≡ x → ltb a n ≡ y → ltb b n ≡ z → (x || y) || z ≡ false → (n ≤ 4095) × (n ≤ a) × (n ≤ b)

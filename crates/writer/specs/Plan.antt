@@ -2,14 +2,13 @@
 -- Assumes nothing.
 use mathlib.Core.Path.{_≡_}
 use mathlib.Core.List.{List, []}
-use Prim.Native.Nat.{ℕ, _≤_, _<_}
-use lib.ListN.{length, getD}
-use Rattle.cutting.specs.declared.Direction.{Direction}
+use Prim.Native.Nat.{ℕ, _≤_}
+use lib.ListN.{length}
 use Rattle.cutting.specs.declared.Direction.the-variants.{Length, Width}
 use Rattle.cutting.specs.declared.Node.the-variants.{Waste, Piece, Cut}
-use Rattle.cutting.specs.Tree.{Rect, side, Tree}
+use Rattle.cutting.specs.Tree.{Rect, Tree}
 use Rattle.cutting.specs.Choice.{Choice, as-waste, as-piece, as-cut}
-use Rattle.cutting.specs.Job.{Job, InRange, normal-floor, plan-of, plan-choice}
+use Rattle.cutting.specs.Job.{Job, InRange, plan-of, plan-choice}
 use Rattle.job.specs.Block.{job-from}
 use Rattle.job.specs.Weights.{weight-in}
 use Rattle.table.specs.Table.{position-count, Listed, Mapped, words-needed, Figures}
