@@ -3,7 +3,7 @@
 use mathlib.Core.Path.{_≡_}
 use mathlib.Core.Bool.{Bool, true, false}
 use mathlib.Core.List.{List}
-use Prim.Native.Nat.{ℕ}
+use Prim.Native.Nat.{ℕ, _+_, _≤_}
 use lib.Dec.{ltb}
 use lib.ListN.{length}
 use Rattle.cutting.specs.Lists.{over}
@@ -11,6 +11,8 @@ use Rattle.cutting.specs.Preorder.{kinds-of, operands-of}
 use Rattle.refusal.specs.Refusals.{Outcome}
 use Rattle.bound.specs.Bound.{Memory}
 use Rattle.writer.specs.Write.{array-after, block-plan}
+use Rattle.certificate.specs.declared.Certificate.{Certificate}
+use Rattle.certificate.specs.declared.Certificate.the-variants.{Gap}
 
 abbrev pub returned-by : Bool → Outcome → ℕ
 returned-by true o = 100
@@ -46,3 +48,7 @@ abbrev pub PlanLeft : List ℕ → List ℕ → Memory → List ℕ × List ℕ 
 PlanLeft s ws m old new =
     (new .0 ≡ array-after s ws m (old .0) (old .1) (kinds-of (block-plan s ws)) (old .0))
     × (new .1 ≡ array-after s ws m (old .0) (old .1) (operands-of (block-plan s ws)) (old .1))
+
+-- a certificate's profit and gap sum to at most the bound's ceiling
+abbrev pub Sums : Certificate → Type 0
+Sums r = (profit gap : ℕ) → r ≡ Gap profit gap → profit + gap ≤ 1000000000000

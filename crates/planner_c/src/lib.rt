@@ -7,6 +7,7 @@ ghost use mathlib.Core.Path.{_≡_};
 ghost use Rattle.job.specs.Weights.{block-job, weight-in};
 ghost use Rattle.bound.specs.Bound.{lent, Leaves, accept-verdict, bound-said};
 ghost use Rattle.writer.specs.Write.{write-said};
+ghost use Rattle.certificate.specs.Certificate.{plan-verdict, certificate-said};
 ghost use Rattle.planner_c.specs.Exports.{returned, answered, Left, PlanLeft};
 
 // The bound of a job block and weights. The answer has 4 words: bound, capacity, and the numbers of normal lengths and widths.
@@ -59,4 +60,30 @@ pub extern "C" fn planner_write_plan(
     }
     let a = writer::write_plan(block, weights, lengths, widths, table, kinds, operands);
     words::put_write(a, answer)
+}
+
+// The certificate of a plan for a job block and weights. The answer has 3 words: the gap, which is 0 for a best plan, the bound and the
+// profit.
+#[no_mangle]
+pub extern "C" fn planner_certify(
+    block: &[u8],
+    weights: &[u8],
+    kinds: &[u8],
+    operands: &[u16],
+    lengths: &mut [u16],
+    widths: &mut [u16],
+    table: &mut [u64],
+    answer: &mut [u64],
+) -> u32
+    ensures number { λ n. ⌜ n ≡ returned 3 (now (answer .entry)) (certificate-said (now (block .entry)) (now (weights .entry)) (now (kinds .entry)) (now (operands .entry)) (lent (now (lengths .entry)) (now (widths .entry)) (now (table .entry)))) ⌝ }
+    ensures words { λ _. ⌜ now (answer .exit) ≡ answered 3 (now (answer .entry)) (certificate-said (now (block .entry)) (now (weights .entry)) (now (kinds .entry)) (now (operands .entry)) (lent (now (lengths .entry)) (now (widths .entry)) (now (table .entry)))) ⌝ }
+    ensures memory { λ _. ⌜ Left 3 (now (answer .entry))
+        (Leaves (plan-verdict (now (block .entry)) (now (weights .entry)) (now (kinds .entry)) (now (operands .entry))) (block-job (now (block .entry))) (weight-in (now (weights .entry))))
+        (lent (now (lengths .entry)) (now (widths .entry)) (now (table .entry))) (lent (now (lengths .exit)) (now (widths .exit)) (now (table .exit))) ⌝ }
+{
+    if answer.len() < 3 {
+        return 100;
+    }
+    let a = certificate::certify(block, weights, kinds, operands, lengths, widths, table);
+    words::put_certificate(a, answer)
 }

@@ -1,6 +1,7 @@
 // Answers in words: a call's values at the front of the answer, or a refusal's place in the first word, and the number returned. Each
 // function asks for the words that it fills; the exported functions compare their number first.
 use bound::BoundAnswer;
+use certificate::Certificate;
 use refusal::Refusal;
 use writer::WriteAnswer;
 use writer::WriteReport;
@@ -11,8 +12,9 @@ ghost use lib.ListN.{length};
 ghost use lib.Seq.{sets};
 ghost use Rattle.refusal.specs.Refusals.{refused-as};
 ghost use Rattle.bound.specs.Bound.{bound-outcome};
+ghost use Rattle.certificate.specs.Certificate.{certificate-outcome};
 ghost use Rattle.writer.specs.Write.{write-values, write-outcome};
-ghost use Rattle.planner_c.specs.Exports.{Gives};
+ghost use Rattle.planner_c.specs.Exports.{Gives, Sums};
 
 // A refusal: its number is returned, its place put in the first word.
 fn refuse(r: Refusal, answer: &mut [u64]) -> u32
@@ -88,6 +90,24 @@ pub fn put_write(a: WriteAnswer, answer: &mut [u64]) -> u32
         WriteAnswer::Refused(r) => refuse(r, answer),
         WriteAnswer::Written(b) => {
             put_written(b, answer);
+            0
+        }
+    }
+}
+
+// What certify answers: the gap, 0 for best, the bound and the profit.
+pub fn put_certificate(a: Certificate, answer: &mut [u64]) -> u32
+    requires { ⌜ (3 ≤ length (now answer)) × Sums a ⌝ }
+    ensures { λ n. ⌜ Gives (certificate-outcome a) n (now (answer .entry)) (now (answer .exit)) ⌝ }
+{
+    match a {
+        Certificate::Refused(r) => refuse(r, answer),
+        Certificate::Best(profit) => {
+            put_three(0, profit, profit, answer);
+            0
+        }
+        Certificate::Gap(profit, gap) => {
+            put_three(gap, profit + gap, profit, answer);
             0
         }
     }

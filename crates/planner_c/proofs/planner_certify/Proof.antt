@@ -1,0 +1,61 @@
+-- `planner_c::planner_certify` meets its contract: too few words, or the certificate's outcome. Assumes nothing.
+use mathlib.Core.Path.{sym}
+use native.Mathlib.Omega.{arith}
+use denote.Ref.{now}
+use Rattle.job.specs.Weights.{block-job, weight-in}
+use Rattle.bound.specs.Bound.{lent, Leaves}
+use Rattle.certificate.specs.Certificate.{plan-verdict, certificate-said}
+use Rattle.planner_c.proofs.Exports.{given, short, enough, untouched, called}
+use Rattle.planner_c.proofs.Calls.{certificate-sums}
+use borrow.Author.Needs.{needs}
+use Rattle.planner_c.proofs.planner_certify.Statement.{statement}
+use Rattle.planner_c.proofs.planner_certify.Tie as tie
+
+returns : tie.Need-returns
+returns c =
+    let a = c .before .before .before .before .before .before .before .before .before .args in
+    let h = c .if1 .taken in
+    let m = (lent (now (a .lengths)) (now (a .widths)) (now (a .table))) in
+    let s = short 3 (certificate-said (now (a .block)) (now (a .weights)) (now (a .kinds)) (now (a .operands)) m) (now (a .answer)) h in
+    (s .0, (s .1, untouched 3 (now (a .answer)) (Leaves (plan-verdict (now (a .block)) (now (a .weights)) (now (a .kinds)) (now (a .operands))) (block-job (now (a .block))) (weight-in (now (a .weights)))) m h))
+
+certify-requires : tie.Need-certify-requires
+certify-requires c κs = search needs
+
+put-certificate-requires : tie.Need-put-certificate-requires
+put-certificate-requires c κs =
+    let a = c .before .before .before .before .before .before .before .before .before .before .before .before .before .before .before .before .before .before .before .before .args in
+    (omega arith, certificate-sums (now (a .block)) (now (a .weights)) (now (a .kinds)) (now (a .operands)) (lent (now (a .lengths)) (now (a .widths)) (now (a .table))) (c .before .before .before .before .before .before .before .certify .ensures .0))
+
+same-length : tie.Need-same-length
+same-length c = search needs
+
+same-length-2 : tie.Need-same-length-2
+same-length-2 c = search needs
+
+same-length-3 : tie.Need-same-length-3
+same-length-3 c = search needs
+
+same-length-4 : tie.Need-same-length-4
+same-length-4 c = search needs
+
+returns-2 : tie.Need-returns-2
+returns-2 c =
+    let a = c .before .before .before .before .before .before .before .before .before .before .before .before .before .before .before .before .before .before .before .before .before .before .before .args in
+    let h = c .before .before .before .before .before .before .before .before .before .before .before .before .before .before .if1 .left in
+    let e = c .before .before .before .before .before .before .before .before .before .before .certify .ensures in
+    let s = enough 3 (certificate-said (now (a .block)) (now (a .weights)) (now (a .kinds)) (now (a .operands)) (lent (now (a .lengths)) (now (a .widths)) (now (a .table)))) (now (a .answer)) h (given (λ o. o) (now (a .answer)) (sym (e .1 .0)) (c .before .before .put-certificate .ensures)) in
+    (s .0, (s .1, called 3 (now (a .answer)) (Leaves (plan-verdict (now (a .block)) (now (a .weights)) (now (a .kinds)) (now (a .operands))) (block-job (now (a .block))) (weight-in (now (a .weights)))) h (e .1 .1 .0)))
+
+pub planner-certify-spec : {M : Type 1} → statement M
+planner-certify-spec =
+    tie.close
+    (tie.spec
+    returns
+    certify-requires
+    put-certificate-requires
+    same-length
+    same-length-2
+    same-length-3
+    same-length-4
+    returns-2)
