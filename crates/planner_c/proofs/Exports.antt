@@ -1,11 +1,12 @@
 -- Values at the front of the answer words, and the two cases of every exported function: too few words, and enough.
 -- Assumes nothing.
-use mathlib.Core.Path.{_≡_, refl, sym, _∙_, ap, subst}
-use mathlib.Core.List.{List, [], _∷_}
+use mathlib.Core.Path.{_≡_, refl, sym, _∙_, ap, ap₂, subst}
+use mathlib.Core.List.{List, [], _∷_, _++_}
 use Prim.Native.Nat.{ℕ, _+_, _≤_, _<_}
+use native.Mathlib.Numerals.{add-one}
 use native.Mathlib.Omega.{arith}
-use lib.ListN.{length, set}
-use lib.Seq.{sets, length-sets, sets-eq}
+use lib.ListN.{length, getD, set, take, drop}
+use lib.Seq.{sets, length-sets, sets-eq, paste, paste-suc, take-length}
 use borrow.Author.Tests.{lt-ltb, le-ltb}
 use Rattle.cutting.specs.Lists.{over}
 use Rattle.refusal.specs.Refusals.{Outcome, number-of, place-of, refused-as}
@@ -19,6 +20,18 @@ front values old h = let e : 0 + length values ≡ length values = omega arith i
 -- a run of stores keeps the length
 pub still : (n : ℕ) (values old : List ℕ) {new : List ℕ} → new ≡ sets old 0 values → n ≤ length old → n ≤ length new
 still n values old e h = subst (λ k. n ≤ k) (sym (ap length e ∙ length-sets old 0 values)) h
+
+-- a copy with one value more
+pub pasted-more : (old values new : List ℕ) (at i : ℕ) {v : ℕ} → new ≡ paste old at values i → v ≡ getD values i 0 → at + i < length old → i < length values
+    → set new (at + i) v ≡ paste old at values (i + 1)
+pasted-more old values new at i p e h l = ap₂ (λ r x. set r (at + i) x) p e ∙ paste-suc old at values i 0 h l ∙ ap (λ k. paste old at values k) (sym (add-one i))
+
+-- a copy of a whole list is a run of its stores
+pub pasted : (old values : List ℕ) (at n : ℕ) → length values ≡ n → at + n ≤ length old → paste old at values n ≡ sets old at values
+pasted old values at n e h =
+    ap (λ k. paste old at values k) (sym e)
+    ∙ ap (λ r. take at old ++ r ++ drop (at + length values) old) (take-length values)
+    ∙ sym (sets-eq values old at (omega arith))
 
 -- an outcome is given where an equal one is
 pub given : {A : Type 0} (f : A → Outcome) {a b : A} {number : ℕ} (old : List ℕ) {new : List ℕ} → a ≡ b → Gives (f b) number old new → Gives (f a) number old new

@@ -2,13 +2,15 @@
 -- Assumes nothing.
 use mathlib.Core.Path.{_≡_}
 use mathlib.Core.Bool.{Bool, true, false}
-use mathlib.Core.List.{List}
+use mathlib.Core.List.{List, _∷_}
 use Prim.Native.Nat.{ℕ, _+_, _≤_}
 use lib.Dec.{ltb}
 use lib.ListN.{length}
 use Rattle.cutting.specs.Lists.{over}
 use Rattle.cutting.specs.Preorder.{kinds-of, operands-of}
-use Rattle.refusal.specs.Refusals.{Outcome}
+use Rattle.refusal.specs.Refusals.{Outcome, outcome-by}
+use Rattle.plan.specs.declared.Report.{Report}
+use Rattle.plan.specs.declared.PlanAnswer.{PlanAnswer}
 use Rattle.bound.specs.Bound.{Memory}
 use Rattle.writer.specs.Write.{array-after, block-plan}
 use Rattle.certificate.specs.declared.Certificate.{Certificate}
@@ -52,3 +54,11 @@ PlanLeft s ws m old new =
 -- a certificate's profit and gap sum to at most the bound's ceiling
 abbrev pub Sums : Certificate → Type 0
 Sums r = (profit gap : ℕ) → r ≡ Gap profit gap → profit + gap ≤ 1000000000000
+
+-- a plan's report in words: profit, the areas of pieces, waste nodes and trim, and the copies of each kind
+abbrev pub plan-values : Report → List ℕ
+plan-values r = r .profit ∷ r .pieces ∷ r .waste ∷ r .trim ∷ r .copies
+
+-- the number and values of a plan's answer
+abbrev pub plan-outcome : PlanAnswer → Outcome
+plan-outcome a = outcome-by (a .verdict) (plan-values (a .report))

@@ -5,10 +5,43 @@ mod words;
 
 ghost use mathlib.Core.Path.{_≡_};
 ghost use Rattle.job.specs.Weights.{block-job, weight-in};
+ghost use Rattle.plan.specs.Calls.{arrays-answer, block-answer};
 ghost use Rattle.bound.specs.Bound.{lent, Leaves, accept-verdict, bound-said};
 ghost use Rattle.writer.specs.Write.{write-said};
 ghost use Rattle.certificate.specs.Certificate.{plan-verdict, certificate-said};
-ghost use Rattle.planner_c.specs.Exports.{returned, answered, Left, PlanLeft};
+ghost use Rattle.planner_c.specs.Exports.{returned, answered, Left, PlanLeft, plan-outcome};
+
+// The check of a plan's arrays for a job block. The answer has 68 words: profit, the areas of pieces, waste nodes and trim, and the
+// copies of 64 kinds.
+#[no_mangle]
+pub extern "C" fn planner_check_plan(
+    block: &[u8],
+    kinds: &[u8],
+    operands: &[u16],
+    answer: &mut [u64],
+) -> u32
+    ensures number { λ n. ⌜ n ≡ returned 68 (now (answer .entry)) (plan-outcome (arrays-answer (now (block .entry)) (now (kinds .entry)) (now (operands .entry)))) ⌝ }
+    ensures words { λ _. ⌜ now (answer .exit) ≡ answered 68 (now (answer .entry)) (plan-outcome (arrays-answer (now (block .entry)) (now (kinds .entry)) (now (operands .entry)))) ⌝ }
+{
+    if answer.len() < 68 {
+        return 100;
+    }
+    let a = plan::check_plan(block, kinds, operands);
+    words::put_plan(a, answer)
+}
+
+// The same for a plan block.
+#[no_mangle]
+pub extern "C" fn planner_check_plan_block(block: &[u8], plan: &[u8], answer: &mut [u64]) -> u32
+    ensures number { λ n. ⌜ n ≡ returned 68 (now (answer .entry)) (plan-outcome (block-answer (now (block .entry)) (now (plan .entry)))) ⌝ }
+    ensures words { λ _. ⌜ now (answer .exit) ≡ answered 68 (now (answer .entry)) (plan-outcome (block-answer (now (block .entry)) (now (plan .entry)))) ⌝ }
+{
+    if answer.len() < 68 {
+        return 100;
+    }
+    let a = plan::check_plan_block(block, plan);
+    words::put_plan(a, answer)
+}
 
 // The bound of a job block and weights. The answer has 4 words: bound, capacity, and the numbers of normal lengths and widths.
 #[no_mangle]

@@ -2,6 +2,9 @@
 // function asks for the words that it fills; the exported functions compare their number first.
 use bound::BoundAnswer;
 use certificate::Certificate;
+use plan::PlanAnswer;
+use plan::Report;
+use refusal::Checked;
 use refusal::Refusal;
 use writer::WriteAnswer;
 use writer::WriteReport;
@@ -10,11 +13,12 @@ ghost use mathlib.Core.List.{[], _∷_};
 ghost use Prim.Native.Nat.{_≤_, _<_};
 ghost use lib.ListN.{length};
 ghost use lib.Seq.{sets};
+ghost use Rattle.cutting.specs.Lists.{over};
 ghost use Rattle.refusal.specs.Refusals.{refused-as};
 ghost use Rattle.bound.specs.Bound.{bound-outcome};
 ghost use Rattle.certificate.specs.Certificate.{certificate-outcome};
 ghost use Rattle.writer.specs.Write.{write-values, write-outcome};
-ghost use Rattle.planner_c.specs.Exports.{Gives, Sums};
+ghost use Rattle.planner_c.specs.Exports.{Gives, Sums, plan-values, plan-outcome};
 
 // A refusal: its number is returned, its place put in the first word.
 fn refuse(r: Refusal, answer: &mut [u64]) -> u32
@@ -108,6 +112,49 @@ pub fn put_certificate(a: Certificate, answer: &mut [u64]) -> u32
         }
         Certificate::Gap(profit, gap) => {
             put_three(gap, profit + gap, profit, answer);
+            0
+        }
+    }
+}
+
+// A number of copies as a word: an entry of an array has no range of its own in a proof, and a parameter has.
+fn wide(n: u16) -> u64
+    ensures { λ r. ⌜ r ≡ n ⌝ }
+{
+    n as u64
+}
+
+// The copies of 64 kinds, from word 4 on.
+fn put_copies(copies: [u16; 64], answer: &mut [u64])
+    requires { ⌜ 68 ≤ length (now answer) ⌝ }
+    ensures { λ _. ⌜ (now (answer .exit) ≡ sets (now (answer .entry)) 4 copies) × (length copies ≡ 64) ⌝ }
+{
+    for i in 0..64 {
+        answer[4 + i] = wide(copies[i]);
+    }
+}
+
+// What a passed plan reports: profit, the areas of pieces, waste nodes and trim, and the copies.
+fn put_report(r: Report, answer: &mut [u64])
+    requires { ⌜ 68 ≤ length (now answer) ⌝ }
+    ensures { λ _. ⌜ now (answer .exit) ≡ over (plan-values r) (now (answer .entry)) ⌝ }
+{
+    put_four(r.profit, r.pieces, r.waste, r.trim, answer);
+    let copies = r.copies;
+    put_copies(copies, answer);
+}
+
+// What the check of a plan answers.
+pub fn put_plan(a: PlanAnswer, answer: &mut [u64]) -> u32
+    requires { ⌜ 68 ≤ length (now answer) ⌝ }
+    ensures { λ n. ⌜ Gives (plan-outcome a) n (now (answer .entry)) (now (answer .exit)) ⌝ }
+{
+    let verdict = a.verdict;
+    match verdict {
+        Checked::Refused(r) => refuse(r, answer),
+        Checked::Passed => {
+            let report = a.report;
+            put_report(report, answer);
             0
         }
     }

@@ -1,0 +1,81 @@
+-- `planner_c::words::put_copies` meets its contract: after i turns the first i copies stand from word 4 on. Assumes nothing.
+use mathlib.Core.Path.{_≡_, _∙_, refl, ap}
+use Prim.Native.Nat.{_+_, _≤_, _-_}
+use native.Mathlib.Omega.{arith}
+use denote.Ref.{now}
+use mir.Syntax.{w16}
+use lib.ListN.{length, length-set}
+use lib.Seq.{paste, paste-zero}
+use borrow.Kind.Array.{eInt, good-length}
+use Rattle.planner_c.proofs.Exports.{pasted, pasted-more}
+use borrow.Author.Needs.{needs}
+use Rattle.planner_c.proofs.words.put_copies.Statement.{statement}
+use Rattle.planner_c.proofs.words.put_copies.Tie as tie
+
+abbrev Inv-loop : tie.InvT-loop
+Inv-loop answer₀ copies i₀ answer i = (i ≤ 64) × (length copies ≡ 64) × (length answer ≡ length answer₀) × (answer ≡ paste answer₀ 4 copies i)
+
+abbrev μ-loop : tie.MeasureT-loop
+μ-loop answer₀ copies i₀ answer i = 64 - i
+
+loop-holds : tie.Need-loop-holds Inv-loop μ-loop
+loop-holds c = (omega arith, good-length (eInt w16) 64 (c .before .args .t1) _ (c .before .good .0), refl, paste-zero (now (c .before .args .answer)) 4 (c .before .args .t1))
+
+mul-wide : tie.Need-mul-wide Inv-loop μ-loop
+mul-wide c = search needs
+
+array-read-wide : tie.Need-array-read-wide Inv-loop μ-loop
+array-read-wide c = search needs
+
+wide-requires : tie.Need-wide-requires Inv-loop μ-loop
+wide-requires c κs = search needs
+
+add-answer : tie.Need-add-answer Inv-loop μ-loop
+add-answer c = search needs
+
+mul-answer : tie.Need-mul-answer Inv-loop μ-loop
+mul-answer c = search needs
+
+slice-write-answer : tie.Need-slice-write-answer Inv-loop μ-loop
+slice-write-answer c = search needs
+
+add-i : tie.Need-add-i Inv-loop μ-loop
+add-i c = search needs
+
+loop-less : tie.Need-loop-less Inv-loop μ-loop
+loop-less c = search needs
+
+loop-again : tie.Need-loop-again Inv-loop μ-loop
+loop-again c =
+    let a = c .before .before .before .before .args in
+    let l = c .before .before .loop in
+    (omega arith, l .inv .1, length-set (l .answer) (4 + l .i) (c .wide .result) ∙ l .inv .2, pasted-more (now (a .answer)) (a .t1) (l .answer) 4 (l .i) (l .inv .3) (c .wide .ensures) (omega arith) (omega arith))
+
+same-length : tie.Need-same-length Inv-loop μ-loop
+same-length c = search needs
+
+returns : tie.Need-returns Inv-loop μ-loop
+returns c =
+    let a = c .before .before .before .args in
+    let l = c .before .loop in
+    let e : l .i ≡ 64 = omega arith in
+    (l .inv .3 ∙ ap (λ k. paste (now (a .answer)) 4 (a .t1) k) e ∙ pasted (now (a .answer)) (a .t1) 4 64 (l .inv .1) (c .before .before .before .pre), l .inv .1)
+
+pub put-copies-spec : {M : Type 1} → statement M
+put-copies-spec =
+    tie.close
+    (tie.spec
+    Inv-loop
+    μ-loop
+    loop-holds
+    mul-wide
+    array-read-wide
+    wide-requires
+    add-answer
+    mul-answer
+    slice-write-answer
+    add-i
+    loop-less
+    loop-again
+    same-length
+    returns)
