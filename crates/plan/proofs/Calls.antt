@@ -1,6 +1,6 @@
 -- The calls on blocks: what reading the job gives, a plan block's answers one by one, and the theorem about trees for both calls.
 -- Assumes nothing.
-use mathlib.Core.Path.{_≡_, _∙_, refl, sym, ap, subst}
+use mathlib.Core.Path.{_≡_, _∙_, sym, ap, subst}
 use mathlib.Core.List.{List}
 use Prim.Native.Nat.{ℕ, _+_, _*_, _-_, _≤_, _<_}
 use native.Mathlib.Omega.{arith}
@@ -13,44 +13,31 @@ use Rattle.cutting.proofs.Lists.{range-length}
 use Rattle.refusal.specs.Refusals.{first-refusal}
 use Rattle.refusal.specs.declared.Refusal.{Refusal}
 use Rattle.refusal.specs.declared.Refusal.the-variants.{PlanLength, NodeCount}
-use Rattle.refusal.specs.declared.Checked.{Checked}
 use Rattle.refusal.specs.declared.Checked.the-variants.{Passed, Refused}
 use Rattle.job.specs.declared.JobRecord.{JobRecord}
 use Rattle.job.specs.declared.JobAnswer.{JobAnswer}
-use Rattle.job.specs.Block.{u16-at, job-checks, record-of, answer-by, read-of, job-of}
-use Rattle.job.proofs.Read.{read-in-range}
+use Rattle.job.specs.Block.{u16-at, job-checks, read-of, job-of}
+use Rattle.job.specs.Weights.{block-job}
+use Rattle.job.proofs.Read as read
 use Rattle.plan.specs.declared.PlanAnswer.{PlanAnswer}
 use Rattle.plan.specs.Plan.{plan-answer, unreported, refused, proceed}
 use Rattle.plan.specs.Trees.{ChecksPlan}
-use Rattle.plan.specs.Calls.{job-in, arrays-answer, plan-count, plan-kinds, plan-operands, block-checks, plan-block-answer, block-answer, JobPasses, BlockPasses}
+use Rattle.plan.specs.Calls.{arrays-answer, plan-count, plan-kinds, plan-operands, block-checks, plan-block-answer, block-answer, JobPasses, BlockPasses}
 use Rattle.plan.proofs.Whole.{many-refused}
 use Rattle.plan.proofs.Plans.{plans-checked, checked-after}
 
--- the verdict of a job that was read, and its record
-answer-verdict : (v : Checked) (j : JobRecord) → answer-by v j .verdict ≡ v
-answer-verdict Passed j = refl
-answer-verdict (Refused r) j = refl
-
-pub read-verdict : (s : List ℕ) {a : JobAnswer} → a ≡ read-of s → a .verdict ≡ first-refusal (job-checks s)
-read-verdict s e = ap (λ (a : JobAnswer). a .verdict) e ∙ answer-verdict (first-refusal (job-checks s)) (record-of s)
-
+-- a job that was read is in range
 module _ (s : List ℕ) {a : JobAnswer} (e : a ≡ read-of s) (p : a .verdict ≡ Passed) where
-  pub read-passes : JobPasses s
-  read-passes = sym (read-verdict s e) ∙ p
-
-  pub read-record : a .job ≡ record-of s
-  read-record = ap (λ (b : JobAnswer). b .job) e ∙ ap (λ v. answer-by v (record-of s) .job) read-passes
-
   pub read-range : InRange (job-of (a .job))
-  read-range = subst (λ (j : JobRecord). InRange (job-of j)) (sym read-record) (read-in-range s read-passes)
+  read-range = subst (λ (j : JobRecord). InRange (job-of j)) (sym (read.answered s e p .1)) (read.read-in-range s (read.answered s e p .0))
 
   -- what follows for the job that was read is the answer
-  pub read-on : (f : Job → PlanAnswer) → f (job-of (a .job)) ≡ proceed (first-refusal (job-checks s)) (f (job-in s))
-  read-on f = ap (λ (j : JobRecord). f (job-of j)) read-record ∙ sym (ap (λ v. proceed v (f (job-in s))) read-passes)
+  pub read-on : (f : Job → PlanAnswer) → f (job-of (a .job)) ≡ proceed (first-refusal (job-checks s)) (f (block-job s))
+  read-on f = ap (λ (j : JobRecord). f (job-of j)) (read.answered s e p .1) ∙ sym (ap (λ v. proceed v (f (block-job s))) (read.answered s e p .0))
 
 -- a job that is refused
 pub read-stops : (s : List ℕ) {a : JobAnswer} {r : Refusal} (b : PlanAnswer) → a ≡ read-of s → a .verdict ≡ Refused r → unreported (a .verdict) ≡ proceed (first-refusal (job-checks s)) b
-read-stops s b e p = ap unreported p ∙ sym (ap (λ v. proceed v b) (sym (read-verdict s e) ∙ p))
+read-stops s b e p = ap unreported p ∙ sym (ap (λ v. proceed v b) (read.refused s e p))
 
 module _ (J : Job) (p : List ℕ) where
   pub block-short : length p < 2 → plan-block-answer J p ≡ refused PlanLength
@@ -77,18 +64,18 @@ module _ (J : Job) (p : List ℕ) where
     block-many m = block-on ∙ many-refused J (plan-kinds p) (plan-operands p) (kinds-length ∙ sym operands-length) (omega (arith, kinds-length, m)) (omega (arith, kinds-length, m))
 
 -- both calls pass exactly for the plans of trees
-arrays-checked : (s ks os : List ℕ) → ChecksPlan (JobPasses s) (job-in s) ks os (arrays-answer s ks os)
-arrays-checked s ks os = checked-after (first-refusal (job-checks s)) (λ p. plans-checked (job-in s) (read-in-range s p .kinds .1) ks os) (λ a. (a, tt)) (λ v b. v)
+arrays-checked : (s ks os : List ℕ) → ChecksPlan (JobPasses s) (block-job s) ks os (arrays-answer s ks os)
+arrays-checked s ks os = checked-after (first-refusal (job-checks s)) (λ p. plans-checked (block-job s) (read.read-in-range s p .kinds .1) ks os) (λ a. (a, tt)) (λ v b. v)
 
-block-checked : (s p : List ℕ) → ChecksPlan (JobPasses s × BlockPasses p) (job-in s) (plan-kinds p) (plan-operands p) (block-answer s p)
+block-checked : (s p : List ℕ) → ChecksPlan (JobPasses s × BlockPasses p) (block-job s) (plan-kinds p) (plan-operands p) (block-answer s p)
 unfolding plan-block-answer
 block-checked s p = checked-after (first-refusal (job-checks s))
-    (λ v. checked-after (first-refusal (block-checks p)) (λ w. plans-checked (job-in s) (read-in-range s v .kinds .1) (plan-kinds p) (plan-operands p)) (λ a. (a, tt)) (λ v b. v))
+    (λ v. checked-after (first-refusal (block-checks p)) (λ w. plans-checked (block-job s) (read.read-in-range s v .kinds .1) (plan-kinds p) (plan-operands p)) (λ a. (a, tt)) (λ v b. v))
     (λ a. (a .0, a .1)) (λ v b. (v, b))
 
 -- so an answer that equals the definition meets the whole contract
-pub arrays-met : (s ks os : List ℕ) {r : PlanAnswer} → r ≡ arrays-answer s ks os → (r ≡ arrays-answer s ks os) × ChecksPlan (JobPasses s) (job-in s) ks os r
-arrays-met s ks os e = (e, subst (λ (a : PlanAnswer). ChecksPlan (JobPasses s) (job-in s) ks os a) (sym e) (arrays-checked s ks os))
+pub arrays-met : (s ks os : List ℕ) {r : PlanAnswer} → r ≡ arrays-answer s ks os → (r ≡ arrays-answer s ks os) × ChecksPlan (JobPasses s) (block-job s) ks os r
+arrays-met s ks os e = (e, subst (λ (a : PlanAnswer). ChecksPlan (JobPasses s) (block-job s) ks os a) (sym e) (arrays-checked s ks os))
 
-pub block-met : (s p : List ℕ) {r : PlanAnswer} → r ≡ block-answer s p → (r ≡ block-answer s p) × ChecksPlan (JobPasses s × BlockPasses p) (job-in s) (plan-kinds p) (plan-operands p) r
-block-met s p e = (e, subst (λ (a : PlanAnswer). ChecksPlan (JobPasses s × BlockPasses p) (job-in s) (plan-kinds p) (plan-operands p) a) (sym e) (block-checked s p))
+pub block-met : (s p : List ℕ) {r : PlanAnswer} → r ≡ block-answer s p → (r ≡ block-answer s p) × ChecksPlan (JobPasses s × BlockPasses p) (block-job s) (plan-kinds p) (plan-operands p) r
+block-met s p e = (e, subst (λ (a : PlanAnswer). ChecksPlan (JobPasses s × BlockPasses p) (block-job s) (plan-kinds p) (plan-operands p) a) (sym e) (block-checked s p))

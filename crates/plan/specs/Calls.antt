@@ -11,17 +11,14 @@ use Rattle.cutting.specs.Job.{Job}
 use Rattle.refusal.specs.declared.Refusal.the-variants.{PlanLength}
 use Rattle.refusal.specs.declared.Checked.the-variants.{Passed}
 use Rattle.refusal.specs.Refusals.{Check, first-refusal}
-use Rattle.job.specs.Block.{u16-at, job-checks, record-of, job-of}
+use Rattle.job.specs.Block.{u16-at, job-checks}
+use Rattle.job.specs.Weights.{block-job}
 use Rattle.plan.specs.declared.PlanAnswer.{PlanAnswer}
 use Rattle.plan.specs.Plan.{proceed, plan-answer}
 
--- the job of a block
-abbrev pub job-in : List ℕ → Job
-job-in s = job-of (record-of s)
-
 -- what a plan's arrays answer for a job block
 abbrev pub arrays-answer : List ℕ → List ℕ → List ℕ → PlanAnswer
-arrays-answer s kinds operands = proceed (first-refusal (job-checks s)) (plan-answer (job-in s) kinds operands)
+arrays-answer s kinds operands = proceed (first-refusal (job-checks s)) (plan-answer (block-job s) kinds operands)
 
 -- a plan block: the node count, that many kinds, that many operands
 abbrev pub plan-count : List ℕ → ℕ
@@ -43,7 +40,7 @@ plan-block-answer J p = proceed (first-refusal (block-checks p)) (plan-answer J 
 
 -- what a plan block answers for a job block
 abbrev pub block-answer : List ℕ → List ℕ → PlanAnswer
-block-answer s p = proceed (first-refusal (job-checks s)) (plan-block-answer (job-in s) p)
+block-answer s p = proceed (first-refusal (job-checks s)) (plan-block-answer (block-job s) p)
 
 -- no check of a job block refuses it
 abbrev pub JobPasses : List ℕ → Type 0

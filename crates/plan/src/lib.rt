@@ -4,6 +4,7 @@ use cutting::Direction;
 use cutting::Node;
 use job::JobRecord;
 use job::read_job;
+use job::read_u16;
 use refusal::Checked;
 use refusal::Refusal;
 ghost use mathlib.Core.Path.{_≡_};
@@ -13,11 +14,12 @@ ghost use lib.ListN.{length, take};
 ghost use Rattle.cutting.specs.Tree.{side, part};
 ghost use Rattle.cutting.specs.Pieces.{fits-in};
 ghost use Rattle.cutting.specs.Job.{Job, InRange};
-ghost use Rattle.job.specs.Block.{u16-at, outside, job-from, job-of};
+ghost use Rattle.job.specs.Block.{outside, job-from, job-of};
+ghost use Rattle.job.specs.Weights.{block-job};
 ghost use Rattle.plan.specs.Plan.{node-of, nodes-in, unreported, plan-answer};
 ghost use Rattle.plan.specs.Walk.{Sized, stopped, step, Placed, Filled};
 ghost use Rattle.plan.specs.Trees.{ChecksPlan};
-ghost use Rattle.plan.specs.Calls.{job-in, arrays-answer, plan-count, plan-kinds, plan-operands, plan-block-answer, block-answer, JobPasses, BlockPasses};
+ghost use Rattle.plan.specs.Calls.{arrays-answer, plan-count, plan-kinds, plan-operands, plan-block-answer, block-answer, JobPasses, BlockPasses};
 
 // What a passed plan reports: profit, copies of each of 64 kinds, and the areas of pieces, waste nodes and trim.
 pub struct Report {
@@ -389,7 +391,7 @@ pub fn check_nodes(job: JobRecord, kinds: &[u8], operands: &[u16]) -> PlanAnswer
 // A plan's arrays checked for a job block: refusals 1 to 7, then 10 to 18.
 pub fn check_plan(block: &[u8], kinds: &[u8], operands: &[u16]) -> PlanAnswer
     ensures answer { λ r. ⌜ r ≡ arrays-answer (now (block .entry)) (now (kinds .entry)) (now (operands .entry)) ⌝ }
-    ensures trees { λ r. ⌜ ChecksPlan (JobPasses (now (block .entry))) (job-in (now (block .entry))) (now (kinds .entry)) (now (operands .entry)) r ⌝ }
+    ensures trees { λ r. ⌜ ChecksPlan (JobPasses (now (block .entry))) (block-job (now (block .entry))) (now (kinds .entry)) (now (operands .entry)) r ⌝ }
 {
     let read = read_job(block);
     let verdict = read.verdict;
@@ -398,21 +400,6 @@ pub fn check_plan(block: &[u8], kinds: &[u8], operands: &[u16]) -> PlanAnswer
     };
     let job = read.job;
     check_nodes(job, kinds, operands)
-}
-
-// A byte as a number of 16 bits.
-fn wide_byte(byte: u8) -> u16
-    ensures { λ r. ⌜ (r ≡ byte) × (r < 256) ⌝ }
-{
-    byte as u16
-}
-
-// A field of two bytes, lowest byte first.
-fn read_u16(block: &[u8], at: usize) -> u16
-    requires { ⌜ at + 2 ≤ length (now block) ⌝ }
-    ensures { λ r. ⌜ r ≡ u16-at (now (block .entry)) at ⌝ }
-{
-    wide_byte(block[at]) + 256 * wide_byte(block[at + 1])
 }
 
 // The operands of a plan block, in the first entries.
@@ -450,7 +437,7 @@ fn check_block(job: JobRecord, plan: &[u8]) -> PlanAnswer
 // A plan block checked for a job block: refusals 1 to 7, then 10 to 18.
 pub fn check_plan_block(block: &[u8], plan: &[u8]) -> PlanAnswer
     ensures answer { λ r. ⌜ r ≡ block-answer (now (block .entry)) (now (plan .entry)) ⌝ }
-    ensures trees { λ r. ⌜ ChecksPlan (JobPasses (now (block .entry)) × BlockPasses (now (plan .entry))) (job-in (now (block .entry))) (plan-kinds (now (plan .entry))) (plan-operands (now (plan .entry))) r ⌝ }
+    ensures trees { λ r. ⌜ ChecksPlan (JobPasses (now (block .entry)) × BlockPasses (now (plan .entry))) (block-job (now (block .entry))) (plan-kinds (now (plan .entry))) (plan-operands (now (plan .entry))) r ⌝ }
 {
     let read = read_job(block);
     let verdict = read.verdict;

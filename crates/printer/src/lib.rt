@@ -12,7 +12,8 @@ use writer::write_plan;
 ghost use mathlib.Core.Path.{_≡_};
 ghost use Prim.Native.Nat.{_≤_};
 ghost use lib.ListN.{length};
-ghost use Rattle.plan.specs.Calls.{job-in, JobPasses};
+ghost use Rattle.job.specs.Weights.{block-job};
+ghost use Rattle.plan.specs.Calls.{JobPasses};
 ghost use Rattle.printer.specs.Printer.{job-end, Keeps};
 
 // Where the job ends in the input.
@@ -32,7 +33,7 @@ pub fn job_end(input: &[u8]) -> usize
 
 // Whether two arrays are a plan of the job that keeps every demand.
 pub fn keeps_demands(block: &[u8], kinds: &[u8], operands: &[u16]) -> bool
-    ensures { λ r. ⌜ Keeps (JobPasses (now (block .entry))) (job-in (now (block .entry))) (now (kinds .entry)) (now (operands .entry)) r ⌝ }
+    ensures { λ r. ⌜ Keeps (JobPasses (now (block .entry))) (block-job (now (block .entry))) (now (kinds .entry)) (now (operands .entry)) r ⌝ }
 {
     let answer = check_plan(block, kinds, operands);
     let verdict = answer.verdict;
