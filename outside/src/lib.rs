@@ -4,7 +4,6 @@ pub mod answers;
 pub mod baseline;
 pub mod blocks;
 pub mod calls;
-#[cfg(proved_archive)]
 pub mod planner;
 pub mod random;
 pub mod reference;

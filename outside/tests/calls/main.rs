@@ -2,7 +2,6 @@
 // and the one against the other, with all lent memory, on generated inputs.
 mod baselines;
 mod damage;
-#[cfg(proved_archive)]
 mod deep;
 mod examples;
 mod generated;
@@ -11,5 +10,4 @@ mod lent;
 mod limits;
 mod readings;
 mod run;
-#[cfg(proved_archive)]
 mod wrapper;

@@ -1,11 +1,8 @@
 // One call on one input with fresh memory, and the same call on two implementations.
 use crate::lent::{Lent, Sizes};
 use outside::calls::Calls;
-#[cfg(proved_archive)]
-use outside::planner as proved;
+use outside::planner;
 use outside::reference;
-#[cfg(not(proved_archive))]
-use outside::reference as proved;
 
 #[derive(Clone, Copy, Debug, PartialEq, Eq, PartialOrd, Ord)]
 pub enum Call {
@@ -30,7 +27,7 @@ pub struct Input {
 }
 
 /// The implementations that must pass every example.
-pub const IMPLEMENTATIONS: [Calls; 2] = [reference::calls::CALLS, proved::calls::CALLS];
+pub const IMPLEMENTATIONS: [Calls; 2] = [reference::calls::CALLS, planner::calls::CALLS];
 
 impl Call {
     /// The words of its answer.
