@@ -124,7 +124,7 @@ fn wide(n: u16) -> u64
     n as u64
 }
 
-// The copies of 64 kinds, from word 4 on.
+// The copies of 64 kinds, from word 4 on. That they are 64 is handed on to the proof of the caller.
 fn put_copies(copies: [u16; 64], answer: &mut [u64])
     requires { ⌜ 68 ≤ length (now answer) ⌝ }
     ensures { λ _. ⌜ (now (answer .exit) ≡ sets (now (answer .entry)) 4 copies) × (length copies ≡ 64) ⌝ }

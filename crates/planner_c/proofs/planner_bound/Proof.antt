@@ -11,26 +11,8 @@ use Rattle.planner_c.proofs.planner_bound.Tie as tie
 returns : tie.Need-returns
 returns c = let a = c .before .before .before .before .before .before .before .args in let s = short 4 (bound-said (now (a .block)) (now (a .weights)) (lent (now (a .lengths)) (now (a .widths)) (now (a .table)))) (now (a .answer)) (c .if1 .taken) in (s .0, (s .1, untouched 4 (now (a .answer)) (Leaves (accept-verdict (now (a .block)) (now (a .weights))) (block-job (now (a .block))) (weight-in (now (a .weights)))) (lent (now (a .lengths)) (now (a .widths)) (now (a .table))) (c .if1 .taken)))
 
-bound-requires : tie.Need-bound-requires
-bound-requires c κs = search needs
-
-put-bound-requires : tie.Need-put-bound-requires
-put-bound-requires c κs = search needs
-
-same-length : tie.Need-same-length
-same-length c = search needs
-
-same-length-2 : tie.Need-same-length-2
-same-length-2 c = search needs
-
-same-length-3 : tie.Need-same-length-3
-same-length-3 c = search needs
-
-same-length-4 : tie.Need-same-length-4
-same-length-4 c = search needs
-
 returns-2 : tie.Need-returns-2
 returns-2 c = let a = c .before .before .before .before .before .before .before .before .before .before .before .before .before .before .before .before .before .before .before .before .before .args in let e = c .before .before .before .before .before .before .before .before .before .before .bound .ensures in let s = enough 4 (bound-said (now (a .block)) (now (a .weights)) (lent (now (a .lengths)) (now (a .widths)) (now (a .table)))) (now (a .answer)) (c .before .before .before .before .before .before .before .before .before .before .before .before .before .before .if1 .left) (given (λ o. o) (now (a .answer)) (sym (e .1 .0)) (c .before .before .put-bound .ensures)) in (s .0, (s .1, called 4 (now (a .answer)) (Leaves (accept-verdict (now (a .block)) (now (a .weights))) (block-job (now (a .block))) (weight-in (now (a .weights)))) (c .before .before .before .before .before .before .before .before .before .before .before .before .before .before .if1 .left) (e .1 .1 .0)))
 
 pub planner-bound-spec : {M : Type 1} → statement M
-planner-bound-spec = tie.close (tie.spec returns bound-requires put-bound-requires same-length same-length-2 same-length-3 same-length-4 returns-2)
+planner-bound-spec = tie.close (tie.spec returns (search needs) (search needs) (search needs) (search needs) (search needs) (search needs) returns-2)

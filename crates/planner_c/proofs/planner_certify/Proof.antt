@@ -19,25 +19,10 @@ returns c =
     let s = short 3 (certificate-said (now (a .block)) (now (a .weights)) (now (a .kinds)) (now (a .operands)) m) (now (a .answer)) h in
     (s .0, (s .1, untouched 3 (now (a .answer)) (Leaves (plan-verdict (now (a .block)) (now (a .weights)) (now (a .kinds)) (now (a .operands))) (block-job (now (a .block))) (weight-in (now (a .weights)))) m h))
 
-certify-requires : tie.Need-certify-requires
-certify-requires c κs = search needs
-
 put-certificate-requires : tie.Need-put-certificate-requires
 put-certificate-requires c κs =
     let a = c .before .before .before .before .before .before .before .before .before .before .before .before .before .before .before .before .before .before .before .before .args in
     (omega arith, certificate-sums (now (a .block)) (now (a .weights)) (now (a .kinds)) (now (a .operands)) (lent (now (a .lengths)) (now (a .widths)) (now (a .table))) (c .before .before .before .before .before .before .before .certify .ensures .0))
-
-same-length : tie.Need-same-length
-same-length c = search needs
-
-same-length-2 : tie.Need-same-length-2
-same-length-2 c = search needs
-
-same-length-3 : tie.Need-same-length-3
-same-length-3 c = search needs
-
-same-length-4 : tie.Need-same-length-4
-same-length-4 c = search needs
 
 returns-2 : tie.Need-returns-2
 returns-2 c =
@@ -52,10 +37,10 @@ planner-certify-spec =
     tie.close
     (tie.spec
     returns
-    certify-requires
+    (search needs)
     put-certificate-requires
-    same-length
-    same-length-2
-    same-length-3
-    same-length-4
+    (search needs)
+    (search needs)
+    (search needs)
+    (search needs)
     returns-2)

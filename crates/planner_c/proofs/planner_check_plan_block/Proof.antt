@@ -11,19 +11,10 @@ use Rattle.planner_c.proofs.planner_check_plan_block.Tie as tie
 returns : tie.Need-returns
 returns c = let a = c .before .before .before .before .args in short 68 (plan-outcome (block-answer (now (a .block)) (now (a .plan)))) (now (a .answer)) (c .if1 .taken)
 
-check-plan-block-requires : tie.Need-check-plan-block-requires
-check-plan-block-requires c κs = search needs
-
-put-plan-requires : tie.Need-put-plan-requires
-put-plan-requires c κs = search needs
-
-same-length : tie.Need-same-length
-same-length c = search needs
-
 returns-2 : tie.Need-returns-2
 returns-2 c =
     let a = c .before .before .before .before .before .before .before .before .before .args in
     enough 68 (plan-outcome (block-answer (now (a .block)) (now (a .plan)))) (now (a .answer)) (c .before .before .before .before .before .if1 .left) (given plan-outcome (now (a .answer)) (sym (c .before .before .before .before .check-plan-block .ensures .0)) (c .before .before .put-plan .ensures))
 
 pub planner-check-plan-block-spec : {M : Type 1} → statement M
-planner-check-plan-block-spec = tie.close (tie.spec returns check-plan-block-requires put-plan-requires same-length returns-2)
+planner-check-plan-block-spec = tie.close (tie.spec returns (search needs) (search needs) (search needs) returns-2)

@@ -19,30 +19,6 @@ returns c =
     let l = Leaves (accept-verdict (now (a .block)) (now (a .weights))) (block-job (now (a .block))) (weight-in (now (a .weights))) in
     (s .0, (s .1, (untouched 5 (now (a .answer)) l m h, untouched 5 (now (a .answer)) (PlanLeft (now (a .block)) (now (a .weights)) m) (now (a .kinds), now (a .operands)) h)))
 
-write-plan-requires : tie.Need-write-plan-requires
-write-plan-requires c κs = search needs
-
-put-write-requires : tie.Need-put-write-requires
-put-write-requires c κs = search needs
-
-same-length : tie.Need-same-length
-same-length c = search needs
-
-same-length-2 : tie.Need-same-length-2
-same-length-2 c = search needs
-
-same-length-3 : tie.Need-same-length-3
-same-length-3 c = search needs
-
-same-length-4 : tie.Need-same-length-4
-same-length-4 c = search needs
-
-same-length-5 : tie.Need-same-length-5
-same-length-5 c = search needs
-
-same-length-6 : tie.Need-same-length-6
-same-length-6 c = search needs
-
 returns-2 : tie.Need-returns-2
 returns-2 c =
     let a = c .before .before .before .before .before .before .before .before .before .before .before .before .before .before .before .before .before .before .before .before .before .before .before .before .before .before .before .before .before .args in
@@ -58,12 +34,12 @@ planner-write-plan-spec =
     tie.close
     (tie.spec
     returns
-    write-plan-requires
-    put-write-requires
-    same-length
-    same-length-2
-    same-length-3
-    same-length-4
-    same-length-5
-    same-length-6
+    (search needs)
+    (search needs)
+    (search needs)
+    (search needs)
+    (search needs)
+    (search needs)
+    (search needs)
+    (search needs)
     returns-2)

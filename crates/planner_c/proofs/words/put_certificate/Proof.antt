@@ -10,43 +10,16 @@ use borrow.Author.Needs.{needs}
 use Rattle.planner_c.proofs.words.put_certificate.Statement.{statement}
 use Rattle.planner_c.proofs.words.put_certificate.Tie as tie
 
-enum-known-a : tie.Need-enum-known-a
-enum-known-a c = search needs
-
-refuse-requires : tie.Need-refuse-requires
-refuse-requires c κs = search needs
-
-enum-known-a-2 : tie.Need-enum-known-a-2
-enum-known-a-2 c = search needs
-
-put-three-requires : tie.Need-put-three-requires
-put-three-requires c κs = search needs
-
-enum-known-a-3 : tie.Need-enum-known-a-3
-enum-known-a-3 c = search needs
-
 add-put-three : tie.Need-add-put-three
 add-put-three c = let g = c .before .a3 .given in omega (arith, c .before .before .before .before .pre .1 (g .0 .0) (g .0 .1 .0) (g .1))
 
-put-three-requires-2 : tie.Need-put-three-requires-2
-put-three-requires-2 c κs = search needs
-
-same-length : tie.Need-same-length
-same-length c = search needs
-
 returns : tie.Need-returns
 returns c = given certificate-outcome (now (c .before .before .before .before .before .before .before .before .args .answer)) (c .before .before .before .before .before .a .given .1) (c .before .before .refuse .ensures)
-
-same-length-2 : tie.Need-same-length-2
-same-length-2 c = search needs
 
 returns-2 : tie.Need-returns-2
 returns-2 c =
     let g = c .before .before .before .before .before .a2 .given in
     values-given certificate-outcome (0 ∷ g .0 .0 ∷ g .0 .0 ∷ []) (now (c .before .before .before .before .before .before .before .before .args .answer)) (g .1) refl (c .before .before .before .before .before .before .before .before .pre .0) (c .before .before .put-three .ensures)
-
-same-length-3 : tie.Need-same-length-3
-same-length-3 c = search needs
 
 returns-3 : tie.Need-returns-3
 returns-3 c =
@@ -57,16 +30,16 @@ pub put-certificate-spec : {M : Type 1} → statement M
 put-certificate-spec =
     tie.close
     (tie.spec
-    enum-known-a
-    refuse-requires
-    enum-known-a-2
-    put-three-requires
-    enum-known-a-3
+    (search needs)
+    (search needs)
+    (search needs)
+    (search needs)
+    (search needs)
     add-put-three
-    put-three-requires-2
-    same-length
+    (search needs)
+    (search needs)
     returns
-    same-length-2
+    (search needs)
     returns-2
-    same-length-3
+    (search needs)
     returns-3)

@@ -8,17 +8,11 @@ use borrow.Author.Needs.{needs}
 use Rattle.planner_c.proofs.words.put_four.Statement.{statement}
 use Rattle.planner_c.proofs.words.put_four.Tie as tie
 
-put-three-requires : tie.Need-put-three-requires
-put-three-requires c κs = search needs
-
 slice-write-answer : tie.Need-slice-write-answer
 slice-write-answer c = let a = c .before .before .before .before .before .args in still 4 (a .a ∷ a .b ∷ a .c ∷ []) (now (a .answer)) (c .before .before .put-three .ensures) (c .before .before .before .before .before .pre)
-
-same-length : tie.Need-same-length
-same-length c = search needs
 
 returns : tie.Need-returns
 returns c = ap (λ xs. set xs 3 (c .before .before .before .before .before .args .d)) (c .before .before .put-three .ensures)
 
 pub put-four-spec : {M : Type 1} → statement M
-put-four-spec = tie.close (tie.spec put-three-requires slice-write-answer same-length returns)
+put-four-spec = tie.close (tie.spec (search needs) slice-write-answer (λ c. search needs) returns)

@@ -8,26 +8,8 @@ use borrow.Author.Needs.{needs}
 use Rattle.planner_c.proofs.words.put_plan.Statement.{statement}
 use Rattle.planner_c.proofs.words.put_plan.Tie as tie
 
-enum-known-verdict : tie.Need-enum-known-verdict
-enum-known-verdict c = search needs
-
-refuse-requires : tie.Need-refuse-requires
-refuse-requires c κs = search needs
-
-enum-told : tie.Need-enum-told
-enum-told c = search needs
-
-put-report-requires : tie.Need-put-report-requires
-put-report-requires c κs = search needs
-
-same-length : tie.Need-same-length
-same-length c = search needs
-
 returns : tie.Need-returns
 returns c = let a = c .before .before .before .before .before .before .before .before .args in given (λ v. outcome-by v (plan-values (a .a .report))) (now (a .answer)) (c .before .before .before .before .before .verdict .given .1) (c .before .before .refuse .ensures)
-
-same-length-2 : tie.Need-same-length-2
-same-length-2 c = search needs
 
 returns-2 : tie.Need-returns-2
 returns-2 c = let a = c .before .before .before .before .before .before .before .before .args in given (λ v. outcome-by v (plan-values (a .a .report))) (now (a .answer)) (c .before .before .before .before .before .enum-told .given .1) (refl, c .before .before .put-report .ensures)
@@ -36,11 +18,11 @@ pub put-plan-spec : {M : Type 1} → statement M
 put-plan-spec =
     tie.close
     (tie.spec
-    enum-known-verdict
-    refuse-requires
-    enum-told
-    put-report-requires
-    same-length
+    (search needs)
+    (search needs)
+    (search needs)
+    (search needs)
+    (search needs)
     returns
-    same-length-2
+    (search needs)
     returns-2)

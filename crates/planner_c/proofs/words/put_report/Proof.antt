@@ -9,15 +9,6 @@ use borrow.Author.Needs.{needs}
 use Rattle.planner_c.proofs.words.put_report.Statement.{statement}
 use Rattle.planner_c.proofs.words.put_report.Tie as tie
 
-put-four-requires : tie.Need-put-four-requires
-put-four-requires c κs = search needs
-
-put-copies-requires : tie.Need-put-copies-requires
-put-copies-requires c κs = search needs
-
-same-length : tie.Need-same-length
-same-length c = search needs
-
 returns : tie.Need-returns
 returns c =
     let a = c .before .before .before .before .before .before .before .before .before .before .args in
@@ -25,4 +16,4 @@ returns c =
     e .0 ∙ ap (λ xs. sets xs 4 (a .r .copies)) (c .before .before .before .before .before .before .before .put-four .ensures) ∙ front (plan-values (a .r)) (now (a .answer)) (omega (arith, e .1, c .before .before .before .before .before .before .before .before .before .before .pre))
 
 pub put-report-spec : {M : Type 1} → statement M
-put-report-spec = tie.close (tie.spec put-four-requires put-copies-requires same-length returns)
+put-report-spec = tie.close (tie.spec (search needs) (search needs) (search needs) returns)

@@ -7,20 +7,11 @@ use borrow.Author.Needs.{needs}
 use Rattle.planner_c.proofs.words.put_three.Statement.{statement}
 use Rattle.planner_c.proofs.words.put_three.Tie as tie
 
-slice-write-answer : tie.Need-slice-write-answer
-slice-write-answer c = search needs
-
 slice-write-answer-2 : tie.Need-slice-write-answer-2
 slice-write-answer-2 c = lt-length-set (now (c .args .answer)) 0 (c .args .a) (omega (arith, c .pre))
 
 slice-write-answer-3 : tie.Need-slice-write-answer-3
 slice-write-answer-3 c = lt-length-sets (now (c .args .answer)) 0 (c .args .a ∷ c .args .b ∷ []) (omega (arith, c .pre))
 
-same-length : tie.Need-same-length
-same-length c = search needs
-
-returns : tie.Need-returns
-returns c = search needs
-
 pub put-three-spec : {M : Type 1} → statement M
-put-three-spec = tie.close (tie.spec slice-write-answer slice-write-answer-2 slice-write-answer-3 same-length returns)
+put-three-spec = tie.close (tie.spec (search needs) slice-write-answer-2 slice-write-answer-3 (search needs) (search needs))

@@ -5,17 +5,8 @@ use borrow.Author.Needs.{needs}
 use Rattle.planner_c.proofs.words.put_written.Statement.{statement}
 use Rattle.planner_c.proofs.words.put_written.Tie as tie
 
-put-bounds-requires : tie.Need-put-bounds-requires
-put-bounds-requires c κs = search needs
-
-slice-write-answer : tie.Need-slice-write-answer
-slice-write-answer c = search needs
-
-same-length : tie.Need-same-length
-same-length c = search needs
-
 returns : tie.Need-returns
 returns c = ap (λ xs. set xs 4 (c .before .before .before .before .before .args .b .nodes)) (c .before .before .put-bounds .ensures)
 
 pub put-written-spec : {M : Type 1} → statement M
-put-written-spec = tie.close (tie.spec put-bounds-requires slice-write-answer same-length returns)
+put-written-spec = tie.close (tie.spec (search needs) (search needs) (λ c. search needs) returns)
