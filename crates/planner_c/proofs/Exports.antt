@@ -53,8 +53,10 @@ module _ (n : ℕ) (o : Outcome) (old : List ℕ) where
   pub short : length old < n → Answers 100 old
   short h = let e = lt-ltb (length old) n h in (sym (ap (λ b. returned-by b o) e), sym (ap (λ b. answered-by b old o) e))
 
-  pub enough : {number : ℕ} {new : List ℕ} → n ≤ length old → Gives o number old new → Answers number new
-  enough h g = let e = le-ltb (length old) n h in (g .0 ∙ sym (ap (λ b. returned-by b o) e), g .1 ∙ sym (ap (λ b. answered-by b old o) e))
+  pub enough : {said : Outcome} {number : ℕ} {new : List ℕ} → n ≤ length old → said ≡ o → Gives said number old new → Answers number new
+  enough h s g =
+      let e = le-ltb (length old) n h in
+      (g .0 ∙ ap (λ x. x .0) s ∙ sym (ap (λ b. returned-by b o) e), g .1 ∙ ap (λ x. over (x .1) old) s ∙ sym (ap (λ b. answered-by b old o) e))
 
 module _ {A : Type 0} (n : ℕ) (words : List ℕ) (Leaves : A → A → Type 0) where
   pub untouched : (m : A) → length words < n → Left n words Leaves m m

@@ -1,11 +1,10 @@
 -- `planner_c::planner_certify` meets its contract: too few words, or the certificate's outcome. Assumes nothing.
-use mathlib.Core.Path.{sym}
 use native.Mathlib.Omega.{arith}
 use denote.Ref.{now}
 use Rattle.job.specs.Weights.{block-job, weight-in}
 use Rattle.bound.specs.Bound.{lent, Leaves}
 use Rattle.certificate.specs.Certificate.{plan-verdict, certificate-said}
-use Rattle.planner_c.proofs.Exports.{given, short, enough, untouched, called}
+use Rattle.planner_c.proofs.Exports.{short, enough, untouched, called}
 use Rattle.planner_c.proofs.Calls.{certificate-sums}
 use borrow.Author.Needs.{needs}
 use Rattle.planner_c.proofs.planner_certify.Statement.{statement}
@@ -29,7 +28,7 @@ returns-2 c =
     let a = c .before .before .before .before .before .before .before .before .before .before .before .before .before .before .before .before .before .before .before .before .before .before .before .args in
     let h = c .before .before .before .before .before .before .before .before .before .before .before .before .before .before .if1 .left in
     let e = c .before .before .before .before .before .before .before .before .before .before .certify .ensures in
-    let s = enough 3 (certificate-said (now (a .block)) (now (a .weights)) (now (a .kinds)) (now (a .operands)) (lent (now (a .lengths)) (now (a .widths)) (now (a .table)))) (now (a .answer)) h (given (λ o. o) (now (a .answer)) (sym (e .1 .0)) (c .before .before .put-certificate .ensures)) in
+    let s = enough 3 (certificate-said (now (a .block)) (now (a .weights)) (now (a .kinds)) (now (a .operands)) (lent (now (a .lengths)) (now (a .widths)) (now (a .table)))) (now (a .answer)) h (e .1 .0) (c .before .before .put-certificate .ensures) in
     (s .0, (s .1, called 3 (now (a .answer)) (Leaves (plan-verdict (now (a .block)) (now (a .weights)) (now (a .kinds)) (now (a .operands))) (block-job (now (a .block))) (weight-in (now (a .weights)))) h (e .1 .1 .0)))
 
 pub planner-certify-spec : {M : Type 1} → statement M

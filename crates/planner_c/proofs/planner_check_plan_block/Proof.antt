@@ -1,9 +1,9 @@
 -- `planner_c::planner_check_plan_block` meets its contract: too few words, or the block check's outcome. Assumes nothing.
-use mathlib.Core.Path.{sym}
+use mathlib.Core.Path.{ap}
 use denote.Ref.{now}
 use Rattle.plan.specs.Calls.{block-answer}
 use Rattle.planner_c.specs.Exports.{plan-outcome}
-use Rattle.planner_c.proofs.Exports.{given, short, enough}
+use Rattle.planner_c.proofs.Exports.{short, enough}
 use borrow.Author.Needs.{needs}
 use Rattle.planner_c.proofs.planner_check_plan_block.Statement.{statement}
 use Rattle.planner_c.proofs.planner_check_plan_block.Tie as tie
@@ -14,7 +14,7 @@ returns c = let a = c .before .before .before .before .args in short 68 (plan-ou
 returns-2 : tie.Need-returns-2
 returns-2 c =
     let a = c .before .before .before .before .before .before .before .before .before .args in
-    enough 68 (plan-outcome (block-answer (now (a .block)) (now (a .plan)))) (now (a .answer)) (c .before .before .before .before .before .if1 .left) (given plan-outcome (now (a .answer)) (sym (c .before .before .before .before .check-plan-block .ensures .0)) (c .before .before .put-plan .ensures))
+    enough 68 (plan-outcome (block-answer (now (a .block)) (now (a .plan)))) (now (a .answer)) (c .before .before .before .before .before .if1 .left) (ap plan-outcome (c .before .before .before .before .check-plan-block .ensures .0)) (c .before .before .put-plan .ensures)
 
 pub planner-check-plan-block-spec : {M : Type 1} → statement M
 planner-check-plan-block-spec = tie.close (tie.spec returns (search needs) (search needs) (search needs) returns-2)
