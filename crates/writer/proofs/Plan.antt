@@ -21,10 +21,11 @@ use Rattle.cutting.proofs.Search.{Found, found, missing, first-found}
 use Rattle.cutting.proofs.Floor.{floor-le}
 use Rattle.cutting.proofs.Plan.{plan-tree, plan-recursion}
 use Rattle.job.specs.Weights.{weight-in}
-use Rattle.writer.specs.declared.Chosen.{Chosen}
-use Rattle.writer.specs.declared.Dimensions.{Dimensions}
-use Rattle.writer.specs.declared.Sides.{Sides}
-use Rattle.writer.specs.Plan.{Lent, Cell, lent-job, chosen-of, chosen-at, plan-at, sides-of}
+use Rattle.choice.specs.declared.Chosen.{Chosen}
+use Rattle.choice.specs.declared.Dimensions.{Dimensions}
+use Rattle.writer.specs.declared.nodes.Sides.{Sides}
+use Rattle.choice.specs.Lent.{Lent, Cell, lent-job, chosen-of, chosen-at}
+use Rattle.writer.specs.Plan.{plan-at, sides-of}
 use Rattle.writer.proofs.Preorder.{count-waste, count-piece, count-cut, count-some, nodes-most}
 
 module _ (J : Job) (weight : ℕ → ℕ) (l w c : ℕ) where

@@ -25,9 +25,10 @@ use Rattle.positions.proofs.Positions.{positions-rising, floors-found}
 use Rattle.table.specs.Table.{position-count, Listed, Mapped}
 use Rattle.bound.specs.declared.BoundReport.{BoundReport}
 use Rattle.bound.specs.Bound as bound
-use Rattle.writer.specs.declared.Dimensions.{Dimensions}
+use Rattle.choice.specs.declared.Dimensions.{Dimensions}
 use Rattle.writer.specs.declared.WriteAnswer.the-variants as answer
-use Rattle.writer.specs.Plan.{Tabled, Lent, Cell, plan-at}
+use Rattle.choice.specs.Lent.{Tabled, Lent, Cell}
+use Rattle.writer.specs.Plan.{plan-at}
 use Rattle.writer.specs.Write.{bound-plan, write-report, write-answer-by, Filled, plan-verdict, Planned}
 
 -- a list that holds the normal positions begins with them

@@ -16,8 +16,8 @@ use Rattle.cutting.proofs.Job.{figure-ceiling}
 use Rattle.cutting.proofs.Table.{positions-rise, positions-normal, positions-length, positions-floor, figure-floor}
 use Rattle.job.specs.Weights.{weight-in}
 use Rattle.table.specs.Table.{position-count, position, Listed, Mapped, words-needed, word}
-use Rattle.writer.specs.Search.{Row, Searchable}
-use Rattle.writer.specs.Plan.{Tabled}
+use Rattle.choice.specs.Search.{Row, Searchable}
+use Rattle.choice.specs.Lent.{Tabled}
 
 -- the words from one row to the next, and the word where row 0 begins; a and b are the indexes of the tabled length and width
 abbrev pub stride-of : ℕ → ℕ → Direction → ℕ

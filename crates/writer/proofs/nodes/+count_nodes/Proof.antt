@@ -1,4 +1,4 @@
--- `writer::count_nodes` meets its contract. The measure is the half perimeter. Assumes nothing.
+-- `writer::nodes::count_nodes` meets its contract. The measure is the half perimeter. Assumes nothing.
 use Rattle.writer.proofs.Plan.{plan-nodes, waste-count, piece-count, cut-position, cut-parts, cut-count}
 use native.Mathlib.Omega.{arith}
 use borrow.Author.Needs.{needs}
@@ -6,14 +6,14 @@ use mathlib.Core.Path.{sym}
 use Prim.Native.Nat.{ℕ, _+_, _<_}
 use borrow.Fn.Kinds.{In}
 use borrow.Fn.PlainCycle.{Measures, is, falls, and}
-use Rattle.writer.proofs.count_nodes.Reads as count-nodes
-use Rattle.writer.proofs.count_nodes.Kinds as count-nodes-kinds
-use Rattle.writer.proofs.+count_nodes.Lts-count_nodes as count-nodes-lts
-use Rattle.writer.proofs.choose.Reads as choose-reads
-use Rattle.writer.proofs.first_part.Reads as first-part-reads
-use Rattle.writer.proofs.second_part.Reads as second-part-reads
-use Rattle.writer.proofs.+count_nodes.{statement}
-use Rattle.writer.proofs.+count_nodes.Tie.{close}
+use Rattle.writer.proofs.nodes.count_nodes.Reads as count-nodes
+use Rattle.writer.proofs.nodes.count_nodes.Kinds as count-nodes-kinds
+use Rattle.writer.proofs.nodes.+count_nodes.Lts-count_nodes as count-nodes-lts
+use Rattle.choice.proofs.choose.Reads as choose-reads
+use Rattle.writer.proofs.nodes.first_part.Reads as first-part-reads
+use Rattle.writer.proofs.nodes.second_part.Reads as second-part-reads
+use Rattle.writer.proofs.nodes.+count_nodes.{statement}
+use Rattle.writer.proofs.nodes.+count_nodes.Tie.{close}
 
 abbrev μ-count-nodes : Measures 9 count-nodes-kinds.ps ℕ
 μ-count-nodes κs a = a .0 + a .1 .0

@@ -11,7 +11,7 @@ use borrow.Author.Tests.{eq-eqb, ne-eqb}
 use lib.Dec.{eqb}
 use lib.ListN.{length, getD}
 use Rattle.cutting.specs.Lists.{range, first, pairs}
-use Rattle.writer.specs.Search.{pair-test, Row, Searchable}
+use Rattle.choice.specs.Search.{pair-test, Row, Searchable}
 
 -- a run of numbers from i to n, and what is left of it
 pub run-more : (i n : ℕ) → i < n → range i (n - i) ≡ i ∷ range (i + 1) (n - (i + 1))

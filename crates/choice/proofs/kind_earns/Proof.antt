@@ -1,9 +1,9 @@
--- `writer::kind_earns` meets its contract. Assumes nothing.
+-- `choice::kind_earns` meets its contract. Assumes nothing.
 use native.Mathlib.Omega.{arith}
 use borrow.Author.Tests.{le-leb, lt-leb}
 use borrow.Author.Needs.{needs}
-use Rattle.writer.proofs.kind_earns.Statement.{statement}
-use Rattle.writer.proofs.kind_earns.Tie as tie
+use Rattle.choice.proofs.kind_earns.Statement.{statement}
+use Rattle.choice.proofs.kind_earns.Tie as tie
 
 returns : tie.Need-returns
 returns c = simp (lt-leb _ _ (c .if1 .taken))

@@ -1,7 +1,7 @@
--- `writer::first_part` meets its contract. Assumes nothing.
+-- `writer::nodes::first_part` meets its contract. Assumes nothing.
 use borrow.Author.Needs.{needs}
-use Rattle.writer.proofs.first_part.Statement.{statement}
-use Rattle.writer.proofs.first_part.Tie as tie
+use Rattle.writer.proofs.nodes.first_part.Statement.{statement}
+use Rattle.writer.proofs.nodes.first_part.Tie as tie
 
 enum-told : tie.Need-enum-told
 enum-told c = search needs

@@ -1,10 +1,10 @@
--- `writer::choose` meets its contract. Assumes nothing.
-use Rattle.writer.proofs.Choice.{sizes, there, cuts-searchable, none-chosen, kind-chosen, cut-chosen}
+-- `choice::choose` meets its contract. Assumes nothing.
+use Rattle.choice.proofs.Choice.{sizes, there, cuts-searchable, none-chosen, kind-chosen, cut-chosen}
 use native.Mathlib.Omega.{arith}
 use mathlib.Core.Path.{_∙_, sym}
 use borrow.Author.Needs.{needs}
-use Rattle.writer.proofs.choose.Statement.{statement}
-use Rattle.writer.proofs.choose.Tie as tie
+use Rattle.choice.proofs.choose.Statement.{statement}
+use Rattle.choice.proofs.choose.Tie as tie
 
 mul-a : tie.Need-mul-a
 mul-a c = search needs

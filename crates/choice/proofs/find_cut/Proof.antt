@@ -1,13 +1,13 @@
--- `writer::find_cut` meets its contract. Assumes nothing.
-use Rattle.writer.proofs.Search.{rows-left, row-left, row-starts, rows-end, row-ends, second-word, pair-fails, pair-passes}
-use Rattle.writer.specs.Search.{pair-test, first-index, cut-found}
-use Rattle.writer.specs.declared.CutFound.the-variants.{Missing}
+-- `choice::find_cut` meets its contract. Assumes nothing.
+use Rattle.choice.proofs.Search.{rows-left, row-left, row-starts, rows-end, row-ends, second-word, pair-fails, pair-passes}
+use Rattle.choice.specs.Search.{pair-test, first-index, cut-found}
+use Rattle.choice.specs.declared.CutFound.the-variants.{Missing}
 use native.Mathlib.Omega.{arith}
 use borrow.Author.Needs.{needs}
 use Prim.Native.Nat.{_-_, _≤_, _+_}
 use mathlib.Core.Path.{_≡_, refl, _∙_, sym, ap}
-use Rattle.writer.proofs.find_cut.Statement.{statement}
-use Rattle.writer.proofs.find_cut.Tie as tie
+use Rattle.choice.proofs.find_cut.Statement.{statement}
+use Rattle.choice.proofs.find_cut.Tie as tie
 
 abbrev Inv-loop : tie.InvT-loop
 Inv-loop positions map table side last stride base c value shares found₀ i x rest first second k₀ found k = (k ≤ shares) × (found ≡ Missing) × (first-index positions map table side last stride base c value ≡ row-left (pair-test positions map table side stride base c value) last (c + 1) i k)

@@ -23,15 +23,15 @@ use Rattle.cutting.proofs.Positions.{between-length, between-entry}
 use Rattle.cutting.proofs.Table.{normal-zero}
 use Rattle.job.specs.Weights.{weight-in}
 use Rattle.table.specs.Table.{position-count, position, Listed, Mapped}
-use Rattle.writer.specs.declared.Chosen.{Chosen}
-use Rattle.writer.specs.declared.Dimensions.{Dimensions}
-use Rattle.writer.specs.declared.KindFound.{KindFound}
-use Rattle.writer.specs.declared.KindFound.the-variants as kind
-use Rattle.writer.specs.declared.CutFound.{CutFound}
-use Rattle.writer.specs.declared.CutFound.the-variants as found
-use Rattle.writer.specs.Search.{kind-test, kind-found, pair-test, first-index, cut-found, or-width-cut, or-length-cut, Searchable}
-use Rattle.writer.specs.Plan.{Tabled, lent-job, Lent, Cell, chosen-of, chosen-at}
-use Rattle.writer.proofs.Rows.{stride-of, base-of, figure-at, row-figure, mapped-figure, cell-figure, cell-there, cell-sizes, searchable}
+use Rattle.choice.specs.declared.Chosen.{Chosen}
+use Rattle.choice.specs.declared.Dimensions.{Dimensions}
+use Rattle.choice.specs.declared.KindFound.{KindFound}
+use Rattle.choice.specs.declared.KindFound.the-variants as kind
+use Rattle.choice.specs.declared.CutFound.{CutFound}
+use Rattle.choice.specs.declared.CutFound.the-variants as found
+use Rattle.choice.specs.Search.{kind-test, kind-found, pair-test, first-index, cut-found, or-width-cut, or-length-cut, Searchable}
+use Rattle.choice.specs.Lent.{Tabled, lent-job, Lent, Cell, chosen-of, chosen-at}
+use Rattle.choice.proofs.Rows.{stride-of, base-of, figure-at, row-figure, mapped-figure, cell-figure, cell-there, cell-sizes, searchable}
 
 -- searches over mapped lists
 module _ {A B : Type 0} where

@@ -10,11 +10,11 @@ use lib.ListN.{length, getD}
 use Rattle.cutting.specs.declared.Direction.the-variants.{Length, Width}
 use Rattle.cutting.specs.declared.Node.the-variants.{Waste, Cut}
 use Rattle.cutting.specs.Lists.{range, first, pairs}
-use Rattle.writer.specs.declared.Chosen.{Chosen}
-use Rattle.writer.specs.declared.KindFound.{KindFound}
-use Rattle.writer.specs.declared.KindFound.the-variants as kind
-use Rattle.writer.specs.declared.CutFound.{CutFound}
-use Rattle.writer.specs.declared.CutFound.the-variants as cut
+use Rattle.choice.specs.declared.Chosen.{Chosen}
+use Rattle.choice.specs.declared.KindFound.{KindFound}
+use Rattle.choice.specs.declared.KindFound.the-variants as kind
+use Rattle.choice.specs.declared.CutFound.{CutFound}
+use Rattle.choice.specs.declared.CutFound.the-variants as cut
 
 -- whether a kind fits the rectangle, weighs at most the share and has the value as its price
 abbrev pub earns-alone : ℕ → ℕ → ℕ → ℕ → ℕ → ℕ → ℕ → ℕ → Bool

@@ -1,4 +1,4 @@
--- `writer::write_nodes` meets its contract. The measure is the half perimeter. Assumes nothing.
+-- `writer::nodes::write_nodes` meets its contract. The measure is the half perimeter. Assumes nothing.
 use Rattle.writer.proofs.Plan.{plan-some, waste-count, piece-count, cut-position, cut-parts, cut-count, waste-preorder, piece-preorder, cut-preorder}
 use Rattle.writer.proofs.Preorder.{leaf-kinds, leaf-operands, cut-kinds, cut-operands}
 use lib.ListN.{length-set}
@@ -8,16 +8,16 @@ use mathlib.Core.Path.{_∙_}
 use Prim.Native.Nat.{ℕ, _+_, _<_}
 use borrow.Fn.Kinds.{In}
 use borrow.Fn.PlainCycle.{Measures, is, falls, and}
-use Rattle.writer.proofs.write_nodes.Reads as write-nodes
-use Rattle.writer.proofs.write_nodes.Kinds as write-nodes-kinds
-use Rattle.writer.proofs.+write_nodes.Lts-write_nodes as write-nodes-lts
-use Rattle.writer.proofs.choose.Reads as choose-reads
-use Rattle.writer.proofs.first_part.Reads as first-part-reads
-use Rattle.writer.proofs.kind_number.Reads as kind-number-reads
-use Rattle.writer.proofs.operand.Reads as operand-reads
-use Rattle.writer.proofs.second_part.Reads as second-part-reads
-use Rattle.writer.proofs.+write_nodes.{statement}
-use Rattle.writer.proofs.+write_nodes.Tie.{close}
+use Rattle.writer.proofs.nodes.write_nodes.Reads as write-nodes
+use Rattle.writer.proofs.nodes.write_nodes.Kinds as write-nodes-kinds
+use Rattle.writer.proofs.nodes.+write_nodes.Lts-write_nodes as write-nodes-lts
+use Rattle.choice.proofs.choose.Reads as choose-reads
+use Rattle.writer.proofs.nodes.first_part.Reads as first-part-reads
+use Rattle.writer.proofs.nodes.kind_number.Reads as kind-number-reads
+use Rattle.writer.proofs.nodes.operand.Reads as operand-reads
+use Rattle.writer.proofs.nodes.second_part.Reads as second-part-reads
+use Rattle.writer.proofs.nodes.+write_nodes.{statement}
+use Rattle.writer.proofs.nodes.+write_nodes.Tie.{close}
 
 abbrev μ-write-nodes : Measures 11 write-nodes-kinds.ps ℕ
 μ-write-nodes κs a = a .0 + a .1 .0

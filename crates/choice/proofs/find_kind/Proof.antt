@@ -1,12 +1,12 @@
--- `writer::find_kind` meets its contract. Assumes nothing.
-use Rattle.writer.proofs.Search.{left, left-start, left-fails, left-passes, left-end}
-use Rattle.writer.specs.Search.{kind-test, kind-found}
+-- `choice::find_kind` meets its contract. Assumes nothing.
+use Rattle.choice.proofs.Search.{left, left-start, left-fails, left-passes, left-end}
+use Rattle.choice.specs.Search.{kind-test, kind-found}
 use Rattle.cutting.specs.Lists.{range, first}
 use borrow.Author.Needs.{needs}
 use Prim.Native.Nat.{_-_, _≤_}
 use mathlib.Core.Path.{_≡_, _∙_, sym, ap}
-use Rattle.writer.proofs.find_kind.Statement.{statement}
-use Rattle.writer.proofs.find_kind.Tie as tie
+use Rattle.choice.proofs.find_kind.Statement.{statement}
+use Rattle.choice.proofs.find_kind.Tie as tie
 
 abbrev Inv-loop : tie.InvT-loop
 Inv-loop lengths widths prices weights count l w c value i₀ i = (i ≤ count) × (first (kind-test lengths widths prices weights l w c value) (range 0 count) ≡ left (kind-test lengths widths prices weights l w c value) count i)

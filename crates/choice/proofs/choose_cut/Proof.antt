@@ -1,10 +1,10 @@
--- `writer::choose_cut` meets its contract. Assumes nothing.
-use Rattle.writer.proofs.Choice.{length-out, width-out, waste-out}
+-- `choice::choose_cut` meets its contract. Assumes nothing.
+use Rattle.choice.proofs.Choice.{length-out, width-out, waste-out}
 use native.Mathlib.Omega.{arith}
 use mathlib.Core.Path.{_∙_, sym}
 use borrow.Author.Needs.{needs}
-use Rattle.writer.proofs.choose_cut.Statement.{statement}
-use Rattle.writer.proofs.choose_cut.Tie as tie
+use Rattle.choice.proofs.choose_cut.Statement.{statement}
+use Rattle.choice.proofs.choose_cut.Tie as tie
 
 mul-find-cut : tie.Need-mul-find-cut
 mul-find-cut c = omega (arith, c .before .before .before .pre .0 .remainders 0 (omega arith) 0 (omega arith))

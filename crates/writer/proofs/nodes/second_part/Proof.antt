@@ -1,7 +1,7 @@
--- `writer::second_part` meets its contract. Assumes nothing.
+-- `writer::nodes::second_part` meets its contract. Assumes nothing.
 use borrow.Author.Needs.{needs}
-use Rattle.writer.proofs.second_part.Statement.{statement}
-use Rattle.writer.proofs.second_part.Tie as tie
+use Rattle.writer.proofs.nodes.second_part.Statement.{statement}
+use Rattle.writer.proofs.nodes.second_part.Tie as tie
 
 enum-told : tie.Need-enum-told
 enum-told c = search needs
