@@ -59,7 +59,7 @@ fn list_positions(job: JobRecord, lengths: &mut [u16], widths: &mut [u16]) -> Co
     }
 }
 
-// The figures of a job, into a table that is long enough: the maps of remainders first, then row after row.
+// The figures of a job, into a table that is long enough: the maps of remainders first, then the fill for one share or for many.
 fn fill_table(
     job: JobRecord,
     weights: &[u8],
@@ -82,7 +82,26 @@ fn fill_table(
     let along = job.lengths;
     let across = job.widths;
     let prices = job.prices;
-    table::fill(
+    if q == 0 {
+        one_share::fill(
+            length,
+            width,
+            &along,
+            &across,
+            &prices,
+            weights,
+            job.count,
+            lengths,
+            &lengthmap,
+            p,
+            widths,
+            &widthmap,
+            r,
+            table,
+        );
+        return;
+    }
+    shares::fill(
         length,
         width,
         &along,

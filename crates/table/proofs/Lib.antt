@@ -1,9 +1,6 @@
 pub mod Words
-pub mod Divisions
 pub mod Halves
-pub mod Cuts
-pub mod Widths
-pub mod Placing
 pub mod Figures
 pub mod Rows
-pub mod Demands
+pub mod Covered
+pub mod Complete

@@ -1,9 +1,12 @@
--- `bound::fill_table` meets its contract. Assumes nothing.
-use mathlib.Core.Path.{ap}
+-- `bound::fill_table` meets its contract: both fills require the same and leave the same. Assumes nothing.
+use mathlib.Core.Path.{ap, subst, sym}
+use Prim.Native.Nat.{_≤_}
 use denote.Ref.{now}
+use lib.ListN.{length}
 use Rattle.cutting.specs.declared.Direction.the-variants.{Length, Width}
 use Rattle.job.specs.Block.{job-of}
 use Rattle.job.specs.Weights.{weight-in}
+use Rattle.table.specs.Table.{words-needed, Figures, Kept}
 use Rattle.bound.specs.declared.Counts.{Counts}
 use Rattle.bound.proofs.Filled.{floor-ready, bare-in-range, positions-are, bare-room, whole-figures, whole-kept}
 use borrow.Author.Needs.{needs}
@@ -11,10 +14,10 @@ use Rattle.bound.proofs.fill_table.Statement.{statement}
 use Rattle.bound.proofs.fill_table.Tie as tie
 
 floor-map-requires : tie.Need-floor-map-requires
-floor-map-requires c κs = floor-ready (job-of (c .before .before .before .before .args .job)) (c .before .before .before .before .pre .0) Length (now (c .before .before .before .before .args .lengths)) (ap (λ (x : Counts). x .lengths) (c .before .before .before .before .pre .3)) (c .before .before .before .before .pre .4)
+floor-map-requires c κs = let e = (c .before .before .before .before) in floor-ready (job-of (e .args .job)) (e .pre .0) Length (now (e .args .lengths)) (ap (λ (x : Counts). x .lengths) (e .pre .3)) (e .pre .4)
 
 floor-map-requires-2 : tie.Need-floor-map-requires-2
-floor-map-requires-2 c κs = floor-ready (job-of (c .before .before .before .before .before .args .job)) (c .before .before .before .before .before .pre .0) Width (now (c .before .before .before .before .before .args .widths)) (ap (λ (x : Counts). x .widths) (c .before .before .before .before .before .pre .3)) (c .before .before .before .before .before .pre .5)
+floor-map-requires-2 c κs = let e = (c .before .before .before .before .before) in floor-ready (job-of (e .args .job)) (e .pre .0) Width (now (e .args .widths)) (ap (λ (x : Counts). x .widths) (e .pre .3)) (e .pre .5)
 
 slice-aggregate-fill : tie.Need-slice-aggregate-fill
 slice-aggregate-fill c = search needs
@@ -24,16 +27,15 @@ slice-aggregate-fill-2 c = search needs
 
 fill-requires : tie.Need-fill-requires
 fill-requires c κs =
-    let j = c .before .before .before .before .before .before .before .before .before .before .before .before .before .before .before .args .job in
-    let h = c .before .before .before .before .before .before .before .before .before .before .before .before .before .before .before .pre in
-    let first = c .before .before .before .before .before .before .before .before .before .before .floor-map .ensures in
-    let second = c .before .before .before .before .before .before .before .before .before .floor-map2 .ensures in (
-      bare-in-range j (h .0),
-      h .1,
-      h .2,
-      positions-are j Length _ _ _ (ap (λ (x : Counts). x .lengths) (c .before .before .before .before .before .before .before .before .before .before .before .before .before .before .before .pre .3)) (h .4) (h .0) (first .0) (first .1),
-      positions-are j Width _ _ _ (ap (λ (x : Counts). x .widths) (c .before .before .before .before .before .before .before .before .before .before .before .before .before .before .before .pre .3)) (h .5) (h .0) (second .0) (second .1),
-      bare-room j (c .before .before .before .before .before .before .before .before .before .before .before .before .before .before .before .args .q) (h .6),
+    let e = (c .before .before .before .before .before .before .before .before .before .before .before .before .before .before .before .before) in
+    let j = e .args .job in
+    let first = c .before .before .before .before .before .before .before .before .before .before .before .floor-map .ensures in
+    let second = c .before .before .before .before .before .before .before .before .before .before .floor-map2 .ensures in (
+      bare-in-range j (e .pre .0),
+      e .pre .1,
+      positions-are j Length _ _ _ (ap (λ (x : Counts). x .lengths) (e .pre .3)) (e .pre .4) (e .pre .0) (first .0) (first .1),
+      positions-are j Width _ _ _ (ap (λ (x : Counts). x .widths) (e .pre .3)) (e .pre .5) (e .pre .0) (second .0) (second .1),
+      bare-room j 0 (subst (λ q. words-needed (job-of j) q ≤ length (now (e .args .table))) (c .before .before .before .before .before .before .if1 .taken) (e .pre .6)),
     )
 
 same-length : tie.Need-same-length
@@ -41,9 +43,42 @@ same-length c = search needs
 
 returns : tie.Need-returns
 returns c =
-    let j = c .before .before .before .before .before .before .before .before .before .before .before .before .before .before .before .before .before .before .args .job in
-    let f = c .before .before .fill .ensures in
-    (whole-figures j (weight-in (now (c .before .before .before .before .before .before .before .before .before .before .before .before .before .before .before .before .before .before .args .weights))) (c .before .before .before .before .before .before .before .before .before .before .before .before .before .before .before .before .before .before .args .q) (c .before .before .fill .last .1 .1 .1 .1 .1 .1 .1 .1 .1 .1 .1 .1 .1 .1 .0) (f .0), whole-kept j (c .before .before .before .before .before .before .before .before .before .before .before .before .before .before .before .before .before .before .args .q) (now (c .before .before .before .before .before .before .before .before .before .before .before .before .before .before .before .before .before .before .args .table)) (c .before .before .fill .last .1 .1 .1 .1 .1 .1 .1 .1 .1 .1 .1 .1 .1 .1 .0) (f .1))
+    let e = (c .before .before .before .before .before .before .before .before .before .before .before .before .before .before .before .before .before .before .before) in
+    let j = e .args .job in
+    let f = c .before .before .fill in
+    let z = c .before .before .before .before .before .before .before .before .before .if1 .taken in
+    subst (λ q. Figures (job-of j) (weight-in (now (e .args .weights))) q (f .last .1 .1 .1 .1 .1 .1 .1 .1 .1 .1 .1 .1 .1 .0) × Kept (words-needed (job-of j) q) (now (e .args .table)) (f .last .1 .1 .1 .1 .1 .1 .1 .1 .1 .1 .1 .1 .1 .0)) (sym z)
+    (whole-figures j (weight-in (now (e .args .weights))) 0 (f .last .1 .1 .1 .1 .1 .1 .1 .1 .1 .1 .1 .1 .1 .0) (f .ensures .0), whole-kept j 0 (now (e .args .table)) (f .last .1 .1 .1 .1 .1 .1 .1 .1 .1 .1 .1 .1 .1 .0) (f .ensures .1))
+
+slice-aggregate-fill-3 : tie.Need-slice-aggregate-fill-3
+slice-aggregate-fill-3 c = search needs
+
+slice-aggregate-fill-4 : tie.Need-slice-aggregate-fill-4
+slice-aggregate-fill-4 c = search needs
+
+fill-requires-2 : tie.Need-fill-requires-2
+fill-requires-2 c κs =
+    let e = (c .before .before .before .before .before .before .before .before .before .before .before .before .before .before .before .before) in
+    let j = e .args .job in
+    let first = c .before .before .before .before .before .before .before .before .before .before .before .floor-map .ensures in
+    let second = c .before .before .before .before .before .before .before .before .before .before .floor-map2 .ensures in (
+      bare-in-range j (e .pre .0),
+      e .pre .1,
+      e .pre .2,
+      positions-are j Length _ _ _ (ap (λ (x : Counts). x .lengths) (e .pre .3)) (e .pre .4) (e .pre .0) (first .0) (first .1),
+      positions-are j Width _ _ _ (ap (λ (x : Counts). x .widths) (e .pre .3)) (e .pre .5) (e .pre .0) (second .0) (second .1),
+      bare-room j (e .args .q) (e .pre .6),
+    )
+
+same-length-2 : tie.Need-same-length-2
+same-length-2 c = search needs
+
+returns-2 : tie.Need-returns-2
+returns-2 c =
+    let e = (c .before .before .before .before .before .before .before .before .before .before .before .before .before .before .before .before .before .before .before) in
+    let j = e .args .job in
+    let f = c .before .before .fill2 in
+    (whole-figures j (weight-in (now (e .args .weights))) (e .args .q) (f .last .1 .1 .1 .1 .1 .1 .1 .1 .1 .1 .1 .1 .1 .1 .0) (f .ensures .0), whole-kept j (e .args .q) (now (e .args .table)) (f .last .1 .1 .1 .1 .1 .1 .1 .1 .1 .1 .1 .1 .1 .1 .0) (f .ensures .1))
 
 pub fill-table-spec : {M : Type 1} → statement M
 fill-table-spec =
@@ -55,4 +90,9 @@ fill-table-spec =
     slice-aggregate-fill-2
     fill-requires
     same-length
-    returns)
+    returns
+    slice-aggregate-fill-3
+    slice-aggregate-fill-4
+    fill-requires-2
+    same-length-2
+    returns-2)

@@ -1,0 +1,61 @@
+-- Words that take values where those are more, and the values that a row's words take: the sums of two earlier rows, the prices of kinds,
+-- and the sums that a cell pushes to the units beyond it.
+-- Assumes nothing.
+use mathlib.Core.Path.{_≡_}
+use mathlib.Core.List.{List}
+use mathlib.Core.Logic.{_⊎_}
+use Prim.Native.Nat.{ℕ, _+_, _-_, _*_, _≤_, _<_, min}
+use lib.ListN.{getD}
+use Rattle.table.specs.Words.{beyond}
+
+-- each word has become the greatest of what it was and the values offered to it
+pub record Raised (offered : ℕ → ℕ → Type 0) (old new : List ℕ) : Type 0 where
+  pub grown : (i : ℕ) → getD old i 0 ≤ getD new i 0
+  pub low : (i bound : ℕ) → ((v : ℕ) → offered i v → v ≤ bound) → getD old i 0 ≤ bound → getD new i 0 ≤ bound
+  pub taken : (i v : ℕ) → offered i v → v ≤ getD new i 0
+
+-- v is offered to word x alone
+abbrev pub Single : ℕ → ℕ → ℕ → ℕ → Type 0
+Single x v i u = (i ≡ x) × (u ≡ v)
+
+-- the r words from `at` on are offered the sums of those from x on and those from y on
+pub record Sums (xs : List ℕ) (at x y r i v : ℕ) : Type 0 where
+  pub index : ℕ
+  pub inside : index < r
+  pub place : i ≡ at + index
+  pub value : v ≡ getD xs (x + index) 0 + getD xs (y + index) 0
+
+-- a row of r words is offered the cuts of entry a at the entries from 1 to k less 1 whose parts make up the whole
+pub record LengthCuts (xs list map : List ℕ) (a k at r i v : ℕ) : Type 0 where
+  pub part : ℕ
+  pub from : 1 ≤ part
+  pub to : part < k
+  pub exact : getD list part 0 + getD list (beyond list map a part) 0 ≡ getD list a 0
+  pub sums : Sums xs at (part * r) (beyond list map a part * r) r i v
+
+-- the unit of a kind's width is offered its price, if the kind has length l, fits in width w and has no weight
+pub record Kind (l w size width weight price i v : ℕ) : Type 0 where
+  pub long : size ≡ l
+  pub fits : width ≤ w
+  pub light : weight ≡ 0
+  pub place : i ≡ width
+  pub value : v ≡ price
+
+-- the same for every kind below `count`
+pub record Kinds (l w : ℕ) (lengths widths weights prices : ℕ → ℕ) (count i v : ℕ) : Type 0 where
+  pub index : ℕ
+  pub inside : index < count
+  pub kind : Kind l w (lengths index) (widths index) (weights index) (prices index) i v
+
+-- the units beyond x are offered v together with what the units from `least` to `end` less 1 have
+pub record Pushed (xs : List ℕ) (x least end v i u : ℕ) : Type 0 where
+  pub index : ℕ
+  pub from : least ≤ index
+  pub to : index < end
+  pub place : i ≡ x + index
+  pub value : u ≡ v + getD xs index 0
+
+-- unit x is offered what the cell before has, and pushes where it has more: the other part of a cut is not wider, nor is the whole
+-- wider than the side
+abbrev pub CellPush : List ℕ → ℕ → ℕ → ℕ → ℕ → ℕ → ℕ → Type 0
+CellPush xs x least side before i v = Single x before i v ⊎ ((before < getD xs x 0) × Pushed xs x least (min x (side - x) + 1) (getD xs x 0) i v)

@@ -1,0 +1,14 @@
+pub mod Filling
+pub mod Growing
+pub mod Held
+pub mod Joins
+pub mod Making
+pub mod Marking
+pub mod Outside
+pub mod Placing
+pub mod Raised
+pub mod Reached
+pub mod Running
+pub mod Settling
+pub mod Starting
+pub mod Sums

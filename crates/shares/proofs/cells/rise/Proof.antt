@@ -1,0 +1,14 @@
+-- `shares::cells::rise` meets its contract. Each answer is the one that the definition gives for that test.
+-- Assumes nothing.
+use borrow.Author.Tests.{lt-ltb, le-ltb}
+use Rattle.shares.proofs.cells.rise.Statement.{statement}
+use Rattle.shares.proofs.cells.rise.Tie as tie
+
+returns : tie.Need-returns
+returns c = simp (lt-ltb _ _ (c .if1 .taken))
+
+returns-2 : tie.Need-returns-2
+returns-2 c = simp (le-ltb _ _ (c .if1 .left))
+
+pub rise-spec : {M : Type 1} → statement M
+rise-spec = tie.close (tie.spec returns returns-2)
