@@ -141,6 +141,9 @@ module _ (J : Job) (weight : ℕ → ℕ) (fit : InRange J) (p r : ℕ) (long lo
     pub copied-small : (i b : ℕ) → i < a → b < r → getD t1 (i * r + b) 0 ≤ 1000000000000
     copied-small i b l m = omega (arith, copied-rows i b l m, cell-low i b (omega arith), positions-axis J Width r wide widemap fit widths .side b m .0)
 
+    pub row-small : (b : ℕ) → b < r → getD t1 (at + b) 0 ≤ 2000000000000
+    row-small b m = omega (arith, copied b m, cell-low (a - 1) b (omega arith), positions-axis J Width r wide widemap fit widths .side b m .0)
+
     module _ (t2 : List ℕ) (cuts : Raised (LengthCuts t1 long longmap a k at r) t1 t2) where
       -- the words outside the row are as they were
       cut-rest : Outside at (at + r) t1 t2

@@ -3,8 +3,9 @@
 use mathlib.Core.Path.{_≡_, refl, sym, _∙_, ap, ap₂}
 use mathlib.Core.List.{List}
 use mathlib.Core.Logic.{_⊎_, inl, inr, ⊎-elim}
-use Prim.Native.Nat.{ℕ, _+_, _-_, _*_, _≤_, _<_, min}
+use Prim.Native.Nat.{ℕ, _+_, _-_, _*_, _/_, _%_, _≤_, _<_, min, max}
 use native.Mathlib.Decide.{ℕ-discrete, decLe}
+use native.Mathlib.Nat.{add-mul-mod-self-left, mod-eq-of-lt, div-eq-of-lt-le}
 use native.Mathlib.Omega.{arith}
 use borrow.Author.Count.{below-more}
 use lib.ListN.{length, getD, set}
@@ -32,7 +33,36 @@ raised-set x v xs l h = record { grown = λ i. grown i (ℕ-discrete i x); low =
     low i b f k (yes e) = let m : v ≤ b = f v (e, refl) in rw e (omega (arith, same))
     low i b f k (no e) = omega (arith, getD-set-other xs x i v 0 e)
 
--- a value that is not more is not
+-- the greater of a word and a value is stored
+pub raised-max : (x v u : ℕ) (xs : List ℕ) → x < length xs → u ≡ max (getD xs x 0) v → Raised (Single x v) xs (set xs x u)
+raised-max x v u xs l h = record { grown = λ i. grown i (ℕ-discrete i x); low = λ i b f k. low i b f k (ℕ-discrete i x); taken = λ i w s. rw (s .0) (omega (arith, same, s .1)) }
+  where
+    same : getD (set xs x u) x 0 ≡ u
+    same = getD-set-same xs x u 0 l
+
+    grown : (i : ℕ) → Dec (i ≡ x) → getD xs i 0 ≤ getD (set xs x u) i 0
+    grown i (yes e) = rw e (omega (arith, same))
+    grown i (no e) = omega (arith, getD-set-other xs x i u 0 e)
+
+    low : (i b : ℕ) → ((w : ℕ) → Single x v i w → w ≤ b) → getD xs i 0 ≤ b → Dec (i ≡ x) → getD (set xs x u) i 0 ≤ b
+    low i b f k (yes e) = let m : v ≤ b = f v (e, refl) in rw e (omega (arith, same, rw e at k))
+    low i b f k (no e) = omega (arith, getD-set-other xs x i u 0 e)
+
+-- by how much a number is above another: their difference above 2^63, where it has the top bit
+pub gain-is : (a b d : ℕ) → a ≤ 2000000000000 → b ≤ 2000000000000 → d ≡ b + 9223372036854775808 - a → d % 9223372036854775808 * (d / 9223372036854775808) ≡ max a b - a
+gain-is a b d h l e = go (decLe a b)
+  where
+    go : Dec (a ≤ b) → d % 9223372036854775808 * (d / 9223372036854775808) ≡ max a b - a
+    go (yes m) =
+        let p : d / 9223372036854775808 ≡ 1 = div-eq-of-lt-le {k = 1} 9223372036854775808 {m = d} (omega arith) (omega arith) in
+        let q : d ≡ b - a + 9223372036854775808 * 1 = omega arith in
+        let s : d % 9223372036854775808 ≡ b - a = ap (λ n. n % 9223372036854775808) q ∙ add-mul-mod-self-left (b - a) 9223372036854775808 1 ∙ mod-eq-of-lt {n = b - a} {m = 9223372036854775808} (omega arith) in
+        rw (s, p) (omega arith)
+    go (no m) =
+        let p : d / 9223372036854775808 ≡ 0 = div-eq-of-lt-le {k = 0} 9223372036854775808 {m = d} (omega arith) (omega arith) in
+        rw p (omega arith)
+
+-- a value that is not more is not stored
 pub raised-keep : (x v : ℕ) (xs : List ℕ) → v ≤ getD xs x 0 → Raised (Single x v) xs xs
 raised-keep x v xs h = record { grown = λ i. omega arith; low = λ i b f k. k; taken = λ i u s. rw (s .0) (omega (arith, s .1)) }
 
@@ -60,6 +90,10 @@ sums-none at x y xs = raised-none (Sums xs at x y 0) xs (λ i v s. omega (arith,
 -- the words before them are as they were
 pub sums-same : (at x y j : ℕ) (old new : List ℕ) → Raised (Sums old at x y j) old new → (i : ℕ) → i < at → getD new i 0 ≡ getD old i 0
 sums-same at x y j old new p i h = raised-same (Sums old at x y j) old new i p (λ v s. omega (arith, s .place))
+
+-- a word that has taken no sum yet is as it was
+pub sums-later : (at x y j : ℕ) (old new : List ℕ) → Raised (Sums old at x y j) old new → getD new (at + j) 0 ≡ getD old (at + j) 0
+sums-later at x y j old new p = raised-same (Sums old at x y j) old new (at + j) p (λ v s. omega (arith, s .place, s .inside))
 
 pub sums-next : (at x y j : ℕ) (old mid new : List ℕ) → x + j < at → y + j < at → Raised (Sums old at x y j) old mid
     → Raised (Single (at + j) (getD mid (x + j) 0 + getD mid (y + j) 0)) mid new → Raised (Sums old at x y (j + 1)) old new
@@ -147,6 +181,13 @@ module _ (a i at r : ℕ) (list map old mid : List ℕ) (p : Raised (LengthCuts 
   -- the words before the row are as they were
   pub cuts-same : (j : ℕ) → j < at → getD mid j 0 ≡ getD old j 0
   cuts-same j h = raised-same (LengthCuts old list map a i at r) old mid j p (λ v s. omega (arith, s .sums .place))
+
+  -- the row's words are at most two of the earlier ones together
+  pub cuts-small : ((q : ℕ) → 1 ≤ q → q < i → (q < a) × (beyond list map a q < a)) → ((q j : ℕ) → q < a → j < r → getD old (q * r + j) 0 ≤ 1000000000000)
+      → ((j : ℕ) → j < r → getD old (at + j) 0 ≤ 2000000000000) → (j : ℕ) → j < r → getD mid (at + j) 0 ≤ 2000000000000
+  cuts-small parts small row j l = p .low (at + j) 2000000000000 (λ v s.
+      (let q = parts (s .part) (s .from) (s .to) in
+      omega (arith, s .sums .value, small (s .part) (s .sums .index) (q .0) (s .sums .inside), small (beyond list map a (s .part)) (s .sums .index) (q .1) (s .sums .inside)))) (row j l)
 
   -- a cut at entry i
   wider : (j v : ℕ) → LengthCuts old list map a i at r j v → LengthCuts old list map a (i + 1) at r j v

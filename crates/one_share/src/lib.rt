@@ -6,7 +6,7 @@ use table::copy;
 use table::entry;
 use table::half;
 ghost use mathlib.Core.Path.{_≡_};
-ghost use Prim.Native.Nat.{ℕ, _+_, _*_, _-_, _≤_, _<_, min};
+ghost use Prim.Native.Nat.{ℕ, _+_, _*_, _-_, _≤_, _<_, min, max};
 ghost use lib.ListN.{length, getD};
 ghost use Rattle.cutting.specs.declared.Direction.the-variants.{Length, Width};
 ghost use Rattle.cutting.specs.Job.{InRange};
@@ -21,17 +21,25 @@ fn smaller(a: usize, b: usize) -> usize
     if a < b { a } else { b }
 }
 
+// The greater of two figures or sums of two, without a comparison, which is slow on vectors of 64-bit words: 2^63 and the difference
+// have the top bit exactly if b is no less.
+fn greater(a: u64, b: u64) -> u64
+    requires { ⌜ (a ≤ 2000000000000) × (b ≤ 2000000000000) ⌝ }
+    ensures { λ r. ⌜ r ≡ max a b ⌝ }
+{
+    let d = b + 9223372036854775808 - a;
+    a + d % 9223372036854775808 * (d / 9223372036854775808)
+}
+
 // Each of the r words from `at` on becomes the sum of its fellows from x and y on where that is more.
 fn combine(table: &mut [u64], at: usize, x: usize, y: usize, r: usize)
     requires { ⌜ (x + r ≤ at) × (y + r ≤ at) × (at + r ≤ length (now table))
-        × ((j : ℕ) → j < r → getD (now table) (x + j) 0 ≤ 1000000000000) × ((j : ℕ) → j < r → getD (now table) (y + j) 0 ≤ 1000000000000) ⌝ }
+        × ((j : ℕ) → j < r → getD (now table) (x + j) 0 ≤ 1000000000000) × ((j : ℕ) → j < r → getD (now table) (y + j) 0 ≤ 1000000000000)
+        × ((j : ℕ) → j < r → getD (now table) (at + j) 0 ≤ 2000000000000) ⌝ }
     ensures { λ _. ⌜ Raised (Sums (now (table .entry)) at x y r) (now (table .entry)) (now (table .exit)) ⌝ }
 {
     for j in 0..r {
-        let s = table[x + j] + table[y + j];
-        if table[at + j] < s {
-            table[at + j] = s;
-        }
+        table[at + j] = greater(table[at + j], table[x + j] + table[y + j]);
     }
 }
 
@@ -46,7 +54,7 @@ fn cut_lengths(
     r: usize,
 )
     requires { ⌜ Cuts (now long) (now longmap) a k × (at ≡ a * r) × (at + r ≤ length (now table))
-        × ((i j : ℕ) → i < a → j < r → getD (now table) (i * r + j) 0 ≤ 1000000000000) ⌝ }
+        × ((i j : ℕ) → i < a → j < r → getD (now table) (i * r + j) 0 ≤ 1000000000000) × ((j : ℕ) → j < r → getD (now table) (at + j) 0 ≤ 2000000000000) ⌝ }
     ensures { λ _. ⌜ Raised (LengthCuts (now (table .entry)) (now (long .entry)) (now (longmap .entry)) a k at r) (now (table .entry)) (now (table .exit)) ⌝ }
 {
     let whole = entry(long, a);

@@ -3,11 +3,10 @@
 use borrow.Author.Needs.{needs}
 use native.Mathlib.Omega.{arith}
 use mathlib.Core.Path.{_≡_, refl}
-use mathlib.Core.Logic.{⊎-elim}
 use Prim.Native.Nat.{_+_, _-_, _≤_}
 use lib.ListN.{length, length-set}
 use Rattle.one_share.specs.Raised.{Raised, Sums}
-use Rattle.one_share.proofs.Raising.{raised-set, raised-keep, sums-none, sums-same, sums-next}
+use Rattle.one_share.proofs.Raising.{raised-max, sums-none, sums-same, sums-later, sums-next}
 use Rattle.one_share.proofs.combine.Statement.{statement}
 use Rattle.one_share.proofs.combine.Tie as tie
 
@@ -20,41 +19,54 @@ abbrev μ-loop : tie.MeasureT-loop
 loop-holds : tie.Need-loop-holds Inv-loop μ-loop
 loop-holds c = (search needs, refl, sums-none _ _ _ _)
 
-add-s : tie.Need-add-s Inv-loop μ-loop
-add-s c = search needs
+add-greater : tie.Need-add-greater Inv-loop μ-loop
+add-greater c = search needs
 
-mul-s : tie.Need-mul-s Inv-loop μ-loop
-mul-s c = search needs
+mul-greater : tie.Need-mul-greater Inv-loop μ-loop
+mul-greater c = search needs
 
-slice-read-s : tie.Need-slice-read-s Inv-loop μ-loop
-slice-read-s c = search needs
+slice-read-greater : tie.Need-slice-read-greater Inv-loop μ-loop
+slice-read-greater c = search needs
 
-add-s-2 : tie.Need-add-s-2 Inv-loop μ-loop
-add-s-2 c = search needs
+add-greater-2 : tie.Need-add-greater-2 Inv-loop μ-loop
+add-greater-2 c = search needs
 
-mul-s-2 : tie.Need-mul-s-2 Inv-loop μ-loop
-mul-s-2 c = search needs
+mul-greater-2 : tie.Need-mul-greater-2 Inv-loop μ-loop
+mul-greater-2 c = search needs
 
-slice-read-s-2 : tie.Need-slice-read-s-2 Inv-loop μ-loop
-slice-read-s-2 c = search needs
+slice-read-greater-2 : tie.Need-slice-read-greater-2 Inv-loop μ-loop
+slice-read-greater-2 c = search needs
 
-add-s-3 : tie.Need-add-s-3 Inv-loop μ-loop
-add-s-3 c = omega (
-  arith,
-  c .before .before .before .before .pre .3 (c .before .before .before .loop .j) (omega arith),
-  c .before .before .before .before .pre .4 (c .before .before .before .loop .j) (omega arith),
-  sums-same (c .before .before .before .before .args .at) (c .before .before .before .before .args .x) (c .before .before .before .before .args .y) (c .before .before .before .loop .j) _ _ (c .before .before .before .loop .inv .2) (c .before .before .before .before .args .x + c .before .before .before .loop .j) (omega arith),
-  sums-same (c .before .before .before .before .args .at) (c .before .before .before .before .args .x) (c .before .before .before .before .args .y) (c .before .before .before .loop .j) _ _ (c .before .before .before .loop .inv .2) (c .before .before .before .before .args .y + c .before .before .before .loop .j) (omega arith),
-)
+add-greater-3 : tie.Need-add-greater-3 Inv-loop μ-loop
+add-greater-3 c = search needs
 
-add-if1 : tie.Need-add-if1 Inv-loop μ-loop
-add-if1 c = search needs
+mul-greater-3 : tie.Need-mul-greater-3 Inv-loop μ-loop
+mul-greater-3 c = search needs
 
-mul-if1 : tie.Need-mul-if1 Inv-loop μ-loop
-mul-if1 c = search needs
+slice-read-greater-3 : tie.Need-slice-read-greater-3 Inv-loop μ-loop
+slice-read-greater-3 c = search needs
 
-slice-read-if1 : tie.Need-slice-read-if1 Inv-loop μ-loop
-slice-read-if1 c = search needs
+add-greater-4 : tie.Need-add-greater-4 Inv-loop μ-loop
+add-greater-4 c =
+    let e = c .before .before .before .before .before .before in
+    let l = c .before .before .before .before .loop in
+    let f = e .pre .3 (l .j) (omega arith) in
+    let g = e .pre .4 (l .j) (omega arith) in
+    let p = sums-same (e .args .at) (e .args .x) (e .args .y) (l .j) _ _ (l .inv .2) (e .args .x + l .j) (omega arith) in
+    let q = sums-same (e .args .at) (e .args .x) (e .args .y) (l .j) _ _ (l .inv .2) (e .args .y + l .j) (omega arith) in
+    omega (arith, f, g, p, q)
+
+greater-requires : tie.Need-greater-requires Inv-loop μ-loop
+greater-requires c κs =
+    let e = c .before .before .before .before .before .before in
+    let l = c .before .before .before .before .loop in
+    let f = e .pre .3 (l .j) (omega arith) in
+    let g = e .pre .4 (l .j) (omega arith) in
+    let p = sums-same (e .args .at) (e .args .x) (e .args .y) (l .j) _ _ (l .inv .2) (e .args .x + l .j) (omega arith) in
+    let q = sums-same (e .args .at) (e .args .x) (e .args .y) (l .j) _ _ (l .inv .2) (e .args .y + l .j) (omega arith) in
+    let h = e .pre .5 (l .j) (omega arith) in
+    let k = sums-later (e .args .at) (e .args .x) (e .args .y) (l .j) _ _ (l .inv .2) in
+    (omega (arith, h, k), omega (arith, f, g, p, q))
 
 add-table : tie.Need-add-table Inv-loop μ-loop
 add-table c = search needs
@@ -72,16 +84,19 @@ loop-less : tie.Need-loop-less Inv-loop μ-loop
 loop-less c = search needs
 
 loop-again : tie.Need-loop-again Inv-loop μ-loop
-loop-again c = ⊎-elim
-    (λ w. rw (w .1) (omega arith, simp length-set (c .before .before .before .before .before .loop .inv .1), sums-next (c .before .before .before .before .before .before .args .at) (c .before .before .before .before .before .before .args .x) (c .before .before .before .before .before .before .args .y) (c .before .before .before .before .before .loop .j) _ _ _ (omega arith) (omega arith) (c .before .before .before .before .before .loop .inv .2) (raised-set _ _ _ (omega arith) (omega (arith, w .0 .taken)))))
-    (λ w. rw (w .1) (omega arith, c .before .before .before .before .before .loop .inv .1, sums-next (c .before .before .before .before .before .before .args .at) (c .before .before .before .before .before .before .args .x) (c .before .before .before .before .before .before .args .y) (c .before .before .before .before .before .loop .j) _ _ _ (omega arith) (omega arith) (c .before .before .before .before .before .loop .inv .2) (raised-keep _ _ _ (omega (arith, w .0 .left)))))
-    (c .if1 .came)
+loop-again c =
+    let e = c .before .before .before .before .before .before .before in
+    let l = c .before .before .before .before .before .loop in (
+      omega arith,
+      simp length-set (l .inv .1),
+      sums-next (e .args .at) (e .args .x) (e .args .y) (l .j) _ _ _ (omega arith) (omega arith) (l .inv .2) (raised-max (e .args .at + l .j) _ _ (l .table) (omega (arith, l .inv .1)) (c .greater .ensures)),
+    )
 
 same-length : tie.Need-same-length Inv-loop μ-loop
 same-length c = c .before .loop .inv .1
 
 returns : tie.Need-returns Inv-loop μ-loop
-returns c = let e : c .before .loop .j ≡ c .before .before .args .r = omega arith in rw e at (c .before .loop .inv .2)
+returns c = let e : c .before .loop .j ≡ c .before .before .before .args .r = omega arith in rw e at (c .before .loop .inv .2)
 
 pub combine-spec : {M : Type 1} → statement M
 combine-spec =
@@ -90,16 +105,17 @@ combine-spec =
     Inv-loop
     μ-loop
     loop-holds
-    add-s
-    mul-s
-    slice-read-s
-    add-s-2
-    mul-s-2
-    slice-read-s-2
-    add-s-3
-    add-if1
-    mul-if1
-    slice-read-if1
+    add-greater
+    mul-greater
+    slice-read-greater
+    add-greater-2
+    mul-greater-2
+    slice-read-greater-2
+    add-greater-3
+    mul-greater-3
+    slice-read-greater-3
+    add-greater-4
+    greater-requires
     add-table
     mul-table
     slice-write-table

@@ -11,7 +11,7 @@ use Rattle.table.specs.Words.{beyond}
 use Rattle.table.proofs.Words.{cell-before}
 use Rattle.table.proofs.Halves.{beyond-is}
 use Rattle.one_share.specs.Raised.{Raised, LengthCuts}
-use Rattle.one_share.proofs.Raising.{cuts-none, cuts-same, cuts-next, cuts-pass}
+use Rattle.one_share.proofs.Raising.{cuts-none, cuts-same, cuts-small, cuts-next, cuts-pass}
 use Rattle.one_share.proofs.cut_lengths.Statement.{statement}
 use Rattle.one_share.proofs.cut_lengths.Tie as tie
 
@@ -38,6 +38,14 @@ small c i j h l = omega (
   c .before .before .before .before .before .before .before .before .pre .3 i j h l,
   cuts-same (c .before .before .before .before .before .before .before .before .args .a) (c .before .before .before .loop .i) (c .before .before .before .before .before .before .before .before .args .at) (c .before .before .before .before .before .before .before .before .args .r) (now (c .before .before .before .before .before .before .before .before .args .long)) (now (c .before .before .before .before .before .before .before .before .args .longmap)) _ _ (c .before .before .before .loop .inv .5) (i * c .before .before .before .before .before .before .before .before .args .r + j) (omega (arith, row-before c i h)),
 )
+
+row-small : (c : tie.After-entry3 Inv-loop μ-loop) (j : ℕ) → j < c .before .before .before .before .before .before .before .before .args .r
+    → getD (c .before .before .before .loop .table) (c .before .before .before .before .before .before .before .before .args .at + j) 0 ≤ 2000000000000
+row-small c =
+    let e = c .before .before .before .before .before .before .before .before in
+    let l = c .before .before .before .loop in
+    cuts-small (e .args .a) (l .i) (e .args .at) (e .args .r) (now (e .args .long)) (now (e .args .longmap)) _ _ (l .inv .5)
+    (λ q h m. (omega (arith, e .pre .0 .most), e .pre .0 .earlier q h (omega arith))) (e .pre .3) (e .pre .4)
 
 entry-requires : tie.Need-entry-requires Inv-loop μ-loop
 entry-requires c κs = c .before .before .before .pre .0 .listed
@@ -69,6 +77,7 @@ combine-requires c κs =
       omega (arith, c .before .before .before .before .before .before .loop .inv .4),
       λ j h. small s (c .before .before .before .before .before .before .loop .i) j (omega (arith, c .before .before .before .before .before .before .before .before .before .before .before .pre .0 .most)) h,
       λ j h. small s (c .before .before .before .entry3 .result) j (rest-earlier s) h,
+      row-small s,
     )
 
 add-x : tie.Need-add-x Inv-loop μ-loop

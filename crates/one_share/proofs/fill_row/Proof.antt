@@ -13,7 +13,7 @@ use Rattle.table.proofs.Words.{cell-before}
 use Rattle.table.proofs.Halves.{half-cuts}
 use Rattle.table.proofs.Figures.{positions-axis}
 use Rattle.one_share.specs.Rows.{Entries}
-use Rattle.one_share.proofs.Filling.{positions-entries, copied-small, unit-small, unit-first, row-rest, row-more}
+use Rattle.one_share.proofs.Filling.{positions-entries, copied-small, row-small, unit-small, unit-first, row-rest, row-more}
 use Rattle.one_share.proofs.fill_row.Statement.{statement}
 use Rattle.one_share.proofs.fill_row.Tie as tie
 
@@ -46,6 +46,7 @@ cut-lengths-requires c κs = (
   c .before .before .before .before .before .before .before .before .before .before .before .pre .4,
   omega (arith, c .before .before .before .copy .kept .0, c .before .before .before .before .before .before .before .before .before .before .before .pre .5),
   copied-small (job (c .before .before .before .before .before .before .before .before .before .before .before)) (weigh (c .before .before .before .before .before .before .before .before .before .before .before)) (c .before .before .before .before .before .before .before .before .before .before .before .pre .0 .range) (position-count (job (c .before .before .before .before .before .before .before .before .before .before .before)) Length) (c .before .before .before .before .before .before .before .before .before .before .before .args .r) (now (c .before .before .before .before .before .before .before .before .before .before .before .args .long)) (now (c .before .before .before .before .before .before .before .before .before .before .before .args .longmap)) (now (c .before .before .before .before .before .before .before .before .before .before .before .args .wide)) (now (c .before .before .before .before .before .before .before .before .before .before .before .args .widemap)) (c .before .before .before .before .before .before .before .before .before .before .before .pre .0 .lengths) (c .before .before .before .before .before .before .before .before .before .before .before .pre .0 .widths) (c .before .before .before .before .before .before .before .before .before .before .before .args .a) (c .before .before .before .before .before .before .before .before .before .before .before .args .k) (c .before .before .before .before .before .before .before .before .before .before .before .args .at) (c .before .before .before .before .before .before .before .before .before .before .before .pre .1) (c .before .before .before .before .before .before .before .before .before .before .before .pre .2) (c .before .before .before .before .before .before .before .before .before .before .before .pre .3) (c .before .before .before .before .before .before .before .before .before .before .before .pre .4) _ _ (c .before .before .before .before .before .before .before .before .before .before .before .pre .6) (c .before .before .before .copy .ensures),
+  row-small (job (c .before .before .before .before .before .before .before .before .before .before .before)) (weigh (c .before .before .before .before .before .before .before .before .before .before .before)) (c .before .before .before .before .before .before .before .before .before .before .before .pre .0 .range) (position-count (job (c .before .before .before .before .before .before .before .before .before .before .before)) Length) (c .before .before .before .before .before .before .before .before .before .before .before .args .r) (now (c .before .before .before .before .before .before .before .before .before .before .before .args .long)) (now (c .before .before .before .before .before .before .before .before .before .before .before .args .longmap)) (now (c .before .before .before .before .before .before .before .before .before .before .before .args .wide)) (now (c .before .before .before .before .before .before .before .before .before .before .before .args .widemap)) (c .before .before .before .before .before .before .before .before .before .before .before .pre .0 .lengths) (c .before .before .before .before .before .before .before .before .before .before .before .pre .0 .widths) (c .before .before .before .before .before .before .before .before .before .before .before .args .a) (c .before .before .before .before .before .before .before .before .before .before .before .args .k) (c .before .before .before .before .before .before .before .before .before .before .before .args .at) (c .before .before .before .before .before .before .before .before .before .before .before .pre .1) (c .before .before .before .before .before .before .before .before .before .before .before .pre .2) (c .before .before .before .before .before .before .before .before .before .before .before .pre .3) (c .before .before .before .before .before .before .before .before .before .before .before .pre .4) _ _ (c .before .before .before .before .before .before .before .before .before .before .before .pre .6) (c .before .before .before .copy .ensures),
 )
 
 slice-aggregate-spread : tie.Need-slice-aggregate-spread
