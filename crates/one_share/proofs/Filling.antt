@@ -171,6 +171,9 @@ module _ (J : Job) (weight : ℕ → ℕ) (fit : InRange J) (p r : ℕ) (long lo
                 ap₂ (λ x i. figure-of J weight x (getD wide i 0) 0) (s .exact) e,
               )
 
+      pub row-capped : (b : ℕ) → b < r → getD t2 (at + b) 0 ≤ 2000000000000
+      row-capped b h = omega (arith, cut-low b h, cell-low a b ha, positions-axis J Width r wide widemap fit widths .side b h .0)
+
       module _ (u0 u1 : List ℕ) (spread : (b : ℕ) → b < r → getD u0 (getD wide b 0) 0 ≡ getD t2 (at + b) 0)
           (kinds : Raised (Kinds (getD long a 0) (J .plate .1) (λ i. J .size i .0) (λ i. J .size i .1) weight (J .price) (J .count)) u0 u1) where
         -- nor after the kinds
@@ -185,6 +188,10 @@ module _ (J : Job) (weight : ℕ → ℕ) (fit : InRange J) (p r : ℕ) (long lo
 
         pub unit-small : (b : ℕ) → b < r → getD u1 (getD wide b 0) 0 ≤ getD wide b 0 * 1000000000
         unit-small b h = omega (arith, unit-low b h, cell-low a b ha)
+
+        -- a price is no more than two figures together
+        pub unit-capped : ((i : ℕ) → getD u0 i 0 ≤ 2000000000000) → (i : ℕ) → getD u1 i 0 ≤ 2000000000000
+        unit-capped h i = kinds .low i 2000000000000 (λ v s. omega (arith, s .kind .value, fit .prices (s .index) (s .inside))) (h i)
 
         -- no kind lies at width 0
         pub unit-first : getD u1 0 0 ≡ getD t2 at 0

@@ -90,6 +90,20 @@ module _ (list : List ℕ) (r side : ℕ) (entries : Entries list r side) where
       pub flat-small : side ≤ 1000 → ((i : ℕ) → i < r → getD units (getD list i 0) 0 ≤ getD list i 0 * 1000000000) → (y : ℕ) → y ≤ x → getD flat y 0 ≤ 1000000000000
       flat-small h base y l = omega (arith, flat-low (λ y. y * 1000000000) (λ x y. omega arith) base y l, entries .within b hb)
 
+      -- and no unit is above two of them together, before the push and after
+      module _ (within : side ≤ 1000) (base : (i : ℕ) → i < r → getD units (getD list i 0) 0 ≤ getD list i 0 * 1000000000) (capped : (i : ℕ) → getD unit i 0 ≤ 2000000000000) where
+        pub flat-capped : (i : ℕ) → getD flat i 0 ≤ 2000000000000
+        flat-capped i = go (decLe i x)
+          where
+            go : Dec (i ≤ x) → getD flat i 0 ≤ 2000000000000
+            go (yes q) = omega (arith, flat-small within base i q)
+            go (no q) = omega (arith, level .rest .after i (omega (arith, after-last)), capped i)
+
+        pub next-capped : (next : List ℕ) → Raised (CellPush flat (getD list b 0) (getD list 1 0) side v) flat next → (i : ℕ) → getD next i 0 ≤ 2000000000000
+        next-capped next push i = push .low i 2000000000000 (λ u s.
+            ⊎-elim (λ t. omega (arith, t .1, word, w .done (b - 1) (omega arith), flat-earlier (getD list (b - 1) 0) (omega arith), flat-small within base (getD list (b - 1) 0) (omega (arith, after-last))))
+            (λ t. omega (arith, t .1 .value, flat-small within base x (omega arith), flat-small within base (t .1 .index) (omega (arith, t .1 .to)))) s) (flat-capped i)
+
       module _ (next : List ℕ) (room : at + b < length table) (push : Raised (CellPush flat (getD list b 0) (getD list 1 0) side v) flat next) where
         least : 1 ≤ getD list 1 0
         least = omega (arith, entries .rise 0 1 (omega arith) (omega arith))
@@ -185,6 +199,14 @@ module _ (list : List ℕ) (r side : ℕ) (entries : Entries list r side) where
         (w : Widening list r at b units unit old table) (level : Run (λ j. v) (last + 1) (x - (last + 1)) unit flat) where
       pub units-small : side ≤ 1000 → ((i : ℕ) → i < r → getD units (getD list i 0) 0 ≤ getD list i 0 * 1000000000) → (y : ℕ) → y ≤ x → getD flat y 0 ≤ 1000000000000
       units-small h base y l = flat-small b v unit flat table lb hb word w (rw (e, f) at level) h base y (omega arith)
+
+      pub units-capped : side ≤ 1000 → ((i : ℕ) → i < r → getD units (getD list i 0) 0 ≤ getD list i 0 * 1000000000) → ((i : ℕ) → getD unit i 0 ≤ 2000000000000)
+          → (i : ℕ) → getD flat i 0 ≤ 2000000000000
+      units-capped h base capped i = flat-capped b v unit flat table lb hb word w (rw (e, f) at level) h base capped i
+
+      pub pushed-capped : side ≤ 1000 → ((i : ℕ) → i < r → getD units (getD list i 0) 0 ≤ getD list i 0 * 1000000000) → ((i : ℕ) → getD unit i 0 ≤ 2000000000000)
+          → (least : ℕ) (next : List ℕ) → least ≡ getD list 1 0 → Raised (CellPush flat x least side v) flat next → (i : ℕ) → getD next i 0 ≤ 2000000000000
+      pushed-capped h base capped least next g push i = next-capped b v unit flat table lb hb word w (rw (e, f) at level) h base capped next (rw (e, g) at push) i
 
       pub widening-more : (least : ℕ) (next : List ℕ) → least ≡ getD list 1 0 → at + b < length table → Raised (CellPush flat x least side v) flat next
           → Widening list r at (b + 1) units next old (set table (at + b) (getD next x 0))

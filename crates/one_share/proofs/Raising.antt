@@ -8,12 +8,12 @@ use native.Mathlib.Decide.{ℕ-discrete, decLe}
 use native.Mathlib.Nat.{add-mul-mod-self-left, mod-eq-of-lt, div-eq-of-lt-le}
 use native.Mathlib.Omega.{arith}
 use borrow.Author.Count.{below-more}
-use lib.ListN.{length, getD, set}
+use lib.ListN.{length, getD, set, replicate, length-replicate, getD-replicate, List·getD-eq-default}
 use lib.Seq.{getD-set-same, getD-set-other}
 use Rattle.table.specs.Words.{beyond, Run}
 use Rattle.table.proofs.Words.{cell-before, run-none, run-more}
 use Rattle.one_share.specs.Raised.{Raised, Single, Sums, LengthCuts, Kind, Kinds, Pushed, CellPush}
-use Rattle.one_share.specs.Rows.{Entries}
+use Rattle.one_share.specs.Rows.{Entries, Spread}
 
 pub raised-none : (A : ℕ → ℕ → Type 0) (xs : List ℕ) → ((i v : ℕ) → A i v → ⊥) → Raised A xs xs
 raised-none A xs e = record { grown = λ i. omega arith; low = λ i b f h. h; taken = λ i v a. absurd (e i v a) }
@@ -116,6 +116,10 @@ push-none x least v xs = raised-none (Pushed xs x least least v) xs (λ i u s. o
 -- the units up to x are as they were
 pub push-same : (x least v j : ℕ) (old new : List ℕ) → 1 ≤ least → Raised (Pushed old x least j v) old new → (i : ℕ) → i ≤ x → getD new i 0 ≡ getD old i 0
 push-same x least v j old new h p i l = raised-same (Pushed old x least j v) old new i p (λ u s. omega (arith, s .place, s .from))
+
+-- a unit that has taken nothing yet is as it was
+pub push-later : (x least v j : ℕ) (old new : List ℕ) → Raised (Pushed old x least j v) old new → getD new (x + j) 0 ≡ getD old (x + j) 0
+push-later x least v j old new p = raised-same (Pushed old x least j v) old new (x + j) p (λ u s. omega (arith, s .place, s .to))
 
 pub push-next : (x least v j : ℕ) (old mid new : List ℕ) → 1 ≤ least → least ≤ j → j ≤ x → Raised (Pushed old x least j v) old mid
     → Raised (Single (x + j) (v + getD mid j 0)) mid new → Raised (Pushed old x least (j + 1) v) old new
@@ -227,9 +231,27 @@ level-more from y v old xs h l w =
     let j : y - from + 1 ≡ y + 1 - from = omega arith in
     rw (i, j) at (run-more (λ j. v) from (y - from) old xs v (omega arith) refl w)
 
--- one word more at the unit of its width
-pub spread-more : (list table unit : List ℕ) (r side at b x : ℕ) → Entries list r side → b < r → x ≡ getD list b 0 → x < length unit
-    → ((i : ℕ) → i < b → getD unit (getD list i 0) 0 ≡ getD table (at + i) 0) → (i : ℕ) → i < b + 1 → getD (set unit x (getD table (at + b) 0)) (getD list i 0) 0 ≡ getD table (at + i) 0
-spread-more list table unit r side at b x entries h e l w i m = below-more (λ i. getD (set unit x (getD table (at + b) 0)) (getD list i 0) 0 ≡ getD table (at + i) 0) b
-    (λ i k. getD-set-other unit x (getD list i 0) (getD table (at + b) 0) 0 (λ z. omega (arith, entries .rise i b k h)) ∙ w i k)
-    (let f : getD list b 0 ≡ x = sym e in rw f (getD-set-same unit x (getD table (at + b) 0) 0 l)) i m
+-- units that were never written hold 0
+pub zeros : (n i : ℕ) → _≡_ {A = ℕ} (getD {A = ℕ} (replicate n 0) i 0) 0
+zeros n i = go (decLe n i)
+  where
+    go : Dec (n ≤ i) → _≡_ {A = ℕ} (getD {A = ℕ} (replicate n 0) i 0) 0
+    go (yes h) = List·getD-eq-default (replicate n 0) 0 (omega (arith, length-replicate {A = ℕ} n 0))
+    go (no h) = getD-replicate {A = ℕ} n i 0 0 (omega arith)
+
+-- no word at its unit yet, and one more
+pub spread-none : (list row unit : List ℕ) (at : ℕ) → Spread list at 0 row unit unit
+spread-none list row unit at = record { here = λ b h. absurd (omega arith); low = λ i bound f h. h }
+
+pub spread-more : (list row old unit : List ℕ) (r side at b x : ℕ) → Entries list r side → b < r → x ≡ getD list b 0 → x < length unit
+    → Spread list at b row old unit → Spread list at (b + 1) row old (set unit x (getD row (at + b) 0))
+spread-more list row old unit r side at b x entries h e l w = record { here = λ i m. here i m; low = λ i bound f k. low i bound f k (ℕ-discrete i x) }
+  where
+    here : (i : ℕ) → i < b + 1 → getD (set unit x (getD row (at + b) 0)) (getD list i 0) 0 ≡ getD row (at + i) 0
+    here i m = below-more (λ i. getD (set unit x (getD row (at + b) 0)) (getD list i 0) 0 ≡ getD row (at + i) 0) b
+        (λ i k. getD-set-other unit x (getD list i 0) (getD row (at + b) 0) 0 (λ z. omega (arith, entries .rise i b k h)) ∙ w .here i k)
+        (let f : getD list b 0 ≡ x = sym e in rw f (getD-set-same unit x (getD row (at + b) 0) 0 l)) i m
+
+    low : (i bound : ℕ) → ((c : ℕ) → c < b + 1 → getD row (at + c) 0 ≤ bound) → getD old i 0 ≤ bound → Dec (i ≡ x) → getD (set unit x (getD row (at + b) 0)) i 0 ≤ bound
+    low i bound f k (yes z) = rw z (omega (arith, getD-set-same unit x (getD row (at + b) 0) 0 l, f b (omega arith)))
+    low i bound f k (no z) = omega (arith, getD-set-other unit x i (getD row (at + b) 0) 0 z, w .low i bound (λ c m. f c (omega arith)) k)

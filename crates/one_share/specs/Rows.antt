@@ -17,6 +17,11 @@ pub record Entries (list : List ℕ) (r side : ℕ) : Type 0 where
   pub rise : (i j : ℕ) → i < j → j < r → getD list i 0 < getD list j 0
   pub within : (i : ℕ) → i < r → getD list i 0 ≤ side
 
+-- a row's r words stand at the units of their entries, and no unit is above every bound on the row and on what the units were
+pub record Spread (list : List ℕ) (at r : ℕ) (row old new : List ℕ) : Type 0 where
+  pub here : (b : ℕ) → b < r → getD new (getD list b 0) 0 ≡ getD row (at + b) 0
+  pub low : (i bound : ℕ) → ((b : ℕ) → b < r → getD row (at + b) 0 ≤ bound) → getD old i 0 ≤ bound → getD new i 0 ≤ bound
+
 -- two widths are worth no more than one as wide
 abbrev pub Joins : (ℕ → ℕ) → Type 0
 Joins f = (x y : ℕ) → f x + f y ≤ f (x + y)

@@ -13,7 +13,7 @@ ghost use Rattle.cutting.specs.Job.{InRange};
 ghost use Rattle.table.specs.Table.{position-count, kinds-job, Positions, words-needed, Figures, Kept};
 ghost use Rattle.table.specs.Words.{Outside, Run, Half, Cuts};
 ghost use Rattle.one_share.specs.Raised.{Raised, Sums, LengthCuts, Kind, Kinds, Pushed, CellPush};
-ghost use Rattle.one_share.specs.Rows.{Entries, Widened, Rows, Lent};
+ghost use Rattle.one_share.specs.Rows.{Entries, Spread, Widened, Rows, Lent};
 
 fn smaller(a: usize, b: usize) -> usize
     ensures { λ r. ⌜ r ≡ min a b ⌝ }
@@ -72,7 +72,7 @@ fn cut_lengths(
 // The row's words, each at the unit of its width.
 fn spread(unit: &mut [u64], table: &[u64], at: usize, wide: &[u16], r: usize, side: usize)
     requires { ⌜ Entries (now wide) r side × (side < length (now unit)) × (at + r ≤ length (now table)) ⌝ }
-    ensures { λ _. ⌜ ((b : ℕ) → b < r → getD (now (unit .exit)) (getD (now (wide .entry)) b 0) 0 ≡ getD (now (table .entry)) (at + b) 0) ⌝ }
+    ensures { λ _. ⌜ Spread (now (wide .entry)) at r (now (table .entry)) (now (unit .entry)) (now (unit .exit)) ⌝ }
 {
     for b in 0..r {
         unit[entry(wide, b)] = table[at + b];
@@ -132,20 +132,19 @@ fn level(unit: &mut [u64], from: usize, x: usize, v: u64)
 
 // The units beyond x become v together with those from `least` to `end` less 1 where that is more.
 fn push(unit: &mut [u64], x: usize, least: usize, end: usize, v: u64)
-    requires { ⌜ (1 ≤ least) × (end ≤ x + 1) × (x + end ≤ length (now unit)) × (v ≤ 1000000000000) × ((j : ℕ) → j < end → getD (now unit) j 0 ≤ 1000000000000) ⌝ }
+    requires { ⌜ (1 ≤ least) × (end ≤ x + 1) × (x + end ≤ length (now unit)) × (v ≤ 1000000000000) × ((j : ℕ) → j < end → getD (now unit) j 0 ≤ 1000000000000)
+        × ((i : ℕ) → getD (now unit) i 0 ≤ 2000000000000) ⌝ }
     ensures { λ _. ⌜ Raised (Pushed (now (unit .entry)) x least end v) (now (unit .entry)) (now (unit .exit)) ⌝ }
 {
     for j in least..end {
-        let s = v + unit[j];
-        if unit[x + j] < s {
-            unit[x + j] = s;
-        }
+        unit[x + j] = greater(unit[x + j], v + unit[j]);
     }
 }
 
 // The cell of width x: what the cell before has if it does not rise over that, else its width cuts as the larger part.
 fn push_cell(unit: &mut [u64], x: usize, least: usize, side: usize, before: u64)
-    requires { ⌜ (1 ≤ least) × (x ≤ side) × (side < length (now unit)) × ((j : ℕ) → j ≤ x → getD (now unit) j 0 ≤ 1000000000000) ⌝ }
+    requires { ⌜ (1 ≤ least) × (x ≤ side) × (side < length (now unit)) × ((j : ℕ) → j ≤ x → getD (now unit) j 0 ≤ 1000000000000)
+        × ((i : ℕ) → getD (now unit) i 0 ≤ 2000000000000) ⌝ }
     ensures { λ _. ⌜ Raised (CellPush (now (unit .entry)) x least side before) (now (unit .entry)) (now (unit .exit)) ⌝ }
 {
     let v = unit[x];
@@ -159,7 +158,7 @@ fn push_cell(unit: &mut [u64], x: usize, least: usize, side: usize, before: u64)
 // The cells of a row take their width cuts, from the units of their widths.
 fn push_widths(table: &mut [u64], unit: &mut [u64], at: usize, wide: &[u16], r: usize, side: usize)
     requires { ⌜ Entries (now wide) r side × (side ≤ 1000) × (side < length (now unit)) × (at + r ≤ length (now table)) × (getD (now unit) 0 0 ≡ getD (now table) at 0)
-        × ((b : ℕ) → b < r → getD (now unit) (getD (now wide) b 0) 0 ≤ getD (now wide) b 0 * 1000000000) ⌝ }
+        × ((b : ℕ) → b < r → getD (now unit) (getD (now wide) b 0) 0 ≤ getD (now wide) b 0 * 1000000000) × ((i : ℕ) → getD (now unit) i 0 ≤ 2000000000000) ⌝ }
     ensures { λ _. ⌜ Widened (now (wide .entry)) r at (now (unit .entry)) (now (table .entry)) (now (table .exit)) ⌝ }
 {
     for b in 1..r {

@@ -34,7 +34,7 @@ add-push : tie.Need-add-push
 add-push c = search needs
 
 push-requires : tie.Need-push-requires
-push-requires c κs = (omega arith, omega (arith, c .smaller .ensures), omega (arith, c .smaller .ensures), c .before .before .before .before .before .pre .3 (c .before .before .before .before .before .args .x) (omega arith), λ j h. c .before .before .before .before .before .pre .3 j (omega (arith, c .smaller .ensures)))
+push-requires c κs = (omega arith, omega (arith, c .smaller .ensures), omega (arith, c .smaller .ensures), c .before .before .before .before .before .pre .3 (c .before .before .before .before .before .args .x) (omega arith), λ j h. c .before .before .before .before .before .pre .3 j (omega (arith, c .smaller .ensures)), c .before .before .before .before .before .pre .4)
 
 same-length-2 : tie.Need-same-length-2
 same-length-2 c = search needs

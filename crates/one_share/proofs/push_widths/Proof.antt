@@ -3,21 +3,21 @@
 use borrow.Author.Needs.{needs}
 use native.Mathlib.Omega.{arith}
 use mathlib.Core.Path.{_≡_, _∙_, refl}
-use Prim.Native.Nat.{_-_, _≤_}
-use lib.ListN.{length, length-set}
+use Prim.Native.Nat.{ℕ, _-_, _≤_}
+use lib.ListN.{length, getD, length-set}
 use denote.Ref.{now}
-use Rattle.one_share.proofs.Pushing.{Widening, widening-none, units-small, widening-more, widening-all}
+use Rattle.one_share.proofs.Pushing.{Widening, widening-none, units-small, units-capped, pushed-capped, widening-more, widening-all}
 use Rattle.one_share.proofs.push_widths.Statement.{statement}
 use Rattle.one_share.proofs.push_widths.Tie as tie
 
 abbrev Inv-loop : tie.InvT-loop
-Inv-loop table₀ unit₀ at wide r side b₀ table unit b = (1 ≤ b) × (b ≤ r) × (length table ≡ length table₀) × (length unit ≡ length unit₀) × Widening wide r at b unit₀ unit table₀ table
+Inv-loop table₀ unit₀ at wide r side b₀ table unit b = (1 ≤ b) × (b ≤ r) × (length table ≡ length table₀) × (length unit ≡ length unit₀) × Widening wide r at b unit₀ unit table₀ table × ((i : ℕ) → getD unit i 0 ≤ 2000000000000)
 
 abbrev μ-loop : tie.MeasureT-loop
 μ-loop table₀ unit₀ at wide r side b₀ table unit b = r - b
 
 loop-holds : tie.Need-loop-holds Inv-loop μ-loop
-loop-holds c = (omega arith, c .before .before .before .pre .0 .some, refl, refl, widening-none (now (c .before .before .before .args .wide)) (c .before .before .before .args .r) (c .before .before .before .args .side) (c .before .before .before .pre .0) (c .before .before .before .args .at) _ _ (c .before .before .before .pre .4))
+loop-holds c = (omega arith, c .before .before .before .pre .0 .some, refl, refl, widening-none (now (c .before .before .before .args .wide)) (c .before .before .before .args .r) (c .before .before .before .args .side) (c .before .before .before .pre .0) (c .before .before .before .args .at) _ _ (c .before .before .before .pre .4), c .before .before .before .pre .6)
 
 entry-requires : tie.Need-entry-requires Inv-loop μ-loop
 entry-requires c κs = omega (arith, c .before .before .before .before .before .pre .0 .listed)
@@ -55,6 +55,7 @@ push-cell-requires c κs = (
   omega (arith, c .before .before .before .before .before .before .before .before .entry .ensures .0, c .before .before .before .before .before .before .before .before .before .before .before .before .before .before .pre .0 .within (c .before .before .before .before .before .before .before .before .before .before .loop .b) (omega arith)),
   omega (arith, c .before .before .before .before .level .kept .0, c .before .before .before .before .before .before .before .before .before .before .loop .inv .3),
   units-small (now (c .before .before .before .before .before .before .before .before .before .before .before .before .before .before .args .wide)) (c .before .before .before .before .before .before .before .before .before .before .before .before .before .before .args .r) (c .before .before .before .before .before .before .before .before .before .before .before .before .before .before .args .side) (c .before .before .before .before .before .before .before .before .before .before .before .before .before .before .pre .0) (c .before .before .before .before .before .before .before .before .before .before .before .before .before .before .args .at) _ _ (c .before .before .before .before .before .before .before .before .before .before .loop .b) _ _ _ _ _ _ (omega arith) (omega arith) (c .before .before .before .before .before .before .before .before .entry .ensures .0) (c .before .before .before .before .before .entry2 .ensures .0) refl (c .before .before .before .before .before .before .before .before .before .before .loop .inv .4) (c .before .before .before .before .level .ensures) (c .before .before .before .before .before .before .before .before .before .before .before .before .before .before .pre .1) (c .before .before .before .before .before .before .before .before .before .before .before .before .before .before .pre .5),
+  units-capped (now (c .before .before .before .before .before .before .before .before .before .before .before .before .before .before .args .wide)) (c .before .before .before .before .before .before .before .before .before .before .before .before .before .before .args .r) (c .before .before .before .before .before .before .before .before .before .before .before .before .before .before .args .side) (c .before .before .before .before .before .before .before .before .before .before .before .before .before .before .pre .0) (c .before .before .before .before .before .before .before .before .before .before .before .before .before .before .args .at) _ _ (c .before .before .before .before .before .before .before .before .before .before .loop .b) _ _ _ _ _ _ (omega arith) (omega arith) (c .before .before .before .before .before .before .before .before .entry .ensures .0) (c .before .before .before .before .before .entry2 .ensures .0) refl (c .before .before .before .before .before .before .before .before .before .before .loop .inv .4) (c .before .before .before .before .level .ensures) (c .before .before .before .before .before .before .before .before .before .before .before .before .before .before .pre .1) (c .before .before .before .before .before .before .before .before .before .before .before .before .before .before .pre .5) (c .before .before .before .before .before .before .before .before .before .before .loop .inv .5),
 )
 
 mul-table : tie.Need-mul-table Inv-loop μ-loop
@@ -86,6 +87,8 @@ loop-again c = (
   c .before .before .before .push-cell .kept .0 ∙ c .before .before .before .before .before .before .before .before .level .kept .0 ∙ c .before .before .before .before .before .before .before .before .before .before .before .before .before .before .loop .inv .3,
   widening-more (now (c .before .before .before .before .before .before .before .before .before .before .before .before .before .before .before .before .before .before .args .wide)) (c .before .before .before .before .before .before .before .before .before .before .before .before .before .before .before .before .before .before .args .r) (c .before .before .before .before .before .before .before .before .before .before .before .before .before .before .before .before .before .before .args .side) (c .before .before .before .before .before .before .before .before .before .before .before .before .before .before .before .before .before .before .pre .0) (c .before .before .before .before .before .before .before .before .before .before .before .before .before .before .before .before .before .before .args .at) _ _ (c .before .before .before .before .before .before .before .before .before .before .before .before .before .before .loop .b) _ _ _ _ _ _ (omega arith) (omega arith) (c .before .before .before .before .before .before .before .before .before .before .before .before .entry .ensures .0) (c .before .before .before .before .before .before .before .before .before .entry2 .ensures .0) refl (c .before .before .before .before .before .before .before .before .before .before .before .before .before .before .loop .inv .4) (c .before .before .before .before .before .before .before .before .level .ensures)
       _ _ (c .before .before .before .before .entry3 .ensures .0) (omega (arith, c .before .before .before .before .before .before .before .before .before .before .before .before .before .before .loop .inv .2)) (c .before .before .before .push-cell .ensures),
+  pushed-capped (now (c .before .before .before .before .before .before .before .before .before .before .before .before .before .before .before .before .before .before .args .wide)) (c .before .before .before .before .before .before .before .before .before .before .before .before .before .before .before .before .before .before .args .r) (c .before .before .before .before .before .before .before .before .before .before .before .before .before .before .before .before .before .before .args .side) (c .before .before .before .before .before .before .before .before .before .before .before .before .before .before .before .before .before .before .pre .0) (c .before .before .before .before .before .before .before .before .before .before .before .before .before .before .before .before .before .before .args .at) _ _ (c .before .before .before .before .before .before .before .before .before .before .before .before .before .before .loop .b) _ _ _ _ _ _ (omega arith) (omega arith) (c .before .before .before .before .before .before .before .before .before .before .before .before .entry .ensures .0) (c .before .before .before .before .before .before .before .before .before .entry2 .ensures .0) refl (c .before .before .before .before .before .before .before .before .before .before .before .before .before .before .loop .inv .4) (c .before .before .before .before .before .before .before .before .level .ensures) (c .before .before .before .before .before .before .before .before .before .before .before .before .before .before .before .before .before .before .pre .1) (c .before .before .before .before .before .before .before .before .before .before .before .before .before .before .before .before .before .before .pre .5) (c .before .before .before .before .before .before .before .before .before .before .before .before .before .before .loop .inv .5)
+      _ _ (c .before .before .before .before .entry3 .ensures .0) (c .before .before .before .push-cell .ensures),
 )
 
 same-length : tie.Need-same-length Inv-loop μ-loop

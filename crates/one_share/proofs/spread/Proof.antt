@@ -6,18 +6,19 @@ use mathlib.Core.Path.{_≡_, refl}
 use Prim.Native.Nat.{ℕ, _+_, _-_, _≤_, _<_}
 use lib.ListN.{length, length-set, getD}
 use denote.Ref.{now}
-use Rattle.one_share.proofs.Raising.{spread-more}
+use Rattle.one_share.proofs.Raising.{spread-none, spread-more}
+use Rattle.one_share.specs.Rows.{Spread}
 use Rattle.one_share.proofs.spread.Statement.{statement}
 use Rattle.one_share.proofs.spread.Tie as tie
 
 abbrev Inv-loop : tie.InvT-loop
-Inv-loop unit₀ table at wide r side b₀ unit b = (b ≤ r) × (length unit ≡ length unit₀) × ((i : ℕ) → i < b → getD unit (getD wide i 0) 0 ≡ getD table (at + i) 0)
+Inv-loop unit₀ table at wide r side b₀ unit b = (b ≤ r) × (length unit ≡ length unit₀) × Spread wide at b table unit₀ unit
 
 abbrev μ-loop : tie.MeasureT-loop
 μ-loop unit₀ table at wide r side b₀ unit b = r - b
 
 loop-holds : tie.Need-loop-holds Inv-loop μ-loop
-loop-holds c = (search needs, refl, λ i h. absurd (omega arith))
+loop-holds c = (search needs, refl, spread-none _ _ _ _)
 
 add-unit : tie.Need-add-unit Inv-loop μ-loop
 add-unit c = search needs
@@ -44,7 +45,7 @@ loop-less : tie.Need-loop-less Inv-loop μ-loop
 loop-less c = search needs
 
 loop-again : tie.Need-loop-again Inv-loop μ-loop
-loop-again c = (omega arith, simp length-set (c .before .before .before .loop .inv .1), spread-more (now (c .before .before .before .before .before .before .before .args .wide)) (now (c .before .before .before .before .before .before .before .args .table)) (c .before .before .before .loop .unit) (c .before .before .before .before .before .before .before .args .r) (c .before .before .before .before .before .before .before .args .side) (c .before .before .before .before .before .before .before .args .at) (c .before .before .before .loop .b) (c .entry .result) (c .before .before .before .before .before .before .before .pre .0) (omega arith) (c .entry .ensures .0) (omega (arith, c .before .before .before .before .before .before .before .pre .0 .within (c .before .before .before .loop .b) (omega arith), c .entry .ensures .0)) (c .before .before .before .loop .inv .2))
+loop-again c = (omega arith, simp length-set (c .before .before .before .loop .inv .1), spread-more (now (c .before .before .before .before .before .before .before .args .wide)) (now (c .before .before .before .before .before .before .before .args .table)) _ (c .before .before .before .loop .unit) (c .before .before .before .before .before .before .before .args .r) (c .before .before .before .before .before .before .before .args .side) (c .before .before .before .before .before .before .before .args .at) (c .before .before .before .loop .b) (c .entry .result) (c .before .before .before .before .before .before .before .pre .0) (omega arith) (c .entry .ensures .0) (omega (arith, c .before .before .before .before .before .before .before .pre .0 .within (c .before .before .before .loop .b) (omega arith), c .entry .ensures .0)) (c .before .before .before .loop .inv .2))
 
 same-length : tie.Need-same-length Inv-loop μ-loop
 same-length c = c .before .loop .inv .1
