@@ -17,7 +17,7 @@ pub record Entries (list : List ℕ) (r side : ℕ) : Type 0 where
   pub rise : (i j : ℕ) → i < j → j < r → getD list i 0 < getD list j 0
   pub within : (i : ℕ) → i < r → getD list i 0 ≤ side
 
--- a row's r words stand at the units of their entries, and no unit is above every bound on the row and on what the units were
+-- a row's r words stand at the units of their entries, and a unit is at most what bounds the row's words and its old word
 pub record Spread (list : List ℕ) (at r : ℕ) (row old new : List ℕ) : Type 0 where
   pub here : (b : ℕ) → b < r → getD new (getD list b 0) 0 ≡ getD row (at + b) 0
   pub low : (i bound : ℕ) → ((b : ℕ) → b < r → getD row (at + b) 0 ≤ bound) → getD old i 0 ≤ bound → getD new i 0 ≤ bound
