@@ -23,3 +23,4 @@ pub mod Ceiling
 pub mod Job
 pub mod Table
 pub mod Plan
+pub mod Promises

@@ -1,5 +1,11 @@
-// The types of a plan's node, shared by specifications and code. Everything else of this crate is mathematics: specs/ defines
-// guillotine trees, the relaxed recursion, normal positions and the plan behind the bound; proofs/ has the theory.
+// The node of a plan, the sides of a rectangle and the parts of a cut, shared by specifications and code. Everything else of this crate
+// is mathematics: specs/ defines guillotine trees, the relaxed recursion, normal positions and the plan behind the bound; proofs/ has
+// the theory.
+ghost use mathlib.Core.Path.{_≡_};
+ghost use Prim.Native.Nat.{_-_, _≤_};
+ghost use Rattle.cutting.specs.Tree.{side, part};
+ghost use Rattle.cutting.specs.Pieces.{fits-in};
+ghost use Rattle.cutting.specs.Sides.{rect-of, sides-of};
 
 // What a cut divides: the length or the width.
 pub enum Direction {
@@ -12,4 +18,64 @@ pub enum Node {
     Waste,
     Piece(u16),
     Cut(Direction, u16),
+}
+
+// The sides of a rectangle.
+pub struct Sides {
+    pub length: u16,
+    pub width: u16,
+}
+
+// Whether a piece fits a rectangle: neither side is greater.
+pub fn fits(piece: Sides, room: Sides) -> bool
+    ensures { λ r. ⌜ r ≡ fits-in (rect-of piece) (rect-of room) ⌝ }
+{
+    if piece.length <= room.length {
+        piece.width <= room.width
+    } else {
+        false
+    }
+}
+
+// The side that a cut divides.
+pub fn cut_side(d: Direction, whole: Sides) -> u16
+    ensures { λ r. ⌜ r ≡ side d (rect-of whole) ⌝ }
+{
+    match d {
+        Direction::Length => whole.length,
+        Direction::Width => whole.width,
+    }
+}
+
+// The first part of a cut: x on the side that is cut, the other side whole.
+pub fn first_part(d: Direction, x: u16, whole: Sides) -> Sides
+    ensures { λ r. ⌜ r ≡ sides-of (part d x (rect-of whole)) ⌝ }
+{
+    match d {
+        Direction::Length => Sides {
+            length: x,
+            width: whole.width,
+        },
+        Direction::Width => Sides {
+            length: whole.length,
+            width: x,
+        },
+    }
+}
+
+// The second part of a cut: the rest of the side.
+pub fn second_part(d: Direction, x: u16, whole: Sides) -> Sides
+    requires { ⌜ x ≤ side d (rect-of whole) ⌝ }
+    ensures { λ r. ⌜ r ≡ sides-of (part d (side d (rect-of whole) - x) (rect-of whole)) ⌝ }
+{
+    match d {
+        Direction::Length => Sides {
+            length: whole.length - x,
+            width: whole.width,
+        },
+        Direction::Width => Sides {
+            length: whole.length,
+            width: whole.width - x,
+        },
+    }
 }

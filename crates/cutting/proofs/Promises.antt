@@ -1,0 +1,41 @@
+-- The sentences of the scope hold of every job; those that read the plate's cells, of a job in range.
+use mathlib.Core.Logic.{_↔_}
+use mathlib.Core.List.{List·Memᴰ}
+use Prim.Native.Nat.{ℕ, suc, _≤_}
+use native.Mathlib.Omega.{arith}
+use Rattle.cutting.specs.declared.Direction.{Direction}
+use Rattle.cutting.specs.Tree.{side}
+use Rattle.cutting.specs.Lists.{range}
+use Rattle.cutting.specs.Job.{Job, InRange, capacity, bound-of, normal-positions, normal-side}
+use Rattle.cutting.specs.Promises.{NoneAbove, MostWithin, Recursion, NormalSums, FloorFigures, PlanFollows}
+use Rattle.cutting.proofs.Lists.{range-mem, mem-range, filter-mem, mem-filter}
+use Rattle.cutting.proofs.Job.{figure-recursion, bound-most, bound-earned, bound-holds}
+use Rattle.cutting.proofs.Table.{normal-sums, figure-floor}
+use Rattle.cutting.proofs.Plan.{plan-recursion}
+
+pub normal-listed : (J : Job) → NormalSums J
+unfolding normal-positions
+normal-listed J d n = (
+  (λ m. (let f = mem-filter (normal-side J d) (range 0 (suc (side d (J .plate)))) m in
+      let k = mem-range 0 (suc (side d (J .plate))) n (f .0) in (omega arith, normal-sums J d n .0 (f .1)))),
+  (λ h. filter-mem (normal-side J d) (range 0 (suc (side d (J .plate)))) (range-mem 0 (suc (side d (J .plate))) n (omega arith) (omega (arith, h .0))) (normal-sums J d n .1 (h .1))),
+)
+
+module _ (J : Job) (weight : ℕ → ℕ) where
+  pub recursion : Recursion J weight
+  recursion = figure-recursion J weight
+
+  -- the bound is the most within the capacity
+  pub bound-exact : MostWithin J weight (capacity J weight) (bound-of J weight)
+  bound-exact = let e = bound-earned J weight in (bound-most J weight, (e .0, (e .1, e .2, e .3)))
+
+  -- and no tree within the demands earns more
+  pub none-above : NoneAbove J (bound-of J weight)
+  none-above = bound-holds J weight
+
+  module _ (h : InRange J) where
+    pub floor-figures : FloorFigures J weight
+    floor-figures l w c on-length on-width = figure-floor J weight h l w c on-length on-width
+
+    pub plan-follows : PlanFollows J weight
+    plan-follows l w c on-length on-width = plan-recursion J weight h l w c on-length on-width

@@ -1,0 +1,47 @@
+-- The sentences of the scope about a job, its weights and its trees, as statements. The contracts of the public calls cite them;
+-- proofs/Promises proves them.
+use mathlib.Core.Path.{_≡_}
+use mathlib.Core.Bool.{_&&_}
+use mathlib.Core.Logic.{_↔_}
+use mathlib.Core.List.{List·Memᴰ}
+use Prim.Native.Nat.{ℕ, suc, _+_, _-_, _≤_, max}
+use lib.Dec.{leb}
+use Rattle.cutting.specs.declared.Direction.{Direction}
+use Rattle.cutting.specs.declared.Direction.the-variants.{Length, Width}
+use Rattle.cutting.specs.Lists.{range, only, greatest}
+use Rattle.cutting.specs.Tree.{side, Tree}
+use Rattle.cutting.specs.Pieces.{fits-in}
+use Rattle.cutting.specs.Normal.{Sum, sides}
+use Rattle.cutting.specs.Job.{Job, OnPlate, KeepsDemands, profit, weight-of, figure-of, normal-positions, normal-floor, plan-of, plan-choice, plan-after}
+
+-- no guillotine tree on the plate that keeps every demand earns more than n
+abbrev pub NoneAbove : Job → ℕ → Type 0
+NoneAbove J n = (t : Tree ℕ) → OnPlate J t → KeepsDemands J t → profit J t ≤ n
+
+-- a guillotine tree on the plate of weight at most q that earns n
+abbrev pub EarnsWithin : Job → (ℕ → ℕ) → ℕ → ℕ → Tree ℕ → Type 0
+EarnsWithin J weight q n t = OnPlate J t × (weight-of weight t ≤ q) × (profit J t ≡ n)
+
+-- n is the most that a guillotine tree on the plate of weight at most q earns: none earns more, and one earns it
+abbrev pub MostWithin : Job → (ℕ → ℕ) → ℕ → ℕ → Type 0
+MostWithin J weight q n = ((t : Tree ℕ) → OnPlate J t → weight-of weight t ≤ q → profit J t ≤ n) × ((t : Tree ℕ) × EarnsWithin J weight q n t)
+
+-- the recursion: a figure is the greatest of 0; the price of any kind that fits and weighs at most the share; for each length cut, at
+-- every whole unit, and each first share, the first part's figure plus the second part's; the same for width cuts
+abbrev pub Recursion : Job → (ℕ → ℕ) → Type 0
+Recursion J weight = (l w c : ℕ) → figure-of J weight l w c ≡
+    max (greatest (λ i. only (fits-in (J .size i) (l, w) && leb (weight i) c) (J .price i)) (range 0 (J .count)))
+    (max (greatest (λ x. greatest (λ a. figure-of J weight x w a + figure-of J weight (l - x) w (c - a)) (range 0 (suc c))) (range 1 (l - 1)))
+    (greatest (λ x. greatest (λ a. figure-of J weight l x a + figure-of J weight l (w - x) (c - a)) (range 0 (suc c))) (range 1 (w - 1))))
+
+-- the normal positions of a side are exactly 0 and the sums, repetition allowed, of that side of the kinds that fit the plate, up to it
+abbrev pub NormalSums : Job → Type 0
+NormalSums J = (d : Direction) (n : ℕ) → List·Memᴰ n (normal-positions J d) ↔ ((n ≤ side d (J .plate)) × Sum (sides (range 0 (J .count)) (J .size) (J .plate) d) n)
+
+-- the figure of a rectangle on the plate is that of the largest normal length and width not above its sides
+abbrev pub FloorFigures : Job → (ℕ → ℕ) → Type 0
+FloorFigures J weight = (l w c : ℕ) → l ≤ J .plate .0 → w ≤ J .plate .1 → figure-of J weight l w c ≡ figure-of J weight (normal-floor J Length l) (normal-floor J Width w) c
+
+-- the plan from a rectangle on the plate and a share follows the order of choice, the second part of a cut the true remainder
+abbrev pub PlanFollows : Job → (ℕ → ℕ) → Type 0
+PlanFollows J weight = (l w c : ℕ) → l ≤ J .plate .0 → w ≤ J .plate .1 → plan-of J weight l w c ≡ plan-after J weight l w (plan-choice J weight l w c)
