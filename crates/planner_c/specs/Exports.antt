@@ -1,18 +1,22 @@
 -- The C interface: a call's number is returned, its values or its place stand in the answer words, and the rest of them is as it was.
--- Assumes nothing.
 use mathlib.Core.Path.{_≡_}
 use mathlib.Core.Bool.{Bool, true, false}
 use mathlib.Core.List.{List, _∷_}
 use Prim.Native.Nat.{ℕ, _+_, _≤_}
 use lib.Dec.{ltb}
-use lib.ListN.{length}
+use lib.ListN.{length, getD}
 use Rattle.cutting.specs.Lists.{over}
+use Rattle.cutting.specs.Tree.{Tree}
+use Rattle.cutting.specs.Job.{Job}
+use Rattle.cutting.specs.Promises.{NoneAbove}
 use Rattle.cutting.specs.Preorder.{kinds-of, operands-of}
 use Rattle.refusal.specs.Refusals.{Outcome, outcome-by}
 use Rattle.plan.specs.declared.Report.{Report}
 use Rattle.plan.specs.declared.PlanAnswer.{PlanAnswer}
+use Rattle.plan.specs.Trees.{PlanOf, tree-report}
 use Rattle.bound.specs.Bound.{Memory}
 use Rattle.writer.specs.Write.{array-after, block-plan}
+use Rattle.certificate.specs.Demands.{Earns}
 use Rattle.certificate.specs.declared.Certificate.{Certificate}
 use Rattle.certificate.specs.declared.Certificate.the-variants.{Gap}
 
@@ -62,3 +66,23 @@ plan-values r = r .profit ∷ r .pieces ∷ r .waste ∷ r .trim ∷ r .copies
 -- the number and values of a plan's answer
 abbrev pub plan-outcome : PlanAnswer → Outcome
 plan-outcome a = outcome-by (a .verdict) (plan-values (a .report))
+
+-- a word of the answer
+abbrev pub word : List ℕ → ℕ → ℕ
+word answer i = getD answer i 0
+
+-- a plan's check returns 0 only for the preorder of a guillotine tree on the plate that keeps every demand, and its words are then that
+-- tree's own report; where the answer has words enough and what stands before the plan's checks holds, it returns 0 for every such plan
+pub record TreeChecked (Before : Type 0) (J : Job) (kinds operands old new : List ℕ) (n : ℕ) : Type 0 where
+  pub tree : n ≡ 0 → (t : Tree ℕ) × PlanOf J t kinds operands × (new ≡ over (plan-values (tree-report J t)) old)
+  pub passes : 68 ≤ length old → Before → (t : Tree ℕ) → PlanOf J t kinds operands → n ≡ 0
+
+-- a certificate's words where 0 is returned: the plan is that of a tree that keeps every demand and earns the profit, no such tree earns
+-- more than profit and gap, and the bound is their sum; so a gap of 0 says that none earns more than the plan
+pub record Certified (J : Job) (kinds operands : List ℕ) (profit bound gap : ℕ) : Type 0 where
+  pub earns : Earns J kinds operands profit
+  pub bound-is : bound ≡ profit + gap
+  pub none-above : NoneAbove J bound
+
+abbrev pub CertificateGiven : Job → (kinds operands answer : List ℕ) → ℕ → Type 0
+CertificateGiven J kinds operands answer n = n ≡ 0 → Certified J kinds operands (word answer 2) (word answer 1) (word answer 0)

@@ -5,11 +5,11 @@ mod words;
 
 ghost use mathlib.Core.Path.{_≡_};
 ghost use Rattle.job.specs.Weights.{block-job, weight-in};
-ghost use Rattle.plan.specs.Calls.{arrays-answer, block-answer};
+ghost use Rattle.plan.specs.Calls.{arrays-answer, block-answer, plan-kinds, plan-operands, JobPasses, BlockPasses};
 ghost use Rattle.bound.specs.Bound.{lent, Leaves, accept-verdict, bound-said};
 ghost use Rattle.writer.specs.Write.{write-said};
 ghost use Rattle.certificate.specs.Certificate.{plan-verdict, certificate-said};
-ghost use Rattle.planner_c.specs.Exports.{returned, answered, Left, PlanLeft, plan-outcome};
+ghost use Rattle.planner_c.specs.Exports.{returned, answered, Left, PlanLeft, plan-outcome, TreeChecked, CertificateGiven};
 
 // The check of a plan's arrays for a job block. The answer has 68 words: profit, the areas of pieces, waste nodes and trim, and the
 // copies of 64 kinds.
@@ -22,6 +22,7 @@ pub extern "C" fn planner_check_plan(
 ) -> u32
     ensures number { λ n. ⌜ n ≡ returned 68 (now (answer .entry)) (plan-outcome (arrays-answer (now (block .entry)) (now (kinds .entry)) (now (operands .entry)))) ⌝ }
     ensures words { λ _. ⌜ now (answer .exit) ≡ answered 68 (now (answer .entry)) (plan-outcome (arrays-answer (now (block .entry)) (now (kinds .entry)) (now (operands .entry)))) ⌝ }
+    ensures trees { λ n. ⌜ TreeChecked (JobPasses (now (block .entry))) (block-job (now (block .entry))) (now (kinds .entry)) (now (operands .entry)) (now (answer .entry)) (now (answer .exit)) n ⌝ }
 {
     if answer.len() < 68 {
         return 100;
@@ -35,6 +36,7 @@ pub extern "C" fn planner_check_plan(
 pub extern "C" fn planner_check_plan_block(block: &[u8], plan: &[u8], answer: &mut [u64]) -> u32
     ensures number { λ n. ⌜ n ≡ returned 68 (now (answer .entry)) (plan-outcome (block-answer (now (block .entry)) (now (plan .entry)))) ⌝ }
     ensures words { λ _. ⌜ now (answer .exit) ≡ answered 68 (now (answer .entry)) (plan-outcome (block-answer (now (block .entry)) (now (plan .entry)))) ⌝ }
+    ensures trees { λ n. ⌜ TreeChecked (JobPasses (now (block .entry)) × BlockPasses (now (plan .entry))) (block-job (now (block .entry))) (plan-kinds (now (plan .entry))) (plan-operands (now (plan .entry))) (now (answer .entry)) (now (answer .exit)) n ⌝ }
 {
     if answer.len() < 68 {
         return 100;
@@ -113,6 +115,7 @@ pub extern "C" fn planner_certify(
     ensures memory { λ _. ⌜ Left 3 (now (answer .entry))
         (Leaves (plan-verdict (now (block .entry)) (now (weights .entry)) (now (kinds .entry)) (now (operands .entry))) (block-job (now (block .entry))) (weight-in (now (weights .entry))))
         (lent (now (lengths .entry)) (now (widths .entry)) (now (table .entry))) (lent (now (lengths .exit)) (now (widths .exit)) (now (table .exit))) ⌝ }
+    ensures trees { λ n. ⌜ CertificateGiven (block-job (now (block .entry))) (now (kinds .entry)) (now (operands .entry)) (now (answer .exit)) n ⌝ }
 {
     if answer.len() < 3 {
         return 100;

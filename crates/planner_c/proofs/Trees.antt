@@ -1,0 +1,58 @@
+-- What an answer's words say of trees: from the proved call's promise about its answer and the words that the answer gives.
+use mathlib.Core.Path.{_≡_, refl, sym, _∙_, ap, subst}
+use mathlib.Core.List.{List, [], _∷_}
+use Prim.Native.Nat.{ℕ, _≤_, _<_}
+use native.Mathlib.Omega.{arith}
+use lib.ListN.{length}
+use Rattle.cutting.specs.Lists.{over}
+use Rattle.cutting.specs.Job.{Job}
+use Rattle.refusal.specs.declared.Refusal.{Refusal}
+use Rattle.refusal.specs.Refusals.{outcome-by}
+use Rattle.refusal.proofs.Numbers.{number-some}
+use Rattle.refusal.specs.declared.Checked.{Checked}
+use Rattle.refusal.specs.declared.Checked.the-variants.{Passed, Refused}
+use Rattle.plan.specs.declared.PlanAnswer.{PlanAnswer}
+use Rattle.plan.specs.Trees.{ChecksPlan}
+use Rattle.certificate.specs.declared.Certificate.{Certificate}
+use Rattle.certificate.specs.declared.Certificate.the-variants as certificate
+use Rattle.certificate.specs.Certificate.{certificate-outcome}
+use Rattle.certificate.specs.Demands.{BestSaid, GapSaid}
+use Rattle.planner_c.specs.Exports.{Gives, word, plan-values, plan-outcome, TreeChecked, Certified, CertificateGiven, returned, answered}
+use Rattle.planner_c.proofs.Exports.{short, enough}
+
+module _ (J : Job) (kinds operands : List ℕ) {n : ℕ} (old : List ℕ) {new : List ℕ} where
+  -- a certificate
+  pub certificate-given : (a : Certificate) → BestSaid J kinds operands a → GapSaid J kinds operands a → Gives (certificate-outcome a) n old new → CertificateGiven J kinds operands new n
+  certificate-given (certificate.Best profit) best gap g e =
+      let b = best profit refl in
+      subst (λ w. Certified J kinds operands (word w 2) (word w 1) (word w 0)) (sym (g .1)) (record { earns = b .0; bound-is = omega arith; none-above = b .1 })
+  certificate-given (certificate.Gap profit more) best gap g e =
+      let b = gap profit more refl in
+      subst (λ w. Certified J kinds operands (word w 2) (word w 1) (word w 0)) (sym (g .1)) (record { earns = b .0; bound-is = refl; none-above = b .2 })
+  certificate-given (certificate.Refused r) best gap g e = absurd (omega (arith, number-some r, g .0, e))
+
+  -- a checked plan: 0 is returned exactly where the verdict is that it passes
+  pub tree-given : (Before : Type 0) (a : PlanAnswer) → ChecksPlan Before J kinds operands a → Gives (plan-outcome a) n old new → TreeChecked Before J kinds operands old new n
+  tree-given Before a checks g = record {
+    tree = λ e. (let p = passed (a .verdict) refl e in let t = checks .tree p in (t .0, t .1, g .1 ∙ ap (λ v. over (outcome-by v (plan-values (a .report)) .1) old) p ∙ ap (λ r. over (plan-values r) old) (t .2 .own)));
+    passes = λ h b t k. g .0 ∙ ap (λ v. outcome-by v (plan-values (a .report)) .0) (checks .passes b t k);
+  }
+    where
+      passed : (v : Checked) → a .verdict ≡ v → n ≡ 0 → a .verdict ≡ Passed
+      passed Passed p e = p
+      passed (Refused r) p e = absurd (omega (arith, number-some r, e, g .0 ∙ ap (λ v. outcome-by v (plan-values (a .report)) .0) p))
+
+-- both cases of an exported check, whichever way the plan is given: too few words, and enough
+module _ (Before : Type 0) (J : Job) (kinds operands : List ℕ) (a : PlanAnswer) (old : List ℕ) where
+  abbrev pub ChecksAnswer : ℕ → List ℕ → Type 0
+  ChecksAnswer n new = (n ≡ returned 68 old (plan-outcome a)) × ((new ≡ answered 68 old (plan-outcome a)) × TreeChecked Before J kinds operands old new n)
+
+  pub check-short : length old < 68 → ChecksAnswer 100 old
+  check-short h =
+      let s = short 68 (plan-outcome a) old h in
+      (s .0, (s .1, record { tree = λ e. absurd (omega arith); passes = λ k b t p. absurd (omega (arith, h, k)) }))
+
+  pub check-enough : {n : ℕ} {new : List ℕ} {r : PlanAnswer} → 68 ≤ length old → r ≡ a → ChecksPlan Before J kinds operands r → Gives (plan-outcome r) n old new → ChecksAnswer n new
+  check-enough {r = r} h e checks g =
+      let s = enough 68 (plan-outcome a) old h (ap plan-outcome e) g in
+      (s .0, (s .1, tree-given J kinds operands old Before r checks g))

@@ -1,0 +1,29 @@
+-- Every refusal has a number of its own from 1 on, so a call that answers 0 was not refused.
+use Prim.Native.Nat.{_<_}
+use native.Mathlib.Omega.{arith}
+use Rattle.refusal.specs.declared.Refusal.{Refusal}
+use Rattle.refusal.specs.declared.Refusal.the-variants.{ShortHeader, PlateSide, KindCount, BlockLength, KindSide, Price, Demand, WeightCount, Capacity, PlanLength, NodeCount, NodeKind, PieceNumber, Operand, Misfit, Excess, NodeMissing, NodeLeft, ListShort, TableShort, PlanLong}
+use Rattle.refusal.specs.Refusals.{number-of}
+
+pub number-some : (r : Refusal) → 0 < number-of r
+number-some ShortHeader = omega arith
+number-some PlateSide = omega arith
+number-some KindCount = omega arith
+number-some BlockLength = omega arith
+number-some (KindSide k) = omega arith
+number-some (Price k) = omega arith
+number-some (Demand k) = omega arith
+number-some WeightCount = omega arith
+number-some Capacity = omega arith
+number-some PlanLength = omega arith
+number-some NodeCount = omega arith
+number-some (NodeKind k) = omega arith
+number-some (PieceNumber k) = omega arith
+number-some (Operand k) = omega arith
+number-some (Misfit k) = omega arith
+number-some (Excess k) = omega arith
+number-some (NodeMissing k) = omega arith
+number-some (NodeLeft k) = omega arith
+number-some ListShort = omega arith
+number-some (TableShort n) = omega arith
+number-some (PlanLong n) = omega arith
