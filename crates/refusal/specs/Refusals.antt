@@ -1,5 +1,5 @@
--- Document 01's table of refusals: the number and the place of each case, and the rule that the first condition that holds decides.
--- Assumes nothing.
+-- The table of refusals: the number and the place of each case, the rule that the first condition that holds decides, and what then
+-- follows from a check. Every call's answer, values and memory go by cases on its verdict through `by-check`.
 use mathlib.Core.Bool.{Bool, true, false}
 use mathlib.Core.List.{List, [], _∷_}
 use Prim.Native.Nat.{ℕ}
@@ -65,17 +65,21 @@ abbrev pub refuse-when : Bool → Refusal → Checked
 refuse-when true r = Refused r
 refuse-when false r = Passed
 
+-- what follows where a check passes, and else what its refusal gives
+abbrev pub by-check {ℓ} : {A : Type ℓ} → Checked → A → (Refusal → A) → A
+by-check Passed a refused = a
+by-check (Refused r) a refused = refused r
+
 -- a check, and where it passes what follows
 abbrev pub next : Checked → Checked → Checked
-next Passed b = b
-next (Refused r) b = Refused r
+next a b = by-check a b Refused
 
 -- checks run down the list; the first condition that holds decides
 unfoldable pub first-refusal : List Check → Checked
 first-refusal [] = Passed
 first-refusal (c ∷ cs) = next (refuse-when (c .0) (c .1)) (first-refusal cs)
 
--- an answer as document 01 gives it: its number, 0 where nothing is refused, and its values, for a refusal its place
+-- an answer in the table's terms: its number, 0 where nothing is refused, and its values, for a refusal its place
 abbrev pub Outcome : Type 0
 Outcome = ℕ × List ℕ
 
@@ -85,5 +89,4 @@ refused-as r = (number-of r, place-of r ∷ [])
 
 -- the values where the checks pass, and else the refusal
 abbrev pub outcome-by : Checked → List ℕ → Outcome
-outcome-by Passed values = (0, values)
-outcome-by (Refused r) values = refused-as r
+outcome-by v values = by-check v (0, values) refused-as

@@ -1,4 +1,4 @@
-// Refusals: a named case for each condition of document 01's table, with its place where it has one, and the answer of a check.
+// Refusals: a named case for each condition of the table of refusals, with its place where it has one, and the answer of a check.
 // Numbers and places are given once, by specs/Refusals; every other crate hands refusals on as they are.
 ghost use mathlib.Core.Path.{_≡_};
 ghost use Rattle.refusal.specs.Refusals.{number-of, place-of, refuse-when};
