@@ -1,7 +1,6 @@
--- What is known of a job block that passed its checks, and of the record that was read from it.
--- Assumes nothing.
+-- What is known of a job block that passed its checks, of the record that was read from it, and of the answer.
 use mathlib.Core.Path.{_≡_, refl, sym, _∙_, ap, ap₂, subst}
-use mathlib.Core.Bool.{Bool, true, false, _||_, not}
+use mathlib.Core.Bool.{Bool, true, false, _||_}
 use mathlib.Core.List.{List, [], _∷_, _++_}
 use Prim.Native.Nat.{ℕ, _+_, _*_, _≤_, _<_}
 use native.Mathlib.Omega.{arith}
@@ -9,11 +8,11 @@ use borrow.Author.Tests.{ltb-false, eqb-true, not-false}
 use lib.Dec.{ltb, eqb}
 use lib.ListN.{length}
 use Rattle.cutting.specs.Job.{InRange}
-use Rattle.refusal.specs.Refusals.{next, first-refusal}
+use Rattle.refusal.specs.Refusals.{next, first-refusal, by-check, outcome-by}
 use Rattle.refusal.specs.declared.Checked.{Checked}
 use Rattle.refusal.specs.declared.Checked.the-variants.{Passed, Refused}
 use Rattle.refusal.specs.declared.Refusal.{Refusal}
-use Rattle.job.specs.Block.{plate-length-at, plate-width-at, count-at, length-at, width-at, price-at, demand-at, HoldsKinds, outside, header-checks, size-check, pair-checks, each-kind, job-checks, entries, record-of, empty-record, answer-by, read-of, job-of}
+use Rattle.job.specs.Block.{plate-length-at, plate-width-at, count-at, length-at, width-at, price-at, demand-at, HoldsKinds, outside, header-checks, size-check, pair-checks, each-kind, job-checks, record-of, empty-record, read-of, job-values, job-outcome, job-said, job-of}
 use Rattle.job.specs.declared.JobAnswer.{JobAnswer}
 use Rattle.job.specs.declared.JobRecord.{JobRecord}
 use Rattle.job.proofs.Checks.{passed-both, first-append, cons-passed, each-passed}
@@ -117,17 +116,29 @@ pub record-arrays : (s : List ℕ) → (length (record-of s .lengths) ≡ 64) ×
 unfolding record-of
 record-arrays s = (entries-length (length-at s) (count-at s), entries-length (width-at s) (count-at s), entries-length (price-at s) (count-at s), entries-length (demand-at s) (count-at s))
 
+-- the answer of a verdict
+abbrev read-by : List ℕ → Checked → JobAnswer
+read-by s v = by-check v (record { verdict = Passed; job = record-of s }) (λ r. record { verdict = Refused r; job = empty-record })
+
 -- the answer's verdict is the first refusal
 pub read-verdict : (s : List ℕ) → read-of s .verdict ≡ first-refusal (job-checks s)
 read-verdict s = go (first-refusal (job-checks s))
   where
-    go : (a : Checked) → answer-by a (record-of s) .verdict ≡ a
+    go : (v : Checked) → read-by s v .verdict ≡ v
+    go Passed = refl
+    go (Refused r) = refl
+
+-- an answer's number and values are those of its verdict
+pub read-said : (s : List ℕ) {r : JobAnswer} → r ≡ read-of s → (r ≡ read-of s) × (job-outcome r ≡ job-said s)
+read-said s e = (e, ap (λ a. job-outcome a) e ∙ go (first-refusal (job-checks s)))
+  where
+    go : (v : Checked) → job-outcome (read-by s v) ≡ outcome-by v (job-values (record-of s))
     go Passed = refl
     go (Refused r) = refl
 
 -- the answer where the block passed
 pub read-passed : (s : List ℕ) → first-refusal (job-checks s) ≡ Passed → read-of s ≡ record { verdict = Passed; job = record-of s }
-read-passed s p = ap (λ a. answer-by a (record-of s)) p
+read-passed s p = ap (read-by s) p
 
 -- what a caller knows from an answer that the block passed
 pub answered : (s : List ℕ) {r : JobAnswer} → r ≡ read-of s → r .verdict ≡ Passed → (first-refusal (job-checks s) ≡ Passed) × (r .job ≡ record-of s)
@@ -139,4 +150,4 @@ refused s e p = sym (read-verdict s) ∙ sym (ap (λ a. a .verdict) e) ∙ p
 
 -- the answer where the block was refused
 pub read-refused : (s : List ℕ) {a : Checked} {r : Refusal} {j : JobRecord} → a ≡ first-refusal (job-checks s) → a ≡ Refused r → j ≡ empty-record → _≡_ {A = JobAnswer} (record { verdict = a; job = j }) (read-of s)
-read-refused s e p q = ap₂ (λ a j. record { verdict = a; job = j }) p q ∙ sym (ap (λ a. answer-by a (record-of s)) (sym e ∙ p))
+read-refused s e p q = ap₂ (λ a j. record { verdict = a; job = j }) p q ∙ sym (ap (read-by s) (sym e ∙ p))

@@ -1,8 +1,6 @@
--- What is known of weights that were accepted, and the capacity as a loop sums it.
--- Assumes nothing.
-use mathlib.Core.Path.{_≡_, refl, sym, ap}
-use mathlib.Core.Bool.{not}
-use mathlib.Core.List.{List}
+-- What is known of weights that were accepted, what each answer says, and the capacity as a loop sums it.
+use mathlib.Core.Path.{_≡_, refl, sym, _∙_, ap}
+use mathlib.Core.List.{List, [], _∷_}
 use Prim.Native.Nat.{ℕ, suc, _+_, _*_, _≤_, _<_}
 use native.Mathlib.Nat.{mul-le-mul}
 use native.Mathlib.Omega.{arith}
@@ -11,13 +9,14 @@ use lib.Dec.{eqb}
 use lib.ListN.{length}
 use Rattle.cutting.specs.Job.{Job, capacity, InRange}
 use Rattle.cutting.specs.Lists.{sum}
-use Rattle.refusal.specs.Refusals.{first-refusal}
+use Rattle.refusal.specs.Refusals.{first-refusal, by-check, outcome-by}
 use Rattle.refusal.specs.declared.Checked.{Checked}
 use Rattle.refusal.specs.declared.Checked.the-variants.{Passed, Refused}
 use Rattle.refusal.specs.declared.Refusal.{Refusal}
 use Rattle.refusal.specs.declared.Refusal.the-variants as refusal
 use Rattle.job.specs.Block.{count-at, job-checks, record-of}
-use Rattle.job.specs.Weights.{weight-in, weight-checks, weights-by, weights-answer, block-job, Accepted}
+use Rattle.job.specs.Weights.{weight-in, weight-checks, weights-answer, weights-outcome, weights-said, block-job, Accepted}
+use Rattle.job.specs.declared.WeightsAnswer.{WeightsAnswer}
 use Rattle.job.specs.declared.WeightsAnswer.the-variants as answer
 use Rattle.job.proofs.Checks.{cons-passed, append-passed, passed-append}
 use Rattle.job.proofs.Read.{read-in-range}
@@ -36,20 +35,32 @@ pub sum-none : (f : ℕ → ℕ) → 0 ≡ sum 0 f
 unfolding sum
 sum-none f = refl
 
+-- both clauses of an answer
+abbrev Answers : Job → List ℕ → WeightsAnswer → Type 0
+Answers J ws r = (r ≡ weights-answer J ws) × (weights-outcome r ≡ weights-said J ws)
+
+-- an answer's number and values are those of its verdict
+said : (J : Job) (ws : List ℕ) {r : WeightsAnswer} → r ≡ weights-answer J ws → Answers J ws r
+said J ws e = (e, ap (λ r. weights-outcome r) e ∙ go (first-refusal (weight-checks J ws)))
+  where
+    go : (v : Checked) → weights-outcome (by-check v (answer.Capacity (capacity J (weight-in ws))) answer.Refused) ≡ outcome-by v (capacity J (weight-in ws) ∷ [])
+    go Passed = refl
+    go (Refused r) = refl
+
 -- the answer where the number of weights is not the number of kinds
-pub answer-count : (J : Job) (ws : List ℕ) → (length ws ≡ J .count → ⊥) → answer.Refused refusal.WeightCount ≡ weights-answer J ws
+pub answer-count : (J : Job) (ws : List ℕ) → (length ws ≡ J .count → ⊥) → Answers J ws (answer.Refused refusal.WeightCount)
 unfolding first-refusal
-answer-count J ws h = simp (ne-eqb (length ws) (J .count) h)
+answer-count J ws h = said J ws (simp (ne-eqb (length ws) (J .count) h))
 
 -- the answer where the capacity is too large
-pub answer-capacity : (J : Job) (ws : List ℕ) {q : ℕ} → length ws ≡ J .count → q ≡ capacity J (weight-in ws) → 4095 < q → answer.Refused refusal.Capacity ≡ weights-answer J ws
+pub answer-capacity : (J : Job) (ws : List ℕ) {q : ℕ} → length ws ≡ J .count → q ≡ capacity J (weight-in ws) → 4095 < q → Answers J ws (answer.Refused refusal.Capacity)
 unfolding first-refusal
-answer-capacity J ws {q} h e l = simp (eq-eqb (length ws) (J .count) h, sym e, lt-ltb 4095 q l)
+answer-capacity J ws {q} h e l = said J ws (simp (eq-eqb (length ws) (J .count) h, sym e, lt-ltb 4095 q l))
 
 -- the answer where both checks pass
-pub answer-passed : (J : Job) (ws : List ℕ) {q : ℕ} → length ws ≡ J .count → q ≡ capacity J (weight-in ws) → q ≤ 4095 → answer.Capacity q ≡ weights-answer J ws
+pub answer-passed : (J : Job) (ws : List ℕ) {q : ℕ} → length ws ≡ J .count → q ≡ capacity J (weight-in ws) → q ≤ 4095 → Answers J ws (answer.Capacity q)
 unfolding first-refusal
-answer-passed J ws {q} h e l = simp (eq-eqb (length ws) (J .count) h, sym e, le-ltb 4095 q l)
+answer-passed J ws {q} h e l = said J ws (simp (eq-eqb (length ws) (J .count) h, sym e, le-ltb 4095 q l))
 
 -- weights that passed: as many as kinds, and a capacity of at most 4,095
 pub weights-passed : (J : Job) (ws : List ℕ) → first-refusal (weight-checks J ws) ≡ Passed → (length ws ≡ J .count) × (capacity J (weight-in ws) ≤ 4095)
@@ -62,7 +73,7 @@ weights-passed J ws p =
 pub capacity-answered : (J : Job) (ws : List ℕ) (q : ℕ) → weights-answer J ws ≡ answer.Capacity q → (first-refusal (weight-checks J ws) ≡ Passed) × (q ≡ capacity J (weight-in ws))
 capacity-answered J ws q e = go (first-refusal (weight-checks J ws)) e
   where
-    go : (a : Checked) → weights-by a (capacity J (weight-in ws)) ≡ answer.Capacity q → (a ≡ Passed) × (q ≡ capacity J (weight-in ws))
+    go : (a : Checked) → by-check a (answer.Capacity (capacity J (weight-in ws))) answer.Refused ≡ answer.Capacity q → (a ≡ Passed) × (q ≡ capacity J (weight-in ws))
     go Passed e = (refl, cc)
     go (Refused r) e = (cc, cc)
 
@@ -70,7 +81,7 @@ capacity-answered J ws q e = go (first-refusal (weight-checks J ws)) e
 pub refusal-answered : (J : Job) (ws : List ℕ) (r : Refusal) → weights-answer J ws ≡ answer.Refused r → first-refusal (weight-checks J ws) ≡ Refused r
 refusal-answered J ws r e = go (first-refusal (weight-checks J ws)) e
   where
-    go : (a : Checked) → weights-by a (capacity J (weight-in ws)) ≡ answer.Refused r → a ≡ Refused r
+    go : (a : Checked) → by-check a (answer.Capacity (capacity J (weight-in ws))) answer.Refused ≡ answer.Refused r → a ≡ Refused r
     go Passed e = cc
     go (Refused x) e = cc
 

@@ -1,5 +1,5 @@
--- The job block of document 01: where each field stands, when a block is refused, the record that a good one gives, and its job.
--- Assumes nothing.
+-- The job block: where each field stands, when a block is refused, the record that a good one gives with its job, and the number and
+-- values of what reading it answers.
 use mathlib.Core.Path.{_≡_}
 use mathlib.Core.Bool.{Bool, _||_, not}
 use mathlib.Core.List.{List, [], _∷_, _++_, map}
@@ -8,8 +8,7 @@ use lib.Dec.{ltb, eqb}
 use lib.ListN.{length, getD}
 use Rattle.cutting.specs.Lists.{range, only}
 use Rattle.cutting.specs.Job.{Job}
-use Rattle.refusal.specs.Refusals.{Check, first-refusal}
-use Rattle.refusal.specs.declared.Checked.{Checked}
+use Rattle.refusal.specs.Refusals.{Check, Outcome, first-refusal, by-check, outcome-by}
 use Rattle.refusal.specs.declared.Checked.the-variants.{Passed, Refused}
 use Rattle.refusal.specs.declared.Refusal.the-variants.{ShortHeader, PlateSide, KindCount, BlockLength, KindSide, Price, Demand}
 use Rattle.job.specs.declared.JobRecord.{JobRecord}
@@ -101,13 +100,21 @@ record-of s = record {
 abbrev pub empty-record : JobRecord
 empty-record = record { length = 0; width = 0; count = 0; lengths = entries (λ i. 0) 0; widths = entries (λ i. 0) 0; prices = entries (λ i. 0) 0; demands = entries (λ i. 0) 0 }
 
-abbrev pub answer-by : Checked → JobRecord → JobAnswer
-answer-by Passed j = record { verdict = Passed; job = j }
-answer-by (Refused r) j = record { verdict = Refused r; job = empty-record }
-
--- what reading a block answers: the first refusal of its checks, or its record
+-- what reading a block answers: its record, or the first refusal of its checks
 abbrev pub read-of : List ℕ → JobAnswer
-read-of s = answer-by (first-refusal (job-checks s)) (record-of s)
+read-of s = by-check (first-refusal (job-checks s)) (record { verdict = Passed; job = record-of s }) (λ r. record { verdict = Refused r; job = empty-record })
+
+-- a record's values: the plate's sides, the number of kinds, then the lengths, widths, prices and demands of 64 kinds
+abbrev pub job-values : JobRecord → List ℕ
+job-values j = j .length ∷ j .width ∷ j .count ∷ (j .lengths ++ j .widths ++ j .prices ++ j .demands)
+
+-- an answer's number and values
+abbrev pub job-outcome : JobAnswer → Outcome
+job-outcome a = outcome-by (a .verdict) (job-values (a .job))
+
+-- the number and values that reading a block answers
+abbrev pub job-said : List ℕ → Outcome
+job-said s = outcome-by (first-refusal (job-checks s)) (job-values (record-of s))
 
 -- the job of lent arrays
 abbrev pub job-from : ℕ → ℕ → ℕ → List ℕ → List ℕ → List ℕ → List ℕ → Job

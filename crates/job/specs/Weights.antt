@@ -1,5 +1,5 @@
--- The weights of a job: when they are refused, the capacity, and which jobs and weights are accepted.
--- Assumes nothing.
+-- The weights of a job: when they are refused, the capacity, the number and values of what they answer, and which jobs and weights
+-- are accepted.
 use mathlib.Core.Path.{_≡_}
 use mathlib.Core.Bool.{not}
 use mathlib.Core.List.{List, [], _∷_, _++_}
@@ -7,9 +7,8 @@ use Prim.Native.Nat.{ℕ}
 use lib.Dec.{ltb, eqb}
 use lib.ListN.{length, getD}
 use Rattle.cutting.specs.Job.{Job, capacity}
-use Rattle.refusal.specs.Refusals.{Check, first-refusal}
-use Rattle.refusal.specs.declared.Checked.{Checked}
-use Rattle.refusal.specs.declared.Checked.the-variants.{Passed, Refused}
+use Rattle.refusal.specs.Refusals.{Check, Outcome, first-refusal, by-check, refused-as, outcome-by}
+use Rattle.refusal.specs.declared.Checked.the-variants.{Passed}
 use Rattle.refusal.specs.declared.Refusal.the-variants as refusal
 use Rattle.job.specs.Block.{job-checks, record-of, job-of}
 use Rattle.job.specs.declared.WeightsAnswer.{WeightsAnswer}
@@ -23,13 +22,18 @@ weight-in ws i = getD ws i 0
 abbrev pub weight-checks : Job → List ℕ → List Check
 weight-checks J ws = (not (eqb (length ws) (J .count)), refusal.WeightCount) ∷ (ltb 4095 (capacity J (weight-in ws)), refusal.Capacity) ∷ []
 
-abbrev pub weights-by : Checked → ℕ → WeightsAnswer
-weights-by Passed q = answer.Capacity q
-weights-by (Refused r) q = answer.Refused r
-
--- what the weights of a job answer: the first refusal, or the capacity
+-- what the weights of a job answer: the capacity, or the first refusal
 abbrev pub weights-answer : Job → List ℕ → WeightsAnswer
-weights-answer J ws = weights-by (first-refusal (weight-checks J ws)) (capacity J (weight-in ws))
+weights-answer J ws = by-check (first-refusal (weight-checks J ws)) (answer.Capacity (capacity J (weight-in ws))) answer.Refused
+
+-- an answer's number and values: the capacity
+abbrev pub weights-outcome : WeightsAnswer → Outcome
+weights-outcome (answer.Capacity q) = (0, q ∷ [])
+weights-outcome (answer.Refused r) = refused-as r
+
+-- the number and values that the weights of a job answer
+abbrev pub weights-said : Job → List ℕ → Outcome
+weights-said J ws = outcome-by (first-refusal (weight-checks J ws)) (capacity J (weight-in ws) ∷ [])
 
 -- the job of a block
 abbrev pub block-job : List ℕ → Job

@@ -10,8 +10,8 @@ ghost use Prim.Native.Nat.{ℕ, _+_, _*_, _≤_, _<_};
 ghost use lib.ListN.{length};
 ghost use Rattle.refusal.specs.Refusals.{first-refusal};
 ghost use Rattle.cutting.specs.Job.{InRange, capacity};
-ghost use Rattle.job.specs.Block.{u16-at, u32-at, count-at, price-at, outside, HoldsKinds, header-checks, size-check, pair-checks, each-kind, job-checks, entries, record-of, empty-record, read-of, job-of};
-ghost use Rattle.job.specs.Weights.{weight-in, weights-answer};
+ghost use Rattle.job.specs.Block.{u16-at, u32-at, count-at, price-at, outside, HoldsKinds, header-checks, size-check, pair-checks, each-kind, job-checks, entries, record-of, empty-record, read-of, job-outcome, job-said, job-of};
+ghost use Rattle.job.specs.Weights.{weight-in, weights-answer, weights-outcome, weights-said};
 
 // The job record: the plate's sides, the number of kinds, and for each kind its sides, price and demand; 0 past the last kind.
 pub struct JobRecord {
@@ -249,7 +249,8 @@ fn empty_record() -> JobRecord
 
 // A job block, read or refused.
 pub fn read_job(block: &[u8]) -> JobAnswer
-    ensures { λ r. ⌜ r ≡ read-of (now (block .entry)) ⌝ }
+    ensures answers { λ r. ⌜ r ≡ read-of (now (block .entry)) ⌝ }
+    ensures outcome { λ r. ⌜ job-outcome r ≡ job-said (now (block .entry)) ⌝ }
 {
     let verdict = check_job(block);
     let Checked::Passed = verdict else {
@@ -288,7 +289,8 @@ fn sum_capacity(job: JobRecord, weights: &[u8]) -> u32
 // The weights of a job that was read: the capacity, or refusal 8 or 9.
 pub fn check_weights(job: JobRecord, weights: &[u8]) -> WeightsAnswer
     requires { ⌜ InRange (job-of job) ⌝ }
-    ensures { λ r. ⌜ r ≡ weights-answer (job-of job) (now (weights .entry)) ⌝ }
+    ensures answers { λ r. ⌜ r ≡ weights-answer (job-of job) (now (weights .entry)) ⌝ }
+    ensures outcome { λ r. ⌜ weights-outcome r ≡ weights-said (job-of job) (now (weights .entry)) ⌝ }
 {
     if weights.len() != (job.count as usize) {
         return WeightsAnswer::Refused(Refusal::WeightCount);

@@ -3,7 +3,7 @@ use mathlib.Core.Path.{refl, sym, _∙_, ap}
 use borrow.Author.Needs.{needs}
 use denote.Ref.{now}
 use Rattle.refusal.specs.declared.Checked.the-variants.{Passed}
-use Rattle.job.proofs.Read.{job-passed, header-holds, read-passed, read-refused}
+use Rattle.job.proofs.Read.{job-passed, header-holds, read-said, read-passed, read-refused}
 use Rattle.job.proofs.read_job.Statement.{statement}
 use Rattle.job.proofs.read_job.Tie as tie
 
@@ -20,13 +20,13 @@ empty-record-requires : tie.Need-empty-record-requires
 empty-record-requires c κs = search needs
 
 returns : tie.Need-returns
-returns c = read-refused (now (c .before .before .before .before .before .args .block)) (c .before .before .before .check-job .ensures) (c .before .enum-told2 .given .1) (c .empty-record .ensures)
+returns c = read-said (now (c .before .before .before .before .before .args .block)) (read-refused (now (c .before .before .before .before .before .args .block)) (c .before .before .before .check-job .ensures) (c .before .enum-told2 .given .1) (c .empty-record .ensures))
 
 read-record-requires : tie.Need-read-record-requires
 read-record-requires c κs = header-holds (now (c .before .before .before .before .args .block)) _ refl (job-passed (now (c .before .before .before .before .args .block)) (sym (c .before .before .check-job .ensures) ∙ c .enum-told .given .1) .0)
 
 returns-2 : tie.Need-returns-2
-returns-2 c = ap (λ j. record { verdict = Passed; job = j }) (c .read-record .ensures) ∙ sym (read-passed (now (c .before .before .before .before .before .args .block)) (sym (c .before .before .before .check-job .ensures) ∙ c .before .enum-told .given .1))
+returns-2 c = read-said (now (c .before .before .before .before .before .args .block)) (ap (λ j. record { verdict = Passed; job = j }) (c .read-record .ensures) ∙ sym (read-passed (now (c .before .before .before .before .before .args .block)) (sym (c .before .before .before .check-job .ensures) ∙ c .before .enum-told .given .1)))
 
 pub read-job-spec : {M : Type 1} → statement M
 read-job-spec =
