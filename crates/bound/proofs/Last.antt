@@ -13,7 +13,7 @@ use Rattle.cutting.specs.Lists.{over}
 use Rattle.cutting.specs.Tree.{side}
 use Rattle.cutting.specs.Job.{Job, InRange, figure-of, bound-of, capacity, normal-positions, normal-floor}
 use Rattle.cutting.proofs.Table.{positions-some, positions-length, positions-normal, positions-floor, figure-floor}
-use Rattle.table.specs.Table.{position-count, position, words-needed, word, Figures}
+use Rattle.table.specs.Table.{position-count, position, words-needed, Figures}
 use Rattle.bound.specs.declared.Counts.{Counts}
 use Rattle.bound.specs.Bound.{counts-of, Begins}
 

@@ -2,7 +2,7 @@
 -- Assumes nothing.
 use mathlib.Core.Path.{_≡_, refl, sym, _∙_, ap}
 use mathlib.Core.Bool.{Bool, true, false, _||_}
-use mathlib.Core.List.{List, [], _∷_}
+use mathlib.Core.List.{[], _∷_}
 use Prim.Native.Nat.{ℕ, _+_, _≤_, _<_}
 use lib.Dec.{ltb}
 use lib.ListN.{length}
@@ -15,7 +15,7 @@ use Rattle.refusal.specs.Refusals.{next, refuse-when, first-refusal}
 use Rattle.refusal.specs.declared.Checked.the-variants.{Passed, Refused}
 use Rattle.refusal.specs.declared.Refusal.the-variants.{ListShort, TableShort}
 use Rattle.table.specs.Table.{words-needed, Figures, Kept}
-use Rattle.bound.specs.Bound.{Memory, Leaves, list-check, table-check, list-after, TableAfter, memory-checks, answer-by, report-of, Bounded}
+use Rattle.bound.specs.Bound.{Memory, Leaves, list-check, list-after, TableAfter, memory-checks, answer-by, report-of, Bounded}
 use Rattle.bound.specs.declared.BoundAnswer.the-variants as answer
 use Rattle.bound.specs.declared.BoundReport.{BoundReport}
 use Rattle.bound.specs.declared.Counts.{Counts}

@@ -1,5 +1,5 @@
--- The bound call: its checks in the table's order, its answer, and what it leaves in lists and table.
--- Assumes nothing.
+-- The bound call: its checks in the table's order, its answer with number and values, what it leaves in lists and table, and what the
+-- answered bound is.
 use mathlib.Core.Path.{_≡_}
 use mathlib.Core.Bool.{_||_}
 use mathlib.Core.List.{List, [], _∷_, _++_}
@@ -9,14 +9,14 @@ use lib.ListN.{length, take}
 use Rattle.cutting.specs.declared.Direction.{Direction}
 use Rattle.cutting.specs.declared.Direction.the-variants.{Length, Width}
 use Rattle.cutting.specs.Lists.{over}
-use Rattle.cutting.specs.Tree.{Tree}
-use Rattle.cutting.specs.Job.{Job, OnPlate, KeepsDemands, profit, weight-of, capacity, figure-of, bound-of, normal-positions}
-use Rattle.refusal.specs.Refusals.{Check, Outcome, next, first-refusal, refused-as, outcome-by}
+use Rattle.cutting.specs.Job.{Job, capacity, figure-of, bound-of, normal-positions}
+use Rattle.cutting.specs.Promises.{NoneAbove, MostWithin}
+use Rattle.refusal.specs.Refusals.{Check, Outcome, next, first-refusal, by-check, refused-as, outcome-by}
 use Rattle.refusal.specs.declared.Checked.{Checked}
-use Rattle.refusal.specs.declared.Checked.the-variants.{Passed, Refused}
+use Rattle.refusal.specs.declared.Checked.the-variants.{Passed}
 use Rattle.refusal.specs.declared.Refusal.the-variants.{ListShort, TableShort}
 use Rattle.job.specs.Block.{job-checks}
-use Rattle.job.specs.Weights.{block-job, weight-in, weight-checks, Accepted}
+use Rattle.job.specs.Weights.{block-job, weight-in, weight-checks}
 use Rattle.table.specs.Table.{position-count, words-needed, Figures, Kept}
 use Rattle.bound.specs.declared.Counts.{Counts}
 use Rattle.bound.specs.declared.BoundReport.{BoundReport}
@@ -49,18 +49,15 @@ report-of J weight = record { bound = bound-of J weight; capacity = capacity J w
 
 -- the report, or the refusal
 abbrev pub answer-by : Checked → BoundReport → BoundAnswer
-answer-by Passed b = answer.Answered b
-answer-by (Refused r) b = answer.Refused r
+answer-by v b = by-check v (answer.Answered b) answer.Refused
 
 -- a list after the call: the normal positions over its old contents where the checks before the table's pass, and else as it was
 abbrev pub list-after : Checked → List ℕ → List ℕ → List ℕ
-list-after Passed xs old = over xs old
-list-after (Refused r) xs old = old
+list-after v xs old = by-check v (over xs old) (λ r. old)
 
 -- the table after the call: the figures, and later words as they were; on a refusal all as it was
 abbrev pub TableAfter : Checked → Job → (ℕ → ℕ) → List ℕ → List ℕ → Type 0
-TableAfter Passed J weight old new = Figures J weight (capacity J weight) new × Kept (words-needed J (capacity J weight)) old new
-TableAfter (Refused r) J weight old new = new ≡ old
+TableAfter v J weight old new = by-check v (Figures J weight (capacity J weight) new × Kept (words-needed J (capacity J weight)) old new) (λ r. new ≡ old)
 
 -- the memory that a call lends: two lists and a table
 pub record Memory : Type 0 where
@@ -112,25 +109,14 @@ bound-outcome (answer.Refused r) = refused-as r
 abbrev pub bound-said : List ℕ → List ℕ → Memory → Outcome
 bound-said s ws m = outcome-by (bound-verdict s ws m) (report-values (report-of (block-job s) (weight-in ws)))
 
--- for an accepted job and weights, no guillotine tree on the plate of weight at most Q earns more than the bound
-abbrev pub NoTreeAbove : List ℕ → List ℕ → Type 0
-NoTreeAbove s ws = Accepted s ws → (t : Tree ℕ) → OnPlate (block-job s) t → weight-of (weight-in ws) t ≤ capacity (block-job s) (weight-in ws)
-    → profit (block-job s) t ≤ bound-of (block-job s) (weight-in ws)
+-- what a bound n at the capacity q is: the most that a guillotine tree of weight at most q earns; no less than any tree that keeps the
+-- demands earns; at most 1,000,000,000,000; the recursion's figure at the plate and q
+pub record BoundHolds (J : Job) (weight : ℕ → ℕ) (q n : ℕ) : Type 0 where
+  pub most : MostWithin J weight q n
+  pub demands : NoneAbove J n
+  pub ceiling : n ≤ 1000000000000
+  pub figure : n ≡ figure-of J weight (J .plate .0) (J .plate .1) q
 
--- and some such tree earns it
-abbrev pub SomeTreeEarns : List ℕ → List ℕ → Type 0
-SomeTreeEarns s ws = Accepted s ws → (t : Tree ℕ) × OnPlate (block-job s) t × (weight-of (weight-in ws) t ≤ capacity (block-job s) (weight-in ws))
-    × (profit (block-job s) t ≡ bound-of (block-job s) (weight-in ws))
-
--- every guillotine tree on the plate that keeps the demands earns at most the bound
-abbrev pub DemandsWithin : List ℕ → List ℕ → Type 0
-DemandsWithin s ws = Accepted s ws → (t : Tree ℕ) → OnPlate (block-job s) t → KeepsDemands (block-job s) t → profit (block-job s) t ≤ bound-of (block-job s) (weight-in ws)
-
--- the bound is at most 1,000,000,000,000
-abbrev pub BelowCeiling : List ℕ → List ℕ → Type 0
-BelowCeiling s ws = Accepted s ws → bound-of (block-job s) (weight-in ws) ≤ 1000000000000
-
--- the bound is the recursion's figure at the plate and the capacity
-abbrev pub IsFigure : List ℕ → List ℕ → Type 0
-IsFigure s ws = report-of (block-job s) (weight-in ws) .bound
-    ≡ figure-of (block-job s) (weight-in ws) (block-job s .plate .0) (block-job s .plate .1) (capacity (block-job s) (weight-in ws))
+-- what an answer says: its bound holds at its capacity
+abbrev pub BoundSaid : List ℕ → List ℕ → BoundAnswer → Type 0
+BoundSaid s ws r = (b : BoundReport) → r ≡ answer.Answered b → BoundHolds (block-job s) (weight-in ws) (b .capacity) (b .bound)

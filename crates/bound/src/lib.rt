@@ -5,15 +5,16 @@ use job::WeightsAnswer;
 use refusal::Checked;
 use refusal::Refusal;
 ghost use mathlib.Core.Path.{_≡_};
-ghost use Prim.Native.Nat.{ℕ, _+_, _*_, _≤_, _<_};
+ghost use Prim.Native.Nat.{_+_, _*_, _≤_, _<_};
 ghost use lib.ListN.{length};
 ghost use Rattle.cutting.specs.declared.Direction.the-variants.{Length, Width};
 ghost use Rattle.cutting.specs.Lists.{over};
 ghost use Rattle.cutting.specs.Job.{InRange, capacity, normal-positions};
+ghost use Rattle.cutting.specs.Promises.{Recursion, NormalSums, FloorFigures};
 ghost use Rattle.job.specs.Block.{job-of};
-ghost use Rattle.job.specs.Weights.{block-job, weight-in};
-ghost use Rattle.table.specs.Table.{position-count, words-needed, Figures, Kept};
-ghost use Rattle.bound.specs.Bound.{counts-of, Begins, lent, Bounded, Leaves, accept-verdict, bound-answer, bound-outcome, bound-said, IsFigure, NoTreeAbove, SomeTreeEarns, DemandsWithin, BelowCeiling};
+ghost use Rattle.job.specs.Weights.{block-job, weight-in, Accepted};
+ghost use Rattle.table.specs.Table.{words-needed, Figures, Kept};
+ghost use Rattle.bound.specs.Bound.{counts-of, Begins, lent, Bounded, Leaves, accept-verdict, bound-answer, bound-outcome, bound-said, BoundSaid};
 
 // What the bound call reports: the bound, the capacity Q, and the numbers p and r of normal lengths and widths.
 pub struct BoundReport {
@@ -159,9 +160,10 @@ pub fn bound_of_job(
     })
 }
 
-// The bound of a job block and weights. The answer and the memory it leaves are the definitions'; whatever storage is lent, for every
-// accepted job and weights the bound is the figure at the plate and the capacity, the most that a guillotine tree within the capacity
-// earns, no less than any tree that keeps the demands earns, and at most 1,000,000,000,000.
+// The bound of a job block and weights. The answer, its number and values and the memory it leaves are the definitions'. An answered
+// bound is exact: the most that a guillotine tree within the answered capacity earns, and no tree that keeps the demands earns more.
+// The figures behind it follow the recursion, the listed positions are the sums, and a tabled figure is that of every rectangle whose
+// largest normal sides it has.
 pub fn bound(
     block: &[u8],
     weights: &[u8],
@@ -173,11 +175,10 @@ pub fn bound(
     ensures outcome { λ r. ⌜ bound-outcome r ≡ bound-said (now (block .entry)) (now (weights .entry)) (lent (now (lengths .entry)) (now (widths .entry)) (now (table .entry))) ⌝ }
     ensures memory { λ _. ⌜ Leaves (accept-verdict (now (block .entry)) (now (weights .entry))) (block-job (now (block .entry))) (weight-in (now (weights .entry)))
         (lent (now (lengths .entry)) (now (widths .entry)) (now (table .entry))) (lent (now (lengths .exit)) (now (widths .exit)) (now (table .exit))) ⌝ }
-    ensures figure { λ _. ⌜ IsFigure (now (block .entry)) (now (weights .entry)) ⌝ }
-    ensures upper { λ _. ⌜ NoTreeAbove (now (block .entry)) (now (weights .entry)) ⌝ }
-    ensures attained { λ _. ⌜ SomeTreeEarns (now (block .entry)) (now (weights .entry)) ⌝ }
-    ensures demands { λ _. ⌜ DemandsWithin (now (block .entry)) (now (weights .entry)) ⌝ }
-    ensures ceiling { λ _. ⌜ BelowCeiling (now (block .entry)) (now (weights .entry)) ⌝ }
+    ensures exact { λ r. ⌜ BoundSaid (now (block .entry)) (now (weights .entry)) r ⌝ }
+    ensures recursion { λ _. ⌜ Recursion (block-job (now (block .entry))) (weight-in (now (weights .entry))) ⌝ }
+    ensures normal { λ _. ⌜ NormalSums (block-job (now (block .entry))) ⌝ }
+    ensures floor { λ _. ⌜ (Accepted (now (block .entry)) (now (weights .entry)) → FloorFigures (block-job (now (block .entry))) (weight-in (now (weights .entry)))) ⌝ }
 {
     let answer = job::read_job(block);
     let read = answer.verdict;

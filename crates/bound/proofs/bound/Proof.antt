@@ -1,5 +1,5 @@
 -- `bound::bound` meets its contract. Assumes nothing.
-use mathlib.Core.Path.{refl, sym, _∙_}
+use mathlib.Core.Path.{sym, _∙_}
 use native.Mathlib.Omega.{arith}
 use denote.Ref.{now}
 use Rattle.job.specs.Block.{job-of}
@@ -18,14 +18,14 @@ enum-known-read : tie.Need-enum-known-read
 enum-known-read c = search needs
 
 returns : tie.Need-returns
-returns c = let m = (lent (now (c .before .before .before .before .before .before .before .before .before .args .lengths)) (now (c .before .before .before .before .before .before .before .before .before .args .widths)) (now (c .before .before .before .before .before .before .before .before .before .args .table))) in job-refused (now (c .before .before .before .before .before .before .before .before .before .args .block)) (now (c .before .before .before .before .before .before .before .before .before .args .weights)) m m _ (refused (now (c .before .before .before .before .before .before .before .before .before .args .block)) (c .before .before .before .read-job .ensures) (c .before .read .given .1)) refl refl refl
+returns c = let m = (lent (now (c .before .before .before .before .before .before .before .before .before .args .lengths)) (now (c .before .before .before .before .before .before .before .before .before .args .widths)) (now (c .before .before .before .before .before .before .before .before .before .args .table))) in job-refused (now (c .before .before .before .before .before .before .before .before .before .args .block)) (now (c .before .before .before .before .before .before .before .before .before .args .weights)) m _ (refused (now (c .before .before .before .before .before .before .before .before .before .args .block)) (c .before .before .before .read-job .ensures .0) (c .before .read .given .1))
 
 enum-told : tie.Need-enum-told
 enum-told c = search needs
 
 check-weights-requires : tie.Need-check-weights-requires
 check-weights-requires c κs =
-    let a = answered (now (c .before .before .before .before .before .before .before .before .before .args .block)) (c .before .before .before .read-job .ensures) (c .before .enum-told .given .1) in
+    let a = answered (now (c .before .before .before .before .before .before .before .before .before .args .block)) (c .before .before .before .read-job .ensures .0) (c .before .enum-told .given .1) in
     rw (a .1) (read-in-range (now (c .before .before .before .before .before .before .before .before .before .args .block)) (a .0))
 
 enum-known-accepted : tie.Need-enum-known-accepted
@@ -36,18 +36,18 @@ enum-known-accepted-2 c = search needs
 
 bound-of-job-requires : tie.Need-bound-of-job-requires
 bound-of-job-requires c κs =
-    let a = answered (now (c .before .before .before .before .before .before .before .before .before .before .before .before .before .before .before .before .args .block)) (c .before .before .before .before .before .before .before .before .before .before .read-job .ensures) (c .before .before .before .before .before .before .before .before .enum-told .given .1) in
+    let a = answered (now (c .before .before .before .before .before .before .before .before .before .before .before .before .before .before .before .before .args .block)) (c .before .before .before .before .before .before .before .before .before .before .read-job .ensures .0) (c .before .before .before .before .before .before .before .before .enum-told .given .1) in
     let J = job-of (c .before .before .before .before .before .before .before .before .before .before .read-job .result .job) in
-    let k = capacity-answered J (now (c .before .before .before .before .before .before .before .before .before .before .before .before .before .before .before .before .args .weights)) _ (sym (c .before .before .before .before .before .before .check-weights .ensures) ∙ c .before .before .before .before .accepted2 .given .1) in
+    let k = capacity-answered J (now (c .before .before .before .before .before .before .before .before .before .before .before .before .before .before .before .before .args .weights)) _ (sym (c .before .before .before .before .before .before .check-weights .ensures .0) ∙ c .before .before .before .before .accepted2 .given .1) in
     let n = weights-passed J (now (c .before .before .before .before .before .before .before .before .before .before .before .before .before .before .before .before .args .weights)) (k .0) in
     (rw (a .1) (read-in-range (now (c .before .before .before .before .before .before .before .before .before .before .before .before .before .before .before .before .args .block)) (a .0)), omega (arith, n .0), k .1, omega (arith, k .1, n .1))
 
 returns-2 : tie.Need-returns-2
 returns-2 c =
-    let a = answered (now (c .before .before .before .before .before .before .before .before .before .before .before .before .before .args .block)) (c .before .before .before .before .before .before .before .read-job .ensures) (c .before .before .before .before .before .enum-told .given .1) in
-    let k = refusal-answered (job-of (c .before .before .before .before .before .before .before .read-job .result .job)) (now (c .before .before .before .before .before .before .before .before .before .before .before .before .before .args .weights)) _ (sym (c .before .before .before .check-weights .ensures) ∙ c .before .accepted .given .1) in
+    let a = answered (now (c .before .before .before .before .before .before .before .before .before .before .before .before .before .args .block)) (c .before .before .before .before .before .before .before .read-job .ensures .0) (c .before .before .before .before .before .enum-told .given .1) in
+    let k = refusal-answered (job-of (c .before .before .before .before .before .before .before .read-job .result .job)) (now (c .before .before .before .before .before .before .before .before .before .before .before .before .before .args .weights)) _ (sym (c .before .before .before .check-weights .ensures .0) ∙ c .before .accepted .given .1) in
     let m = (lent (now (c .before .before .before .before .before .before .before .before .before .before .before .before .before .args .lengths)) (now (c .before .before .before .before .before .before .before .before .before .before .before .before .before .args .widths)) (now (c .before .before .before .before .before .before .before .before .before .before .before .before .before .args .table))) in
-    weights-refused (now (c .before .before .before .before .before .before .before .before .before .before .before .before .before .args .block)) (now (c .before .before .before .before .before .before .before .before .before .before .before .before .before .args .weights)) m m (a .0) _ (rw (a .1) at k) refl refl refl
+    weights-refused (now (c .before .before .before .before .before .before .before .before .before .before .before .before .before .args .block)) (now (c .before .before .before .before .before .before .before .before .before .before .before .before .before .args .weights)) m (a .0) _ (rw (a .1) at k)
 
 same-length : tie.Need-same-length
 same-length c = search needs
@@ -60,9 +60,9 @@ same-length-3 c = search needs
 
 returns-3 : tie.Need-returns-3
 returns-3 c =
-    let a = answered (now (c .before .before .before .before .before .before .before .before .before .before .before .before .before .before .before .before .before .before .before .before .before .before .before .args .block)) (c .before .before .before .before .before .before .before .before .before .before .before .before .before .before .before .before .before .read-job .ensures) (c .before .before .before .before .before .before .before .before .before .before .before .before .before .before .before .enum-told .given .1) in
-    let k = capacity-answered (job-of (c .before .before .before .before .before .before .before .before .before .before .before .before .before .before .before .before .before .read-job .result .job)) (now (c .before .before .before .before .before .before .before .before .before .before .before .before .before .before .before .before .before .before .before .before .before .before .before .args .weights)) _ (sym (c .before .before .before .before .before .before .before .before .before .before .before .before .before .check-weights .ensures) ∙ c .before .before .before .before .before .before .before .before .before .before .before .accepted2 .given .1) in
-    accepted (now (c .before .before .before .before .before .before .before .before .before .before .before .before .before .before .before .before .before .before .before .before .before .before .before .args .block)) (now (c .before .before .before .before .before .before .before .before .before .before .before .before .before .before .before .before .before .before .before .before .before .before .before .args .weights)) _ _ (a .0) _ (rw (a .1) at (k .0)) (rw (a .1) at (c .before .before .before .before .before .before .bound-of-job .ensures))
+    let a = answered (now (c .before .before .before .before .before .before .before .before .before .before .before .before .before .before .before .before .before .before .before .before .before .before .before .args .block)) (c .before .before .before .before .before .before .before .before .before .before .before .before .before .before .before .before .before .read-job .ensures .0) (c .before .before .before .before .before .before .before .before .before .before .before .before .before .before .before .enum-told .given .1) in
+    let k = capacity-answered (job-of (c .before .before .before .before .before .before .before .before .before .before .before .before .before .before .before .before .before .read-job .result .job)) (now (c .before .before .before .before .before .before .before .before .before .before .before .before .before .before .before .before .before .before .before .before .before .before .before .args .weights)) _ (sym (c .before .before .before .before .before .before .before .before .before .before .before .before .before .check-weights .ensures .0) ∙ c .before .before .before .before .before .before .before .before .before .before .before .accepted2 .given .1) in
+    accepted (now (c .before .before .before .before .before .before .before .before .before .before .before .before .before .before .before .before .before .before .before .before .before .before .before .args .block)) (now (c .before .before .before .before .before .before .before .before .before .before .before .before .before .before .before .before .before .before .before .before .before .before .before .args .weights)) _ (a .0) _ (rw (a .1) at (k .0)) (rw (a .1) at (c .before .before .before .before .before .before .bound-of-job .ensures))
 
 pub bound-spec : {M : Type 1} → statement M
 bound-spec =

@@ -1,0 +1,27 @@
+-- What stands behind a bound that was answered: the verdict passed, the report is the definition's, and the bound of a job in range is
+-- exact.
+use mathlib.Core.Path.{_≡_, refl}
+use Prim.Native.Nat.{ℕ}
+use Rattle.cutting.specs.Job.{Job, InRange, capacity, bound-of}
+use Rattle.cutting.proofs.Job.{bound-ceiling}
+use Rattle.cutting.proofs.Promises.{bound-exact, none-above}
+use Rattle.refusal.specs.declared.Refusal.{Refusal}
+use Rattle.refusal.specs.declared.Checked.{Checked}
+use Rattle.refusal.specs.declared.Checked.the-variants.{Passed, Refused}
+use Rattle.bound.specs.Bound.{BoundHolds, answer-by}
+use Rattle.bound.specs.declared.BoundReport.{BoundReport}
+use Rattle.bound.specs.declared.BoundAnswer.the-variants as answer
+
+-- the bound of a job in range holds at its capacity
+pub bound-held : (J : Job) (weight : ℕ → ℕ) → InRange J → BoundHolds J weight (capacity J weight) (bound-of J weight)
+bound-held J weight h = record { most = bound-exact J weight; demands = none-above J weight; ceiling = bound-ceiling J weight h; figure = refl }
+
+-- an answer with a report: the verdict passed, and it is the report
+pub answered-behind : (v : Checked) (b : BoundReport) {x : BoundReport} → answer.Answered x ≡ answer-by v b → (v ≡ Passed) × (x ≡ b)
+answered-behind Passed b e = (refl, cc)
+answered-behind (Refused r) b e = (cc, cc)
+
+-- an answer with a refusal: it is the verdict's
+pub refused-behind : (v : Checked) (b : BoundReport) {r : Refusal} → answer.Refused r ≡ answer-by v b → v ≡ Refused r
+refused-behind Passed b e = cc
+refused-behind (Refused x) b e = cc
