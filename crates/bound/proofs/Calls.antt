@@ -35,7 +35,7 @@ said-by Passed b = refl
 said-by (Refused r) b = refl
 
 -- an answered bound is exact
-exact-by : (s ws : List ℕ) (m : Memory) → BoundSaid s ws (bound-answer s ws m)
+pub exact-by : (s ws : List ℕ) (m : Memory) → BoundSaid s ws (bound-answer s ws m)
 exact-by s ws m b e =
     let w = answered-behind (bound-verdict s ws m) (report-of (block-job s) (weight-in ws)) (sym e) in
     let v = passed-both (accept-verdict s ws) (first-refusal (memory-checks (block-job s) (weight-in ws) m)) (w .0) in

@@ -1,3 +1,4 @@
 pub mod Comparison
-pub mod Demands
+pub mod Promises
+pub mod Refusals
 pub mod Calls

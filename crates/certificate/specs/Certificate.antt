@@ -1,17 +1,15 @@
--- The certificate: its checks in the table's order, what it answers, and its numbers as document 01 gives them.
--- Assumes nothing.
+-- The certificate: its checks in the table's order, what it answers, and the answer's number and values. Lists and table are left as
+-- the bound call leaves them.
 use mathlib.Core.Bool.{Bool, true, false}
-use mathlib.Core.List.{List, [], _∷_, _++_}
+use mathlib.Core.List.{List, [], _∷_}
 use Prim.Native.Nat.{ℕ, _+_, _-_}
 use lib.Dec.{eqb}
-use Rattle.cutting.specs.Job.{Job, bound-of}
-use Rattle.refusal.specs.Refusals.{Outcome, next, first-refusal, refused-as, outcome-by}
+use Rattle.cutting.specs.Job.{bound-of}
+use Rattle.refusal.specs.Refusals.{Outcome, next, first-refusal, by-check, refused-as, outcome-by}
 use Rattle.refusal.specs.declared.Checked.{Checked}
-use Rattle.refusal.specs.declared.Checked.the-variants.{Passed, Refused}
-use Rattle.job.specs.Block.{job-checks}
-use Rattle.job.specs.Weights.{block-job, weight-in, weight-checks}
+use Rattle.job.specs.Weights.{block-job, weight-in}
 use Rattle.plan.specs.Plan.{plan-answer}
-use Rattle.bound.specs.Bound.{Memory, memory-checks}
+use Rattle.bound.specs.Bound.{Memory, memory-checks, accept-verdict}
 use Rattle.job.specs.declared.WeightsAnswer.{WeightsAnswer}
 use Rattle.job.specs.declared.WeightsAnswer.the-variants as weights
 use Rattle.bound.specs.declared.BoundAnswer.{BoundAnswer}
@@ -21,7 +19,7 @@ use Rattle.certificate.specs.declared.Certificate.the-variants as certif
 
 -- the verdict of the checks that stand before the storage's: 1 to 9, then the plan's, 10 to 18
 abbrev pub plan-verdict : List ℕ → List ℕ → List ℕ → List ℕ → Checked
-plan-verdict s ws kinds operands = next (first-refusal (job-checks s ++ weight-checks (block-job s) ws)) (plan-answer (block-job s) kinds operands .verdict)
+plan-verdict s ws kinds operands = next (accept-verdict s ws) (plan-answer (block-job s) kinds operands .verdict)
 
 -- the verdict of all checks: then storage, 19 and 20
 abbrev pub certify-verdict : List ℕ → List ℕ → List ℕ → List ℕ → Memory → Checked
@@ -37,14 +35,17 @@ compared profit bound = compared-by (eqb profit bound) profit bound
 
 -- a certificate where the checks pass, and else the refusal
 abbrev pub handed-on : Checked → Certificate → Certificate
-handed-on Passed c = c
-handed-on (Refused r) c = certificate.Refused r
+handed-on v c = by-check v c certificate.Refused
 
 -- what certify answers
 abbrev pub certificate-of : List ℕ → List ℕ → List ℕ → List ℕ → Memory → Certificate
 certificate-of s ws kinds operands m =
     handed-on (certify-verdict s ws kinds operands m)
     (compared (plan-answer (block-job s) kinds operands .report .profit) (bound-of (block-job s) (weight-in ws)))
+
+-- the values of a profit and a bound: the gap, the bound and the profit
+abbrev pub certificate-values : ℕ → ℕ → List ℕ
+certificate-values profit bound = (bound - profit) ∷ bound ∷ profit ∷ []
 
 -- a certificate's number and values: the gap, 0 for best, the bound and the profit
 abbrev pub certificate-outcome : Certificate → Outcome
@@ -56,10 +57,7 @@ certificate-outcome (certificate.Refused r) = refused-as r
 abbrev pub certificate-said : List ℕ → List ℕ → List ℕ → List ℕ → Memory → Outcome
 certificate-said s ws kinds operands m =
     outcome-by (certify-verdict s ws kinds operands m)
-    ((bound-of (block-job s) (weight-in ws) - plan-answer (block-job s) kinds operands .report .profit)
-    ∷ bound-of (block-job s) (weight-in ws)
-    ∷ plan-answer (block-job s) kinds operands .report .profit
-    ∷ [])
+    (certificate-values (plan-answer (block-job s) kinds operands .report .profit) (bound-of (block-job s) (weight-in ws)))
 
 -- a refusal of the weights handed on; an answer with a capacity has none
 abbrev pub weights-handed-on : WeightsAnswer → Certificate

@@ -1,2 +1,2 @@
 pub mod Certificate
-pub mod Demands
+pub mod Promises

@@ -1,5 +1,5 @@
 // The certificate: a checked plan's profit against the bound. "Best" is a statement about every guillotine tree that keeps the demands
-// (specs/Demands). The call hands on the first refusal met, 1 to 20, and leaves lists and table as the bound call does.
+// (specs/Promises). The call hands on the first refusal met, 1 to 20, and leaves lists and table as the bound call does.
 use bound::BoundAnswer;
 use job::WeightsAnswer;
 use refusal::Checked;
@@ -9,7 +9,7 @@ ghost use Prim.Native.Nat.{_≤_};
 ghost use Rattle.job.specs.Weights.{block-job, weight-in};
 ghost use Rattle.bound.specs.Bound.{lent, Leaves};
 ghost use Rattle.certificate.specs.Certificate.{certificate-of, plan-verdict, compared, handed-on, weights-handed-on, bound-handed-on, certificate-outcome, certificate-said};
-ghost use Rattle.certificate.specs.Demands.{BestSaid, GapSaid};
+ghost use Rattle.certificate.specs.Promises.{BestSaid, GapSaid};
 
 // What certify answers: best, with the profit; or a gap, with the profit and the bound less the profit; or a refusal.
 pub enum Certificate {
@@ -74,8 +74,8 @@ pub fn certify(
     ensures outcome { λ r. ⌜ certificate-outcome r ≡ certificate-said (now (block .entry)) (now (weights .entry)) (now (kinds .entry)) (now (operands .entry)) (lent (now (lengths .entry)) (now (widths .entry)) (now (table .entry))) ⌝ }
     ensures memory { λ _. ⌜ Leaves (plan-verdict (now (block .entry)) (now (weights .entry)) (now (kinds .entry)) (now (operands .entry))) (block-job (now (block .entry))) (weight-in (now (weights .entry)))
         (lent (now (lengths .entry)) (now (widths .entry)) (now (table .entry))) (lent (now (lengths .exit)) (now (widths .exit)) (now (table .exit))) ⌝ }
-    ensures best { λ r. ⌜ BestSaid (block-job (now (block .entry))) (now (kinds .entry)) (now (operands .entry)) r ⌝ }
-    ensures gap { λ r. ⌜ GapSaid (block-job (now (block .entry))) (now (kinds .entry)) (now (operands .entry)) r ⌝ }
+    ensures best { λ r. ⌜ BestSaid (block-job (now (block .entry))) (weight-in (now (weights .entry))) (now (kinds .entry)) (now (operands .entry)) r ⌝ }
+    ensures gap { λ r. ⌜ GapSaid (block-job (now (block .entry))) (weight-in (now (weights .entry))) (now (kinds .entry)) (now (operands .entry)) r ⌝ }
 {
     let answer = job::read_job(block);
     let read = answer.verdict;

@@ -1,5 +1,5 @@
 -- `certificate::certify` meets its contract. Assumes nothing.
-use mathlib.Core.Path.{refl, sym, _∙_, ap}
+use mathlib.Core.Path.{sym, _∙_, ap}
 use native.Mathlib.Omega.{arith}
 use denote.Ref.{now}
 use Rattle.job.specs.Block.{job-of}
@@ -31,11 +31,11 @@ returns c =
     let v = c .before .enum-told2 .given .1 in
     let m = (lent (now (c .before .before .before .before .before .before .before .before .before .before .before .args .lengths)) (now (c .before .before .before .before .before .before .before .before .before .before .before .args .widths)) (now (c .before .before .before .before .before .before .before .before .before .before .before .args .table))) in
     rw (c .refused .ensures ∙ ap (λ v. handed-on v (Best 0)) v)
-    (job-refused (now (c .before .before .before .before .before .before .before .before .before .before .before .args .block)) (now (c .before .before .before .before .before .before .before .before .before .before .before .args .weights)) (now (c .before .before .before .before .before .before .before .before .before .before .before .args .kinds)) (now (c .before .before .before .before .before .before .before .before .before .before .before .args .operands)) m m _ (refused (now (c .before .before .before .before .before .before .before .before .before .before .before .args .block)) (c .before .before .before .read-job .ensures) v) refl refl refl)
+    (job-refused (now (c .before .before .before .before .before .before .before .before .before .before .before .args .block)) (now (c .before .before .before .before .before .before .before .before .before .before .before .args .weights)) (now (c .before .before .before .before .before .before .before .before .before .before .before .args .kinds)) (now (c .before .before .before .before .before .before .before .before .before .before .before .args .operands)) m _ (refused (now (c .before .before .before .before .before .before .before .before .before .before .before .args .block)) (c .before .before .before .read-job .ensures .0) v))
 
 check-weights-requires : tie.Need-check-weights-requires
 check-weights-requires c κs =
-    let a = answered (now (c .before .before .before .before .before .before .before .before .before .before .before .args .block)) (c .before .before .before .read-job .ensures) (c .before .enum-told .given .1) in
+    let a = answered (now (c .before .before .before .before .before .before .before .before .before .before .before .args .block)) (c .before .before .before .read-job .ensures .0) (c .before .enum-told .given .1) in
     rw (a .1) (read-in-range (now (c .before .before .before .before .before .before .before .before .before .before .before .args .block)) (a .0))
 
 enum-known-accepted : tie.Need-enum-known-accepted
@@ -49,16 +49,16 @@ weights-refused-requires c κs = search needs
 
 returns-2 : tie.Need-returns-2
 returns-2 c =
-    let a = answered (now (c .before .before .before .before .before .before .before .before .before .before .before .before .before .before .before .args .block)) (c .before .before .before .before .before .before .before .read-job .ensures) (c .before .before .before .before .before .enum-told .given .1) in
+    let a = answered (now (c .before .before .before .before .before .before .before .before .before .before .before .before .before .before .before .args .block)) (c .before .before .before .before .before .before .before .read-job .ensures .0) (c .before .before .before .before .before .enum-told .given .1) in
     let e = c .before .enum-told3 .given .1 in
-    let k = refusal-answered (job-of (c .before .before .before .before .before .before .before .read-job .result .job)) (now (c .before .before .before .before .before .before .before .before .before .before .before .before .before .before .before .args .weights)) _ (sym (c .before .before .before .check-weights .ensures) ∙ e) in
+    let k = refusal-answered (job-of (c .before .before .before .before .before .before .before .read-job .result .job)) (now (c .before .before .before .before .before .before .before .before .before .before .before .before .before .before .before .args .weights)) _ (sym (c .before .before .before .check-weights .ensures .0) ∙ e) in
     let m = (lent (now (c .before .before .before .before .before .before .before .before .before .before .before .before .before .before .before .args .lengths)) (now (c .before .before .before .before .before .before .before .before .before .before .before .before .before .before .before .args .widths)) (now (c .before .before .before .before .before .before .before .before .before .before .before .before .before .before .before .args .table))) in
     rw (c .weights-refused .ensures ∙ ap (λ v. weights-handed-on v) e)
-    (weights-refused (now (c .before .before .before .before .before .before .before .before .before .before .before .before .before .before .before .args .block)) (now (c .before .before .before .before .before .before .before .before .before .before .before .before .before .before .before .args .weights)) (now (c .before .before .before .before .before .before .before .before .before .before .before .before .before .before .before .args .kinds)) (now (c .before .before .before .before .before .before .before .before .before .before .before .before .before .before .before .args .operands)) m m (a .0) _ (rw (a .1) at k) refl refl refl)
+    (weights-refused (now (c .before .before .before .before .before .before .before .before .before .before .before .before .before .before .before .args .block)) (now (c .before .before .before .before .before .before .before .before .before .before .before .before .before .before .before .args .weights)) (now (c .before .before .before .before .before .before .before .before .before .before .before .before .before .before .before .args .kinds)) (now (c .before .before .before .before .before .before .before .before .before .before .before .before .before .before .before .args .operands)) m (a .0) _ (rw (a .1) at k))
 
 check-nodes-requires : tie.Need-check-nodes-requires
 check-nodes-requires c κs =
-    let a = answered (now (c .before .before .before .before .before .before .before .before .before .before .before .before .before .before .before .args .block)) (c .before .before .before .before .before .before .before .read-job .ensures) (c .before .before .before .before .before .enum-told .given .1) in
+    let a = answered (now (c .before .before .before .before .before .before .before .before .before .before .before .before .before .before .before .args .block)) (c .before .before .before .before .before .before .before .read-job .ensures .0) (c .before .before .before .before .before .enum-told .given .1) in
     rw (a .1) (read-in-range (now (c .before .before .before .before .before .before .before .before .before .before .before .before .before .before .before .args .block)) (a .0))
 
 enum-told-4 : tie.Need-enum-told-4
@@ -72,18 +72,18 @@ refused-requires-2 c κs = search needs
 
 returns-3 : tie.Need-returns-3
 returns-3 c =
-    let a = answered (now (c .before .before .before .before .before .before .before .before .before .before .before .before .before .before .before .before .before .before .before .args .block)) (c .before .before .before .before .before .before .before .before .before .before .before .read-job .ensures) (c .before .before .before .before .before .before .before .before .before .enum-told .given .1) in
-    let k = capacity-answered (job-of (c .before .before .before .before .before .before .before .before .before .before .before .read-job .result .job)) (now (c .before .before .before .before .before .before .before .before .before .before .before .before .before .before .before .before .before .before .before .args .weights)) _ (sym (c .before .before .before .before .before .before .before .check-weights .ensures) ∙ c .before .before .before .before .before .accepted .given .1) in
+    let a = answered (now (c .before .before .before .before .before .before .before .before .before .before .before .before .before .before .before .before .before .before .before .args .block)) (c .before .before .before .before .before .before .before .before .before .before .before .read-job .ensures .0) (c .before .before .before .before .before .before .before .before .before .enum-told .given .1) in
+    let k = capacity-answered (job-of (c .before .before .before .before .before .before .before .before .before .before .before .read-job .result .job)) (now (c .before .before .before .before .before .before .before .before .before .before .before .before .before .before .before .before .before .before .before .args .weights)) _ (sym (c .before .before .before .before .before .before .before .check-weights .ensures .0) ∙ c .before .before .before .before .before .accepted .given .1) in
     let v = c .before .enum-told5 .given .1 in
     let p = rw (a .1) at (c .before .before .before .check-nodes .ensures) in
     let m = (lent (now (c .before .before .before .before .before .before .before .before .before .before .before .before .before .before .before .before .before .before .before .args .lengths)) (now (c .before .before .before .before .before .before .before .before .before .before .before .before .before .before .before .before .before .before .before .args .widths)) (now (c .before .before .before .before .before .before .before .before .before .before .before .before .before .before .before .before .before .before .before .args .table))) in
     rw (c .refused2 .ensures ∙ ap (λ v. handed-on v (Best 0)) v)
-    (plan-refused (now (c .before .before .before .before .before .before .before .before .before .before .before .before .before .before .before .before .before .before .before .args .block)) (now (c .before .before .before .before .before .before .before .before .before .before .before .before .before .before .before .before .before .before .before .args .weights)) (now (c .before .before .before .before .before .before .before .before .before .before .before .before .before .before .before .before .before .before .before .args .kinds)) (now (c .before .before .before .before .before .before .before .before .before .before .before .before .before .before .before .before .before .before .before .args .operands)) m m (a .0) (rw (a .1) at (k .0)) _ (ap (λ (x : PlanAnswer). x .verdict) (sym p) ∙ v) refl refl refl)
+    (plan-refused (now (c .before .before .before .before .before .before .before .before .before .before .before .before .before .before .before .before .before .before .before .args .block)) (now (c .before .before .before .before .before .before .before .before .before .before .before .before .before .before .before .before .before .before .before .args .weights)) (now (c .before .before .before .before .before .before .before .before .before .before .before .before .before .before .before .before .before .before .before .args .kinds)) (now (c .before .before .before .before .before .before .before .before .before .before .before .before .before .before .before .before .before .before .before .args .operands)) m (a .0) (rw (a .1) at (k .0)) _ (ap (λ (x : PlanAnswer). x .verdict) (sym p) ∙ v))
 
 bound-of-job-requires : tie.Need-bound-of-job-requires
 bound-of-job-requires c κs =
-    let a = answered (now (c .before .before .before .before .before .before .before .before .before .before .before .before .before .before .before .before .before .before .before .before .before .before .args .block)) (c .before .before .before .before .before .before .before .before .before .before .before .before .before .before .read-job .ensures) (c .before .before .before .before .before .before .before .before .before .before .before .before .enum-told .given .1) in
-    let k = capacity-answered (job-of (c .before .before .before .before .before .before .before .before .before .before .before .before .before .before .read-job .result .job)) (now (c .before .before .before .before .before .before .before .before .before .before .before .before .before .before .before .before .before .before .before .before .before .before .args .weights)) _ (sym (c .before .before .before .before .before .before .before .before .before .before .check-weights .ensures) ∙ c .before .before .before .before .before .before .before .before .accepted .given .1) in
+    let a = answered (now (c .before .before .before .before .before .before .before .before .before .before .before .before .before .before .before .before .before .before .before .before .before .before .args .block)) (c .before .before .before .before .before .before .before .before .before .before .before .before .before .before .read-job .ensures .0) (c .before .before .before .before .before .before .before .before .before .before .before .before .enum-told .given .1) in
+    let k = capacity-answered (job-of (c .before .before .before .before .before .before .before .before .before .before .before .before .before .before .read-job .result .job)) (now (c .before .before .before .before .before .before .before .before .before .before .before .before .before .before .before .before .before .before .before .before .before .before .args .weights)) _ (sym (c .before .before .before .before .before .before .before .before .before .before .check-weights .ensures .0) ∙ c .before .before .before .before .before .before .before .before .accepted .given .1) in
     let n = weights-passed (job-of (c .before .before .before .before .before .before .before .before .before .before .before .before .before .before .read-job .result .job)) (now (c .before .before .before .before .before .before .before .before .before .before .before .before .before .before .before .before .before .before .before .before .before .before .args .weights)) (k .0) in
     (rw (a .1) (read-in-range (now (c .before .before .before .before .before .before .before .before .before .before .before .before .before .before .before .before .before .before .before .before .before .before .args .block)) (a .0)), omega (arith, n .0), k .1, omega (arith, k .1, n .1))
 
@@ -107,20 +107,20 @@ same-length-3 c = search needs
 
 returns-4 : tie.Need-returns-4
 returns-4 c =
-    let a = answered (now (c .before .before .before .before .before .before .before .before .before .before .before .before .before .before .before .before .before .before .before .before .before .before .before .before .before .before .before .before .before .before .before .before .args .block)) (c .before .before .before .before .before .before .before .before .before .before .before .before .before .before .before .before .before .before .before .before .before .before .before .before .read-job .ensures) (c .before .before .before .before .before .before .before .before .before .before .before .before .before .before .before .before .before .before .before .before .before .before .enum-told .given .1) in
-    let k = capacity-answered (job-of (c .before .before .before .before .before .before .before .before .before .before .before .before .before .before .before .before .before .before .before .before .before .before .before .before .read-job .result .job)) (now (c .before .before .before .before .before .before .before .before .before .before .before .before .before .before .before .before .before .before .before .before .before .before .before .before .before .before .before .before .before .before .before .before .args .weights)) _ (sym (c .before .before .before .before .before .before .before .before .before .before .before .before .before .before .before .before .before .before .before .before .check-weights .ensures) ∙ c .before .before .before .before .before .before .before .before .before .before .before .before .before .before .before .before .before .before .accepted .given .1) in
+    let a = answered (now (c .before .before .before .before .before .before .before .before .before .before .before .before .before .before .before .before .before .before .before .before .before .before .before .before .before .before .before .before .before .before .before .before .args .block)) (c .before .before .before .before .before .before .before .before .before .before .before .before .before .before .before .before .before .before .before .before .before .before .before .before .read-job .ensures .0) (c .before .before .before .before .before .before .before .before .before .before .before .before .before .before .before .before .before .before .before .before .before .before .enum-told .given .1) in
+    let k = capacity-answered (job-of (c .before .before .before .before .before .before .before .before .before .before .before .before .before .before .before .before .before .before .before .before .before .before .before .before .read-job .result .job)) (now (c .before .before .before .before .before .before .before .before .before .before .before .before .before .before .before .before .before .before .before .before .before .before .before .before .before .before .before .before .before .before .before .before .args .weights)) _ (sym (c .before .before .before .before .before .before .before .before .before .before .before .before .before .before .before .before .before .before .before .before .check-weights .ensures .0) ∙ c .before .before .before .before .before .before .before .before .before .before .before .before .before .before .before .before .before .before .accepted .given .1) in
     let p = rw (a .1) at (c .before .before .before .before .before .before .before .before .before .before .before .before .before .before .before .before .check-nodes .ensures) in
     let e = c .before .enum-told6 .given .1 in
     rw (c .bound-refused .ensures ∙ ap (λ v. bound-handed-on v) e)
-    (storage-refused (now (c .before .before .before .before .before .before .before .before .before .before .before .before .before .before .before .before .before .before .before .before .before .before .before .before .before .before .before .before .before .before .before .before .args .block)) (now (c .before .before .before .before .before .before .before .before .before .before .before .before .before .before .before .before .before .before .before .before .before .before .before .before .before .before .before .before .before .before .before .before .args .weights)) (now (c .before .before .before .before .before .before .before .before .before .before .before .before .before .before .before .before .before .before .before .before .before .before .before .before .before .before .before .before .before .before .before .before .args .kinds)) (now (c .before .before .before .before .before .before .before .before .before .before .before .before .before .before .before .before .before .before .before .before .before .before .before .before .before .before .before .before .before .before .before .before .args .operands)) _ _ (a .0) (rw (a .1) at (k .0)) (ap (λ (x : PlanAnswer). x .verdict) (sym p) ∙ c .before .before .before .before .before .before .before .before .before .before .before .before .before .before .enum-told4 .given .1) _
+    (storage-refused (now (c .before .before .before .before .before .before .before .before .before .before .before .before .before .before .before .before .before .before .before .before .before .before .before .before .before .before .before .before .before .before .before .before .args .block)) (now (c .before .before .before .before .before .before .before .before .before .before .before .before .before .before .before .before .before .before .before .before .before .before .before .before .before .before .before .before .before .before .before .before .args .weights)) (now (c .before .before .before .before .before .before .before .before .before .before .before .before .before .before .before .before .before .before .before .before .before .before .before .before .before .before .before .before .before .before .before .before .args .kinds)) (now (c .before .before .before .before .before .before .before .before .before .before .before .before .before .before .before .before .before .before .before .before .before .before .before .before .before .before .before .before .before .before .before .before .args .operands)) _ (a .0) (rw (a .1) at (k .0)) (ap (λ (x : PlanAnswer). x .verdict) (sym p) ∙ c .before .before .before .before .before .before .before .before .before .before .before .before .before .before .enum-told4 .given .1) _
     (rw (a .1) at (c .before .before .before .before .before .before .before .before .before .bound-of-job .ensures)) _ e)
 
 compare-requires : tie.Need-compare-requires
 compare-requires c κs =
-    let a = answered (now (c .before .before .before .before .before .before .before .before .before .before .before .before .before .before .before .before .before .before .before .before .before .before .before .before .before .before .before .before .before .before .before .before .args .block)) (c .before .before .before .before .before .before .before .before .before .before .before .before .before .before .before .before .before .before .before .before .before .before .before .before .read-job .ensures) (c .before .before .before .before .before .before .before .before .before .before .before .before .before .before .before .before .before .before .before .before .before .before .enum-told .given .1) in
-    let k = capacity-answered (job-of (c .before .before .before .before .before .before .before .before .before .before .before .before .before .before .before .before .before .before .before .before .before .before .before .before .read-job .result .job)) (now (c .before .before .before .before .before .before .before .before .before .before .before .before .before .before .before .before .before .before .before .before .before .before .before .before .before .before .before .before .before .before .before .before .args .weights)) _ (sym (c .before .before .before .before .before .before .before .before .before .before .before .before .before .before .before .before .before .before .before .before .check-weights .ensures) ∙ c .before .before .before .before .before .before .before .before .before .before .before .before .before .before .before .before .before .before .accepted .given .1) in
+    let a = answered (now (c .before .before .before .before .before .before .before .before .before .before .before .before .before .before .before .before .before .before .before .before .before .before .before .before .before .before .before .before .before .before .before .before .args .block)) (c .before .before .before .before .before .before .before .before .before .before .before .before .before .before .before .before .before .before .before .before .before .before .before .before .read-job .ensures .0) (c .before .before .before .before .before .before .before .before .before .before .before .before .before .before .before .before .before .before .before .before .before .before .enum-told .given .1) in
+    let k = capacity-answered (job-of (c .before .before .before .before .before .before .before .before .before .before .before .before .before .before .before .before .before .before .before .before .before .before .before .before .read-job .result .job)) (now (c .before .before .before .before .before .before .before .before .before .before .before .before .before .before .before .before .before .before .before .before .before .before .before .before .before .before .before .before .before .before .before .before .args .weights)) _ (sym (c .before .before .before .before .before .before .before .before .before .before .before .before .before .before .before .before .before .before .before .before .check-weights .ensures .0) ∙ c .before .before .before .before .before .before .before .before .before .before .before .before .before .before .before .before .before .before .accepted .given .1) in
     let p = rw (a .1) at (c .before .before .before .before .before .before .before .before .before .before .before .before .before .before .before .before .check-nodes .ensures) in
-    let h = profit-most (now (c .before .before .before .before .before .before .before .before .before .before .before .before .before .before .before .before .before .before .before .before .before .before .before .before .before .before .before .before .before .before .before .before .args .block)) (now (c .before .before .before .before .before .before .before .before .before .before .before .before .before .before .before .before .before .before .before .before .before .before .before .before .before .before .before .before .before .before .before .before .args .weights)) (now (c .before .before .before .before .before .before .before .before .before .before .before .before .before .before .before .before .before .before .before .before .before .before .before .before .before .before .before .before .before .before .before .before .args .kinds)) (now (c .before .before .before .before .before .before .before .before .before .before .before .before .before .before .before .before .before .before .before .before .before .before .before .before .before .before .before .before .before .before .before .before .args .operands)) _ _ (a .0) (rw (a .1) at (k .0)) (ap (λ (x : PlanAnswer). x .verdict) (sym p) ∙ c .before .before .before .before .before .before .before .before .before .before .before .before .before .before .enum-told4 .given .1) _
+    let h = profit-most (now (c .before .before .before .before .before .before .before .before .before .before .before .before .before .before .before .before .before .before .before .before .before .before .before .before .before .before .before .before .before .before .before .before .args .block)) (now (c .before .before .before .before .before .before .before .before .before .before .before .before .before .before .before .before .before .before .before .before .before .before .before .before .before .before .before .before .before .before .before .before .args .weights)) (now (c .before .before .before .before .before .before .before .before .before .before .before .before .before .before .before .before .before .before .before .before .before .before .before .before .before .before .before .before .before .before .before .before .args .kinds)) (now (c .before .before .before .before .before .before .before .before .before .before .before .before .before .before .before .before .before .before .before .before .before .before .before .before .before .before .before .before .before .before .before .before .args .operands)) _ (a .0) (rw (a .1) at (k .0)) (ap (λ (x : PlanAnswer). x .verdict) (sym p) ∙ c .before .before .before .before .before .before .before .before .before .before .before .before .before .before .enum-told4 .given .1) _
     (rw (a .1) at (c .before .before .before .before .before .before .before .before .before .bound-of-job .ensures)) _ (c .before .found .given .1) in
     omega (arith, h, ap (λ (x : PlanAnswer). x .report .profit) p)
 
@@ -135,10 +135,10 @@ same-length-6 c = search needs
 
 returns-5 : tie.Need-returns-5
 returns-5 c =
-    let a = answered (now (c .before .before .before .before .before .before .before .before .before .before .before .before .before .before .before .before .before .before .before .before .before .before .before .before .before .before .before .before .before .before .before .before .before .args .block)) (c .before .before .before .before .before .before .before .before .before .before .before .before .before .before .before .before .before .before .before .before .before .before .before .before .before .read-job .ensures) (c .before .before .before .before .before .before .before .before .before .before .before .before .before .before .before .before .before .before .before .before .before .before .before .enum-told .given .1) in
-    let k = capacity-answered (job-of (c .before .before .before .before .before .before .before .before .before .before .before .before .before .before .before .before .before .before .before .before .before .before .before .before .before .read-job .result .job)) (now (c .before .before .before .before .before .before .before .before .before .before .before .before .before .before .before .before .before .before .before .before .before .before .before .before .before .before .before .before .before .before .before .before .before .args .weights)) _ (sym (c .before .before .before .before .before .before .before .before .before .before .before .before .before .before .before .before .before .before .before .before .before .check-weights .ensures) ∙ c .before .before .before .before .before .before .before .before .before .before .before .before .before .before .before .before .before .before .before .accepted .given .1) in
+    let a = answered (now (c .before .before .before .before .before .before .before .before .before .before .before .before .before .before .before .before .before .before .before .before .before .before .before .before .before .before .before .before .before .before .before .before .before .args .block)) (c .before .before .before .before .before .before .before .before .before .before .before .before .before .before .before .before .before .before .before .before .before .before .before .before .before .read-job .ensures .0) (c .before .before .before .before .before .before .before .before .before .before .before .before .before .before .before .before .before .before .before .before .before .before .before .enum-told .given .1) in
+    let k = capacity-answered (job-of (c .before .before .before .before .before .before .before .before .before .before .before .before .before .before .before .before .before .before .before .before .before .before .before .before .before .read-job .result .job)) (now (c .before .before .before .before .before .before .before .before .before .before .before .before .before .before .before .before .before .before .before .before .before .before .before .before .before .before .before .before .before .before .before .before .before .args .weights)) _ (sym (c .before .before .before .before .before .before .before .before .before .before .before .before .before .before .before .before .before .before .before .before .before .check-weights .ensures .0) ∙ c .before .before .before .before .before .before .before .before .before .before .before .before .before .before .before .before .before .before .before .accepted .given .1) in
     let p = rw (a .1) at (c .before .before .before .before .before .before .before .before .before .before .before .before .before .before .before .before .before .check-nodes .ensures) in
-    certified (now (c .before .before .before .before .before .before .before .before .before .before .before .before .before .before .before .before .before .before .before .before .before .before .before .before .before .before .before .before .before .before .before .before .before .args .block)) (now (c .before .before .before .before .before .before .before .before .before .before .before .before .before .before .before .before .before .before .before .before .before .before .before .before .before .before .before .before .before .before .before .before .before .args .weights)) (now (c .before .before .before .before .before .before .before .before .before .before .before .before .before .before .before .before .before .before .before .before .before .before .before .before .before .before .before .before .before .before .before .before .before .args .kinds)) (now (c .before .before .before .before .before .before .before .before .before .before .before .before .before .before .before .before .before .before .before .before .before .before .before .before .before .before .before .before .before .before .before .before .before .args .operands)) _ _ (a .0) (rw (a .1) at (k .0)) (ap (λ (x : PlanAnswer). x .verdict) (sym p) ∙ c .before .before .before .before .before .before .before .before .before .before .before .before .before .before .before .enum-told4 .given .1) _
+    certified (now (c .before .before .before .before .before .before .before .before .before .before .before .before .before .before .before .before .before .before .before .before .before .before .before .before .before .before .before .before .before .before .before .before .before .args .block)) (now (c .before .before .before .before .before .before .before .before .before .before .before .before .before .before .before .before .before .before .before .before .before .before .before .before .before .before .before .before .before .before .before .before .before .args .weights)) (now (c .before .before .before .before .before .before .before .before .before .before .before .before .before .before .before .before .before .before .before .before .before .before .before .before .before .before .before .before .before .before .before .before .before .args .kinds)) (now (c .before .before .before .before .before .before .before .before .before .before .before .before .before .before .before .before .before .before .before .before .before .before .before .before .before .before .before .before .before .before .before .before .before .args .operands)) _ (a .0) (rw (a .1) at (k .0)) (ap (λ (x : PlanAnswer). x .verdict) (sym p) ∙ c .before .before .before .before .before .before .before .before .before .before .before .before .before .before .before .enum-told4 .given .1) _
     (rw (a .1) at (c .before .before .before .before .before .before .before .before .before .before .bound-of-job .ensures)) _ _ (c .before .before .found .given .1)
     (c .compare .ensures ∙ ap (λ (x : PlanAnswer). compared (x .report .profit) (c .before .before .found .given .0 .0 .bound)) p)
 
