@@ -1,12 +1,10 @@
--- The table of marked examples holds: a test that is computed over all of its lines, and the law that a line which passes it holds.
--- The bound is tested through cuts at normal positions, by the theorem that these give the same figure: cuts at every unit take long.
--- Assumes nothing.
-use mathlib.Core.Path.{_≡_, sym, _∙_, ap, ap₂, subst}
-use mathlib.Core.Bool.{Bool, _&&_}
-use mathlib.Core.List.{List, _∷_, List·Memᴰ}
-use Prim.Native.Nat.{ℕ}
+-- The table of marked examples holds: what is left to compute of each line, the law that a line so computed holds, and the computations.
+use mathlib.Core.Path.{_≡_, refl, _∙_, ap}
+use mathlib.Core.Logic.{_⊎_, inl, inr}
+use mathlib.Core.List.{List, [], _∷_, List·Memᴰ, List·Memᴰ·not-nil, List·Memᴰ·cases-cons}
+use Prim.Native.Nat.{ℕ, _+_, _*_, _≤_}
 use native.Mathlib.Omega.{arith}
-use lib.Dec.{T, eqb, eqb→eq}
+use borrow.Author.Tests.{le-ltb}
 use Rattle.cutting.specs.Lists.{range, sum, filter, any, greatest}
 use Rattle.cutting.specs.Figure.{leaf, best, step, after, figure}
 use Rattle.cutting.specs.Pieces.{sized}
@@ -14,85 +12,106 @@ use Rattle.cutting.specs.Saws.{floor, saw-normal, saw-written}
 use Rattle.cutting.specs.Shares.{by-weight}
 use Rattle.cutting.specs.Normal.{summed, normal?, sides}
 use Rattle.cutting.specs.Choice.{choice, plan-within, written}
-use Rattle.cutting.specs.Preorder.{preorder, kinds-of, operands-of}
-use Rattle.cutting.specs.Job.{Job, capacity, pieces, figure-of, bound-of, normal-side, normal-positions, plan-of, bound-plan}
-use Rattle.cutting.proofs.Tests.{T-and}
-use Rattle.cutting.proofs.Weights.{by-weight-monotone}
-use Rattle.cutting.proofs.Reduction.{saw-normal-cuts, saw-figure}
-use Rattle.cutting.proofs.Table.{sides-suffice}
+use Rattle.cutting.specs.Preorder.{preorder, kinds-of, operands-of, node-count}
+use Rattle.cutting.specs.Job.{pieces, normal-positions, plan-of}
 use Rattle.refusal.specs.Refusals.{first-refusal}
-use Rattle.job.specs.Weights.{weight-in}
+use Rattle.refusal.specs.declared.Checked.the-variants.{Passed}
+use Rattle.job.specs.Block.{price-at, demand-at, each-kind, job-checks, entries, record-of}
+use Rattle.job.specs.Weights.{block-job, Accepted}
 use Rattle.plan.specs.Plan.{walk, plan-answer}
-use Rattle.table.specs.Table.{words-needed}
-use Rattle.certificate.specs.declared.Certificate.{Certificate}
-use Rattle.certificate.specs.Certificate.{compared, handed-on}
+use Rattle.plan.specs.Calls.{JobPasses}
+use Rattle.writer.specs.Write.{block-plan}
 use Rattle.examples.specs.Examples as line
-use Rattle.examples.specs.Examples.{Example, PassedTo, padded, Holds, marked}
-use Rattle.examples.proofs.Tests.{every, every-member, same, same-equal, values, report-equal, passed?, passed-equal, refused?, refused-as, best?, best-equal, gap?, gap-equal, solid?, solid-kinds}
+use Rattle.examples.specs.Examples.{Example, RefusedAs, PassedTo, Holds, misfit-job, marked}
+use Rattle.examples.proofs.Calls as call
+use Rattle.examples.proofs.Calls.{words-in, values-in, certificate-in}
 use Rattle.examples.proofs.Plans.{first-verdict, begins-refused, begins-passed}
 
--- the bound from cuts at normal positions
-abbrev normal-bound : Job → (ℕ → ℕ) → ℕ
-normal-bound J weight = figure (pieces J) (saw-normal (normal-side J)) (by-weight weight) (J .plate) (capacity J weight)
+-- what is left to compute of a line
+abbrev Computed : Example → Type 0
+Computed (line.positions s d xs) = Holds (line.positions s d xs)
+Computed (line.bounds s ws words bound q p r) = Accepted s ws × (words-in s ws ≡ words) × (values-in s ws ≡ bound ∷ q ∷ p ∷ r ∷ [])
+Computed (line.writes s ws words bound q p r nodes kinds operands) =
+    Accepted s ws × (words-in s ws ≡ words) × (values-in s ws ≡ bound ∷ q ∷ p ∷ r ∷ []) × (node-count (block-plan s ws) ≡ nodes) × (nodes ≤ 4095)
+    × (kinds-of (block-plan s ws) ≡ kinds) × (operands-of (block-plan s ws) ≡ operands)
+Computed (line.passes s kinds operands profit copies pieces waste trim) = Holds (line.passes s kinds operands profit copies pieces waste trim)
+Computed (line.refused s kinds operands number place) = Holds (line.refused s kinds operands number place)
+Computed (line.first-refused s kind operand number place) = JobPasses s × RefusedAs number place (first-verdict (block-job s) kind operand)
+Computed (line.first-passes s kind operand) = JobPasses s × PassedTo 0 (first-verdict (block-job s) kind operand)
+Computed (line.certifies s ws kinds operands words gap bound profit) =
+    Accepted s ws × (words-in s ws ≡ words) × (plan-answer (block-job s) kinds operands .verdict ≡ Passed) × (certificate-in s ws kinds operands ≡ gap ∷ bound ∷ profit ∷ [])
 
-bound-normal : (J : Job) (weight : ℕ → ℕ) → T (solid? J) → bound-of J weight ≡ normal-bound J weight
-unfolding figure-of pieces
-bound-normal J weight t = saw-figure (range 0 (J .count)) (J .price) (J .size) (solid-kinds J t) (by-weight weight) (by-weight-monotone weight)
-    (J .plate) (normal-side J) (sides-suffice J) (saw-normal (normal-side J)) (saw-normal-cuts (normal-side J) (sides-suffice J .additive)) (J .plate) (capacity J weight) (omega arith, omega arith)
+-- a line holds from what is computed of it
+holds : (e : Example) → Computed e → Holds e
+holds (line.positions s d xs) c = c
+holds (line.bounds s ws words bound q p r) c = (
+  λ m h. call.bound-answered s ws (c .0) m (rw (c .1) h) ∙ ap (λ vs. (0, vs)) (c .2),
+  λ m h. call.bound-refused s ws (c .0) m (rw (c .1) h) ∙ ap (λ n. (20, n ∷ [])) (c .1),
+)
+holds (line.writes s ws words bound q p r nodes kinds operands) c =
+    (λ m ks os h k o. call.written s ws (c .0) m (rw (c .1) h) ks os (rw (c .3) (c .4)) (rw (c .3) k) (rw (c .3) o) ∙ cc, c .5, c .6)
+holds (line.passes s kinds operands profit copies pieces waste trim) c = c
+holds (line.refused s kinds operands number place) c = c
+holds (line.first-refused s kind operand number place) c = begins-refused s (c .0) kind operand number place (c .1)
+holds (line.first-passes s kind operand) c = begins-passed s (c .0) kind operand (c .1)
+holds (line.certifies s ws kinds operands words gap bound profit) c = λ m h. call.certified s ws (c .0) m (rw (c .1) h) kinds operands (c .2) ∙ ap (λ vs. (0, vs)) (c .3)
 
--- what the certificate says of a plan where the bound is a number
-abbrev certified-by : Job → (kinds operands : List ℕ) → ℕ → Certificate
-certified-by J kinds operands n = handed-on (plan-answer J kinds operands .verdict) (compared (plan-answer J kinds operands .report .profit) n)
+-- the computations of lines, in their order
+data AllComputed : List Example → Type 0 where
+  done : AllComputed []
+  more : {e : Example} {es : List Example} → Computed e → AllComputed es → AllComputed (e ∷ es)
 
--- the test of a line
-abbrev pub holds? : Example → Bool
-holds? (line.positions J d xs) = same (normal-positions J d) xs
-holds? (line.capacity-is J ws n) = eqb (capacity J (weight-in ws)) n
-holds? (line.bound-is J ws n) = solid? J && eqb (normal-bound J (weight-in ws)) n
-holds? (line.words-are J ws n) = eqb (words-needed J (capacity J (weight-in ws))) n
-holds? (line.plan-behind J ws kinds operands) = same (kinds-of (bound-plan J (weight-in ws))) kinds && same (operands-of (bound-plan J (weight-in ws))) operands
-holds? (line.passes J kinds operands profit copies pieces waste trim) =
-    passed? (plan-answer J kinds operands .verdict) && same (values (plan-answer J kinds operands .report)) (profit ∷ pieces ∷ waste ∷ trim ∷ padded copies)
-holds? (line.refused J kinds operands number place) = refused? number place (plan-answer J kinds operands .verdict)
-holds? (line.first-refused J kind operand number place) = refused? number place (first-verdict J kind operand)
-holds? (line.first-passes J kind operand) = passed? (first-verdict J kind operand)
-holds? (line.best J kinds operands ws profit) = solid? J && best? profit (certified-by J kinds operands (normal-bound J (weight-in ws)))
-holds? (line.gap J kinds operands ws profit n) = solid? J && gap? profit n (certified-by J kinds operands (normal-bound J (weight-in ws)))
+infixr 5 _and_
+-- the same as an operator
+_and_ : {e : Example} {es : List Example} → Computed e → AllComputed es → AllComputed (e ∷ es)
+c and cs = more c cs
 
--- a line that passes its test holds
-pub sound : (e : Example) → T (holds? e) → Holds e
-sound (line.positions J d xs) t = same-equal (normal-positions J d) xs t
-sound (line.capacity-is J ws n) t = eqb→eq (capacity J (weight-in ws)) n t
-sound (line.bound-is J ws n) t =
-    let u = T-and (solid? J) (eqb (normal-bound J (weight-in ws)) n) t in
-    bound-normal J (weight-in ws) (u .0) ∙ eqb→eq (normal-bound J (weight-in ws)) n (u .1)
-sound (line.words-are J ws n) t = eqb→eq (words-needed J (capacity J (weight-in ws))) n t
-sound (line.plan-behind J ws kinds operands) t =
-    let u = T-and (same (kinds-of (bound-plan J (weight-in ws))) kinds) (same (operands-of (bound-plan J (weight-in ws))) operands) t in
-    (same-equal (kinds-of (bound-plan J (weight-in ws))) kinds (u .0), same-equal (operands-of (bound-plan J (weight-in ws))) operands (u .1))
-sound (line.passes J kinds operands profit copies pieces waste trim) t =
-    let a = plan-answer J kinds operands in
-    let u = T-and (passed? (a .verdict)) (same (values (a .report)) (profit ∷ pieces ∷ waste ∷ trim ∷ padded copies)) t in
-    ap₂ (λ v s. record { verdict = v; report = s }) (passed-equal (a .verdict) (u .0))
-    (report-equal (a .report) (record { profit = profit; copies = padded copies; pieces = pieces; waste = waste; trim = trim }) (u .1))
-sound (line.refused J kinds operands number place) t = refused-as number place (plan-answer J kinds operands .verdict) t
-sound (line.first-refused J kind operand number place) t = begins-refused J kind operand number place (refused-as number place (first-verdict J kind operand) t)
-sound (line.first-passes J kind operand) t = begins-passed J kind operand (subst (PassedTo 0) (sym (passed-equal (first-verdict J kind operand) t)) tt)
-sound (line.best J kinds operands ws profit) t =
-    let c = certified-by J kinds operands (normal-bound J (weight-in ws)) in
-    let u = T-and (solid? J) (best? profit c) t in
-    ap (certified-by J kinds operands) (bound-normal J (weight-in ws) (u .0)) ∙ best-equal profit c (u .1)
-sound (line.gap J kinds operands ws profit n) t =
-    let c = certified-by J kinds operands (normal-bound J (weight-in ws)) in
-    let u = T-and (solid? J) (gap? profit n c) t in
-    ap (certified-by J kinds operands) (bound-normal J (weight-in ws) (u .0)) ∙ gap-equal profit n c (u .1)
+-- every line so computed holds
+all-hold : {e : Example} (es : List Example) → AllComputed es → List·Memᴰ e es → Holds e
+all-hold [] done m = absurd (List·Memᴰ·not-nil m)
+all-hold {e} (x ∷ xs) (more c cs) m = go (List·Memᴰ·cases-cons m) (λ (k : List·Memᴰ e xs). all-hold xs cs k)
+  where
+    go : (e ≡ x) ⊎ List·Memᴰ e xs → (List·Memᴰ e xs → Holds e) → Holds e
+    go (inl i) f = rw i (holds x c)
+    go (inr k) f = f k
 
-module _ (price demand weight : ℕ) where
-  -- the test, computed over the table
-  computed : T (every holds? (marked price demand weight))
-  unfolding marked range sum filter any greatest leaf best step after figure sized floor saw-normal saw-written by-weight summed normal? sides choice plan-within written preorder kinds-of operands-of pieces normal-positions plan-of first-refusal walk plan-answer
-  computed = tt
+module _ (a b c d e f weight : ℕ) where
+  -- the kind 2 by 2 with these bytes of price and demand
+  abbrev priced : List ℕ
+  priced = misfit-job (a ∷ b ∷ c ∷ d ∷ e ∷ f ∷ [])
+
+  -- it is accepted where its price, its demand and the capacity are in range
+  pub misfit-accepted : price-at priced 0 ≤ 1000000 → demand-at priced 0 ≤ 255 → demand-at priced 0 * weight ≤ 4095 → Accepted priced (weight ∷ [])
+  unfolding range sum first-refusal each-kind job-checks entries record-of
+  misfit-accepted price demand q =
+      simp (le-ltb 1000000 (price-at priced 0) price, le-ltb 255 (demand-at priced 0) demand, le-ltb 4095 (0 + demand-at priced 0 * weight) (omega (arith, q)))
+
+module _ (pair ws : List ℕ) (good : Accepted (misfit-job pair) ws) where
+  -- the table's computations, line by line
+  computed : AllComputed (marked pair ws)
+  unfolding marked range sum filter any greatest leaf best step after figure sized floor saw-normal saw-written by-weight summed normal? sides choice plan-within written preorder kinds-of operands-of node-count pieces normal-positions plan-of first-refusal each-kind job-checks entries record-of walk plan-answer
+  computed =
+      refl
+      and refl
+      and (refl, refl, refl)
+      and (refl, refl, refl)
+      and refl
+      and (refl, refl, refl, refl)
+      and (refl, refl, refl, refl)
+      and refl
+      and refl
+      and refl
+      and (refl, refl)
+      and (refl, tt)
+      and refl
+      and refl
+      and (good, omega arith, refl)
+      and refl
+      and refl
+      and (good, omega arith, refl, refl, omega arith, refl, refl)
+      and (refl, refl, refl)
+      and done
 
   -- every marked example holds
-  pub marked-hold : (e : Example) → List·Memᴰ e (marked price demand weight) → Holds e
-  marked-hold e m = sound e (every-member holds? (marked price demand weight) computed m)
+  pub marked-hold : (e : Example) → List·Memᴰ e (marked pair ws) → Holds e
+  marked-hold e m = all-hold (marked pair ws) computed m

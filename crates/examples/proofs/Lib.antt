@@ -1,3 +1,3 @@
-pub mod Tests
+pub mod Calls
 pub mod Plans
 pub mod Examples

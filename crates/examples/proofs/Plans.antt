@@ -1,8 +1,7 @@
 -- What the first node of a plan decides, whatever follows it: its checks refuse the plan, or any refusal comes later.
--- Assumes nothing.
-use mathlib.Core.Path.{sym, ap, subst}
+use mathlib.Core.Path.{sym, _∙_, ap, subst}
 use mathlib.Core.Bool.{Bool, true, false}
-use mathlib.Core.List.{List, [], _∷_, _++_}
+use mathlib.Core.List.{List, [], _∷_}
 use Prim.Native.Nat.{ℕ, suc, _+_, _<_}
 use native.Mathlib.Omega.{arith}
 use Rattle.cutting.specs.Tree.{Rect}
@@ -11,9 +10,11 @@ use Rattle.refusal.specs.Refusals.{Check, place-of, refuse-when, next, first-re
 use Rattle.refusal.specs.declared.Refusal.{Refusal}
 use Rattle.refusal.specs.declared.Checked.{Checked}
 use Rattle.refusal.specs.declared.Checked.the-variants.{Passed, Refused}
+use Rattle.job.specs.Weights.{block-job}
 use Rattle.plan.specs.declared.Report.{Report}
 use Rattle.plan.specs.declared.PlanAnswer.{PlanAnswer}
-use Rattle.plan.specs.Plan.{node-of, node-checks, parts, counted, empty-report, proceed, walk, nodes-in}
+use Rattle.plan.specs.Plan.{node-checks, empty-report, proceed, walk, nodes-in, plan-answer}
+use Rattle.plan.specs.Calls.{JobPasses}
 use Rattle.plan.proofs.Whole.{walks-on}
 use Rattle.examples.specs.Examples.{RefusedAs, PassedTo, Beginning}
 
@@ -46,24 +47,32 @@ unfolding walk
 walk-past J j k h [] [] s = tt
 walk-past J j k h (n ∷ ns) [] s = h
 walk-past J j k h [] (r ∷ rs) s = h
-walk-past J j k h (n ∷ ns) (r ∷ rs) s =
-    proceed-past j (first-refusal (node-checks J (s .copies) r k (n .0) (n .1))) _ (checks-past j _ (h, (h, (h, (h, (h, tt))))))
-    (walk-past J j (k + 1) (omega arith) ns (parts (node-of (n .0) (n .1)) r ++ rs) (counted J (node-of (n .0) (n .1)) r s))
+walk-past J j k h (n ∷ ns) (r ∷ rs) s = proceed-past j (first-refusal (node-checks J (s .copies) r k (n .0) (n .1))) _ (checks-past j _ (h, (h, (h, (h, (h, tt)))))) (walk-past J j (k + 1) (omega arith) ns _ _)
 
-module _ (J : Job) (kind operand : ℕ) where
-  -- the verdict of the first node's checks
-  abbrev pub first-verdict : Checked
-  first-verdict = first-refusal (node-checks J (empty-report .copies) (J .plate) 0 kind operand)
+-- the verdict of the first node's checks
+abbrev pub first-verdict : Job → ℕ → ℕ → Checked
+first-verdict J kind operand = first-refusal (node-checks J (empty-report .copies) (J .plate) 0 kind operand)
 
-  -- every plan with this first node goes on from that verdict
-  begins : (P : Checked → Type 0)
-      → ((ns : List (ℕ × ℕ)) → P (proceed first-verdict (walk J 1 ns (parts (node-of kind operand) (J .plate) ++ []) (counted J (node-of kind operand) (J .plate) empty-report)) .verdict))
-      → Beginning J kind operand P
+module _ (J : Job) (kind operand : ℕ) (ns : List (ℕ × ℕ)) where
+  -- the walk from the plate answers as that verdict does
+  walk-refused : (number place : ℕ) → RefusedAs number place (first-verdict J kind operand)
+      → RefusedAs number place (walk J 0 ((kind, operand) ∷ ns) (J .plate ∷ []) empty-report .verdict)
   unfolding walk
-  begins P h kinds operands e l = subst (λ a. P (a .verdict)) (sym (walks-on J (kind ∷ kinds) (operand ∷ operands) (ap suc e) (omega arith) (omega arith))) (h (nodes-in kinds operands))
+  walk-refused number place h = proceed-refused number place (first-verdict J kind operand) _ h
 
-  pub begins-refused : (number place : ℕ) → RefusedAs number place first-verdict → Beginning J kind operand (RefusedAs number place)
-  begins-refused number place h = begins (RefusedAs number place) (λ ns. proceed-refused number place first-verdict _ h)
+  walk-passed : PassedTo 0 (first-verdict J kind operand) → PassedTo 0 (walk J 0 ((kind, operand) ∷ ns) (J .plate ∷ []) empty-report .verdict)
+  unfolding walk
+  walk-passed h = proceed-past 0 (first-verdict J kind operand) _ h (walk-past J 0 1 (omega arith) ns _ _)
 
-  pub begins-passed : PassedTo 0 first-verdict → Beginning J kind operand (PassedTo 0)
-  begins-passed h = begins (PassedTo 0) (λ ns. proceed-past 0 first-verdict _ h (walk-past J 0 1 (omega arith) ns _ _))
+module _ (s : List ℕ) (good : JobPasses s) (kind operand : ℕ) where
+  -- the walk decides for every plan with this first node
+  begins : (P : Checked → Type 0) → ((ns : List (ℕ × ℕ)) → P (walk (block-job s) 0 ((kind, operand) ∷ ns) (block-job s .plate ∷ []) empty-report .verdict)) → Beginning s kind operand P
+  begins P h kinds operands e l =
+      let on = ap (λ v. proceed v (plan-answer (block-job s) (kind ∷ kinds) (operand ∷ operands))) good ∙ walks-on (block-job s) (kind ∷ kinds) (operand ∷ operands) (ap suc e) (omega arith) (omega arith) in
+      subst (λ a. P (a .verdict)) (sym on) (h (nodes-in kinds operands))
+
+  pub begins-refused : (number place : ℕ) → RefusedAs number place (first-verdict (block-job s) kind operand) → Beginning s kind operand (RefusedAs number place)
+  begins-refused number place h = begins (RefusedAs number place) (λ ns. walk-refused (block-job s) kind operand ns number place h)
+
+  pub begins-passed : PassedTo 0 (first-verdict (block-job s) kind operand) → Beginning s kind operand (PassedTo 0)
+  begins-passed h = begins (PassedTo 0) (λ ns. walk-passed (block-job s) kind operand ns h)

@@ -1,2 +1,2 @@
-// The examples that document 01 marks, as one proved table: specs/Examples has the lines and what each says, proofs/Examples the test
-// that is computed over all of them and the law that makes theorems of it. No code.
+// The marked examples of the scope as one proved table: specs/Examples has the lines and what each says of the calls, proofs/Examples
+// what is computed of each line and the law that makes theorems of it. No code.
