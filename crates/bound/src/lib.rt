@@ -102,7 +102,7 @@ fn fill_table(
         );
         return;
     }
-    shares::fill(
+    state_fill::fill_weighed(
         length,
         width,
         &along,

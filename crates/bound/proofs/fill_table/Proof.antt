@@ -50,14 +50,14 @@ returns c =
     subst (λ q. Figures (job-of j) (weight-in (now (e .args .weights))) q (f .last .1 .1 .1 .1 .1 .1 .1 .1 .1 .1 .1 .1 .1 .0) × Kept (words-needed (job-of j) q) (now (e .args .table)) (f .last .1 .1 .1 .1 .1 .1 .1 .1 .1 .1 .1 .1 .1 .0)) (sym z)
     (whole-figures j (weight-in (now (e .args .weights))) 0 (f .last .1 .1 .1 .1 .1 .1 .1 .1 .1 .1 .1 .1 .1 .0) (f .ensures .0), whole-kept j 0 (now (e .args .table)) (f .last .1 .1 .1 .1 .1 .1 .1 .1 .1 .1 .1 .1 .1 .0) (f .ensures .1))
 
-slice-aggregate-fill-3 : tie.Need-slice-aggregate-fill-3
-slice-aggregate-fill-3 c = search needs
+slice-aggregate-fill-weighed : tie.Need-slice-aggregate-fill-weighed
+slice-aggregate-fill-weighed c = search needs
 
-slice-aggregate-fill-4 : tie.Need-slice-aggregate-fill-4
-slice-aggregate-fill-4 c = search needs
+slice-aggregate-fill-weighed-2 : tie.Need-slice-aggregate-fill-weighed-2
+slice-aggregate-fill-weighed-2 c = search needs
 
-fill-requires-2 : tie.Need-fill-requires-2
-fill-requires-2 c κs =
+fill-weighed-requires : tie.Need-fill-weighed-requires
+fill-weighed-requires c κs =
     let e = (c .before .before .before .before .before .before .before .before .before .before .before .before .before .before .before .before) in
     let j = e .args .job in
     let first = c .before .before .before .before .before .before .before .before .before .before .before .floor-map .ensures in
@@ -77,7 +77,7 @@ returns-2 : tie.Need-returns-2
 returns-2 c =
     let e = (c .before .before .before .before .before .before .before .before .before .before .before .before .before .before .before .before .before .before .before) in
     let j = e .args .job in
-    let f = c .before .before .fill2 in
+    let f = c .before .before .fill-weighed in
     (whole-figures j (weight-in (now (e .args .weights))) (e .args .q) (f .last .1 .1 .1 .1 .1 .1 .1 .1 .1 .1 .1 .1 .1 .1 .0) (f .ensures .0), whole-kept j (e .args .q) (now (e .args .table)) (f .last .1 .1 .1 .1 .1 .1 .1 .1 .1 .1 .1 .1 .1 .1 .0) (f .ensures .1))
 
 pub fill-table-spec : {M : Type 1} → statement M
@@ -91,8 +91,8 @@ fill-table-spec =
     fill-requires
     same-length
     returns
-    slice-aggregate-fill-3
-    slice-aggregate-fill-4
-    fill-requires-2
+    slice-aggregate-fill-weighed
+    slice-aggregate-fill-weighed-2
+    fill-weighed-requires
     same-length-2
     returns-2)

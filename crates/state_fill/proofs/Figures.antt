@@ -1,0 +1,113 @@
+-- Laws of a job's figures over an order of states: states above, longer sides, two parts, single kinds, the ceiling, and half of the cuts.
+--
+use mathlib.Core.Path.{_≡_}
+use mathlib.Core.Bool.{Bool, _&&_}
+use Prim.Native.Nat.{ℕ, _+_, _-_, _*_, _/_, _≤_, _<_, max}
+use native.Mathlib.Nat.{mul-le-mul}
+use native.Mathlib.Decide.{ℕ-discrete}
+use native.Mathlib.Omega.{arith}
+use lib.Dec.{T}
+use Rattle.cutting.specs.declared.Direction.{Direction}
+use Rattle.cutting.specs.declared.Direction.the-variants.{Length, Width}
+use Rattle.cutting.specs.Lists.{range, only, filter, greatest}
+use Rattle.cutting.specs.Tree.{Rect, side, part, Shares}
+use Rattle.cutting.specs.Figure.{leaf, best, step, figure}
+use Rattle.cutting.specs.Pieces.{fits-in, sized}
+use Rattle.cutting.specs.Saws.{saw, saw-half}
+use Rattle.cutting.specs.Job.{Job, InRange, pieces, normal-side, normal-floor}
+use Rattle.cutting.proofs.Lists.{mem-range, range-mem}
+use Rattle.cutting.proofs.Recursion.{figure-eq}
+use Rattle.cutting.proofs.Exact.{leaf-ge, best-ge, step-ge}
+use Rattle.cutting.proofs.Saws.{saw-cut, saw-proper}
+use Rattle.cutting.proofs.Pieces.{fits-in-true}
+use Rattle.cutting.proofs.Ceiling.{figure-area}
+use Rattle.cutting.proofs.Half.{half-figure}
+use Rattle.cutting.proofs.Job.{kinds-solid}
+use Rattle.cutting.proofs.Table.{sides-suffice}
+use Rattle.state_fill.specs.States.{by-state, Order}
+use Rattle.state_fill.specs.Figures.{figure-at}
+use Rattle.state_fill.proofs.Shares.{state-split, by-state-monotone, by-state-symmetric, figure-above}
+
+module _ (J : Job) (le : ℕ → ℕ → Bool) (own : ℕ → ℕ) where
+  -- the figure of a rectangle with one side given as x and the other as o
+  abbrev pub across : Direction → ℕ → ℕ → ℕ → ℕ
+  across Length o x s = figure-at J le own x o s
+  across Width o x s = figure-at J le own o x s
+
+module _ (J : Job) (le : ℕ → ℕ → Bool) (own : ℕ → ℕ) (order : Order le) (fit : InRange J) where
+  abbrev H : Shares ℕ ℕ
+  H = by-state le own
+
+  -- a state above gives no less
+  pub state-above : (l w t s : ℕ) → T (le t s) → figure-at J le own l w t ≤ figure-at J le own l w s
+  unfolding figure-at
+  state-above l w t s h = figure-above le order own (pieces J) (saw 0) (saw-proper 0) (l, w) t s h
+
+  -- no figure is above the area times the greatest price
+  pub state-ceiling : (l w s : ℕ) → figure-at J le own l w s ≤ l * w * 1000000
+  unfolding figure-at pieces
+  state-ceiling l w s = figure-area (range 0 (J .count)) (J .price) (J .size) (kinds-solid J fit) (by-state le own) 1000000
+      (λ i m. (let l = mem-range 0 (J .count) i m in fit .prices i (omega arith))) (l, w) s
+
+  pub state-low : (l w s : ℕ) → l ≤ 1000 → w ≤ 1000 → figure-at J le own l w s ≤ 1000000000000
+  state-low l w s h k = omega (arith, state-ceiling l w s, mul-le-mul h k)
+
+  -- a kind that fits and whose state is below earns no more than the figure
+  pub kind-most : (l w s i : ℕ) → i < J .count → J .size i .0 ≤ l → J .size i .1 ≤ w → T (le (own i) s) → J .price i ≤ figure-at J le own l w s
+  unfolding figure-at pieces sized step by-state
+  kind-most l w s i h p q m = omega (
+    arith,
+    leaf-ge (pieces J) (saw 0) (by-state le own) i (l, w) s (range-mem 0 (J .count) i (omega arith) (omega arith)) (fits-in-true (J .size i) (l, w) (p, q)) m,
+    figure-eq (pieces J) (saw 0) (by-state le own) (saw-proper 0) (l, w) s,
+  )
+
+  cut-most : (d : Direction) (r : Rect) (x k m : ℕ) → 1 ≤ x → x < side d r → T (le k (k + m))
+      → figure (pieces J) (saw 0) (by-state le own) (part d x r) k + figure (pieces J) (saw 0) (by-state le own) (part d (side d r - x - 0) r) m
+      ≤ figure (pieces J) (saw 0) (by-state le own) r (k + m)
+  unfolding saw
+  cut-most d r x k m p q c = omega (
+    arith,
+    best-ge (pieces J) (saw 0) (by-state le own) (figure (pieces J) (saw 0) (by-state le own)) d r (k + m) x (k, m) (saw-cut 0 d (side d r) x p (omega arith)) (state-split le order own d k m c),
+    step-ge (pieces J) (saw 0) (by-state le own) (figure (pieces J) (saw 0) (by-state le own)) d r (k + m),
+    figure-eq (pieces J) (saw 0) (by-state le own) (saw-proper 0) r (k + m),
+  )
+
+  -- a cut between two parts gives no more than the whole
+  whole : (d : Direction) (o x y k m : ℕ) → 1 ≤ x → 1 ≤ y → T (le k (k + m)) → across J le own d o x k + across J le own d o y m ≤ across J le own d o (x + y) (k + m)
+  unfolding figure-at
+  whole Length o x y k m p q c = let e : x + y - x - 0 ≡ y = omega arith in rw e at (cut-most Length (x + y, o) x k m p (omega arith) c)
+  whole Width o x y k m p q c = let e : x + y - x - 0 ≡ y = omega arith in rw e at (cut-most Width (o, x + y) x k m p (omega arith) c)
+
+  pub no-side : (d : Direction) (o s : ℕ) → across J le own d o 0 s ≡ 0
+  no-side Length o s = omega (arith, state-ceiling 0 o s)
+  no-side Width o s = omega (arith, state-ceiling o 0 s)
+
+  pub across-above : (d : Direction) (o x t s : ℕ) → T (le t s) → across J le own d o x t ≤ across J le own d o x s
+  across-above Length o x t s h = state-above x o t s h
+  across-above Width o x t s h = state-above o x t s h
+
+  pub two-parts : (d : Direction) (o x y k m : ℕ) → T (le k (k + m)) → across J le own d o x k + across J le own d o y m ≤ across J le own d o (x + y) (k + m)
+  two-parts d o x y k m c = go (ℕ-discrete x 0) (ℕ-discrete y 0)
+    where
+      go : Dec (x ≡ 0) → Dec (y ≡ 0) → across J le own d o x k + across J le own d o y m ≤ across J le own d o (x + y) (k + m)
+      go (yes e) z = let f : 0 + y ≡ y = omega arith in rw (e, f) (omega (arith, no-side d o k, across-above d o y m (k + m) (order .other k m c)))
+      go (no n) (yes e) = let f : x + 0 ≡ x = omega arith in rw (e, f) (omega (arith, no-side d o m, across-above d o x k (k + m) c))
+      go (no n) (no u) = whole d o x y k m (omega arith) (omega arith) c
+
+  -- a longer side gives no less
+  pub more-side : (d : Direction) (o x y s : ℕ) → x ≤ y → across J le own d o x s ≤ across J le own d o y s
+  more-side d o x y s h =
+      let e : x + (y - x) ≡ y = omega arith in
+      let f : s + 0 ≡ s = omega arith in
+      omega (arith, rw (e, f) at (two-parts d o x (y - x) s 0 (rw f (order .same s))))
+
+  -- the recursion over cuts at normal positions up to half of a side, the remainder counted down to a normal position
+  pub state-half : (l w s : ℕ) → l ≤ J .plate .0 → w ≤ J .plate .1 → figure-at J le own l w s ≡
+      max (greatest (λ i. only (fits-in (J .size i) (l, w) && le (own i) s) (J .price i)) (range 0 (J .count)))
+      (max (greatest (λ x. greatest (λ q. across J le own Length w x (q .0) + across J le own Length w (normal-floor J Length (l - x)) (q .1)) (by-state {P = ℕ} le own .splits Length s))
+      (filter (normal-side J Length) (range 1 (l / 2))))
+      (greatest (λ x. greatest (λ q. across J le own Width l x (q .0) + across J le own Width l (normal-floor J Width (w - x)) (q .1)) (by-state {P = ℕ} le own .splits Width s))
+      (filter (normal-side J Width) (range 1 (w / 2)))))
+  unfolding figure-at step leaf best pieces sized saw-half by-state
+  state-half l w s h k = half-figure (range 0 (J .count)) (J .price) (J .size) (kinds-solid J fit) (by-state le own) (by-state-monotone le order own)
+      (J .plate) (normal-side J) (sides-suffice J) (by-state-symmetric le order own) (l, w) s (h, k)

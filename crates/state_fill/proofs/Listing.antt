@@ -1,0 +1,205 @@
+-- A cell that starts, inherits and lists: loops over the words of a cell, or over the list of another, one step at a time.
+--
+use mathlib.Core.Path.{_≡_, refl, sym, _∙_, ap}
+use mathlib.Core.List.{List}
+use Prim.Native.Nat.{ℕ, _+_, _*_, _≤_, _<_}
+use native.Mathlib.Decide.{ℕ-discrete, decLe}
+use native.Mathlib.Omega.{arith}
+use lib.ListN.{length, getD, set, length-set}
+use lib.Seq.{getD-set-same, getD-set-other}
+use Rattle.table.specs.Words.{Outside, Run}
+use Rattle.state_fill.specs.Cells.{figure-in, note-in, held, note, Flagged, Inherited, Finished}
+use Rattle.state_fill.proofs.Noted.{figure-small, figure-plain, note-plain, figure-noted, note-noted, figure-flagged, note-flagged}
+use Rattle.state_fill.proofs.Growing.{outside-same}
+use Rattle.state_fill.proofs.Joining.{held-kept, note-kept}
+
+-- a cell that lies before is as it was
+pub run-held : (f : ℕ → ℕ) (at m : ℕ) (old new : List ℕ) (x s : ℕ) → x + s < at → Run f at m old new → held new x s ≡ held old x s
+run-held f at m old new x s h w = ap figure-in (w .rest .before (x + s) h)
+
+-- the first k entries of the list of the cell from x on are inherited
+pub record Inherit (x y at n k : ℕ) (old new : List ℕ) : Type 0 where
+  pub same : (s : ℕ) → s < n → held new at s ≡ held old at s
+  pub kept : (s : ℕ) → s < n → Flagged old at s → Flagged new at s
+  pub flags : (i t : ℕ) → i < k → note old x i ≡ t + 1 → held old y t < held old x t → Flagged new at t
+  pub rest : Outside at (at + n) old new
+
+module _ (x y at n : ℕ) (rx : x + n ≤ at) (ry : y + n ≤ at) where
+  pub inherit-none : (xs : List ℕ) → Inherit x y at n 0 xs xs
+  inherit-none xs = record { same = λ s h. refl; kept = λ s h f. f; flags = λ i t h. absurd (omega arith); rest = outside-same at (at + n) xs }
+
+  -- the entry is not above
+  pub inherit-passed : (k t : ℕ) (old xs : List ℕ) → k < n → t < n → note xs x k ≡ t + 1 → held xs x t ≤ held xs y t → Inherit x y at n k old xs → Inherit x y at n (k + 1) old xs
+  inherit-passed k t old xs hk ht e h p = record { same = p .same; kept = p .kept; flags = λ i u l m f. go i u l m f (ℕ-discrete i k); rest = p .rest }
+    where
+      go : (i u : ℕ) → i < k + 1 → note old x i ≡ u + 1 → held old y u < held old x u → Dec (i ≡ k) → Flagged xs at u
+      go i u l m f (no z) = p .flags i u (omega arith) m f
+      go i u l m f (yes z) =
+          let o : t ≡ u = omega (arith, ap (λ i. note old x i) z, note-kept at (at + n) old xs (p .rest) x k (omega arith)) in
+          absurd (omega (arith, ap (λ u. held old x u) o, ap (λ u. held old y u) o, held-kept at (at + n) old xs (p .rest) x t (omega arith), held-kept at (at + n) old xs (p .rest) y t (omega arith)))
+
+  -- it is, and its state is flagged
+  pub inherit-more : (k t w : ℕ) (old xs : List ℕ) → at + n ≤ length xs → k < n → t < n → note xs x k ≡ t + 1 → w ≡ held xs at t → Inherit x y at n k old xs → Inherit x y at n (k + 1) old (set xs (at + t) (w + 2199023255552))
+  inherit-more k t w old xs room hk ht e v p = record {
+    same = λ s h. same s h (ℕ-discrete s t);
+    kept = λ s h f. kept s h f (ℕ-discrete s t);
+    flags = λ i u l m f. go i u l m f (ℕ-discrete i k) (ℕ-discrete u t);
+    rest = record {
+      before = λ i l. getD-set-other xs (at + t) i (w + 2199023255552) 0 (λ z. omega arith) ∙ p .rest .before i l;
+      after = λ i l. getD-set-other xs (at + t) i (w + 2199023255552) 0 (λ z. omega arith) ∙ p .rest .after i l;
+    };
+  }
+    where
+      small : w < 2199023255552
+      small = omega (arith, v, figure-small (getD xs (at + t) 0))
+
+      here : getD (set xs (at + t) (w + 2199023255552)) (at + t) 0 ≡ w + 2199023255552
+      here = getD-set-same xs (at + t) (w + 2199023255552) 0 (omega arith)
+
+      flag : Flagged (set xs (at + t) (w + 2199023255552)) at t
+      flag = omega (arith, ap note-in here, note-flagged w small)
+
+      other : (s : ℕ) → (s ≡ t → ⊥) → getD (set xs (at + t) (w + 2199023255552)) (at + s) 0 ≡ getD xs (at + s) 0
+      other s h = getD-set-other xs (at + t) (at + s) (w + 2199023255552) 0 (λ z. h (omega arith))
+
+      same : (s : ℕ) → s < n → Dec (s ≡ t) → held (set xs (at + t) (w + 2199023255552)) at s ≡ held old at s
+      same s h (yes z) = rw z (ap figure-in here ∙ (figure-flagged w small ∙ (v ∙ p .same t ht)))
+      same s h (no z) = ap figure-in (other s z) ∙ p .same s h
+
+      kept : (s : ℕ) → s < n → Flagged old at s → Dec (s ≡ t) → Flagged (set xs (at + t) (w + 2199023255552)) at s
+      kept s h f (yes z) = rw z flag
+      kept s h f (no z) = omega (arith, ap note-in (other s z), p .kept s h f)
+
+      go : (i u : ℕ) → i < k + 1 → note old x i ≡ u + 1 → held old y u < held old x u → Dec (i ≡ k) → Dec (u ≡ t) → Flagged (set xs (at + t) (w + 2199023255552)) at u
+      go i u l m f z (yes o) = rw o flag
+      go i u l m f (no z) (no o) = omega (arith, ap note-in (other u o), p .flags i u (omega arith) m f)
+      go i u l m f (yes z) (no o) = absurd (o (omega (arith, ap (λ i. note old x i) z, note-kept at (at + n) old xs (p .rest) x k (omega arith))))
+
+  pub inherit-end : (k : ℕ) (old new : List ℕ) → ((i u : ℕ) → i < n → note old x i ≡ u + 1 → i < k) → Inherit x y at n k old new → Inherited x y at n old new
+  inherit-end k old new done p = record { same = p .same; kept = p .kept; flags = λ t l f. p .flags (l .0) t (done (l .0) t (l .1) (l .2)) (l .2) f; rest = p .rest }
+
+-- the flags of the first s words are off, and their states are the first k entries of the list
+pub record Listing (at n s k : ℕ) (old new : List ℕ) : Type 0 where
+  pub most : k ≤ s
+  pub same : (j : ℕ) → j < n → held new at j ≡ held old at j
+  pub some : (j : ℕ) → j < k → (1 ≤ note new at j) × (note new at j ≤ n)
+  pub none : (j : ℕ) → k ≤ j → j < s → note new at j ≡ 0
+  pub left : (j : ℕ) → s ≤ j → j < n → getD new (at + j) 0 ≡ getD old (at + j) 0
+  pub found : (t : ℕ) → t < s → Flagged old at t → (i : ℕ) × (i < k) × (note new at i ≡ t + 1)
+  pub rest : Outside at (at + n) old new
+
+module _ (at n : ℕ) where
+  pub listing-none : (xs : List ℕ) → Listing at n 0 0 xs xs
+  listing-none xs = record {
+    most = omega arith;
+    same = λ j h. refl;
+    some = λ j h. absurd (omega arith);
+    none = λ j h l. absurd (omega arith);
+    left = λ j h l. refl;
+    found = λ t h. absurd (omega arith);
+    rest = outside-same at (at + n) xs;
+  }
+
+  -- a word without a flag
+  pub listing-passed : (s k : ℕ) (old xs : List ℕ) → s < n → note xs at s ≡ 0 → Listing at n s k old xs → Listing at n (s + 1) k old xs
+  listing-passed s k old xs hs z p = record {
+    most = omega (arith, p .most);
+    same = p .same;
+    some = p .some;
+    none = λ j h l. none j h l (ℕ-discrete j s);
+    left = λ j h l. p .left j (omega arith) l;
+    found = λ t h f. found t h f (ℕ-discrete t s);
+    rest = p .rest;
+  }
+    where
+      none : (j : ℕ) → k ≤ j → j < s + 1 → Dec (j ≡ s) → note xs at j ≡ 0
+      none j h l (yes e) = rw e z
+      none j h l (no e) = p .none j h (omega arith)
+
+      found : (t : ℕ) → t < s + 1 → Flagged old at t → Dec (t ≡ s) → (i : ℕ) × (i < k) × (note xs at i ≡ t + 1)
+      found t h f (yes e) = absurd (omega (arith, ap (λ t. note old at t) e, ap note-in (p .left s (omega arith) hs)))
+      found t h f (no e) = p .found t (omega arith) f
+
+  -- a flagged word
+  module _ (s k w v : ℕ) (old xs : List ℕ) (room : at + n ≤ length xs) (hs : s < n) (hw : w ≡ held xs at s) (hv : v ≡ held (set xs (at + s) w) at k) (p : Listing at n s k old xs) where
+    abbrev ys : List ℕ
+    ys = set xs (at + s) w
+
+    abbrev zs : List ℕ
+    zs = set ys (at + k) (v + 2199023255552 * (s + 1))
+
+    low : w < 2199023255552
+    low = omega (arith, hw, figure-small (getD xs (at + s) 0))
+
+    small : v < 2199023255552
+    small = omega (arith, hv, figure-small (getD ys (at + k) 0))
+
+    put : getD ys (at + s) 0 ≡ w
+    put = getD-set-same xs (at + s) w 0 (omega arith)
+
+    here : getD zs (at + k) 0 ≡ v + 2199023255552 * (s + 1)
+    here = getD-set-same ys (at + k) (v + 2199023255552 * (s + 1)) 0 (simp length-set (omega (arith, p .most)))
+
+    before : (j : ℕ) → (j ≡ k → ⊥) → getD zs (at + j) 0 ≡ getD ys (at + j) 0
+    before j h = getD-set-other ys (at + k) (at + j) (v + 2199023255552 * (s + 1)) 0 (λ z. h (omega arith))
+
+    older : (j : ℕ) → (j ≡ s → ⊥) → getD ys (at + j) 0 ≡ getD xs (at + j) 0
+    older j h = getD-set-other xs (at + s) (at + j) w 0 (λ z. h (omega arith))
+
+    figures : (j : ℕ) → j < n → Dec (j ≡ s) → held ys at j ≡ held old at j
+    figures j h (yes e) = rw e (ap figure-in put ∙ (figure-plain w low ∙ (hw ∙ p .same s hs)))
+    figures j h (no e) = ap figure-in (older j e) ∙ p .same j h
+
+    same : (j : ℕ) → j < n → Dec (j ≡ k) → held zs at j ≡ held old at j
+    same j h (yes e) = rw e (ap figure-in here ∙ (figure-noted v (s + 1) small ∙ (hv ∙ figures k (omega (arith, p .most)) (ℕ-discrete k s))))
+    same j h (no e) = ap figure-in (before j e) ∙ figures j h (ℕ-discrete j s)
+
+    own : note zs at k ≡ s + 1
+    own = ap note-in here ∙ note-noted v (s + 1) small
+
+    -- an earlier entry of the list
+    earlier : (j : ℕ) → j < k → note zs at j ≡ note xs at j
+    earlier j h = ap note-in (before j (λ z. omega arith) ∙ older j (λ z. omega (arith, p .most)))
+
+    some : (j : ℕ) → j < k + 1 → Dec (j ≡ k) → (1 ≤ note zs at j) × (note zs at j ≤ n)
+    some j h (yes e) = rw e (omega (arith, own), omega (arith, own))
+    some j h (no e) = let q = p .some j (omega arith) in omega (arith, earlier j (omega arith))
+
+    none : (j : ℕ) → k + 1 ≤ j → j < s + 1 → Dec (j ≡ s) → note zs at j ≡ 0
+    none j h l (yes e) = rw e (ap note-in (before s (λ z. omega arith) ∙ put) ∙ note-plain w low)
+    none j h l (no e) = ap note-in (before j (λ z. omega arith) ∙ older j e) ∙ p .none j (omega arith) (omega arith)
+
+    found : (t : ℕ) → t < s + 1 → Flagged old at t → Dec (t ≡ s) → (i : ℕ) × (i < k + 1) × (note zs at i ≡ t + 1)
+    found t h f (yes e) = (k, omega arith, own ∙ ap (λ t. t + 1) (sym e))
+    found t h f (no e) = let q = p .found t (omega arith) f in (q .0, omega (arith, q .1), earlier (q .0) (q .1) ∙ q .2)
+
+    pub listing-more : Listing at n (s + 1) (k + 1) old zs
+    listing-more = record {
+      most = omega (arith, p .most);
+      same = λ j h. same j h (ℕ-discrete j k);
+      some = λ j h. some j h (ℕ-discrete j k);
+      none = λ j h l. none j h l (ℕ-discrete j s);
+      left = λ j h l. before j (λ z. omega (arith, p .most)) ∙ (older j (λ z. omega arith) ∙ p .left j (omega arith) l);
+      found = λ t h f. found t h f (ℕ-discrete t s);
+      rest = record {
+        before = λ i l. getD-set-other ys (at + k) i (v + 2199023255552 * (s + 1)) 0 (λ z. omega arith) ∙ (getD-set-other xs (at + s) i w 0 (λ z. omega arith) ∙ p .rest .before i l);
+        after = λ i l. getD-set-other ys (at + k) i (v + 2199023255552 * (s + 1)) 0 (λ z. omega (arith, p .most)) ∙ (getD-set-other xs (at + s) i w 0 (λ z. omega arith) ∙ p .rest .after i l);
+      };
+    }
+
+  pub listing-end : (s k : ℕ) (old new : List ℕ) → s ≡ n → Listing at n s k old new → Finished at n old new
+  listing-end s k old new e p = record {
+    same = p .same;
+    listed = λ t h f. (let q = p .found t (omega arith) f in (q .0, omega (arith, q .1, p .most), q .2));
+    notes = λ j h. notes j h (decLe k j);
+    ended = λ i j h l z. p .none j (past i j h z (decLe k i)) (omega arith);
+    rest = p .rest;
+  }
+    where
+      notes : (j : ℕ) → j < n → Dec (k ≤ j) → note new at j ≤ n
+      notes j h (yes l) = omega (arith, p .none j l (omega arith))
+      notes j h (no l) = p .some j (omega arith) .1
+
+      past : (i j : ℕ) → i ≤ j → note new at i ≡ 0 → Dec (k ≤ i) → k ≤ j
+      past i j h z (yes l) = omega arith
+      past i j h z (no l) = absurd (omega (arith, p .some i (omega arith) .0))

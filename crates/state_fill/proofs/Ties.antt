@@ -1,0 +1,228 @@
+-- The shares that states stand for: one weight, two weights, the remaining copies of each kind. A tree is within a state exactly if, at each
+-- digit, its pieces come to no more than the digit; so the figures over states are those over these shares.
+--
+use mathlib.Core.Path.{_≡_, refl, sym, _∙_, ap}
+use mathlib.Core.Bool.{true, false}
+use mathlib.Core.List.{List, [], _∷_}
+use Prim.Native.Nat.{ℕ, zero, suc, _+_, _-_, _*_, _/_, _%_, _≤_, _<_}
+use native.Mathlib.Nat.{mod-lt, div-add-mod'}
+use native.Mathlib.Decide.{ℕ-discrete, decLe}
+use native.Mathlib.Omega.{arith}
+use borrow.Author.Tests.{lt-ltb, le-ltb, eq-eqb, ne-eqb}
+use lib.Dec.{T, ltb, eqb, leb→le, le→leb}
+use lib.ListN.{getD}
+use Rattle.cutting.specs.declared.Direction.the-variants.{Length, Width}
+use Rattle.cutting.specs.Lists.{only}
+use Rattle.cutting.specs.Tree.{Rect, Tree, waste, piece, cut, Pieces, Saw, Shares, Proper, total, Within}
+use Rattle.cutting.specs.Figure.{figure}
+use Rattle.cutting.specs.Saws.{saw}
+use Rattle.cutting.specs.Shares.{by-weight, paired, state, exact}
+use Rattle.cutting.specs.Job.{Job, GuillotineTree, pieces, figure-of}
+use Rattle.cutting.proofs.Exact.{figure-upper, figure-attained}
+use Rattle.cutting.proofs.Saws.{saw-proper}
+use Rattle.cutting.proofs.Weights.{within-weight, weight-within}
+use Rattle.cutting.proofs.Job.{figure-most, figure-earned}
+use Rattle.cutting.proofs.Pairs.{paired-within, within-paired, exact-within, within-exact}
+use Rattle.table.specs.Table.{position, Figures as Shared}
+use Rattle.state_fill.specs.States.{below, Blocks, by-state, Order, digit, own-state}
+use Rattle.state_fill.specs.Figures.{figure-at}
+use Rattle.state_fill.specs.Cells.{under, Digits}
+use Rattle.state_fill.specs.Tables.{owns, Figures}
+use Rattle.state_fill.proofs.Digits.{quotient, rest, below-parts, parts-below, below-less, below-adds, digits-order}
+use Rattle.state_fill.proofs.Shares.{split-state, state-split}
+
+-- shares that have the same trees have the same figures
+pub figure-within : {P S S′ : Type 0} (K : Pieces P) (C : Saw) (proper : Proper C) (H : Shares P S) (H′ : Shares P S′) (r : Rect) (s : S) (s′ : S′)
+    → ((t : Tree P) → Within H s t → Within H′ s′ t) → ((t : Tree P) → Within H′ s′ t → Within H s t) → figure K C H r s ≡ figure K C H′ r s′
+figure-within K C proper H H′ r s s′ to from =
+    let e = figure-attained K C H proper r s in
+    let f = figure-attained K C H′ proper r s′ in
+    omega (arith, e .3, f .3, figure-upper K C H′ proper (e .0) r s′ (e .1) (to (e .0) (e .2)), figure-upper K C H proper (f .0) r s (f .1) (from (f .0) (f .2)))
+
+lower-blocks : (B : ℕ → ℕ) (d : ℕ) → Blocks B (suc d) → Blocks B d
+lower-blocks B d blocks = record { some = λ i h. blocks .some i (omega arith); whole = λ i h. blocks .whole i (omega arith) }
+
+-- the last digit, and those before
+digit-last : (B : ℕ → ℕ) (d s : ℕ) → digit B (suc d) (suc d) s ≡ s / B d
+unfolding digit
+digit-last B d s = ap (λ b. elim b [ true ↦ s / B d | false ↦ digit B d (suc d) (s % B d) ]) (eq-eqb (suc d) (suc d) refl)
+
+digit-lower : (B : ℕ → ℕ) (d i s : ℕ) → (i ≡ suc d → ⊥) → digit B (suc d) i s ≡ digit B d i (s % B d)
+unfolding digit
+digit-lower B d i s h = ap (λ b. elim b [ true ↦ s / B d | false ↦ digit B d i (s % B d) ]) (ne-eqb i (suc d) h)
+
+module _ {P : Type 0} (B : ℕ → ℕ) where
+  -- a state that has room for all digits
+  own-room : (w : ℕ → P → ℕ) (d : ℕ) (p : P) → own-state B w d p < B d → own-state B w (suc d) p ≡ w (suc d) p * B d + own-state B w d p
+  unfolding own-state
+  own-room w d p k = ap (λ b. elim b [ true ↦ w (suc d) p * B d + own-state B w d p | false ↦ B (suc d) ]) (lt-ltb (own-state B w d p) (B d) k)
+
+  -- what a piece's state admits, one digit more
+  pub own-above : (w : ℕ → P → ℕ) (d : ℕ) (p : P) (s : ℕ) → Blocks B (suc d) → s < B (suc d) → T (below B (suc d) (own-state B w (suc d) p) s) → (w (suc d) p ≤ s / B d) × T (below B d (own-state B w d p) (s % B d))
+  unfolding own-state
+  own-above w d p s blocks h = go (decLe (B d) (own-state B w d p))
+    where
+      go : Dec (B d ≤ own-state B w d p) → T (below B (suc d) (elim (ltb (own-state B w d p) (B d)) [ true ↦ w (suc d) p * B d + own-state B w d p | false ↦ B (suc d) ]) s)
+          → (w (suc d) p ≤ s / B d) × T (below B d (own-state B w d p) (s % B d))
+      go (yes k) t = absurd (omega (arith, below-less B (suc d) (B (suc d)) s (rw (le-ltb (own-state B w d p) (B d) k) at t)))
+      go (no k) t =
+          let a = below-parts B d (w (suc d) p * B d + own-state B w d p) s (rw (lt-ltb (own-state B w d p) (B d) (omega arith)) at t) in
+          let q = quotient (w (suc d) p * B d + own-state B w d p) (B d) (w (suc d) p) (own-state B w d p) refl (omega arith) in
+          let r = rest (w (suc d) p * B d + own-state B w d p) (B d) (w (suc d) p) (own-state B w d p) refl (omega arith) in
+          (omega (arith, a .0), rw r at (a .1))
+
+  pub above-own : (w : ℕ → P → ℕ) (d : ℕ) (p : P) (s : ℕ) → Blocks B (suc d) → w (suc d) p ≤ s / B d → T (below B d (own-state B w d p) (s % B d)) → T (below B (suc d) (own-state B w (suc d) p) s)
+  above-own w d p s blocks h t =
+      let k : own-state B w d p < B d = omega (arith, below-less B d (own-state B w d p) (s % B d) t, mod-lt s {m = B d} (blocks .some d (omega arith))) in
+      let q = quotient (w (suc d) p * B d + own-state B w d p) (B d) (w (suc d) p) (own-state B w d p) refl k in
+      let r = rest (w (suc d) p * B d + own-state B w d p) (B d) (w (suc d) p) (own-state B w d p) refl k in
+      rw (own-room w d p k) (parts-below B d (w (suc d) p * B d + own-state B w d p) s (omega (arith, q)) (rw r t))
+
+  -- one digit: what a tree weighs
+  one-within : (w : P → ℕ) (t : Tree P) (s : ℕ) → Order (below B 0) → Within (by-state (below B 0) w) s t → total w t ≤ s
+  unfolding by-state below total
+  one-within w waste s order h = omega arith
+  one-within w (piece p) s order h = leb→le (w p) s h
+  one-within w (cut d x a b) s order h = omega (arith, split-state (below B 0) order w d s (h .0) (h .1) .1, one-within w a (h .0 .0) order (h .2), one-within w b (h .0 .1) order (h .3))
+
+  within-one : (w : P → ℕ) (t : Tree P) (s : ℕ) → Order (below B 0) → total w t ≤ s → Within (by-state (below B 0) w) s t
+  unfolding by-state below total
+  within-one w waste s order h = tt
+  within-one w (piece p) s order h = le→leb (w p) s h
+  within-one w (cut d x a b) s order h =
+      let e : total w a + (s - total w a) ≡ s = omega arith in (
+        (total w a, s - total w a),
+        rw e at (state-split (below B 0) order w d (total w a) (s - total w a) (le→leb (total w a) (total w a + (s - total w a)) (omega arith))),
+        within-one w a (total w a) order (omega arith),
+        within-one w b (s - total w a) order (omega arith),
+      )
+
+  -- one digit more: what a tree comes to at the last digit, and the digits before
+  more-within : (w : ℕ → P → ℕ) (d : ℕ) (t : Tree P) (s : ℕ) → Blocks B (suc d) → Order (below B (suc d)) → Order (below B d) → s < B (suc d) → Within (by-state (below B (suc d)) (own-state B w (suc d))) s t
+      → (total (w (suc d)) t ≤ s / B d) × Within (by-state (below B d) (own-state B w d)) (s % B d) t
+  unfolding by-state total
+  more-within w d waste s blocks order lower l h = (omega arith, tt)
+  more-within w d (piece p) s blocks order lower l h = own-above w d p s blocks l h
+  more-within w d (cut e x a b) s blocks order lower l h =
+      let q = split-state (below B (suc d)) order (own-state B w (suc d)) e s (h .0) (h .1) in
+      let k = below-adds B d (h .0 .0) (h .0 .1) (blocks .some d (omega arith)) (rw (q .1) (q .0)) in
+      let m : T (below B d (h .0 .0 % B d) (h .0 .0 % B d + h .0 .1 % B d)) = rw (k .1) at (below-parts B d (h .0 .0) (h .0 .0 + h .0 .1) (rw (q .1) (q .0)) .1) in
+      let u = more-within w d a (h .0 .0) blocks order lower (omega (arith, q .1)) (h .2) in
+      let v = more-within w d b (h .0 .1) blocks order lower (omega (arith, q .1)) (h .3) in
+      let y : h .0 .0 % B d + h .0 .1 % B d ≡ s % B d = sym (k .1) ∙ ap (λ z. z % B d) (q .1) in (
+        omega (arith, u .0, v .0, k .0, ap (λ z. z / B d) (q .1)),
+        ((h .0 .0 % B d, h .0 .1 % B d), rw y at (state-split (below B d) lower (own-state B w d) e (h .0 .0 % B d) (h .0 .1 % B d) m), u .1, v .1),
+      )
+
+  within-more : (w : ℕ → P → ℕ) (d : ℕ) (t : Tree P) (s : ℕ) → Blocks B (suc d) → Order (below B (suc d)) → Order (below B d) → total (w (suc d)) t ≤ s / B d → Within (by-state (below B d) (own-state B w d)) (s % B d) t
+      → Within (by-state (below B (suc d)) (own-state B w (suc d))) s t
+  unfolding by-state total
+  within-more w d waste s blocks order lower l h = tt
+  within-more w d (piece p) s blocks order lower l h = above-own w d p s blocks l h
+  within-more w d (cut e x a b) s blocks order lower l h =
+      let q = split-state (below B d) lower (own-state B w d) e (s % B d) (h .0) (h .1) in
+      let low = mod-lt s {m = B d} (blocks .some d (omega arith)) in
+      let x1 = total (w (suc d)) a in
+      let x2 = s / B d - total (w (suc d)) a in
+      let h1 : h .0 .0 < B d = omega (arith, q .1) in
+      let h2 : h .0 .1 < B d = omega (arith, q .1) in
+      let q1 = quotient (total (w (suc d)) a * B d + h .0 .0) (B d) (total (w (suc d)) a) (h .0 .0) refl h1 in
+      let r1 = rest (total (w (suc d)) a * B d + h .0 .0) (B d) (total (w (suc d)) a) (h .0 .0) refl h1 in
+      let q2 = quotient ((s / B d - total (w (suc d)) a) * B d + h .0 .1) (B d) (s / B d - total (w (suc d)) a) (h .0 .1) refl h2 in
+      let r2 = rest ((s / B d - total (w (suc d)) a) * B d + h .0 .1) (B d) (s / B d - total (w (suc d)) a) (h .0 .1) refl h2 in
+      let z : total (w (suc d)) a + (s / B d - total (w (suc d)) a) ≡ s / B d = omega arith in
+      let y : total (w (suc d)) a * B d + (s / B d - total (w (suc d)) a) * B d ≡ s / B d * B d = omega arith ∙ ap (λ k. k * B d) z in
+      let sum : total (w (suc d)) a * B d + h .0 .0 + ((s / B d - total (w (suc d)) a) * B d + h .0 .1) ≡ s = omega (arith, y, q .1, div-add-mod' s (B d)) in (
+        (total (w (suc d)) a * B d + h .0 .0, (s / B d - total (w (suc d)) a) * B d + h .0 .1),
+        rw sum at (state-split (below B (suc d)) order (own-state B w (suc d)) e (total (w (suc d)) a * B d + h .0 .0) ((s / B d - total (w (suc d)) a) * B d + h .0 .1)
+            (rw sum (parts-below B d (total (w (suc d)) a * B d + h .0 .0) s (omega (arith, q1)) (rw r1 (q .0))))),
+        within-more w d a (total (w (suc d)) a * B d + h .0 .0) blocks order lower (omega (arith, q1)) (rw r1 (h .2)),
+        within-more w d b ((s / B d - total (w (suc d)) a) * B d + h .0 .1) blocks order lower (omega (arith, q2)) (rw r2 (h .3)),
+      )
+
+  -- a tree is within a state exactly if at each digit it comes to no more than the digit
+  pub within-digits : (w : ℕ → P → ℕ) (d : ℕ) (t : Tree P) (s : ℕ) → Blocks B d → s < B d → Within (by-state (below B d) (own-state B w d)) s t → (i : ℕ) → i ≤ d → total (w i) t ≤ digit B d i s
+  unfolding digit own-state
+  within-digits w zero t s blocks l h i k = let z : i ≡ 0 = omega arith in rw z (one-within (λ p. w 0 p) t s (digits-order B 0 blocks) h)
+  within-digits w (suc d) t s blocks l h i k = go (ℕ-discrete i (suc d))
+      (more-within w d t s blocks (digits-order B (suc d) blocks) (digits-order B d (lower-blocks B d blocks)) l h)
+      (λ x. within-digits w d t (s % B d) (lower-blocks B d blocks) (mod-lt s {m = B d} (blocks .some d (omega arith))) x i)
+    where
+      go : Dec (i ≡ suc d) → (total (w (suc d)) t ≤ s / B d) × Within (by-state (below B d) (own-state B w d)) (s % B d) t
+          → (Within (by-state (below B d) (own-state B w d)) (s % B d) t → i ≤ d → total (w i) t ≤ digit B d i (s % B d))
+          → total (w i) t ≤ digit B (suc d) i s
+      go (yes e) u v = omega (arith, u .0, ap (λ i. total (w i) t) e, ap (λ i. digit B (suc d) i s) e, digit-last B d s)
+      go (no e) u v = omega (arith, v (u .1) (omega arith), digit-lower B d i s e)
+
+  pub digits-within : (w : ℕ → P → ℕ) (d : ℕ) (t : Tree P) (s : ℕ) → Blocks B d → ((i : ℕ) → i ≤ d → total (w i) t ≤ digit B d i s) → Within (by-state (below B d) (own-state B w d)) s t
+  unfolding digit own-state
+  digits-within w zero t s blocks h = within-one (λ p. w 0 p) t s (digits-order B 0 blocks) (h 0 (omega arith))
+  digits-within w (suc d) t s blocks h = within-more w d t s blocks (digits-order B (suc d) blocks) (digits-order B d (lower-blocks B d blocks))
+      (omega (arith, h (suc d) (omega arith), digit-last B d s))
+      (digits-within w d t (s % B d) (lower-blocks B d blocks) (λ i k. omega (arith, h i (omega arith), digit-lower B d i s (λ e. omega arith))))
+
+module _ (J : Job) (B : ℕ → ℕ) where
+  -- one weight: the figures of the scope
+  pub figure-one : (weight : ℕ → ℕ) (l w c : ℕ) → Blocks B 0 → figure-at J (below B 0) weight l w c ≡ figure-of J weight l w c
+  unfolding figure-at figure-of
+  figure-one weight l w c blocks = figure-within (pieces J) (saw 0) (saw-proper 0) (by-state (below B 0) weight) (by-weight weight) (l, w) c c
+      (λ t h. weight-within weight t c (one-within B weight t c (digits-order B 0 blocks) h)) (λ t h. within-one B weight t c (digits-order B 0 blocks) (within-weight weight t c h))
+
+  -- two weights, the second running fastest
+  pub figure-two : (first second : ℕ → ℕ) (v : ℕ → ℕ → ℕ) → v 1 ≡ first → v 0 ≡ second → (l w s : ℕ) → Blocks B 1 → s < B 1
+      → figure-at J (below B 1) (own-state B v 1) l w s ≡ figure (pieces J) (saw 0) (paired (by-weight first) (by-weight second)) (l, w) (s / B 0, s % B 0)
+  unfolding figure-at digit
+  figure-two first second v e f l w s blocks h = rw (← e, ← f) (figure-within (pieces J) (saw 0) (saw-proper 0) (by-state (below B 1) (own-state B v 1)) (paired (by-weight (v 1)) (by-weight (v 0))) (l, w) s (s / B 0, s % B 0)
+      (λ t k. (let u = within-digits B v 1 t s blocks h k in within-paired (by-weight (v 1)) (by-weight (v 0)) t (s / B 0, s % B 0) (weight-within (v 1) t (s / B 0) (u 1 (omega arith))) (weight-within (v 0) t (s % B 0) (u 0 (omega arith)))))
+      (λ t k. (let u = paired-within (by-weight (v 1)) (by-weight (v 0)) t (s / B 0, s % B 0) k in digits-within B v 1 t s blocks (both t (within-weight (v 1) t (s / B 0) (u .0)) (within-weight (v 0) t (s % B 0) (u .1))))))
+    where
+      both : (t : Tree ℕ) → total (v 1) t ≤ s / B 0 → total (v 0) t ≤ s % B 0 → (i : ℕ) → i ≤ 1 → total (v i) t ≤ digit B 1 i s
+      both t x y i k = go (ℕ-discrete i 0)
+        where
+          go : Dec (i ≡ 0) → total (v i) t ≤ digit B 1 i s
+          go (yes z) = rw z y
+          go (no z) = let o : i ≡ 1 = omega arith in rw o x
+
+  -- the remaining copies of each kind, kind 0 running fastest
+  pub figure-exact : (d l w s : ℕ) → Blocks B d → s < B d
+      → figure-at J (below B d) (own-state B (λ i k. only (eqb k i) 1) d) l w s ≡ figure (pieces J) (saw 0) (exact (λ k. k) (suc d)) (l, w) (state (suc d) (λ i. digit B d i s))
+  unfolding figure-at
+  figure-exact d l w s blocks h = figure-within (pieces J) (saw 0) (saw-proper 0) (by-state (below B d) (own-state B (λ i k. only (eqb k i) 1) d)) (exact (λ k. k) (suc d)) (l, w) s (state (suc d) (λ i. digit B d i s))
+      (λ t k. exact-within (λ k. k) (suc d) (λ i. digit B d i s) t (λ i l. within-digits B (λ i k. only (eqb k i) 1) d t s blocks h k i (omega arith)))
+      (λ t k. (let u = within-exact (λ k. k) (suc d) (λ i. digit B d i s) t k in digits-within B (λ i k. only (eqb k i) 1) d t s blocks (λ i l. u i (omega arith))))
+
+module _ (J : Job) (f g : ℕ → ℕ) (same : (i : ℕ) → i < J .count → f i ≡ g i) where
+  -- what a tree weighs reads the weights of the job's kinds alone
+  total-kinds : (t : Tree ℕ) (l w : ℕ) → GuillotineTree J l w t → total f t ≡ total g t
+  unfolding total
+  total-kinds waste l w h = refl
+  total-kinds (piece i) l w h = same i (h .0)
+  total-kinds (cut Length x a b) l w h = omega (arith, total-kinds a x w (h .2), total-kinds b (l - x) w (h .3))
+  total-kinds (cut Width x a b) l w h = omega (arith, total-kinds a l x (h .2), total-kinds b l (w - x) (h .3))
+
+  -- so do the figures
+  figure-kinds : (l w c : ℕ) → figure-of J f l w c ≡ figure-of J g l w c
+  figure-kinds l w c =
+      let t = figure-earned J f l w c in
+      let u = figure-earned J g l w c in
+      omega (
+        arith,
+        t .3,
+        u .3,
+        figure-most J g (t .0) l w c (t .1) (omega (arith, t .2, total-kinds (t .0) l w (t .1))),
+        figure-most J f (u .0) l w c (u .1) (omega (arith, u .2, total-kinds (u .0) l w (u .1))),
+      )
+
+-- one digit of n states
+one-block : (n : ℕ) → 1 ≤ n → Blocks (λ i. getD (n ∷ []) i 0) 0
+one-block n some = record { some = λ i h. (let e : i ≡ 0 = omega arith in rw e some); whole = λ i h. absurd (omega arith) }
+
+pub one-digit : (n : ℕ) → 1 ≤ n → n ≤ 65536 → Digits (n ∷ []) 0 n
+one-digit n some most = record { digits = one-block n some; listed = omega arith; states = refl; most = most }
+
+-- a filled table of one digit is that of the weights: its states are the shares
+pub figures-one : (J : Job) (states weights xs : List ℕ) (q : ℕ) → ((i : ℕ) → i < J .count → getD states i 0 ≡ getD weights i 0)
+    → Figures J (under ((q + 1) ∷ []) 0) (owns states) (q + 1) xs → Shared J (λ i. getD weights i 0) q xs
+figures-one J states weights xs q same w a b c ha hb hc = w a b c ha hb hc
+    ∙ (figure-one J (λ i. getD ((q + 1) ∷ []) i 0) (owns states) (position J Length a) (position J Width b) c (one-block (q + 1) (omega arith))
+    ∙ figure-kinds J (owns states) (λ i. getD weights i 0) same (position J Length a) (position J Width b) c)

@@ -1,0 +1,128 @@
+-- `state_fill::cells::finish` meets its contract. The loop's invariant: the flags of the first s words are the first k entries of the list.
+--
+use borrow.Author.Needs.{needs}
+use native.Mathlib.Omega.{arith}
+use mathlib.Core.Path.{_≡_, refl}
+use mathlib.Core.Logic.{⊎-elim}
+use Prim.Native.Nat.{_-_, _≤_}
+use lib.ListN.{length, length-set}
+use Rattle.state_fill.specs.Cells.{note}
+use Rattle.state_fill.proofs.Listing.{Listing, listing-none, listing-passed, listing-more, listing-end}
+use Rattle.state_fill.proofs.cells.finish.Statement.{statement}
+use Rattle.state_fill.proofs.cells.finish.Tie as tie
+
+abbrev Inv-loop : tie.InvT-loop
+Inv-loop table₀ at n k₀ s₀ table k s = (s ≤ n) × (length table ≡ length table₀) × Listing at n s k table₀ table
+
+abbrev μ-loop : tie.MeasureT-loop
+μ-loop table₀ at n k₀ s₀ table k s = n - s
+
+loop-holds : tie.Need-loop-holds Inv-loop μ-loop
+loop-holds c = (omega arith, refl, listing-none _ _ _)
+
+add-word : tie.Need-add-word Inv-loop μ-loop
+add-word c = search needs
+
+mul-word : tie.Need-mul-word Inv-loop μ-loop
+mul-word c = search needs
+
+slice-read-word : tie.Need-slice-read-word Inv-loop μ-loop
+slice-read-word c = omega (arith, c .before .before .loop .inv .1)
+
+note-requires : tie.Need-note-requires Inv-loop μ-loop
+note-requires c κs = search needs
+
+figure-requires : tie.Need-figure-requires Inv-loop μ-loop
+figure-requires c κs = search needs
+
+add-table : tie.Need-add-table Inv-loop μ-loop
+add-table c = search needs
+
+mul-table : tie.Need-mul-table Inv-loop μ-loop
+mul-table c = search needs
+
+slice-write-table : tie.Need-slice-write-table Inv-loop μ-loop
+slice-write-table c = omega (arith, c .before .before .before .before .before .loop .inv .1)
+
+add-figure : tie.Need-add-figure Inv-loop μ-loop
+add-figure c = omega (arith, c .before .before .before .before .before .loop .inv .2 .most)
+
+mul-figure : tie.Need-mul-figure Inv-loop μ-loop
+mul-figure c = search needs
+
+slice-read-figure : tie.Need-slice-read-figure Inv-loop μ-loop
+slice-read-figure c = simp length-set (omega (arith, c .before .before .before .before .before .before .loop .inv .1, c .before .before .before .before .before .before .loop .inv .2 .most))
+
+figure-requires-2 : tie.Need-figure-requires-2 Inv-loop μ-loop
+figure-requires-2 c κs = search needs
+
+add-table-2 : tie.Need-add-table-2 Inv-loop μ-loop
+add-table-2 c = search needs
+
+mul-table-2 : tie.Need-mul-table-2 Inv-loop μ-loop
+mul-table-2 c = search needs
+
+add-table-3 : tie.Need-add-table-3 Inv-loop μ-loop
+add-table-3 c = search needs
+
+add-table-4 : tie.Need-add-table-4 Inv-loop μ-loop
+add-table-4 c = omega (arith, c .before .before .before .before .before .before .before .loop .inv .2 .most)
+
+mul-table-3 : tie.Need-mul-table-3 Inv-loop μ-loop
+mul-table-3 c = search needs
+
+slice-write-table-2 : tie.Need-slice-write-table-2 Inv-loop μ-loop
+slice-write-table-2 c = simp length-set (omega (arith, c .before .before .before .before .before .before .before .loop .inv .1, c .before .before .before .before .before .before .before .loop .inv .2 .most))
+
+add-k : tie.Need-add-k Inv-loop μ-loop
+add-k c = omega (arith, c .before .before .before .before .before .before .before .loop .inv .2 .most)
+
+add-s : tie.Need-add-s Inv-loop μ-loop
+add-s c = search needs
+
+loop-less : tie.Need-loop-less Inv-loop μ-loop
+loop-less c = search needs
+
+loop-again : tie.Need-loop-again Inv-loop μ-loop
+loop-again c = ⊎-elim
+    (λ w. rw (w .4, w .5) (omega arith, simp length-set (c .before .before .before .before .loop .inv .1), listing-more _ _ _ _ _ _ _ _ (omega (arith, c .before .before .before .before .loop .inv .1)) (omega arith) (w .1 .ensures .0) (w .3 .ensures .0) (c .before .before .before .before .loop .inv .2)))
+    (λ w. rw (w .1, w .2) (omega arith, c .before .before .before .before .loop .inv .1, listing-passed _ _ _ _ _ _ (omega arith) (omega (arith, w .0 .left, c .before .note .ensures .0)) (c .before .before .before .before .loop .inv .2)))
+    (c .if1 .came)
+
+same-length : tie.Need-same-length Inv-loop μ-loop
+same-length c = c .before .loop .inv .1
+
+returns : tie.Need-returns Inv-loop μ-loop
+returns c = listing-end _ _ _ _ _ _ (omega arith) (c .before .loop .inv .2)
+
+pub finish-spec : {M : Type 1} → statement M
+finish-spec =
+    tie.close
+    (tie.spec
+    Inv-loop
+    μ-loop
+    loop-holds
+    add-word
+    mul-word
+    slice-read-word
+    note-requires
+    figure-requires
+    add-table
+    mul-table
+    slice-write-table
+    add-figure
+    mul-figure
+    slice-read-figure
+    figure-requires-2
+    add-table-2
+    mul-table-2
+    add-table-3
+    add-table-4
+    mul-table-3
+    slice-write-table-2
+    add-k
+    add-s
+    loop-less
+    loop-again
+    same-length
+    returns)

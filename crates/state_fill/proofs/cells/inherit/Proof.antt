@@ -1,0 +1,144 @@
+-- `state_fill::cells::inherit` meets its contract. The loop's invariant: the first k entries of the list are inherited.
+use borrow.Author.Needs.{needs}
+use native.Mathlib.Omega.{arith}
+use mathlib.Core.Path.{_≡_, refl, sym, _∙_}
+use mathlib.Core.Logic.{⊎-elim}
+use Prim.Native.Nat.{_-_, _≤_}
+use lib.ListN.{length, length-set}
+use Rattle.state_fill.specs.Cells.{note}
+use Rattle.state_fill.proofs.Joining.{note-kept, ready-kept, past-end}
+use Rattle.state_fill.proofs.Listing.{Inherit, inherit-none, inherit-passed, inherit-more, inherit-end}
+use Rattle.state_fill.proofs.cells.inherit.Statement.{statement}
+use Rattle.state_fill.proofs.cells.inherit.Tie as tie
+
+abbrev Inv-loop : tie.InvT-loop
+Inv-loop table₀ at x y n k₀ table k = (k ≤ n) × (length table ≡ length table₀) × Inherit x y at n k table₀ table
+
+abbrev μ-loop : tie.MeasureT-loop
+μ-loop table₀ at x y n k₀ table k = n - k
+
+loop-holds : tie.Need-loop-holds Inv-loop μ-loop
+loop-holds c = (omega arith, refl, inherit-none _ _ _ _ (c .before .pre .0) (c .before .pre .1) _)
+
+add-note : tie.Need-add-note Inv-loop μ-loop
+add-note c = search needs
+
+mul-note : tie.Need-mul-note Inv-loop μ-loop
+mul-note c = search needs
+
+slice-read-note : tie.Need-slice-read-note Inv-loop μ-loop
+slice-read-note c = omega (arith, c .before .before .loop .inv .1, c .before .before .before .before .pre .0, c .before .before .before .before .pre .2)
+
+note-requires : tie.Need-note-requires Inv-loop μ-loop
+note-requires c κs = search needs
+
+same-length : tie.Need-same-length Inv-loop μ-loop
+same-length c = c .before .before .before .before .loop .inv .1
+
+returns : tie.Need-returns Inv-loop μ-loop
+returns c = inherit-end _ _ _ _ (c .before .before .before .before .before .before .pre .0) (c .before .before .before .before .before .before .pre .1) _ _ _ (λ i u h e. past-end _ _ (c .before .before .before .before .before .before .args .n) _ _ _ (c .before .before .before .before .before .before .pre .3) h (sym (note-kept _ _ _ _ (c .before .before .before .before .loop .inv .2 .rest) (c .before .before .before .before .before .before .args .x) (c .before .before .before .before .loop .k) (omega (arith, c .before .before .before .before .before .before .pre .0))) ∙ (sym (c .before .note .ensures .0) ∙ c .if1 .taken)) e) (c .before .before .before .before .loop .inv .2)
+
+sub-t : tie.Need-sub-t Inv-loop μ-loop
+sub-t c = search needs
+
+add-figure : tie.Need-add-figure Inv-loop μ-loop
+add-figure c = omega (arith, c .before .before .before .before .before .before .pre .1, c .before .before .before .before .before .before .pre .2, ready-kept _ _ _ _ (c .before .before .before .before .loop .inv .2 .rest) (c .before .before .before .before .before .before .args .x) (c .before .before .before .before .before .before .args .n) (c .before .before .before .before .before .before .pre .0) (c .before .before .before .before .before .before .pre .3) .notes (c .before .before .before .before .loop .k) (omega arith), c .before .note .ensures .0)
+
+mul-figure : tie.Need-mul-figure Inv-loop μ-loop
+mul-figure c = search needs
+
+slice-read-figure : tie.Need-slice-read-figure Inv-loop μ-loop
+slice-read-figure c = omega (arith, c .before .before .before .before .before .loop .inv .1, c .before .before .before .before .before .before .before .pre .1, c .before .before .before .before .before .before .before .pre .2, ready-kept _ _ _ _ (c .before .before .before .before .before .loop .inv .2 .rest) (c .before .before .before .before .before .before .before .args .x) (c .before .before .before .before .before .before .before .args .n) (c .before .before .before .before .before .before .before .pre .0) (c .before .before .before .before .before .before .before .pre .3) .notes (c .before .before .before .before .before .loop .k) (omega arith), c .before .before .note .ensures .0)
+
+figure-requires : tie.Need-figure-requires Inv-loop μ-loop
+figure-requires c κs = search needs
+
+add-figure-2 : tie.Need-add-figure-2 Inv-loop μ-loop
+add-figure-2 c = omega (arith, c .before .before .before .before .before .before .before .before .pre .0, c .before .before .before .before .before .before .before .before .pre .2, ready-kept _ _ _ _ (c .before .before .before .before .before .before .loop .inv .2 .rest) (c .before .before .before .before .before .before .before .before .args .x) (c .before .before .before .before .before .before .before .before .args .n) (c .before .before .before .before .before .before .before .before .pre .0) (c .before .before .before .before .before .before .before .before .pre .3) .notes (c .before .before .before .before .before .before .loop .k) (omega arith), c .before .before .before .note .ensures .0)
+
+mul-figure-2 : tie.Need-mul-figure-2 Inv-loop μ-loop
+mul-figure-2 c = search needs
+
+slice-read-figure-2 : tie.Need-slice-read-figure-2 Inv-loop μ-loop
+slice-read-figure-2 c = omega (arith, c .before .before .before .before .before .before .before .loop .inv .1, c .before .before .before .before .before .before .before .before .before .pre .0, c .before .before .before .before .before .before .before .before .before .pre .2, ready-kept _ _ _ _ (c .before .before .before .before .before .before .before .loop .inv .2 .rest) (c .before .before .before .before .before .before .before .before .before .args .x) (c .before .before .before .before .before .before .before .before .before .args .n) (c .before .before .before .before .before .before .before .before .before .pre .0) (c .before .before .before .before .before .before .before .before .before .pre .3) .notes (c .before .before .before .before .before .before .before .loop .k) (omega arith), c .before .before .before .before .note .ensures .0)
+
+figure-requires-2 : tie.Need-figure-requires-2 Inv-loop μ-loop
+figure-requires-2 c κs = search needs
+
+add-figure-3 : tie.Need-add-figure-3 Inv-loop μ-loop
+add-figure-3 c = omega (arith, c .before .before .before .before .before .before .before .before .before .before .before .pre .2, ready-kept _ _ _ _ (c .before .before .before .before .before .before .before .before .before .loop .inv .2 .rest) (c .before .before .before .before .before .before .before .before .before .before .before .args .x) (c .before .before .before .before .before .before .before .before .before .before .before .args .n) (c .before .before .before .before .before .before .before .before .before .before .before .pre .0) (c .before .before .before .before .before .before .before .before .before .before .before .pre .3) .notes (c .before .before .before .before .before .before .before .before .before .loop .k) (omega arith), c .before .before .before .before .before .before .note .ensures .0)
+
+mul-figure-3 : tie.Need-mul-figure-3 Inv-loop μ-loop
+mul-figure-3 c = search needs
+
+slice-read-figure-3 : tie.Need-slice-read-figure-3 Inv-loop μ-loop
+slice-read-figure-3 c = omega (arith, c .before .before .before .before .before .before .before .before .before .before .loop .inv .1, c .before .before .before .before .before .before .before .before .before .before .before .before .pre .2, ready-kept _ _ _ _ (c .before .before .before .before .before .before .before .before .before .before .loop .inv .2 .rest) (c .before .before .before .before .before .before .before .before .before .before .before .before .args .x) (c .before .before .before .before .before .before .before .before .before .before .before .before .args .n) (c .before .before .before .before .before .before .before .before .before .before .before .before .pre .0) (c .before .before .before .before .before .before .before .before .before .before .before .before .pre .3) .notes (c .before .before .before .before .before .before .before .before .before .before .loop .k) (omega arith), c .before .before .before .before .before .before .before .note .ensures .0)
+
+figure-requires-3 : tie.Need-figure-requires-3 Inv-loop μ-loop
+figure-requires-3 c κs = search needs
+
+add-table : tie.Need-add-table Inv-loop μ-loop
+add-table c = omega (arith, c .figure3 .ensures .1)
+
+add-table-2 : tie.Need-add-table-2 Inv-loop μ-loop
+add-table-2 c = search needs
+
+mul-table : tie.Need-mul-table Inv-loop μ-loop
+mul-table c = search needs
+
+slice-write-table : tie.Need-slice-write-table Inv-loop μ-loop
+slice-write-table c = omega (arith, c .before .before .before .before .before .before .before .before .before .before .before .loop .inv .1, c .before .before .before .before .before .before .before .before .before .before .before .before .before .pre .2, ready-kept _ _ _ _ (c .before .before .before .before .before .before .before .before .before .before .before .loop .inv .2 .rest) (c .before .before .before .before .before .before .before .before .before .before .before .before .before .args .x) (c .before .before .before .before .before .before .before .before .before .before .before .before .before .args .n) (c .before .before .before .before .before .before .before .before .before .before .before .before .before .pre .0) (c .before .before .before .before .before .before .before .before .before .before .before .before .before .pre .3) .notes (c .before .before .before .before .before .before .before .before .before .before .before .loop .k) (omega arith), c .before .before .before .before .before .before .before .before .note .ensures .0)
+
+add-k : tie.Need-add-k Inv-loop μ-loop
+add-k c = search needs
+
+loop-less : tie.Need-loop-less Inv-loop μ-loop
+loop-less c = search needs
+
+loop-again : tie.Need-loop-again Inv-loop μ-loop
+loop-again c = ⊎-elim
+    (λ w. rw (w .3) (omega arith, simp length-set (c .before .before .before .before .before .before .before .before .before .loop .inv .1), inherit-more _ _ _ _ (c .before .before .before .before .before .before .before .before .before .before .before .pre .0) (c .before .before .before .before .before .before .before .before .before .before .before .pre .1) _ _ _ _ _ (omega (arith, c .before .before .before .before .before .before .before .before .before .loop .inv .1)) (omega arith) (omega (arith, ready-kept _ _ _ _ (c .before .before .before .before .before .before .before .before .before .loop .inv .2 .rest) (c .before .before .before .before .before .before .before .before .before .before .before .args .x) (c .before .before .before .before .before .before .before .before .before .before .before .args .n) (c .before .before .before .before .before .before .before .before .before .before .before .pre .0) (c .before .before .before .before .before .before .before .before .before .before .before .pre .3) .notes (c .before .before .before .before .before .before .before .before .before .loop .k) (omega arith), c .before .before .before .before .before .before .note .ensures .0)) (sym (c .before .before .before .before .before .before .note .ensures .0) ∙ omega arith) (w .2 .ensures .0) (c .before .before .before .before .before .before .before .before .before .loop .inv .2)))
+    (λ w. rw (w .1) (omega arith, c .before .before .before .before .before .before .before .before .before .loop .inv .1, inherit-passed _ _ _ _ (c .before .before .before .before .before .before .before .before .before .before .before .pre .0) (c .before .before .before .before .before .before .before .before .before .before .before .pre .1) _ (c .before .before .before .before .before .before .note .result - 1) _ _ (omega arith) (omega (arith, ready-kept _ _ _ _ (c .before .before .before .before .before .before .before .before .before .loop .inv .2 .rest) (c .before .before .before .before .before .before .before .before .before .before .before .args .x) (c .before .before .before .before .before .before .before .before .before .before .before .args .n) (c .before .before .before .before .before .before .before .before .before .before .before .pre .0) (c .before .before .before .before .before .before .before .before .before .before .before .pre .3) .notes (c .before .before .before .before .before .before .before .before .before .loop .k) (omega arith), c .before .before .before .before .before .before .note .ensures .0)) (sym (c .before .before .before .before .before .before .note .ensures .0) ∙ omega arith) (omega (arith, w .0 .left, c .before .before .before .figure .ensures .0, c .before .figure2 .ensures .0)) (c .before .before .before .before .before .before .before .before .before .loop .inv .2)))
+    (c .if2 .came)
+
+same-length-2 : tie.Need-same-length-2 Inv-loop μ-loop
+same-length-2 c = c .before .loop .inv .1
+
+returns-2 : tie.Need-returns-2 Inv-loop μ-loop
+returns-2 c = inherit-end _ _ _ _ (c .before .before .before .pre .0) (c .before .before .before .pre .1) _ _ _ (λ i u h e. omega arith) (c .before .loop .inv .2)
+
+pub inherit-spec : {M : Type 1} → statement M
+inherit-spec =
+    tie.close
+    (tie.spec
+    Inv-loop
+    μ-loop
+    loop-holds
+    add-note
+    mul-note
+    slice-read-note
+    note-requires
+    same-length
+    returns
+    sub-t
+    add-figure
+    mul-figure
+    slice-read-figure
+    figure-requires
+    add-figure-2
+    mul-figure-2
+    slice-read-figure-2
+    figure-requires-2
+    add-figure-3
+    mul-figure-3
+    slice-read-figure-3
+    figure-requires-3
+    add-table
+    add-table-2
+    mul-table
+    slice-write-table
+    add-k
+    loop-less
+    loop-again
+    same-length-2
+    returns-2)

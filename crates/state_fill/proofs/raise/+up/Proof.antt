@@ -1,0 +1,151 @@
+-- `state_fill::raise::up` meets its contract. The measure is the last digit. The loop's invariant: the blocks of the last digit before x are
+-- raised, the others as they were.
+use borrow.Author.Needs.{needs}
+use native.Mathlib.Omega.{arith}
+use mathlib.Core.Path.{_≡_, refl, _∙_}
+use Prim.Native.Nat.{_-_}
+use native.Mathlib.Nat.{mod-le, mod-lt}
+use lib.ListN.{length}
+use denote.Ref.{now}
+use Rattle.state_fill.proofs.Lifting.{Blockwise, first-block, room-block, stop-block, inner-block, more-block, blocks-before, partly-all, one-digit, digit-lifted}
+use Prim.Native.Nat.{ℕ, _<_}
+use borrow.Fn.Kinds.{In}
+use borrow.Fn.PlainCycle.{Measures, is, falls, and}
+use Rattle.state_fill.proofs.raise.up.Reads as up
+use Rattle.state_fill.proofs.raise.up.Kinds as up-kinds
+use Rattle.state_fill.proofs.raise.+up.Lts-up as up-lts
+use Rattle.state_fill.proofs.raise.block.Reads as block-reads
+use Rattle.state_fill.proofs.raise.run.Reads as run-reads
+use Rattle.state_fill.proofs.words.figure.Reads as figure-reads
+use Rattle.state_fill.proofs.raise.+up.{statement}
+use Rattle.state_fill.proofs.raise.+up.Tie.{close}
+
+abbrev μ-up : Measures 2 up-kinds.ps ℕ
+μ-up κs a = a .1 .1 .0
+
+abbrev up-at : ℕ → In 2 up-kinds.ps
+up-at t = and 2 up-kinds.ps (is 2 up-kinds.ps μ-up t) up.Pre
+
+abbrev up-below : ℕ → In 2 up-kinds.ps
+up-below t = and 2 up-kinds.ps (falls 2 up-kinds.ps _<_ μ-up t) up.Pre
+
+abbrev callees : ℕ → up-lts.Claims
+callees t = (
+  block-reads.Asked,
+  block-reads.Learnt,
+  run-reads.Asked,
+  run-reads.Learnt,
+  figure-reads.Asked,
+  figure-reads.Learnt,
+  up-below t,
+  up.Post,
+)
+
+abbrev up-Inv-loop : up-lts.InvT-loop
+up-Inv-loop table₀ blocks d at t v end size low x₀ table x = (length table ≡ length table₀) × Blockwise blocks d at t v x table₀ table
+
+abbrev up-μ-loop : up-lts.MeasureT-loop
+up-μ-loop table₀ blocks d at t v end size low x₀ table x = end - x
+
+up-block-requires : (t : ℕ) → up-lts.Need-block-requires (callees t) (up-at t) up.Post up-Inv-loop up-μ-loop
+up-block-requires t c κs = c .before .before .pre .1 .1
+
+up-run-requires : (t : ℕ) → up-lts.Need-run-requires (callees t) (up-at t) up.Post up-Inv-loop up-μ-loop
+up-run-requires t c κs = (omega (arith, c .before .before .block .ensures .0, c .before .before .before .before .before .pre .1 .2), one-digit (now (c .before .before .before .before .before .args .blocks)) (c .before .before .before .before .before .args .d) (c .before .before .block .result) _ (omega arith) (c .before .before .block .ensures .0) (c .before .before .before .before .before .pre .1 .3))
+
+up-same-length : (t : ℕ) → up-lts.Need-same-length (callees t) (up-at t) up.Post up-Inv-loop up-μ-loop
+up-same-length t c = search needs
+
+up-returns : (t : ℕ) → up-lts.Need-returns (callees t) (up-at t) up.Post up-Inv-loop up-μ-loop
+up-returns t c = digit-lifted (now (c .before .before .before .before .before .before .before .before .args .blocks)) (c .before .before .before .before .before .before .before .before .args .d) (c .before .before .before .before .before .block .result) _ _ _ _ _ (omega arith) (c .before .before .before .before .before .block .ensures .0) (c .before .before .run .ensures)
+
+up-sub-block : (t : ℕ) → up-lts.Need-sub-block (callees t) (up-at t) up.Post up-Inv-loop up-μ-loop
+up-sub-block t c = search needs
+
+up-block-requires-2 : (t : ℕ) → up-lts.Need-block-requires-2 (callees t) (up-at t) up.Post up-Inv-loop up-μ-loop
+up-block-requires-2 t c κs = omega (arith, c .before .before .before .before .pre .1 .1)
+
+up-rem-low : (t : ℕ) → up-lts.Need-rem-low (callees t) (up-at t) up.Post up-Inv-loop up-μ-loop
+up-rem-low t c = omega (arith, c .block2 .ensures .0, c .before .before .before .before .before .pre .1 .0 .some (c .before .before .before .before .before .args .d - 1) (omega arith))
+
+up-sub-x : (t : ℕ) → up-lts.Need-sub-x (callees t) (up-at t) up.Post up-Inv-loop up-μ-loop
+up-sub-x t c = mod-le (c .before .before .before .before .before .args .t) (c .block2 .result)
+
+up-loop-holds : (t : ℕ) → up-lts.Need-loop-holds (callees t) (up-at t) up.Post up-Inv-loop up-μ-loop
+up-loop-holds t c = (refl, first-block (now (c .before .before .before .before .before .args .blocks)) _ (c .before .before .before .before .before .args .t) _ _ _ (omega arith) (c .before .before .before .before .before .pre .1 .0) (c .block2 .ensures .0) _)
+
+up-add-figure : (t : ℕ) → up-lts.Need-add-figure (callees t) (up-at t) up.Post up-Inv-loop up-μ-loop
+up-add-figure t c = omega (arith, room-block (now (c .before .before .before .before .before .before .before .args .blocks)) (c .before .before .before .before .before .before .before .args .at) (c .before .before .before .before .before .before .before .args .t) (c .before .before .before .before .before .before .before .args .v) (c .before .before .before .before .before .before .before .args .d) (c .before .before .block2 .result) (c .before .loop .x) (now (c .before .before .before .before .before .before .before .args .table)) (c .before .loop .table) (omega arith) (c .before .before .before .before .before .before .before .pre .1 .0) (c .before .before .block2 .ensures .0) (omega (arith, c .before .before .before .before .block .ensures .0)) (c .before .loop .inv .1), c .before .before .before .before .before .before .before .pre .1 .2)
+
+up-add-figure-2 : (t : ℕ) → up-lts.Need-add-figure-2 (callees t) (up-at t) up.Post up-Inv-loop up-μ-loop
+up-add-figure-2 t c = omega (arith, room-block (now (c .before .before .before .before .before .before .before .args .blocks)) (c .before .before .before .before .before .before .before .args .at) (c .before .before .before .before .before .before .before .args .t) (c .before .before .before .before .before .before .before .args .v) (c .before .before .before .before .before .before .before .args .d) (c .before .before .block2 .result) (c .before .loop .x) (now (c .before .before .before .before .before .before .before .args .table)) (c .before .loop .table) (omega arith) (c .before .before .before .before .before .before .before .pre .1 .0) (c .before .before .block2 .ensures .0) (omega (arith, c .before .before .before .before .block .ensures .0)) (c .before .loop .inv .1), mod-lt (c .before .before .before .before .before .before .before .args .t) {m = c .before .before .block2 .result} (omega (arith, c .before .before .block2 .ensures .0, c .before .before .before .before .before .before .before .pre .1 .0 .some (c .before .before .before .before .before .before .before .args .d - 1) (omega arith))), c .before .before .before .before .before .before .before .pre .1 .2)
+
+up-mul-figure : (t : ℕ) → up-lts.Need-mul-figure (callees t) (up-at t) up.Post up-Inv-loop up-μ-loop
+up-mul-figure t c = omega (arith, room-block (now (c .before .before .before .before .before .before .before .args .blocks)) (c .before .before .before .before .before .before .before .args .at) (c .before .before .before .before .before .before .before .args .t) (c .before .before .before .before .before .before .before .args .v) (c .before .before .before .before .before .before .before .args .d) (c .before .before .block2 .result) (c .before .loop .x) (now (c .before .before .before .before .before .before .before .args .table)) (c .before .loop .table) (omega arith) (c .before .before .before .before .before .before .before .pre .1 .0) (c .before .before .block2 .ensures .0) (omega (arith, c .before .before .before .before .block .ensures .0)) (c .before .loop .inv .1), mod-lt (c .before .before .before .before .before .before .before .args .t) {m = c .before .before .block2 .result} (omega (arith, c .before .before .block2 .ensures .0, c .before .before .before .before .before .before .before .pre .1 .0 .some (c .before .before .before .before .before .before .before .args .d - 1) (omega arith))), c .before .before .before .before .before .before .before .pre .1 .2, c .before .loop .inv .0)
+
+up-slice-read-figure : (t : ℕ) → up-lts.Need-slice-read-figure (callees t) (up-at t) up.Post up-Inv-loop up-μ-loop
+up-slice-read-figure t c = omega (arith, room-block (now (c .before .before .before .before .before .before .before .before .args .blocks)) (c .before .before .before .before .before .before .before .before .args .at) (c .before .before .before .before .before .before .before .before .args .t) (c .before .before .before .before .before .before .before .before .args .v) (c .before .before .before .before .before .before .before .before .args .d) (c .before .before .before .block2 .result) (c .before .before .loop .x) (now (c .before .before .before .before .before .before .before .before .args .table)) (c .before .before .loop .table) (omega arith) (c .before .before .before .before .before .before .before .before .pre .1 .0) (c .before .before .before .block2 .ensures .0) (omega (arith, c .before .before .before .before .before .block .ensures .0)) (c .before .before .loop .inv .1), mod-lt (c .before .before .before .before .before .before .before .before .args .t) {m = c .before .before .before .block2 .result} (omega (arith, c .before .before .before .block2 .ensures .0, c .before .before .before .before .before .before .before .before .pre .1 .0 .some (c .before .before .before .before .before .before .before .before .args .d - 1) (omega arith))), c .before .before .before .before .before .before .before .before .pre .1 .2, c .before .before .loop .inv .0)
+
+up-figure-requires : (t : ℕ) → up-lts.Need-figure-requires (callees t) (up-at t) up.Post up-Inv-loop up-μ-loop
+up-figure-requires t c κs = search needs
+
+up-same-length-2 : (t : ℕ) → up-lts.Need-same-length-2 (callees t) (up-at t) up.Post up-Inv-loop up-μ-loop
+up-same-length-2 t c = c .before .before .before .before .loop .inv .0
+
+up-returns-2 : (t : ℕ) → up-lts.Need-returns-2 (callees t) (up-at t) up.Post up-Inv-loop up-μ-loop
+up-returns-2 t c = stop-block (now (c .before .before .before .before .before .before .before .before .before .before .args .blocks)) _ _ _ _ _ _ _ _ (omega arith) (c .before .before .before .before .before .before .before .before .before .before .pre .1 .0) (c .before .before .before .before .before .block2 .ensures .0) (omega (arith, c .before .before .before .before .before .before .before .block .ensures .0)) (c .before .before .before .before .before .before .before .before .before .before .pre .1 .3) (omega (arith, c .before .figure .ensures .0)) (c .before .before .before .before .loop .inv .1)
+
+up-sub-up : (t : ℕ) → up-lts.Need-sub-up (callees t) (up-at t) up.Post up-Inv-loop up-μ-loop
+up-sub-up t c = search needs
+
+up-add-up : (t : ℕ) → up-lts.Need-add-up (callees t) (up-at t) up.Post up-Inv-loop up-μ-loop
+up-add-up t c = omega (arith, room-block (now (c .before .before .before .before .before .before .before .before .before .before .before .args .blocks)) (c .before .before .before .before .before .before .before .before .before .before .before .args .at) (c .before .before .before .before .before .before .before .before .before .before .before .args .t) (c .before .before .before .before .before .before .before .before .before .before .before .args .v) (c .before .before .before .before .before .before .before .before .before .before .before .args .d) (c .before .before .before .before .before .before .block2 .result) (c .before .before .before .before .before .loop .x) (now (c .before .before .before .before .before .before .before .before .before .before .before .args .table)) (c .before .before .before .before .before .loop .table) (omega arith) (c .before .before .before .before .before .before .before .before .before .before .before .pre .1 .0) (c .before .before .before .before .before .before .block2 .ensures .0) (omega (arith, c .before .before .before .before .before .before .before .before .block .ensures .0)) (c .before .before .before .before .before .loop .inv .1), c .before .before .before .before .before .before .before .before .before .before .before .pre .1 .2)
+
+up-up-requires : (t : ℕ) → up-lts.Need-up-requires (callees t) (up-at t) up.Post up-Inv-loop up-μ-loop
+up-up-requires t c κs = (omega (arith, c .before .before .before .before .before .before .before .before .before .before .before .pre .0), (blocks-before (now (c .before .before .before .before .before .before .before .before .before .before .before .args .blocks)) (c .before .before .before .before .before .before .before .before .before .before .before .args .at) (c .before .before .before .before .before .before .before .before .before .before .before .args .t) (c .before .before .before .before .before .before .before .before .before .before .before .args .v) (c .before .before .before .before .before .before .before .before .before .before .before .args .d) (c .before .before .before .before .before .before .before .before .before .before .before .pre .1 .0), omega (arith, c .before .before .before .before .before .before .before .before .before .before .before .pre .1 .1), omega (arith, room-block (now (c .before .before .before .before .before .before .before .before .before .before .before .args .blocks)) (c .before .before .before .before .before .before .before .before .before .before .before .args .at) (c .before .before .before .before .before .before .before .before .before .before .before .args .t) (c .before .before .before .before .before .before .before .before .before .before .before .args .v) (c .before .before .before .before .before .before .before .before .before .before .before .args .d) (c .before .before .before .before .before .before .block2 .result) (c .before .before .before .before .before .loop .x) (now (c .before .before .before .before .before .before .before .before .before .before .before .args .table)) (c .before .before .before .before .before .loop .table) (omega arith) (c .before .before .before .before .before .before .before .before .before .before .before .pre .1 .0) (c .before .before .before .before .before .before .block2 .ensures .0) (omega (arith, c .before .before .before .before .before .before .before .before .block .ensures .0)) (c .before .before .before .before .before .loop .inv .1), c .before .before .before .before .before .before .block2 .ensures .0, c .before .before .before .before .before .before .before .before .before .before .before .pre .1 .2, c .before .before .before .before .before .loop .inv .0), inner-block (now (c .before .before .before .before .before .before .before .before .before .before .before .args .blocks)) (c .before .before .before .before .before .before .before .before .before .before .before .args .at) (c .before .before .before .before .before .before .before .before .before .before .before .args .t) (c .before .before .before .before .before .before .before .before .before .before .before .args .v) (c .before .before .before .before .before .before .before .before .before .before .before .args .d) (c .before .before .before .before .before .before .block2 .result) (c .before .before .before .before .before .loop .x) (now (c .before .before .before .before .before .before .before .before .before .before .before .args .table)) (c .before .before .before .before .before .loop .table) (omega arith) (c .before .before .before .before .before .before .before .before .before .before .before .pre .1 .0) (c .before .before .before .before .before .before .block2 .ensures .0) (omega (arith, c .before .before .before .before .before .before .before .before .block .ensures .0)) (c .before .before .before .before .before .before .before .before .before .before .before .pre .1 .3) (c .before .before .before .before .before .loop .inv .1)))
+
+up-add-x : (t : ℕ) → up-lts.Need-add-x (callees t) (up-at t) up.Post up-Inv-loop up-μ-loop
+up-add-x t c = omega (arith, room-block (now (c .before .before .before .before .before .before .before .before .before .before .before .before .before .before .args .blocks)) (c .before .before .before .before .before .before .before .before .before .before .before .before .before .before .args .at) (c .before .before .before .before .before .before .before .before .before .before .before .before .before .before .args .t) (c .before .before .before .before .before .before .before .before .before .before .before .before .before .before .args .v) (c .before .before .before .before .before .before .before .before .before .before .before .before .before .before .args .d) (c .before .before .before .before .before .before .before .before .before .block2 .result) (c .before .before .before .before .before .before .before .before .loop .x) (now (c .before .before .before .before .before .before .before .before .before .before .before .before .before .before .args .table)) (c .before .before .before .before .before .before .before .before .loop .table) (omega arith) (c .before .before .before .before .before .before .before .before .before .before .before .before .before .before .pre .1 .0) (c .before .before .before .before .before .before .before .before .before .block2 .ensures .0) (omega (arith, c .before .before .before .before .before .before .before .before .before .before .before .block .ensures .0)) (c .before .before .before .before .before .before .before .before .loop .inv .1), c .before .before .before .before .before .before .before .before .before .before .before .before .before .before .pre .1 .2)
+
+up-loop-less : (t : ℕ) → up-lts.Need-loop-less (callees t) (up-at t) up.Post up-Inv-loop up-μ-loop
+up-loop-less t c = omega (arith, room-block (now (c .before .before .before .before .before .before .before .before .before .before .before .before .before .before .args .blocks)) (c .before .before .before .before .before .before .before .before .before .before .before .before .before .before .args .at) (c .before .before .before .before .before .before .before .before .before .before .before .before .before .before .args .t) (c .before .before .before .before .before .before .before .before .before .before .before .before .before .before .args .v) (c .before .before .before .before .before .before .before .before .before .before .before .before .before .before .args .d) (c .before .before .before .before .before .before .before .before .before .block2 .result) (c .before .before .before .before .before .before .before .before .loop .x) (now (c .before .before .before .before .before .before .before .before .before .before .before .before .before .before .args .table)) (c .before .before .before .before .before .before .before .before .loop .table) (omega arith) (c .before .before .before .before .before .before .before .before .before .before .before .before .before .before .pre .1 .0) (c .before .before .before .before .before .before .before .before .before .block2 .ensures .0) (omega (arith, c .before .before .before .before .before .before .before .before .before .before .before .block .ensures .0)) (c .before .before .before .before .before .before .before .before .loop .inv .1), c .before .before .before .before .before .before .before .before .before .block2 .ensures .0, c .before .before .before .before .before .before .before .before .before .before .before .before .before .before .pre .1 .0 .some (c .before .before .before .before .before .before .before .before .before .before .before .before .before .before .args .d - 1) (omega arith))
+
+up-loop-again : (t : ℕ) → up-lts.Need-loop-again (callees t) (up-at t) up.Post up-Inv-loop up-μ-loop
+up-loop-again t c = (c .before .before .up .kept .0 ∙ c .before .before .before .before .before .before .before .before .loop .inv .0, more-block (now (c .before .before .before .before .before .before .before .before .before .before .before .before .before .before .args .blocks)) _ (c .before .before .before .before .before .before .before .before .before .before .before .before .before .before .args .t) _ _ _ _ _ _ _ (omega arith) (c .before .before .before .before .before .before .before .before .before .before .before .before .before .before .pre .1 .0) (c .before .before .before .before .before .before .before .before .before .block2 .ensures .0) (omega (arith, c .before .before .before .before .before .before .before .before .before .before .before .block .ensures .0)) (c .before .before .before .before .before .before .before .before .loop .inv .1) (c .before .before .up .ensures))
+
+up-same-length-3 : (t : ℕ) → up-lts.Need-same-length-3 (callees t) (up-at t) up.Post up-Inv-loop up-μ-loop
+up-same-length-3 t c = c .before .loop .inv .0
+
+up-returns-3 : (t : ℕ) → up-lts.Need-returns-3 (callees t) (up-at t) up.Post up-Inv-loop up-μ-loop
+up-returns-3 t c = partly-all _ _ _ _ _ _ _ _ (omega (arith, c .before .before .before .before .block .ensures .0)) (c .before .loop .inv .1 .3)
+
+pub +up-spec : {M : Type 1} → statement M
++up-spec = close μ-up λ t. up-lts.spec (callees t)
+    (up-at t)
+    up.Post
+    up-Inv-loop
+    up-μ-loop
+    (up-block-requires t)
+    (up-run-requires t)
+    (up-same-length t)
+    (up-returns t)
+    (up-sub-block t)
+    (up-block-requires-2 t)
+    (up-rem-low t)
+    (up-sub-x t)
+    (up-loop-holds t)
+    (up-add-figure t)
+    (up-add-figure-2 t)
+    (up-mul-figure t)
+    (up-slice-read-figure t)
+    (up-figure-requires t)
+    (up-same-length-2 t)
+    (up-returns-2 t)
+    (up-sub-up t)
+    (up-add-up t)
+    (up-up-requires t)
+    (up-add-x t)
+    (up-loop-less t)
+    (up-loop-again t)
+    (up-same-length-3 t)
+    (up-returns-3 t)

@@ -1,0 +1,59 @@
+-- `state_fill::raise::take` meets its contract.
+use borrow.Author.Needs.{needs}
+use native.Mathlib.Omega.{arith}
+use Rattle.state_fill.proofs.Growing.{order-of, taken-none, taken-raised, test-true, test-false}
+use Rattle.state_fill.proofs.raise.take.Statement.{statement}
+use Rattle.state_fill.proofs.raise.take.Tie as tie
+
+add-s : tie.Need-add-s
+add-s c = search needs
+
+add-figure : tie.Need-add-figure
+add-figure c = search needs
+
+mul-figure : tie.Need-mul-figure
+mul-figure c = search needs
+
+slice-read-figure : tie.Need-slice-read-figure
+slice-read-figure c = search needs
+
+figure-requires : tie.Need-figure-requires
+figure-requires c κs = search needs
+
+below-requires : tie.Need-below-requires
+below-requires c κs = (c .before .before .before .before .before .before .pre .0 .digits, c .before .before .before .before .before .before .pre .0 .listed)
+
+raise-requires : tie.Need-raise-requires
+raise-requires c κs = (c .before .before .before .before .before .before .before .before .before .pre .0, omega (arith, c .before .before .before .before .before .before .before .before .before .pre .1), omega arith, c .before .before .before .before .before .before .before .before .before .pre .4, c .before .before .before .before .before .before .before .before .before .pre .5)
+
+same-length : tie.Need-same-length
+same-length c = search needs
+
+returns : tie.Need-returns
+returns c = taken-raised _ _ _ _ _ _ _ _ (order-of _ _ _ (c .before .before .before .before .before .before .before .before .before .before .before .before .pre .0)) (omega arith) (c .before .before .before .before .before .before .before .before .before .before .before .before .pre .4) (omega (arith, c .before .before .before .before .before .before .before .figure .ensures .0)) (test-true _ _ (c .before .before .before .before .before .below .ensures) (c .before .before .before .before .if3 .taken)) (c .before .before .raise .ensures)
+
+returns-2 : tie.Need-returns-2
+returns-2 c = taken-none _ _ _ _ _ _ _ (λ h b. absurd (test-false _ _ (c .before .below .ensures) (c .if3 .left) b))
+
+returns-3 : tie.Need-returns-3
+returns-3 c = taken-none _ _ _ _ _ _ _ (λ h b. omega (arith, c .before .figure .ensures .0))
+
+returns-4 : tie.Need-returns-4
+returns-4 c = taken-none _ _ _ _ _ _ _ (λ h b. absurd (omega arith))
+
+pub take-spec : {M : Type 1} → statement M
+take-spec =
+    tie.close
+    (tie.spec
+    add-s
+    add-figure
+    mul-figure
+    slice-read-figure
+    figure-requires
+    below-requires
+    raise-requires
+    same-length
+    returns
+    returns-2
+    returns-3
+    returns-4)

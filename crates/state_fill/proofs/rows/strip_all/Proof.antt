@@ -1,0 +1,56 @@
+-- `state_fill::rows::strip_all` meets its contract. The loop's invariant: the cells passed hold their figures alone.
+use borrow.Author.Needs.{needs}
+use native.Mathlib.Omega.{arith}
+use mathlib.Core.Path.{_≡_, refl, _∙_}
+use Prim.Native.Nat.{_-_, _*_, _≤_}
+use lib.ListN.{length}
+use Rattle.table.proofs.Words.{cell-before}
+use Rattle.state_fill.specs.Tables.{Plain}
+use Rattle.state_fill.proofs.Filling.{plain-none, plain-more, bare-left}
+use Rattle.state_fill.proofs.rows.strip_all.Statement.{statement}
+use Rattle.state_fill.proofs.rows.strip_all.Tie as tie
+
+abbrev Inv-loop : tie.InvT-loop
+Inv-loop table₀ s n x₀ i₀ table x i = (i ≤ s) × (x ≡ i * n) × (length table ≡ length table₀) × Plain i n table₀ table
+
+abbrev μ-loop : tie.MeasureT-loop
+μ-loop table₀ s n x₀ i₀ table x i = s - i
+
+loop-holds : tie.Need-loop-holds Inv-loop μ-loop
+loop-holds c = (omega arith, omega arith, refl, plain-none _ _)
+
+strip-requires : tie.Need-strip-requires Inv-loop μ-loop
+strip-requires c κs = (omega (arith, c .before .before .loop .inv .1, c .before .before .loop .inv .2, c .before .before .before .before .pre .0, cell-before (c .before .before .loop .i) (c .before .before .before .before .args .s) (c .before .before .before .before .args .n) (omega arith)), bare-left _ _ _ _ _ _ (c .before .before .loop .inv .1) (omega arith) (c .before .before .before .before .pre .1) (c .before .before .loop .inv .3))
+
+add-x : tie.Need-add-x Inv-loop μ-loop
+add-x c = omega (arith, c .before .before .before .before .before .loop .inv .1, c .before .before .before .before .before .loop .inv .2, c .before .before .before .before .before .before .before .pre .0, cell-before (c .before .before .before .before .before .loop .i) (c .before .before .before .before .before .before .before .args .s) (c .before .before .before .before .before .before .before .args .n) (omega arith))
+
+add-i : tie.Need-add-i Inv-loop μ-loop
+add-i c = search needs
+
+loop-less : tie.Need-loop-less Inv-loop μ-loop
+loop-less c = search needs
+
+loop-again : tie.Need-loop-again Inv-loop μ-loop
+loop-again c = (omega arith, omega (arith, c .before .before .before .before .before .loop .inv .1), c .before .before .strip .kept .0 ∙ c .before .before .before .before .before .loop .inv .2, plain-more _ _ _ _ _ _ (c .before .before .before .before .before .loop .inv .1) (c .before .before .strip .ensures) (c .before .before .before .before .before .loop .inv .3))
+
+same-length : tie.Need-same-length Inv-loop μ-loop
+same-length c = c .before .loop .inv .2
+
+returns : tie.Need-returns Inv-loop μ-loop
+returns c = let e : c .before .loop .i ≡ c .before .before .before .args .s = omega arith in rw e at (c .before .loop .inv .3)
+
+pub strip-all-spec : {M : Type 1} → statement M
+strip-all-spec =
+    tie.close
+    (tie.spec
+    Inv-loop
+    μ-loop
+    loop-holds
+    strip-requires
+    add-x
+    add-i
+    loop-less
+    loop-again
+    same-length
+    returns)

@@ -1,0 +1,13 @@
+-- `state_fill::words::note` meets its contract: a word is below 2^64.
+use native.Mathlib.Omega.{arith}
+use mathlib.Core.Path.{refl}
+use Rattle.state_fill.specs.Cells.{note-in}
+use Rattle.state_fill.proofs.words.note.Statement.{statement}
+use Rattle.state_fill.proofs.words.note.Tie as tie
+
+returns : tie.Need-returns
+unfolding note-in
+returns c = (refl, omega arith)
+
+pub note-spec : {M : Type 1} → statement M
+note-spec = tie.close (tie.spec returns)

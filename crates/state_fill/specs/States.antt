@@ -1,0 +1,45 @@
+-- States as numbers of several digits, and the shares that they stand for. B d is the number of states that the digits from 0 to d have
+-- together, so B d is what one step of digit d + 1 is worth, and the last B is the number of all states. One digit: a plain number.
+--
+use mathlib.Core.Path.{_≡_}
+use mathlib.Core.Bool.{Bool, true, false, _&&_}
+use mathlib.Core.List.{map}
+use Prim.Native.Nat.{ℕ, zero, suc, _+_, _-_, _*_, _/_, _%_, _≤_, _<_}
+use lib.Dec.{T, leb, ltb, eqb}
+use Rattle.cutting.specs.Lists.{range, filter}
+use Rattle.cutting.specs.Tree.{Shares}
+
+-- no digit of t, up to digit d, is above that of s; the last digit has no bound here, so no t past all states is below a state
+unfoldable pub below : (ℕ → ℕ) → ℕ → ℕ → ℕ → Bool
+below B zero t s = leb t s
+below B (suc d) t s = leb (t / B d) (s / B d) && below B d (t % B d) (s % B d)
+
+-- the numbers of states up to digit d: none is 0, and each is a whole multiple of the one before
+pub record Blocks (B : ℕ → ℕ) (d : ℕ) : Type 0 where
+  pub some : (i : ℕ) → i ≤ d → 1 ≤ B i
+  pub whole : (i : ℕ) → i < d → (k : ℕ) × (B (i + 1) ≡ k * B i)
+
+-- the shares of an order of states: a state admits the pieces whose own state is below it, and is divided into t and s - t for each t
+-- below it, rising
+unfoldable pub by-state : {P : Type 0} → (ℕ → ℕ → Bool) → (P → ℕ) → Shares P ℕ
+by-state le at = record { admits = λ s p. le (at p) s; splits = λ d s. map (λ t. (t, s - t)) (filter (λ t. le t s) (range 0 (suc s))) }
+
+-- what the fill needs of an order of states: t and u add without a carry exactly if t is below t + u
+pub record Order (le : ℕ → ℕ → Bool) : Type 0 where
+  pub same : (s : ℕ) → T (le s s)
+  pub chain : (t u s : ℕ) → T (le t u) → T (le u s) → T (le t s)
+  pub less : (t s : ℕ) → T (le t s) → t ≤ s
+  pub other : (t u : ℕ) → T (le t (t + u)) → T (le u (t + u))
+  pub first : (t s u : ℕ) → T (le t s) → T (le s (s + u)) → T (le t (t + u))
+  pub sums : (t s u : ℕ) → T (le t s) → T (le s (s + u)) → T (le (t + u) (s + u))
+  pub least : (s : ℕ) → T (le 0 s)
+
+-- digit i of a number whose last digit is digit d
+unfoldable pub digit : (ℕ → ℕ) → ℕ → ℕ → ℕ → ℕ
+digit B zero i s = s
+digit B (suc d) i s = elim (eqb i (suc d)) [ true ↦ s / B d | false ↦ digit B d i (s % B d) ]
+
+-- the state of a piece with so much at each digit: one past all states where a digit below the last has no room for it
+unfoldable pub own-state : {P : Type 0} → (ℕ → ℕ) → (ℕ → P → ℕ) → ℕ → P → ℕ
+own-state B w zero p = w 0 p
+own-state B w (suc d) p = elim (ltb (own-state B w d p) (B d)) [ true ↦ w (suc d) p * B d + own-state B w d p | false ↦ B (suc d) ]

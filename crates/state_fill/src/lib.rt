@@ -1,0 +1,13 @@
+// The table of figures where a cell has many states: numbers of several digits, one digit for one weight, two for two weights, one for the
+// remaining copies of each kind. A figure rises at few states. So a finished cell lists them above the figures of its first words, and a
+// cut reads only what its parts list. The lists are taken off at the end.
+mod cells;
+mod parts;
+mod raise;
+mod rows;
+mod weights;
+mod words;
+
+pub use raise::below;
+pub use rows::fill;
+pub use weights::fill_weighed;

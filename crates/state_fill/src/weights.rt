@@ -1,0 +1,75 @@
+// One weight: the states are the shares from 0 to the capacity, one digit, and the state of a kind is its weight.
+use crate::rows::fill;
+ghost use mathlib.Core.Path.{_≡_};
+ghost use Prim.Native.Nat.{ℕ, _+_, _*_, _≤_, _<_};
+ghost use lib.ListN.{length, getD};
+ghost use Rattle.cutting.specs.declared.Direction.the-variants.{Length, Width};
+ghost use Rattle.cutting.specs.Job.{InRange};
+ghost use Rattle.table.specs.Table.{kinds-job, Positions, words-needed, Figures, Kept};
+
+fn widen(weight: u8) -> u32
+    ensures { λ r. ⌜ r ≡ weight ⌝ }
+{
+    weight as u32
+}
+
+// The state of each kind below `count`.
+fn weight_states(weights: &[u8], count: u16) -> [u32; 64]
+    requires { ⌜ (count ≤ 64) × (count ≤ length (now weights)) ⌝ }
+    ensures { λ r. ⌜ (length r ≡ 64) × ((i : ℕ) → i < count → getD r i 0 ≡ getD (now (weights .entry)) i 0) ⌝ }
+{
+    let mut states = [0u32; 64];
+    for i in 0..count as usize {
+        states[i] = widen(weights[i]);
+    }
+    states
+}
+
+// The table of a job, weights and a capacity q: its words are the figures, and the rest is as it was.
+pub fn fill_weighed(
+    l: u16,
+    w: u16,
+    lengths: &[u16; 64],
+    widths: &[u16; 64],
+    prices: &[u32; 64],
+    weights: &[u8],
+    count: u16,
+    long: &[u16],
+    longmap: &[u16],
+    p: u16,
+    wide: &[u16],
+    widemap: &[u16],
+    r: u16,
+    q: u16,
+    table: &mut [u64],
+)
+    requires { ⌜ InRange (kinds-job l w count (now lengths) (now widths) (now prices)) × (count ≤ length (now weights)) × (q ≤ 4095)
+        × Positions (kinds-job l w count (now lengths) (now widths) (now prices)) Length p (now long) (now longmap)
+        × Positions (kinds-job l w count (now lengths) (now widths) (now prices)) Width r (now wide) (now widemap)
+        × (words-needed (kinds-job l w count (now lengths) (now widths) (now prices)) q ≤ length (now table)) ⌝ }
+    ensures { λ _. ⌜ Figures (kinds-job l w count (now (lengths .entry)) (now (widths .entry)) (now (prices .entry))) (λ i. getD (now (weights .entry)) i 0) q (now (table .exit))
+        × Kept (words-needed (kinds-job l w count (now (lengths .entry)) (now (widths .entry)) (now (prices .entry))) q) (now (table .entry)) (now (table .exit)) ⌝ }
+{
+    let states = weight_states(weights, count);
+    let n = (q as usize) + 1;
+    let blocks = [n as u32; 1];
+    fill(
+        l,
+        w,
+        lengths,
+        widths,
+        prices,
+        &states,
+        count,
+        long,
+        longmap,
+        p,
+        wide,
+        widemap,
+        r,
+        &blocks,
+        0,
+        n,
+        table,
+    );
+}
