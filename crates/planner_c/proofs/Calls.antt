@@ -1,5 +1,4 @@
 -- What the proved calls give for the words: a certificate's profit and gap sum to no more than the bound's ceiling.
--- Assumes nothing.
 use mathlib.Core.Path.{_≡_, sym, _∙_}
 use mathlib.Core.List.{List}
 use Prim.Native.Nat.{ℕ}
@@ -13,7 +12,7 @@ use Rattle.bound.specs.Bound.{Memory}
 use Rattle.certificate.specs.declared.Certificate.{Certificate}
 use Rattle.certificate.specs.Certificate.{certificate-of}
 use Rattle.certificate.proofs.Comparison.{gap-passed, gap-differs}
-use Rattle.certificate.proofs.Demands.{behind, drawn-most}
+use Rattle.certificate.proofs.Promises.{behind, drawn-most}
 use Rattle.planner_c.specs.Exports.{Sums}
 
 -- a gap is the bound less a profit that is at most the bound

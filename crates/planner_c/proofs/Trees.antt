@@ -13,23 +13,34 @@ use Rattle.refusal.specs.declared.Checked.{Checked}
 use Rattle.refusal.specs.declared.Checked.the-variants.{Passed, Refused}
 use Rattle.plan.specs.declared.PlanAnswer.{PlanAnswer}
 use Rattle.plan.specs.Trees.{ChecksPlan}
+use Rattle.job.specs.Weights.{block-job, weight-in}
+use Rattle.bound.specs.declared.BoundAnswer.{BoundAnswer}
+use Rattle.bound.specs.declared.BoundAnswer.the-variants as bound
+use Rattle.bound.specs.Bound.{bound-outcome, BoundHolds, BoundSaid}
 use Rattle.certificate.specs.declared.Certificate.{Certificate}
 use Rattle.certificate.specs.declared.Certificate.the-variants as certificate
 use Rattle.certificate.specs.Certificate.{certificate-outcome}
-use Rattle.certificate.specs.Demands.{BestSaid, GapSaid}
-use Rattle.planner_c.specs.Exports.{Gives, word, plan-values, plan-outcome, TreeChecked, Certified, CertificateGiven, returned, answered}
+use Rattle.certificate.specs.Promises.{BestSaid, GapSaid}
+use Rattle.planner_c.specs.Exports.{Gives, word, plan-values, plan-outcome, BoundGiven, TreeChecked, Certified, CertificateGiven, returned, answered}
 use Rattle.planner_c.proofs.Exports.{short, enough}
+
+-- a bound
+pub bound-given : (s ws : List ℕ) {n : ℕ} (old : List ℕ) {new : List ℕ} (a : BoundAnswer) → BoundSaid s ws a → Gives (bound-outcome a) n old new
+    → BoundGiven (block-job s) (weight-in ws) new n
+bound-given s ws old (bound.Answered b) said g e = subst (λ w. BoundHolds (block-job s) (weight-in ws) (word w 1) (word w 0)) (sym (g .1)) (said b refl)
+bound-given s ws old (bound.Refused r) said g e = absurd (omega (arith, number-some r, g .0, e))
 
 module _ (J : Job) (kinds operands : List ℕ) {n : ℕ} (old : List ℕ) {new : List ℕ} where
   -- a certificate
-  pub certificate-given : (a : Certificate) → BestSaid J kinds operands a → GapSaid J kinds operands a → Gives (certificate-outcome a) n old new → CertificateGiven J kinds operands new n
-  certificate-given (certificate.Best profit) best gap g e =
+  pub certificate-given : (weight : ℕ → ℕ) (a : Certificate) → BestSaid J weight kinds operands a → GapSaid J weight kinds operands a → Gives (certificate-outcome a) n old new
+      → CertificateGiven J weight kinds operands new n
+  certificate-given weight (certificate.Best profit) best gap g e =
       let b = best profit refl in
-      subst (λ w. Certified J kinds operands (word w 2) (word w 1) (word w 0)) (sym (g .1)) (record { earns = b .0; bound-is = omega arith; none-above = b .1 })
-  certificate-given (certificate.Gap profit more) best gap g e =
+      subst (λ w. Certified J weight kinds operands (word w 2) (word w 1) (word w 0)) (sym (g .1)) (record { earns = b .0; sum = omega arith; bound-is = b .1; none-above = b .2 })
+  certificate-given weight (certificate.Gap profit more) best gap g e =
       let b = gap profit more refl in
-      subst (λ w. Certified J kinds operands (word w 2) (word w 1) (word w 0)) (sym (g .1)) (record { earns = b .0; bound-is = refl; none-above = b .2 })
-  certificate-given (certificate.Refused r) best gap g e = absurd (omega (arith, number-some r, g .0, e))
+      subst (λ w. Certified J weight kinds operands (word w 2) (word w 1) (word w 0)) (sym (g .1)) (record { earns = b .0; sum = refl; bound-is = b .2; none-above = b .3 })
+  certificate-given weight (certificate.Refused r) best gap g e = absurd (omega (arith, number-some r, g .0, e))
 
   -- a checked plan: 0 is returned exactly where the verdict is that it passes
   pub tree-given : (Before : Type 0) (a : PlanAnswer) → ChecksPlan Before J kinds operands a → Gives (plan-outcome a) n old new → TreeChecked Before J kinds operands old new n

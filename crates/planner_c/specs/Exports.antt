@@ -7,16 +7,16 @@ use lib.Dec.{ltb}
 use lib.ListN.{length, getD}
 use Rattle.cutting.specs.Lists.{over}
 use Rattle.cutting.specs.Tree.{Tree}
-use Rattle.cutting.specs.Job.{Job}
+use Rattle.cutting.specs.Job.{Job, bound-of}
 use Rattle.cutting.specs.Promises.{NoneAbove}
 use Rattle.cutting.specs.Preorder.{kinds-of, operands-of}
 use Rattle.refusal.specs.Refusals.{Outcome, outcome-by}
 use Rattle.plan.specs.declared.Report.{Report}
 use Rattle.plan.specs.declared.PlanAnswer.{PlanAnswer}
 use Rattle.plan.specs.Trees.{PlanOf, tree-report}
-use Rattle.bound.specs.Bound.{Memory}
+use Rattle.bound.specs.Bound.{Memory, BoundHolds}
 use Rattle.writer.specs.Write.{array-after, block-plan}
-use Rattle.certificate.specs.Demands.{Earns}
+use Rattle.certificate.specs.Promises.{Earns}
 use Rattle.certificate.specs.declared.Certificate.{Certificate}
 use Rattle.certificate.specs.declared.Certificate.the-variants.{Gap}
 
@@ -77,12 +77,18 @@ pub record TreeChecked (Before : Type 0) (J : Job) (kinds operands old new : Lis
   pub tree : n ≡ 0 → (t : Tree ℕ) × PlanOf J t kinds operands × (new ≡ over (plan-values (tree-report J t)) old)
   pub passes : 68 ≤ length old → Before → (t : Tree ℕ) → PlanOf J t kinds operands → n ≡ 0
 
--- a certificate's words where 0 is returned: the plan is that of a tree that keeps every demand and earns the profit, no such tree earns
--- more than profit and gap, and the bound is their sum; so a gap of 0 says that none earns more than the plan
-pub record Certified (J : Job) (kinds operands : List ℕ) (profit bound gap : ℕ) : Type 0 where
+-- a certificate where 0 is returned: the plan is that of a tree that keeps every demand and earns the profit, profit and gap sum to the
+-- bound, and no tree that keeps every demand earns more than it; so a gap of 0 says that none earns more than the plan
+pub record Certified (J : Job) (weight : ℕ → ℕ) (kinds operands : List ℕ) (profit bound gap : ℕ) : Type 0 where
   pub earns : Earns J kinds operands profit
-  pub bound-is : bound ≡ profit + gap
+  pub sum : profit + gap ≡ bound
+  pub bound-is : bound ≡ bound-of J weight
   pub none-above : NoneAbove J bound
 
-abbrev pub CertificateGiven : Job → (kinds operands answer : List ℕ) → ℕ → Type 0
-CertificateGiven J kinds operands answer n = n ≡ 0 → Certified J kinds operands (word answer 2) (word answer 1) (word answer 0)
+-- the certificate's words: gap, bound, profit
+abbrev pub CertificateGiven : Job → (ℕ → ℕ) → (kinds operands answer : List ℕ) → ℕ → Type 0
+CertificateGiven J weight kinds operands answer n = n ≡ 0 → Certified J weight kinds operands (word answer 2) (word answer 1) (word answer 0)
+
+-- a bound's words where 0 is returned: the bound, word 0, holds at the capacity, word 1
+abbrev pub BoundGiven : Job → (ℕ → ℕ) → (answer : List ℕ) → ℕ → Type 0
+BoundGiven J weight answer n = n ≡ 0 → BoundHolds J weight (word answer 1) (word answer 0)

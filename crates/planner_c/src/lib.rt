@@ -9,7 +9,7 @@ ghost use Rattle.plan.specs.Calls.{arrays-answer, block-answer, plan-kinds, pla
 ghost use Rattle.bound.specs.Bound.{lent, Leaves, accept-verdict, bound-said};
 ghost use Rattle.writer.specs.Write.{write-said};
 ghost use Rattle.certificate.specs.Certificate.{plan-verdict, certificate-said};
-ghost use Rattle.planner_c.specs.Exports.{returned, answered, Left, PlanLeft, plan-outcome, TreeChecked, CertificateGiven};
+ghost use Rattle.planner_c.specs.Exports.{returned, answered, Left, PlanLeft, plan-outcome, TreeChecked, BoundGiven, CertificateGiven};
 
 // The check of a plan's arrays for a job block. The answer has 68 words: profit, the areas of pieces, waste nodes and trim, and the
 // copies of 64 kinds.
@@ -60,6 +60,7 @@ pub extern "C" fn planner_bound(
     ensures memory { λ _. ⌜ Left 4 (now (answer .entry))
         (Leaves (accept-verdict (now (block .entry)) (now (weights .entry))) (block-job (now (block .entry))) (weight-in (now (weights .entry))))
         (lent (now (lengths .entry)) (now (widths .entry)) (now (table .entry))) (lent (now (lengths .exit)) (now (widths .exit)) (now (table .exit))) ⌝ }
+    ensures trees { λ n. ⌜ BoundGiven (block-job (now (block .entry))) (weight-in (now (weights .entry))) (now (answer .exit)) n ⌝ }
 {
     if answer.len() < 4 {
         return 100;
@@ -115,7 +116,7 @@ pub extern "C" fn planner_certify(
     ensures memory { λ _. ⌜ Left 3 (now (answer .entry))
         (Leaves (plan-verdict (now (block .entry)) (now (weights .entry)) (now (kinds .entry)) (now (operands .entry))) (block-job (now (block .entry))) (weight-in (now (weights .entry))))
         (lent (now (lengths .entry)) (now (widths .entry)) (now (table .entry))) (lent (now (lengths .exit)) (now (widths .exit)) (now (table .exit))) ⌝ }
-    ensures trees { λ n. ⌜ CertificateGiven (block-job (now (block .entry))) (now (kinds .entry)) (now (operands .entry)) (now (answer .exit)) n ⌝ }
+    ensures trees { λ n. ⌜ CertificateGiven (block-job (now (block .entry))) (weight-in (now (weights .entry))) (now (kinds .entry)) (now (operands .entry)) (now (answer .exit)) n ⌝ }
 {
     if answer.len() < 3 {
         return 100;

@@ -35,7 +35,7 @@ returns-2 c =
         s .1,
         (
           called 3 (now (a .answer)) (Leaves (plan-verdict (now (a .block)) (now (a .weights)) (now (a .kinds)) (now (a .operands))) (block-job (now (a .block))) (weight-in (now (a .weights)))) h (e .1 .1 .0),
-          certificate-given (block-job (now (a .block))) (now (a .kinds)) (now (a .operands)) (now (a .answer)) _ (e .1 .1 .1 .0) (e .1 .1 .1 .1) (c .before .before .put-certificate .ensures),
+          certificate-given (block-job (now (a .block))) (now (a .kinds)) (now (a .operands)) (now (a .answer)) (weight-in (now (a .weights))) _ (e .1 .1 .1 .0) (e .1 .1 .1 .1) (c .before .before .put-certificate .ensures),
         ),
       ),
     )
