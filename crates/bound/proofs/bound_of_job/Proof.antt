@@ -33,7 +33,7 @@ words-requires c κs =
     let h = c .before .before .before .before .before .before .before .before .before .before .before .before .before .pre in
     let J = job-of (c .before .before .before .before .before .before .before .before .before .before .before .before .before .args .job) in
     let n = c .before .before .before .before .list-positions .ensures .0 in
-    (omega (arith, ap (λ (x : Counts). x .lengths) n, count-most J (h .0) Length), omega (arith, ap (λ (x : Counts). x .widths) n, count-most J (h .0) Width), h .3)
+    (omega (arith, ap (λ (x : Counts). x .lengths) n, count-most J (h .0) Length), omega (arith, ap (λ (x : Counts). x .widths) n, count-most J (h .0) Width), omega (arith, h .3))
 
 same-length : tie.Need-same-length
 same-length c = search needs
