@@ -1,30 +1,28 @@
 -- A row that began as the row before it, took its length cuts, its kinds and its width cuts holds its figures.
--- Assumes nothing.
 use mathlib.Core.Path.{_≡_, refl, sym, _∙_, ap, ap₂}
-use mathlib.Core.Bool.{Bool, true}
+use mathlib.Core.Logic.{_⊎_, inl, inr}
 use mathlib.Core.List.{List}
 use Prim.Native.Nat.{ℕ, zero, suc, _+_, _-_, _*_, _≤_, _<_}
 use native.Mathlib.Decide.{ℕ-discrete, decLe}
 use native.Mathlib.Omega.{arith}
-use borrow.Author.Tests.{ltb-true, ltb-false}
-use lib.Dec.{ltb}
+use lib.Dec.{T, leb, leb→le, le→leb}
 use lib.ListN.{length, getD}
 use Rattle.cutting.specs.declared.Direction.{Direction}
 use Rattle.cutting.specs.declared.Direction.the-variants.{Length, Width}
 use Rattle.cutting.specs.Tree.{side}
 use Rattle.cutting.specs.Job.{Job, InRange, figure-of}
-use Rattle.cutting.proofs.Job.{figure-no-width}
 use Rattle.cutting.proofs.Table.{positions-first, positions-some}
-use Rattle.table.specs.Table.{Positions, Figures}
+use Rattle.table.specs.Table.{Positions, words-needed, Figures}
 use Rattle.table.specs.Words.{Outside, Run, Half, beyond, Axis}
+use Rattle.table.specs.States.{Covers, figure-at}
 use Rattle.table.proofs.Words.{cell-before}
-use Rattle.table.proofs.Halves.{half-below, half-more, half-cuts}
-use Rattle.table.proofs.Figures.{figure-low, entry-is, entry-side, positions-axis}
-use Rattle.table.proofs.Rows.{Rows as TableRows, rows-first, rows-figures}
+use Rattle.table.proofs.Halves.{half-below, half-more, half-parts}
+use Rattle.table.proofs.Figures.{entry-is, entry-side, positions-axis}
+use Rattle.table.proofs.Weighed.{plain-order, figure-one}
+use Rattle.table.proofs.Across.{across, no-side, two-parts, more-side, kind-most, state-low}
+use Rattle.table.proofs.Complete.{side-covered, complete}
 use Rattle.one_share.specs.Raised.{Raised, Sums, LengthCuts, Kind, Kinds}
 use Rattle.one_share.specs.Rows.{Entries, Widened, Rows}
-use Rattle.table.proofs.Covered.{True, covered}
-use Rattle.table.proofs.Complete.{across, two-parts, more-side, kind-most, along, complete}
 use Rattle.one_share.proofs.Raising.{raised-same}
 
 -- every entry but the first has a half
@@ -53,76 +51,71 @@ module _ (J : Job) (weight : ℕ → ℕ) (fit : InRange J) (d : Direction) (p :
     within = entry-side J d p list map fit given;
   }
 
-  -- the other part of a cut up to half of entry a is an earlier entry, and both are no more than entry a together
-  pub parts : (a k i : ℕ) → a < p → Half list a k → 1 ≤ i → i < k → (beyond list map a i < a) × (getD list i 0 + getD list (beyond list map a i) 0 ≤ getD list a 0)
-  parts a k i h half l m =
-      let s = half-cuts list map p axis a k h half in
-      let f = axis .floored a (getD list a 0 - getD list i 0) h (omega arith) in
-      (s .earlier i l m, omega (arith, f .1, s .part i l m))
-
   module _ (o : ℕ) where
-    -- the figure of entry i with no share
+    -- the figure of entry i
     abbrev worth : ℕ → ℕ → ℕ
-    worth i c = across J weight fit d o (getD list i 0) c
+    worth i c = across J leb weight d o (getD list i 0) c
 
-    -- whether it is more than that of the entry before
-    abbrev up : ℕ → Bool
-    up i = ltb (worth (i - 1) 0) (worth i 0)
+    -- share 0 covers the entries that are worth more than the entry before
+    abbrev Up : ℕ → ℕ → Type 0
+    Up i c = worth (i - 1) 0 < worth i 0
 
-    mark : (i : ℕ) → True worth 1 i 0 (up i)
-    mark i = record {
-      flat = λ c l m. (let z : c ≡ 0 = omega arith in rw z (omega arith));
-      same = λ e c l. (let z : c ≡ 0 = omega arith in rw z (ltb-false (worth (i - 1) 0) (worth i 0) e));
-    }
+    rises : (i : ℕ) → Covers leb 1 (Up i) (worth i) (worth (i - 1))
+    rises i s h = go (decLe (worth i 0) (worth (i - 1) 0))
+      where
+        zero-is : s ≡ 0
+        zero-is = omega arith
+
+        go : Dec (worth i 0 ≤ worth (i - 1) 0) → (worth i s ≤ worth (i - 1) s) ⊎ ((t : ℕ) × (t < 1) × T (leb t s) × Up i t × (worth i s ≤ worth i t))
+        go (yes k) = inl (rw zero-is k)
+        go (no k) = inr (0, omega arith, plain-order .least s, omega arith, rw zero-is (omega arith))
 
     -- no cut up to half of entry a gives more than g, if those whose parts make up the whole and whose larger part rises do not
     pub side-taken : (a k g : ℕ) → a < p → Half list a k → worth (a - 1) 0 ≤ g
         → ((i j : ℕ) → 1 ≤ i → i < k → j ≡ beyond list map a i → j < a → i ≤ j → getD list i 0 + getD list j 0 ≡ getD list a 0 → worth (j - 1) 0 < worth j 0 → worth i 0 + worth j 0 ≤ g)
-        → (i : ℕ) → 1 ≤ i → i < k → (e m : ℕ) → e + m ≤ 0 → worth i e + worth (beyond list map a i) m ≤ g
-    side-taken a k g ha half before taken i l s e m z = covered list p 1 worth (along J weight fit d p list map given o 1) a i j 0 g 0 0 (up i) (up j) ha (omega (arith, half .most)) (omega (arith, q .0)) l (omega arith)
-        (q .1) (half .within i l s) before (mark i) (mark j) wanted e m z
+        → (i : ℕ) → 1 ≤ i → i < k → (e m : ℕ) → T (leb e (e + m)) → e + m ≡ 0 → worth i e + worth (beyond list map a i) m ≤ g
+    side-taken a k g ha half before taken = side-covered J leb weight plain-order fit d p list map given o a k 0 g 1 Up ha half (omega arith) before (λ i h. rises i)
+        (λ i j l m e h x t u ht hu f y b v. (let y0 : t ≡ 0 = omega arith in let z0 : u ≡ 0 = omega arith in rw (y0, z0) (taken i j l m e h (larger i j l m x (decLe i j)) x y)))
       where
-        j : ℕ
-        j = beyond list map a i
-
-        q : (j < a) × (getD list i 0 + getD list j 0 ≤ getD list a 0)
-        q = parts a k i ha half l s
-
-        larger : getD list i 0 + getD list j 0 ≡ getD list a 0 → Dec (i ≤ j) → i ≤ j
-        larger x (yes u) = u
-        larger x (no u) = absurd (omega (arith, half .within i l s, axis .rise j i (omega arith) (omega (arith, half .most))))
-
-        wanted : getD list i 0 + getD list j 0 ≡ getD list a 0 → up i ≡ true → up j ≡ true
-            → (c f : ℕ) → c ≤ 0 → (1 ≤ c → worth i (c - 1) < worth i c) → worth (i - 1) c < worth i c → f ≤ 0 → c + f ≤ 0 → worth i c + worth j f ≤ g
-        wanted x u v c f h own over y w =
-            let n : c ≡ 0 = omega arith in
-            let o : f ≡ 0 = omega arith in
-            rw (n, o) (taken i j l s refl (q .0) (larger x (decLe i j)) x (ltb-true (worth (j - 1) 0) (worth j 0) v))
+        larger : (i j : ℕ) → 1 ≤ i → i < k → getD list i 0 + getD list j 0 ≡ getD list a 0 → Dec (i ≤ j) → i ≤ j
+        larger i j l m x (yes u) = u
+        larger i j l m x (no u) = absurd (omega (arith, half .within i l m, axis .rise j i (omega arith) (omega (arith, half .most))))
 
 module _ (J : Job) (weight : ℕ → ℕ) (fit : InRange J) (p r : ℕ) (long longmap wide widemap : List ℕ) (lengths : Positions J Length p long longmap) (widths : Positions J Width r wide widemap) where
   -- the figure of entry i of the lengths and entry b of the widths, with no share
   abbrev cell : ℕ → ℕ → ℕ
-  cell i b = figure-of J weight (getD long i 0) (getD wide b 0) 0
+  cell i b = figure-at J leb weight (getD long i 0) (getD wide b 0) 0
 
   cell-low : (i b : ℕ) → i < p → cell i b ≤ getD wide b 0 * 1000000000
-  cell-low i b h = figure-low J weight fit (getD long i 0) (getD wide b 0) 0 (positions-axis J Length p long longmap fit lengths .side i h .0)
+  cell-low i b h = state-low J leb weight plain-order fit (getD long i 0) (getD wide b 0) 0 (positions-axis J Length p long longmap fit lengths .side i h .0)
 
   -- the rows before the words that were written
   pub rows-kept : (a at end : ℕ) (old new : List ℕ) → at ≡ a * r → Outside at end old new → Rows J weight long wide r a old → Rows J weight long wide r a new
   rows-kept a at end old new e o w i b l m = o .before (i * r + b) (omega (arith, cell-before i a r l)) ∙ w i b l m
 
-  -- the rows as cells of one word each
-  cells-are : (a : ℕ) (xs : List ℕ) → TableRows J weight long wide r 1 a xs → Rows J weight long wide r a xs
-  cells-are a xs w i b h l = let e : i * (r * 1) + (b * 1 + 0) ≡ i * r + b = omega arith in rw e at (w i b 0 h l (omega arith))
-
   -- the row of length 0
   pub rows-none : (old new : List ℕ) → Run (λ j. 0) 0 r old new → Rows J weight long wide r 1 new
-  rows-none old new w = let e : r ≡ r * 1 = omega arith in cells-are 1 new (rows-first J weight fit p r 1 long longmap wide widemap lengths widths old new (rw e at w))
+  rows-none old new w i b h l =
+      let e : 0 + b ≡ i * r + b = rw row-is (omega arith) in
+      let z : getD long i 0 ≡ 0 = rw row-is (positions-entries J weight fit Length p long longmap lengths .first) in
+      rw e at (w .here b l) ∙ sym (rw z (no-side J leb weight plain-order fit Length (getD wide b 0) 0))
+    where
+      row-is : i ≡ 0
+      row-is = omega arith
+
+  -- the words of all rows are those that the table needs
+  pub words-are : words-needed J 0 ≡ p * r
+  words-are = ap₂ (λ u v. u * v * (0 + 1)) (sym (lengths .counted)) (sym (widths .counted)) ∙ omega arith
 
   -- all rows are the table
   pub rows-all : (xs : List ℕ) → Rows J weight long wide r p xs → Figures J weight 0 xs
-  rows-all xs w = rows-figures J weight fit p r 0 long longmap wide widemap lengths widths xs
-      (λ i b c h l m. (let z : c ≡ 0 = omega arith in let e : i * (r * (0 + 1)) + (b * (0 + 1) + 0) ≡ i * r + b = omega arith in rw z (rw e (w i b h l))))
+  rows-all xs w a b c h l m =
+      let i : a < p = omega (arith, lengths .counted) in
+      let j : b < r = omega (arith, widths .counted) in
+      let z : c ≡ 0 = omega arith in
+      let e : a * r + b ≡ (a * r + b) * (0 + 1) + 0 = omega arith in
+      rw (z, ← widths .counted) (rw e at (w a b i j) ∙ (figure-one J weight (getD long a 0) (getD wide b 0) 0
+      ∙ ap₂ (λ u v. figure-of J weight u v 0) (entry-is J Length p long longmap fit lengths a i) (entry-is J Width r wide widemap fit widths b j)))
 
   module _ (a k at : ℕ) (la : 1 ≤ a) (ha : a < p) (half : Half long a k) (place : at ≡ a * r) (t0 t1 : List ℕ) (rows : Rows J weight long wide r a t0)
       (copy : Run (λ j. getD t0 (at - r + j) 0) at r t0 t1) where
@@ -155,20 +148,20 @@ module _ (J : Job) (weight : ℕ → ℕ) (fit : InRange J) (p r : ℕ) (long lo
       -- no word is above its figure after the length cuts
       cut-low : (b : ℕ) → b < r → getD t2 (at + b) 0 ≤ cell a b
       cut-low b h = cuts .low (at + b) (cell a b) (λ v s. offered v s)
-          (omega (arith, copied b h, more-side J weight fit Length (getD wide b 0) (getD long (a - 1) 0) (getD long a 0) 0 (omega (arith, positions-axis J Length p long longmap fit lengths .rise (a - 1) a (omega arith) ha))))
+          (omega (arith, copied b h, more-side J leb weight plain-order fit Length (getD wide b 0) (getD long (a - 1) 0) (getD long a 0) 0 (omega (arith, positions-axis J Length p long longmap fit lengths .rise (a - 1) a (omega arith) ha))))
         where
           offered : (v : ℕ) → LengthCuts t1 long longmap a k at r (at + b) v → v ≤ cell a b
           offered v s =
               let j = beyond long longmap a (s .part) in
-              let q = parts J weight fit Length p long longmap lengths a k (s .part) ha half (s .from) (s .to) in
+              let q = half-parts long longmap p (positions-axis J Length p long longmap fit lengths) a k (s .part) ha half (s .from) (s .to) in
               let e : s .sums .index ≡ b = omega (arith, s .sums .place) in
               omega (
                 arith,
                 s .sums .value,
                 copied-rows (s .part) (s .sums .index) (omega (arith, s .to, half .most)) (s .sums .inside),
                 copied-rows j (s .sums .index) (q .0) (s .sums .inside),
-                two-parts J weight fit Length (getD wide (s .sums .index) 0) (getD long (s .part) 0) (getD long j 0) 0 0,
-                ap₂ (λ x i. figure-of J weight x (getD wide i 0) 0) (s .exact) e,
+                two-parts J leb weight plain-order fit Length (getD wide (s .sums .index) 0) (getD long (s .part) 0) (getD long j 0) 0 0 (plain-order .least 0),
+                ap₂ (λ x i. figure-at J leb weight x (getD wide i 0) 0) (s .exact) e,
               )
 
       pub row-capped : (b : ℕ) → b < r → getD t2 (at + b) 0 ≤ 2000000000000
@@ -182,7 +175,7 @@ module _ (J : Job) (weight : ℕ → ℕ) (fit : InRange J) (p r : ℕ) (long lo
             (λ v s. omega (
               arith,
               s .kind .value,
-              kind-most J weight fit (getD long a 0) (getD wide b 0) 0 (s .index) (s .inside) (omega (arith, s .kind .long)) (omega (arith, s .kind .place)) (omega (arith, s .kind .light)),
+              kind-most J leb weight plain-order fit (getD long a 0) (getD wide b 0) 0 (s .index) (s .inside) (omega (arith, s .kind .long)) (omega (arith, s .kind .place)) (le→leb (weight (s .index)) 0 (omega (arith, s .kind .light))),
             ))
             (omega (arith, spread b h, cut-low b h))
 
@@ -206,7 +199,7 @@ module _ (J : Job) (weight : ℕ → ℕ) (fit : InRange J) (p r : ℕ) (long lo
 
         module _ (t3 : List ℕ) (widened : Widened wide r at u1 t2 t3) where
           row-low : (b : ℕ) → b < r → getD t3 (at + b) 0 ≤ cell a b
-          row-low = widened .low (λ x. figure-of J weight (getD long a 0) x 0) (λ x y. two-parts J weight fit Width (getD long a 0) x y 0 0) unit-low
+          row-low = widened .low (λ x. figure-at J leb weight (getD long a 0) x 0) (λ x y. two-parts J leb weight plain-order fit Width (getD long a 0) x y 0 0 (plain-order .least 0)) unit-low
 
           -- what the row had after the length cuts, and what the kinds gave it, it keeps
           row-grown : (b : ℕ) → b < r → getD t2 (at + b) 0 ≤ getD t3 (at + b) 0
@@ -223,11 +216,11 @@ module _ (J : Job) (weight : ℕ → ℕ) (fit : InRange J) (p r : ℕ) (long lo
             before : cell a (b - 1) ≤ g
             before = omega (arith, done (b - 1) (omega arith), widened .before b lb hb)
 
-            kind-taken : (i : ℕ) → i < J .count → J .size i .0 ≡ getD long a 0 → J .size i .1 ≡ getD wide b 0 → weight i ≤ 0 → J .price i ≤ g
+            kind-taken : (i : ℕ) → i < J .count → J .size i .0 ≡ getD long a 0 → J .size i .1 ≡ getD wide b 0 → T (leb (weight i) 0) → J .price i ≤ g
             kind-taken i h e f m = omega (arith, kinds .taken (getD wide b 0) (J .price i) offered, widened .grown b hb)
               where
                 kind : Kind (getD long a 0) (J .plate .1) (J .size i .0) (J .size i .1) (weight i) (J .price i) (getD wide b 0) (J .price i)
-                kind = record { long = e; fits = omega (arith, entry-side J Width r wide widemap fit widths b hb); light = omega arith; place = sym f; value = refl }
+                kind = record { long = e; fits = omega (arith, entry-side J Width r wide widemap fit widths b hb); light = omega (arith, leb→le (weight i) 0 m); place = sym f; value = refl }
 
                 offered : Kinds (getD long a 0) (J .plate .1) (λ i. J .size i .0) (λ i. J .size i .1) weight (J .price) (J .count) (getD wide b 0) (J .price i)
                 offered = record { index = i; inside = h; kind = kind }
@@ -261,7 +254,7 @@ module _ (J : Job) (weight : ℕ → ℕ) (fit : InRange J) (p r : ℕ) (long lo
                 omega (
                   arith,
                   row-low b hb,
-                  complete J weight fit p r long longmap wide widemap lengths widths a b 0 g ha hb above before kind-taken k (f .0) half (f .1)
+                  complete J leb weight plain-order fit p r long longmap wide widemap lengths widths a b 0 g ha hb above before kind-taken k (f .0) half (f .1)
                       (side-taken J weight fit Length p long longmap lengths (getD wide b 0) a k g ha half above (λ i j l m e h n x u. long-taken i j l m e h x))
                       (side-taken J weight fit Width r wide widemap widths (getD long a 0) b (f .0) g hb (f .1) before (λ i j l m e h n x u. wide-taken i j l h n x u)),
                 )
@@ -271,7 +264,7 @@ module _ (J : Job) (weight : ℕ → ℕ) (fit : InRange J) (p r : ℕ) (long lo
           row-below (suc m) b k h = go (ℕ-discrete b 0) (λ i l. row-below m i (omega arith) (omega arith))
             where
               nothing : cell a 0 ≡ 0
-              nothing = let e = positions-entries J weight fit Width r wide widemap widths .first in rw e (figure-no-width J weight fit (getD long a 0) 0)
+              nothing = let e = positions-entries J weight fit Width r wide widemap widths .first in rw e (no-side J leb weight plain-order fit Width (getD long a 0) 0)
 
               go : Dec (b ≡ 0) → ((i : ℕ) → i < b → getD t3 (at + i) 0 ≡ cell a i) → getD t3 (at + b) 0 ≡ cell a b
               go (yes e) w = omega (arith, row-low b h, ap (λ b. cell a b) e, nothing)

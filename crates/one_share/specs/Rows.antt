@@ -1,13 +1,14 @@
 -- A row over the units of its width, and rows that hold their figures.
--- Assumes nothing.
 use mathlib.Core.Path.{_≡_}
 use mathlib.Core.List.{List}
 use Prim.Native.Nat.{ℕ, _+_, _-_, _*_, _≤_, _<_}
+use lib.Dec.{leb}
 use lib.ListN.{length, getD}
 use Rattle.cutting.specs.declared.Direction.the-variants.{Length, Width}
-use Rattle.cutting.specs.Job.{Job, InRange, figure-of}
+use Rattle.cutting.specs.Job.{Job, InRange}
 use Rattle.table.specs.Table.{position-count, Positions}
 use Rattle.table.specs.Words.{Outside}
+use Rattle.table.specs.States.{figure-at}
 
 -- a rising list of r entries from 0 on, none above a side
 pub record Entries (list : List ℕ) (r side : ℕ) : Type 0 where
@@ -38,7 +39,7 @@ pub record Widened (list : List ℕ) (r at : ℕ) (units old new : List ℕ) : T
 
 -- the rows below a, of r words each, hold the figures of their lengths and widths with no share
 abbrev pub Rows : Job → (ℕ → ℕ) → List ℕ → List ℕ → ℕ → ℕ → List ℕ → Type 0
-Rows J weight long wide r a xs = (i b : ℕ) → i < a → b < r → getD xs (i * r + b) 0 ≡ figure-of J weight (getD long i 0) (getD wide b 0) 0
+Rows J weight long wide r a xs = (i b : ℕ) → i < a → b < r → getD xs (i * r + b) 0 ≡ figure-at J leb weight (getD long i 0) (getD wide b 0) 0
 
 -- what the fill is lent: a job in range, a weight for each of its kinds, and the normal positions with their maps
 pub record Lent (J : Job) (weights long longmap wide widemap : List ℕ) (r : ℕ) : Type 0 where

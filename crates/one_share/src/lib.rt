@@ -238,7 +238,7 @@ pub fn fill(
 {
     let cells = r as usize;
     let rows = p as usize;
-    clear(table, cells);
+    clear(table, 0, cells);
     let mut at = cells;
     let mut k: usize = 1;
     for a in 1..rows {

@@ -1,5 +1,4 @@
 -- Rows of made cells: the first row and the first cell of each row hold 0, one cell more, one row more, and the table without its lists.
---
 use mathlib.Core.Path.{_≡_, refl, sym, _∙_, ap, ap₂, subst}
 use mathlib.Core.Logic.{inl}
 use mathlib.Core.List.{List}
@@ -7,21 +6,20 @@ use Prim.Native.Nat.{ℕ, _+_, _-_, _*_, _/_, _%_, _≤_, _<_}
 use native.Mathlib.Nat.{mod-lt, div-add-mod', div-lt-iff-lt-mul}
 use native.Mathlib.Decide.{ℕ-discrete, decLe}
 use native.Mathlib.Omega.{arith}
-use lib.ListN.{length, getD, drop, length-drop}
-use lib.Seq.{getD-drop, ext-getD}
+use lib.ListN.{length, getD}
 use Rattle.cutting.specs.declared.Direction.the-variants.{Length, Width}
 use Rattle.cutting.specs.Job.{Job, InRange}
 use Rattle.cutting.proofs.Table.{positions-first, positions-some}
 use Rattle.table.specs.Table.{position-count, Kept, Positions}
 use Rattle.table.specs.Words.{Outside, Run, Half, Axis}
-use Rattle.table.proofs.Words.{cell-before}
+use Rattle.table.proofs.Words.{cell-before, words-past}
 use Rattle.table.proofs.Halves.{half-next}
 use Rattle.table.proofs.Figures.{entry-is, positions-axis}
-use Rattle.state_fill.specs.Figures.{figure-at}
+use Rattle.table.specs.States.{figure-at}
 use Rattle.state_fill.specs.Cells.{figure-in, note-in, held, note, under, Digits}
 use Rattle.state_fill.specs.Tables.{tabled, cell, owns, Made, Rows, Cells, Lent, Spot, Figures, Bare, Plain}
 use Rattle.state_fill.proofs.Noted.{figure-plain, note-plain, plain-word}
-use Rattle.state_fill.proofs.Figures.{no-side}
+use Rattle.table.proofs.Across.{no-side}
 use Rattle.state_fill.proofs.Growing.{order-of}
 use Rattle.state_fill.proofs.Making.{made-kept}
 
@@ -130,13 +128,6 @@ module _ {J : Job} {states long longmap wide widemap blocks : List ℕ} {d n : �
       u .plain (a * position-count J Width + b) c (omega (arith, cell-before a (position-count J Length) (position-count J Width) ha)) hc
       ∙ w a b (omega arith) hb .figures c hc
       ∙ ap₂ (λ x y. figure-at J (under blocks d) (owns states) x y c) (entry-is J Length (position-count J Length) long longmap (lent .range) (lent .lengths) a ha) (entry-is J Width (position-count J Width) wide widemap (lent .range) (lent .widths) b hb)
-
--- nothing past the table changed
-pub words-past : (m : ℕ) (old new : List ℕ) → length new ≡ length old → ((i : ℕ) → m ≤ i → getD new i 0 ≡ getD old i 0) → Kept m old new
-words-past m old new l f = (
-  l,
-  ext-getD 0 (drop m new) (drop m old) (omega (arith, length-drop m new, length-drop m old)) (λ i h. getD-drop m new i 0 ∙ f (m + i) (omega arith) ∙ sym (getD-drop m old i 0)),
-)
 
 -- a run of which the rest is as it is to be
 pub run-stop : (f : ℕ → ℕ) (at k m : ℕ) (old new : List ℕ) → k ≤ m → ((j : ℕ) → k ≤ j → j < m → getD old (at + j) 0 ≡ f j) → Run f at k old new → Run f at m old new

@@ -1,6 +1,5 @@
 -- A cell that is made grows: nothing taken, one raise, and one after the other. A raise keeps the figures rising with the states, and the
 -- flags cover them: a state that was overwritten is covered by the one that was raised.
---
 use mathlib.Core.Path.{_≡_, refl, sym, _∙_, ap, subst}
 use mathlib.Core.Logic.{_⊎_, inl, inr}
 use mathlib.Core.Bool.{Bool, true, false}
@@ -12,8 +11,8 @@ use lib.Dec.{T}
 use lib.ListN.{length, getD, set}
 use lib.Seq.{getD-set-same, getD-set-other}
 use Rattle.table.specs.Words.{Outside}
-use Rattle.state_fill.specs.States.{Order}
-use Rattle.state_fill.specs.Cells.{figure-in, note-in, held, under, Digits, Rises, Lift, Lifted, Raised, Covers, Flagged, Low, Grown, Taken}
+use Rattle.table.specs.States.{Order, Covers}
+use Rattle.state_fill.specs.Cells.{figure-in, note-in, held, under, Digits, Rises, Lift, Lifted, Raised, Flagged, Low, Grown, Taken}
 use Rattle.state_fill.proofs.Digits.{digits-order}
 use Rattle.state_fill.proofs.Noted.{figure-plain, figure-flagged, note-flagged}
 

@@ -1,6 +1,5 @@
 -- Joining the lists of two cells: what a loop over a list has taken, one entry more, and the end of the list. The cells that are read lie
 -- before the one that is made, and do not change.
---
 use mathlib.Core.Path.{_≡_, sym, _∙_, ap}
 use mathlib.Core.Bool.{Bool}
 use mathlib.Core.List.{List}

@@ -1,5 +1,4 @@
 -- Raising word after word, or block after block of the last digit: what is done below x, and what is left from there on.
---
 use mathlib.Core.Path.{_≡_, refl, _∙_, ap}
 use mathlib.Core.Logic.{inl, inr}
 use mathlib.Core.Bool.{Bool, false, _&&_}
@@ -13,7 +12,7 @@ use lib.ListN.{length, getD, set}
 use borrow.Author.Tests.{le-leb, lt-leb}
 use lib.Seq.{getD-set-same, getD-set-other}
 use Rattle.table.specs.Words.{Outside}
-use Rattle.state_fill.specs.States.{below, Blocks}
+use Rattle.table.specs.States.{below, Blocks}
 use Rattle.state_fill.specs.Cells.{figure-in, held, under, Rises, Lift, Lifted}
 use Rattle.state_fill.proofs.Digits.{quotient, rest, below-less, below-parts, parts-below}
 

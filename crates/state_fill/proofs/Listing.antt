@@ -1,5 +1,4 @@
 -- A cell that starts, inherits and lists: loops over the words of a cell, or over the list of another, one step at a time.
---
 use mathlib.Core.Path.{_≡_, refl, sym, _∙_, ap}
 use mathlib.Core.List.{List}
 use Prim.Native.Nat.{ℕ, _+_, _*_, _≤_, _<_}

@@ -1,6 +1,5 @@
 -- A cell that started from the cells before it and inherited what they list, took the kinds of its size and the cuts of its sides and was
 -- finished holds its figures, and its list covers them.
---
 use mathlib.Core.Path.{_≡_, refl, sym, _∙_, ap, ap₂}
 use mathlib.Core.Logic.{_⊎_, inl, inr}
 use mathlib.Core.Bool.{Bool}
@@ -17,15 +16,14 @@ use Rattle.cutting.proofs.Table.{positions-length}
 use Rattle.table.specs.Table.{position-count, Positions}
 use Rattle.table.specs.Words.{Outside, Run, Half, beyond, Cuts}
 use Rattle.table.proofs.Words.{cell-before}
-use Rattle.table.proofs.Halves.{half-cuts}
+use Rattle.table.proofs.Halves.{half-cuts, half-parts}
 use Rattle.table.proofs.Figures.{positions-axis}
-use Rattle.state_fill.specs.States.{Order}
-use Rattle.state_fill.specs.Cells.{figure-in, held, under, Rises, Covers, Flagged, Listed, Low, Grown, Ready, CutAt, Placed, Inherited, Finished}
+use Rattle.table.specs.States.{Order, Covers}
+use Rattle.state_fill.specs.Cells.{figure-in, held, under, Rises, Flagged, Listed, Low, Grown, Ready, CutAt, Placed, Inherited, Finished}
 use Rattle.state_fill.specs.Tables.{tabled, cell, owns, Made, Spot}
 use Rattle.state_fill.proofs.Noted.{figure-small, figure-plain}
-use Rattle.state_fill.proofs.Covered.{covered}
-use Rattle.state_fill.proofs.Figures.{across, across-above, state-above, state-low, more-side, kind-most}
-use Rattle.state_fill.proofs.Complete.{along, complete}
+use Rattle.table.proofs.Across.{across, across-above, state-above, state-low, more-side, kind-most}
+use Rattle.table.proofs.Complete.{along, side-covered, complete}
 use Rattle.state_fill.proofs.Growing.{outside-chain, grown-then, order-of}
 use Rattle.state_fill.proofs.Joining.{held-kept, note-kept, listed-kept}
 
@@ -72,18 +70,10 @@ module _ (J : Job) (le : ℕ → ℕ → Bool) (own : ℕ → ℕ) (order : Orde
     (figures : (i s : ℕ) → i < a → s < n → held old (base + i * step) s ≡ across J le own d o (getD list i 0) s)
     (covers : (i : ℕ) → i < a → Covers le n (Listed old (base + i * step) n) (across J le own d o (getD list i 0)) (across J le own d o (getD list (i - 1) 0)))
     (cuts : CutAt le list map a 1 k base step at n old new) where
-  -- both parts of a cut are entries before a, and no more than entry a together
-  parts : (i : ℕ) → 1 ≤ i → i < k → (beyond list map a i < a) × (getD list i 0 + getD list (beyond list map a i) 0 ≤ getD list a 0)
-  parts i l m =
-      let axis = positions-axis J d p list map fit given in
-      let s = half-cuts list map p axis a k ha half in
-      let f = axis .floored a (getD list a 0 - getD list i 0) ha (omega arith) in
-      (s .earlier i l m, omega (arith, f .1, s .part i l m))
-
   -- no word is above the figure
   pub side-low : Low (across J le own d o (getD list a 0)) at n old → Low (across J le own d o (getD list a 0)) at n new
   side-low h = cuts .low (across J le own d o (getD list a 0)) (λ t s l b. across-above J le own order fit d o (getD list a 0) t s b) (λ i t u l m ht hu z b.
-      (let q = parts i l m in
+      (let q = half-parts list map p (positions-axis J d p list map fit given) a k i ha half l m in
       omega (
         arith,
         figures i t (omega (arith, half .most)) ht,
@@ -94,19 +84,18 @@ module _ (J : Job) (le : ℕ → ℕ → Bool) (own : ℕ → ℕ) (order : Orde
   -- and no cut gives more than g at a state, if what the cell has at the states below is at most g
   pub side-taken : (s g : ℕ) → s < n → across J le own d o (getD list (a - 1) 0) s ≤ g → ((t : ℕ) → T (le t s) → held new at t ≤ g)
       → (i : ℕ) → 1 ≤ i → i < k → (e m : ℕ) → T (le e (e + m)) → e + m ≡ s → across J le own d o (getD list i 0) e + across J le own d o (getD list (beyond list map a i) 0) m ≤ g
-  side-taken s g hs before has i l m e u c z = covered le order list p n (λ i s. across J le own d o (getD list i 0) s) (along J le own order fit d p list map given o) a i (beyond list map a i) s g
-      ha (omega (arith, half .most)) (omega (arith, q .0)) l hs (q .1) (half .within i l m) before
-      (Listed old (base + i * step) n) (Listed old (base + beyond list map a i * step) n) (covers i (omega (arith, half .most))) (covers (beyond list map a i) (q .0))
-      (λ x t w ht hw f y b v. omega (
+  side-taken s g hs before has = side-covered J le own order fit d p list map given o a k s g n (λ i. Listed old (base + i * step) n) ha half hs before covers
+      (λ i j l m e hj x t u ht hu f y b v. omega (
         arith,
         figures i t (omega (arith, half .most)) ht,
-        figures (beyond list map a i) w (q .0) hw,
-        cuts .sums i t w l m x f y (omega (arith, order .less (t + w) s v)) b,
-        has (t + w) v,
-      )) e u c z
+        figures j u hj hu,
+        taken i j l m e x t u f y (omega (arith, order .less (t + u) s v)) b,
+        has (t + u) v,
+      ))
     where
-      q : (beyond list map a i < a) × (getD list i 0 + getD list (beyond list map a i) 0 ≤ getD list a 0)
-      q = parts i l m
+      taken : (i j : ℕ) → 1 ≤ i → i < k → j ≡ beyond list map a i → getD list i 0 + getD list j 0 ≡ getD list a 0 → (t u : ℕ) → Listed old (base + i * step) n t → Listed old (base + j * step) n u
+          → t + u < n → T (le t (t + u)) → held old (base + i * step) t + held old (base + j * step) u ≤ held new at (t + u)
+      taken i j l m e x t u f y z b = rw e (cuts .sums i t u l m (rw e at x) f (rw e at y) z b)
 
 -- the cell at its place
 module _ {J : Job} {states long longmap wide widemap blocks : List ℕ} {d n row a b ka kb at column : ℕ} {t0 : List ℕ} (spot : Spot J states long longmap wide widemap blocks d n row a b ka kb at column t0) where
@@ -184,9 +173,11 @@ module _ {J : Job} {states long longmap wide widemap blocks : List ℕ} {d n row
   wide-cuts-are = half-cuts wide widemap (position-count J Width) (positions-axis J Width (position-count J Width) wide widemap fit (spot .lent .widths)) b kb (spot .wide-in .1) (spot .half-b)
 
   low : (i j s : ℕ) → i < position-count J Length → j < position-count J Width → F i j s ≤ 1000000000000
-  low i j s h m = state-low J (under blocks d) (owns states) order fit (getD long i 0) (getD wide j 0) s
-      (positions-axis J Length (position-count J Length) long longmap fit (spot .lent .lengths) .side i h .0)
-      (positions-axis J Width (position-count J Width) wide widemap fit (spot .lent .widths) .side j m .0)
+  low i j s h m = omega (
+    arith,
+    state-low J (under blocks d) (owns states) order fit (getD long i 0) (getD wide j 0) s (positions-axis J Length (position-count J Length) long longmap fit (spot .lent .lengths) .side i h .0),
+    positions-axis J Width (position-count J Width) wide widemap fit (spot .lent .widths) .side j m .0,
+  )
 
   ready : (i j : ℕ) (xs : List ℕ) → i < position-count J Length → j < position-count J Width → Made J (under blocks d) (owns states) long wide n i j xs → Ready xs (cell J n i j) n
   ready i j xs h l w = record { small = λ s m. omega (arith, w .figures s m, low i j s h l); notes = w .notes; ended = w .ended }

@@ -1,5 +1,4 @@
 -- A figure below 2^41 and a note above it, put together and taken apart.
---
 use mathlib.Core.Path.{_≡_}
 use Prim.Native.Nat.{ℕ, _+_, _*_, _<_}
 use native.Mathlib.Omega.{arith}

@@ -1,6 +1,5 @@
 -- The shares that states stand for: one weight, two weights, the remaining copies of each kind. A tree is within a state exactly if, at each
 -- digit, its pieces come to no more than the digit; so the figures over states are those over these shares.
---
 use mathlib.Core.Path.{_≡_, refl, sym, _∙_, ap}
 use mathlib.Core.Bool.{true, false}
 use mathlib.Core.List.{List, [], _∷_}
@@ -24,20 +23,12 @@ use Rattle.cutting.proofs.Weights.{within-weight, weight-within}
 use Rattle.cutting.proofs.Job.{figure-most, figure-earned}
 use Rattle.cutting.proofs.Pairs.{paired-within, within-paired, exact-within, within-exact}
 use Rattle.table.specs.Table.{position, Figures as Shared}
-use Rattle.state_fill.specs.States.{below, Blocks, by-state, Order, digit, own-state}
-use Rattle.state_fill.specs.Figures.{figure-at}
+use Rattle.table.specs.States.{below, Blocks, by-state, Order, figure-at, digit, own-state}
 use Rattle.state_fill.specs.Cells.{under, Digits}
 use Rattle.state_fill.specs.Tables.{owns, Figures}
 use Rattle.state_fill.proofs.Digits.{quotient, rest, below-parts, parts-below, below-less, below-adds, digits-order}
-use Rattle.state_fill.proofs.Shares.{split-state, state-split}
-
--- shares that have the same trees have the same figures
-pub figure-within : {P S S′ : Type 0} (K : Pieces P) (C : Saw) (proper : Proper C) (H : Shares P S) (H′ : Shares P S′) (r : Rect) (s : S) (s′ : S′)
-    → ((t : Tree P) → Within H s t → Within H′ s′ t) → ((t : Tree P) → Within H′ s′ t → Within H s t) → figure K C H r s ≡ figure K C H′ r s′
-figure-within K C proper H H′ r s s′ to from =
-    let e = figure-attained K C H proper r s in
-    let f = figure-attained K C H′ proper r s′ in
-    omega (arith, e .3, f .3, figure-upper K C H′ proper (e .0) r s′ (e .1) (to (e .0) (e .2)), figure-upper K C H proper (f .0) r s (f .1) (from (f .0) (f .2)))
+use Rattle.table.proofs.Shares.{split-state, state-split}
+use Rattle.table.proofs.Weighed.{one-within, within-one, figure-within, figure-one}
 
 lower-blocks : (B : ℕ → ℕ) (d : ℕ) → Blocks B (suc d) → Blocks B d
 lower-blocks B d blocks = record { some = λ i h. blocks .some i (omega arith); whole = λ i h. blocks .whole i (omega arith) }
@@ -77,25 +68,6 @@ module _ {P : Type 0} (B : ℕ → ℕ) where
       let q = quotient (w (suc d) p * B d + own-state B w d p) (B d) (w (suc d) p) (own-state B w d p) refl k in
       let r = rest (w (suc d) p * B d + own-state B w d p) (B d) (w (suc d) p) (own-state B w d p) refl k in
       rw (own-room w d p k) (parts-below B d (w (suc d) p * B d + own-state B w d p) s (omega (arith, q)) (rw r t))
-
-  -- one digit: what a tree weighs
-  one-within : (w : P → ℕ) (t : Tree P) (s : ℕ) → Order (below B 0) → Within (by-state (below B 0) w) s t → total w t ≤ s
-  unfolding by-state below total
-  one-within w waste s order h = omega arith
-  one-within w (piece p) s order h = leb→le (w p) s h
-  one-within w (cut d x a b) s order h = omega (arith, split-state (below B 0) order w d s (h .0) (h .1) .1, one-within w a (h .0 .0) order (h .2), one-within w b (h .0 .1) order (h .3))
-
-  within-one : (w : P → ℕ) (t : Tree P) (s : ℕ) → Order (below B 0) → total w t ≤ s → Within (by-state (below B 0) w) s t
-  unfolding by-state below total
-  within-one w waste s order h = tt
-  within-one w (piece p) s order h = le→leb (w p) s h
-  within-one w (cut d x a b) s order h =
-      let e : total w a + (s - total w a) ≡ s = omega arith in (
-        (total w a, s - total w a),
-        rw e at (state-split (below B 0) order w d (total w a) (s - total w a) (le→leb (total w a) (total w a + (s - total w a)) (omega arith))),
-        within-one w a (total w a) order (omega arith),
-        within-one w b (s - total w a) order (omega arith),
-      )
 
   -- one digit more: what a tree comes to at the last digit, and the digits before
   more-within : (w : ℕ → P → ℕ) (d : ℕ) (t : Tree P) (s : ℕ) → Blocks B (suc d) → Order (below B (suc d)) → Order (below B d) → s < B (suc d) → Within (by-state (below B (suc d)) (own-state B w (suc d))) s t
@@ -142,8 +114,8 @@ module _ {P : Type 0} (B : ℕ → ℕ) where
 
   -- a tree is within a state exactly if at each digit it comes to no more than the digit
   pub within-digits : (w : ℕ → P → ℕ) (d : ℕ) (t : Tree P) (s : ℕ) → Blocks B d → s < B d → Within (by-state (below B d) (own-state B w d)) s t → (i : ℕ) → i ≤ d → total (w i) t ≤ digit B d i s
-  unfolding digit own-state
-  within-digits w zero t s blocks l h i k = let z : i ≡ 0 = omega arith in rw z (one-within (λ p. w 0 p) t s (digits-order B 0 blocks) h)
+  unfolding below digit own-state
+  within-digits w zero t s blocks l h i k = let z : i ≡ 0 = omega arith in rw z (one-within (λ p. w 0 p) t s h)
   within-digits w (suc d) t s blocks l h i k = go (ℕ-discrete i (suc d))
       (more-within w d t s blocks (digits-order B (suc d) blocks) (digits-order B d (lower-blocks B d blocks)) l h)
       (λ x. within-digits w d t (s % B d) (lower-blocks B d blocks) (mod-lt s {m = B d} (blocks .some d (omega arith))) x i)
@@ -155,19 +127,13 @@ module _ {P : Type 0} (B : ℕ → ℕ) where
       go (no e) u v = omega (arith, v (u .1) (omega arith), digit-lower B d i s e)
 
   pub digits-within : (w : ℕ → P → ℕ) (d : ℕ) (t : Tree P) (s : ℕ) → Blocks B d → ((i : ℕ) → i ≤ d → total (w i) t ≤ digit B d i s) → Within (by-state (below B d) (own-state B w d)) s t
-  unfolding digit own-state
-  digits-within w zero t s blocks h = within-one (λ p. w 0 p) t s (digits-order B 0 blocks) (h 0 (omega arith))
+  unfolding below digit own-state
+  digits-within w zero t s blocks h = within-one (λ p. w 0 p) t s (h 0 (omega arith))
   digits-within w (suc d) t s blocks h = within-more w d t s blocks (digits-order B (suc d) blocks) (digits-order B d (lower-blocks B d blocks))
       (omega (arith, h (suc d) (omega arith), digit-last B d s))
       (digits-within w d t (s % B d) (lower-blocks B d blocks) (λ i k. omega (arith, h i (omega arith), digit-lower B d i s (λ e. omega arith))))
 
 module _ (J : Job) (B : ℕ → ℕ) where
-  -- one weight: the figures of the scope
-  pub figure-one : (weight : ℕ → ℕ) (l w c : ℕ) → Blocks B 0 → figure-at J (below B 0) weight l w c ≡ figure-of J weight l w c
-  unfolding figure-at figure-of
-  figure-one weight l w c blocks = figure-within (pieces J) (saw 0) (saw-proper 0) (by-state (below B 0) weight) (by-weight weight) (l, w) c c
-      (λ t h. weight-within weight t c (one-within B weight t c (digits-order B 0 blocks) h)) (λ t h. within-one B weight t c (digits-order B 0 blocks) (within-weight weight t c h))
-
   -- two weights, the second running fastest
   pub figure-two : (first second : ℕ → ℕ) (v : ℕ → ℕ → ℕ) → v 1 ≡ first → v 0 ≡ second → (l w s : ℕ) → Blocks B 1 → s < B 1
       → figure-at J (below B 1) (own-state B v 1) l w s ≡ figure (pieces J) (saw 0) (paired (by-weight first) (by-weight second)) (l, w) (s / B 0, s % B 0)
@@ -223,6 +189,7 @@ one-digit n some most = record { digits = one-block n some; listed = omega arith
 -- a filled table of one digit is that of the weights: its states are the shares
 pub figures-one : (J : Job) (states weights xs : List ℕ) (q : ℕ) → ((i : ℕ) → i < J .count → getD states i 0 ≡ getD weights i 0)
     → Figures J (under ((q + 1) ∷ []) 0) (owns states) (q + 1) xs → Shared J (λ i. getD weights i 0) q xs
+unfolding below
 figures-one J states weights xs q same w a b c ha hb hc = w a b c ha hb hc
-    ∙ (figure-one J (λ i. getD ((q + 1) ∷ []) i 0) (owns states) (position J Length a) (position J Width b) c (one-block (q + 1) (omega arith))
+    ∙ (figure-one J (owns states) (position J Length a) (position J Width b) c
     ∙ figure-kinds J (owns states) (λ i. getD weights i 0) same (position J Length a) (position J Width b) c)

@@ -1,6 +1,5 @@
 -- The words of a cell while the table is filled: a figure below 2^41, and a note above it. While the cell is made, a note other than 0 is
 -- a flag: the state stands for a rise. In a finished cell the notes of the first words are its list of states, each plus 1, ended by 0.
---
 use mathlib.Core.Path.{_≡_}
 use mathlib.Core.Logic.{_⊎_}
 use mathlib.Core.Bool.{Bool}
@@ -9,7 +8,7 @@ use Prim.Native.Nat.{ℕ, _+_, _*_, _/_, _%_, _≤_, _<_}
 use lib.Dec.{T}
 use lib.ListN.{length, getD}
 use Rattle.table.specs.Words.{Outside, beyond}
-use Rattle.state_fill.specs.States.{below, Blocks}
+use Rattle.table.specs.States.{below, Blocks, Covers}
 
 -- the figure and the note of a word
 unfoldable pub figure-in : ℕ → ℕ
@@ -54,10 +53,6 @@ pub record Raised (le : ℕ → ℕ → Bool) (at n t v : ℕ) (old new : List �
   pub words : (s : ℕ) → s < n → (s ≡ t → ⊥) → Lift le t v s (getD old (at + s) 0) (getD new (at + s) 0)
   pub own : getD new (at + t) 0 ≡ v + 2199023255552
   pub rest : Outside at (at + n) old new
-
--- some states cover the values f over those of g: at each state s, f is not above g, or not above its own value at one of them below s
-abbrev pub Covers : (ℕ → ℕ → Bool) → ℕ → (ℕ → Type 0) → (ℕ → ℕ) → (ℕ → ℕ) → Type 0
-Covers le n some f g = (s : ℕ) → s < n → (f s ≤ g s) ⊎ ((t : ℕ) × (t < n) × T (le t s) × some t × (f s ≤ f t))
 
 -- state t of the cell from x on is flagged, or is on its list
 abbrev pub Flagged : List ℕ → ℕ → ℕ → Type 0

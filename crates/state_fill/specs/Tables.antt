@@ -1,6 +1,5 @@
 -- The table while it is filled: cells that are made hold the figures of their normal length and width, and a list that covers them; and the
 -- table when it is filled.
---
 use mathlib.Core.Path.{_≡_}
 use mathlib.Core.Bool.{Bool}
 use mathlib.Core.List.{List}
@@ -10,8 +9,8 @@ use Rattle.cutting.specs.declared.Direction.the-variants.{Length, Width}
 use Rattle.cutting.specs.Job.{Job, InRange}
 use Rattle.table.specs.Table.{position-count, position, Positions}
 use Rattle.table.specs.Words.{Half}
-use Rattle.state_fill.specs.Figures.{figure-at}
-use Rattle.state_fill.specs.Cells.{held, note, under, Digits, Covers, Listed}
+use Rattle.table.specs.States.{figure-at, Covers}
+use Rattle.state_fill.specs.Cells.{held, note, under, Digits, Listed}
 
 -- the figure of entry a of the lengths, entry b of the widths and state s
 abbrev pub tabled : Job → (ℕ → ℕ → Bool) → (ℕ → ℕ) → List ℕ → List ℕ → ℕ → ℕ → ℕ → ℕ

@@ -4,7 +4,7 @@ ghost use mathlib.Core.Path.{_≡_};
 ghost use Prim.Native.Nat.{ℕ, _+_, _*_, _≤_, _<_};
 ghost use lib.Dec.{T, leb};
 ghost use lib.ListN.{length, getD};
-ghost use Rattle.state_fill.specs.States.{Blocks};
+ghost use Rattle.table.specs.States.{Blocks};
 ghost use Rattle.state_fill.specs.Cells.{held, under, Digits, Rises, Lifted, Raised, Taken};
 
 // The number of states that the digits from 0 to i have together.

@@ -2,6 +2,7 @@
 use crate::cells::make_cell;
 use crate::words::figure;
 use crate::words::note;
+use table::clear;
 use table::half;
 ghost use mathlib.Core.Path.{_≡_};
 ghost use Prim.Native.Nat.{ℕ, _+_, _*_, _-_, _≤_, _<_};
@@ -12,16 +13,6 @@ ghost use Rattle.table.specs.Table.{position-count, kinds-job, Positions, Kept}
 ghost use Rattle.table.specs.Words.{Half, Outside, Run};
 ghost use Rattle.state_fill.specs.Cells.{held, note, under, Digits};
 ghost use Rattle.state_fill.specs.Tables.{owns, cell, Rows, Lent, Figures, Bare, Plain};
-
-// The m words from `at` on become 0.
-fn clear(table: &mut [u64], at: usize, m: usize)
-    requires { ⌜ at + m ≤ length (now table) ⌝ }
-    ensures { λ _. ⌜ Run (λ j. 0) at m (now (table .entry)) (now (table .exit)) ⌝ }
-{
-    for j in 0..m {
-        table[at + j] = 0;
-    }
-}
 
 // Row a, from the rows before it: its first cell, of width 0, holds 0.
 fn fill_row(

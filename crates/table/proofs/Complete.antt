@@ -1,122 +1,79 @@
--- The figures along one side of a plate, and what makes a cell complete: the cells before it, the kinds of exactly its size, and the cuts
--- of its sides up to the half give its figure.
--- Assumes nothing.
+-- The figures along one side of a plate, and what makes a cell complete at a state: the cells before it, the kinds of exactly its size,
+-- and the cuts of its sides up to the half give its figure.
 use mathlib.Core.Path.{_≡_, refl, sym, _∙_, ap, subst}
-use mathlib.Core.Bool.{_&&_}
+use mathlib.Core.Bool.{Bool, _&&_}
 use mathlib.Core.List.{List}
-use Prim.Native.Nat.{ℕ, suc, _+_, _-_, _*_, _/_, _≤_, _<_}
+use Prim.Native.Nat.{ℕ, _+_, _-_, _*_, _/_, _≤_, _<_}
 use native.Mathlib.Decide.{ℕ-discrete, decLe}
 use native.Mathlib.Omega.{arith}
-use borrow.Author.Tests.{le-leb, lt-leb}
-use lib.Dec.{T, leb}
+use lib.Dec.{T}
 use lib.ListN.{getD}
 use Rattle.cutting.specs.declared.Direction.{Direction}
 use Rattle.cutting.specs.declared.Direction.the-variants.{Length, Width}
 use Rattle.cutting.specs.Lists.{range, only, filter, greatest}
-use Rattle.cutting.specs.Tree.{Tree, cut, piece, side, total}
+use Rattle.cutting.specs.Tree.{side}
 use Rattle.cutting.specs.Pieces.{fits-in}
-use Rattle.cutting.specs.Job.{Job, InRange, figure-of, normal-side, normal-floor}
+use Rattle.cutting.specs.Job.{Job, InRange, normal-side, normal-floor}
+use Rattle.cutting.proofs.Tests.{only-positive, T-and}
 use Rattle.cutting.proofs.Lists.{mem-range, range-mem, mem-filter}
-use Rattle.cutting.proofs.Greatest.{most, greatest-le}
-use Rattle.cutting.proofs.Job.{figure-most, figure-earned, figure-no-length, figure-no-width}
-use Rattle.cutting.proofs.Table.{sides-suffice, positions-first, positions-entry, positions-rise, positions-normal, figure-half}
-use Rattle.table.specs.Table.{position, Positions}
+use Rattle.cutting.proofs.Greatest.{greatest-le}
+use Rattle.cutting.proofs.Pieces.{true-fits-in}
+use Rattle.cutting.proofs.Table.{sides-suffice, positions-first, positions-entry, positions-normal}
+use Rattle.table.specs.Table.{Positions}
 use Rattle.table.specs.Words.{Half, beyond}
-use Rattle.table.proofs.Figures.{entry-is, entry-side}
-use Rattle.table.proofs.Covered.{Along}
+use Rattle.table.proofs.Halves.{half-parts}
+use Rattle.table.proofs.Figures.{entry-is, entry-side, positions-axis, between}
+use Rattle.table.specs.States.{by-state, Order, figure-at, Covers}
+use Rattle.table.proofs.Shares.{split-state}
+use Rattle.table.proofs.Covered.{Along, covered}
+use Rattle.table.proofs.Across.{across, across-above, two-parts, more-side, kind-most, state-half}
 
-module _ (J : Job) (weight : ℕ → ℕ) (fit : InRange J) where
-  -- the figure of a rectangle with one side given as x and the other as o
-  abbrev pub across : Direction → ℕ → ℕ → ℕ → ℕ
-  across Length o x c = figure-of J weight x o c
-  across Width o x c = figure-of J weight o x c
-
-  no-side : (d : Direction) (o c : ℕ) → across d o 0 c ≡ 0
-  no-side Length o c = figure-no-length J weight fit o c
-  no-side Width o c = figure-no-width J weight fit o c
-
-  -- a larger share gives no less
-  pub more-share : (d : Direction) (o x c e : ℕ) → c ≤ e → across d o x c ≤ across d o x e
-  more-share Length o x c e h = let t = figure-earned J weight x o c in omega (arith, t .3, figure-most J weight (t .0) x o e (t .1) (omega (arith, t .2)))
-  more-share Width o x c e h = let t = figure-earned J weight o x c in omega (arith, t .3, figure-most J weight (t .0) o x e (t .1) (omega (arith, t .2)))
-
-  -- what a cut earns and weighs
-  of-cut : (f : ℕ → ℕ) (d : Direction) (x : ℕ) (t u : Tree ℕ) → total f (cut d x t u) ≡ total f t + total f u
-  unfolding total
-  of-cut f d x t u = refl
-
-  -- a cut between two parts gives no more than the whole
-  whole : (d : Direction) (o x y k m : ℕ) → 1 ≤ x → 1 ≤ y → across d o x k + across d o y m ≤ across d o (x + y) (k + m)
-  whole Length o x y k m p q =
-      let t = figure-earned J weight x o k in
-      let u = figure-earned J weight y o m in
-      let e : x + y - x ≡ y = omega arith in
-      omega (arith, t .3, u .3, of-cut (J .price) Length x (t .0) (u .0), figure-most J weight (cut Length x (t .0) (u .0)) (x + y) o (k + m) (p, omega arith, t .1, rw e (u .1)) (omega (arith, t .2, u .2, of-cut weight Length x (t .0) (u .0))))
-  whole Width o x y k m p q =
-      let t = figure-earned J weight o x k in
-      let u = figure-earned J weight o y m in
-      let e : x + y - x ≡ y = omega arith in
-      omega (arith, t .3, u .3, of-cut (J .price) Width x (t .0) (u .0), figure-most J weight (cut Width x (t .0) (u .0)) o (x + y) (k + m) (p, omega arith, t .1, rw e (u .1)) (omega (arith, t .2, u .2, of-cut weight Width x (t .0) (u .0))))
-
-  pub two-parts : (d : Direction) (o x y k m : ℕ) → across d o x k + across d o y m ≤ across d o (x + y) (k + m)
-  two-parts d o x y k m = go (ℕ-discrete x 0) (ℕ-discrete y 0)
-    where
-      go : Dec (x ≡ 0) → Dec (y ≡ 0) → across d o x k + across d o y m ≤ across d o (x + y) (k + m)
-      go (yes e) z = let f : 0 + y ≡ y = omega arith in rw (e, f) (omega (arith, no-side d o k, more-share d o y m (k + m) (omega arith)))
-      go (no n) (yes e) = let f : x + 0 ≡ x = omega arith in rw (e, f) (omega (arith, no-side d o m, more-share d o x k (k + m) (omega arith)))
-      go (no n) (no u) = whole d o x y k m (omega arith) (omega arith)
-
-  -- a longer side gives no less
-  pub more-side : (d : Direction) (o x y c : ℕ) → x ≤ y → across d o x c ≤ across d o y c
-  more-side d o x y c h =
-      let e : x + (y - x) ≡ y = omega arith in
-      let f : c + 0 ≡ c = omega arith in
-      omega (arith, rw (e, f) at (two-parts d o x (y - x) c 0))
-
+module _ (J : Job) (le : ℕ → ℕ → Bool) (own : ℕ → ℕ) (order : Order le) (fit : InRange J) where
   module _ (d : Direction) (p : ℕ) (list map : List ℕ) (given : Positions J d p list map) where
     rise : (i j : ℕ) → i < j → j < p → getD list i 0 < getD list j 0
-    rise i j h l = omega (arith, entry-is J d p list map fit given i (omega arith), entry-is J d p list map fit given j l, positions-rise J d i j h (omega (arith, given .counted)))
-
-    -- no normal position lies between two entries
-    pub between : (x a : ℕ) → a < p → T (normal-side J d x) → x < getD list a 0 → x ≤ getD list (a - 1) 0
-    between x a h t l =
-        let f = positions-entry J d x (omega (arith, entry-side J d p list map fit given a h)) t in
-        let e = entry-is J d p list map fit given (f .0) (omega (arith, f .1, given .counted)) in
-        go (f .0) (omega (arith, f .1, given .counted)) (e ∙ f .2) (decLe a (f .0)) (ℕ-discrete a (f .0)) (ℕ-discrete (f .0) (a - 1))
-      where
-        go : (i : ℕ) → i < p → getD list i 0 ≡ x → Dec (a ≤ i) → Dec (a ≡ i) → Dec (i ≡ a - 1) → x ≤ getD list (a - 1) 0
-        go i q e (yes u) (yes v) w = absurd (omega (arith, ap (λ i. getD list i 0) v))
-        go i q e (yes u) (no v) w = absurd (omega (arith, rise a i (omega arith) q))
-        go i q e (no u) v (yes w) = omega (arith, ap (λ i. getD list i 0) w)
-        go i q e (no u) v (no w) = omega (arith, rise i (a - 1) (omega arith) (omega arith))
+    rise = positions-axis J d p list map fit given .rise
 
     normal-entry : (i : ℕ) → i < p → T (normal-side J d (getD list i 0))
     normal-entry i h = subst (λ x. T (normal-side J d x)) (sym (entry-is J d p list map fit given i h)) (positions-normal J d i (omega (arith, given .counted)) .0)
 
     -- the figures along a side
-    pub along : (o n : ℕ) → Along list p n (λ i c. across d o (getD list i 0) c)
-    along o n = record {
-      share = λ i c e h l m. more-share d o (getD list i 0) c e l;
-      sums = λ i j a k m hi hj ha l z. omega (arith, two-parts d o (getD list i 0) (getD list j 0) k m, more-side d o (getD list i 0 + getD list j 0) (getD list a 0) (k + m) l);
-      closed = λ i j a hi hj ha l. between (getD list i 0 + getD list j 0) a ha (sides-suffice J .additive d .1 (getD list i 0) (getD list j 0) (normal-entry i hi) (normal-entry j hj)) l;
+    pub along : (o : ℕ) → Along le list p (λ i s. across J le own d o (getD list i 0) s)
+    along o = record {
+      above = λ i t s h l. across-above J le own order fit d o (getD list i 0) t s l;
+      sums = λ i j a k m hi hj ha l c. omega (arith, two-parts J le own order fit d o (getD list i 0) (getD list j 0) k m c, more-side J le own order fit d o (getD list i 0 + getD list j 0) (getD list a 0) (k + m) l);
+      closed = λ i j a hi hj ha l. between J d p list map fit given (getD list i 0 + getD list j 0) a ha (sides-suffice J .additive d .1 (getD list i 0) (getD list j 0) (normal-entry i hi) (normal-entry j hj)) l;
       rise = rise;
     }
 
+    -- no cut up to half of entry a gives more than g at state s, if none does whose parts make up the whole, at states that cover its parts
+    -- over the entries before them
+    pub side-covered : (o a k s g n : ℕ) (some : ℕ → ℕ → Type 0) → a < p → Half list a k → s < n → across J le own d o (getD list (a - 1) 0) s ≤ g
+        → ((i : ℕ) → i < a → Covers le n (some i) (across J le own d o (getD list i 0)) (across J le own d o (getD list (i - 1) 0)))
+        → ((i j : ℕ) → 1 ≤ i → i < k → j ≡ beyond list map a i → j < a → getD list i 0 + getD list j 0 ≡ getD list a 0 → (t u : ℕ) → t < n → u < n → some i t → some j u
+        → T (le t (t + u)) → T (le (t + u) s) → across J le own d o (getD list i 0) t + across J le own d o (getD list j 0) u ≤ g)
+        → (i : ℕ) → 1 ≤ i → i < k → (e m : ℕ) → T (le e (e + m)) → e + m ≡ s → across J le own d o (getD list i 0) e + across J le own d o (getD list (beyond list map a i) 0) m ≤ g
+    side-covered o a k s g n some ha half hs before covers tried i l m = covered le order list p n (λ i s. across J le own d o (getD list i 0) s) (along o) a i (beyond list map a i) s g
+        ha (omega (arith, half .most)) (omega (arith, q .0)) l hs (q .1) (half .within i l m) before
+        (some i) (some (beyond list map a i)) (covers i (omega (arith, half .most))) (covers (beyond list map a i) (q .0)) (tried i (beyond list map a i) l m refl (q .0))
+      where
+        q : (beyond list map a i < a) × (getD list i 0 + getD list (beyond list map a i) 0 ≤ getD list a 0)
+        q = half-parts list map p (positions-axis J d p list map fit given) a k i ha half l m
+
     -- the cuts up to half of entry a give no more than g, if no cut at an entry below the half does
-    pub half-le : (o a k c g : ℕ) → a < p → Half list a k
-        → ((i : ℕ) → 1 ≤ i → i < k → (e m : ℕ) → e + m ≤ c → across d o (getD list i 0) e + across d o (getD list (beyond list map a i) 0) m ≤ g)
-        → greatest (λ x. greatest (λ e. across d o x e + across d o (normal-floor J d (getD list a 0 - x)) (c - e)) (range 0 (suc c))) (filter (normal-side J d) (range 1 (getD list a 0 / 2))) ≤ g
-    half-le o a k c g h half cuts = greatest-le _ g (filter (normal-side J d) (range 1 (getD list a 0 / 2))) (λ x m.
+    pub half-le : (o a k s g : ℕ) → a < p → Half list a k
+        → ((i : ℕ) → 1 ≤ i → i < k → (e m : ℕ) → T (le e (e + m)) → e + m ≡ s → across J le own d o (getD list i 0) e + across J le own d o (getD list (beyond list map a i) 0) m ≤ g)
+        → greatest (λ x. greatest (λ q. across J le own d o x (q .0) + across J le own d o (normal-floor J d (getD list a 0 - x)) (q .1)) (by-state {P = ℕ} le own .splits d s)) (filter (normal-side J d) (range 1 (getD list a 0 / 2))) ≤ g
+    half-le o a k s g h half cuts = greatest-le _ g (filter (normal-side J d) (range 1 (getD list a 0 / 2))) (λ x m.
         (let f = mem-filter (normal-side J d) (range 1 (getD list a 0 / 2)) m in
         let q = mem-range 1 (getD list a 0 / 2) x (f .0) in
         let e = positions-entry J d x (omega (arith, entry-side J d p list map fit given a h)) (f .1) in
         at x (e .0) (omega (arith, e .1, given .counted)) (entry-is J d p list map fit given (e .0) (omega (arith, e .1, given .counted)) ∙ e .2) (omega arith) (omega arith)))
       where
         at : (x i : ℕ) → i < p → getD list i 0 ≡ x → 1 ≤ x → 2 * x ≤ getD list a 0
-            → greatest (λ e. across d o x e + across d o (normal-floor J d (getD list a 0 - x)) (c - e)) (range 0 (suc c)) ≤ g
-        at x i l e q s = greatest-le _ g (range 0 (suc c)) (λ u m.
-            (let z = mem-range 0 (suc c) u m in
-            omega (arith, cuts i (positive (ℕ-discrete i 0)) (below (decLe k i) (ℕ-discrete k i)) u (c - u) (omega arith), ap (λ y. across d o y u) e, ap (λ y. across d o y (c - u)) rest)))
+            → greatest (λ q. across J le own d o x (q .0) + across J le own d o (normal-floor J d (getD list a 0 - x)) (q .1)) (by-state {P = ℕ} le own .splits d s) ≤ g
+        at x i l e q z = greatest-le _ g (by-state {P = ℕ} le own .splits d s) (λ u m.
+            (let v = split-state le order own d s u m in
+            omega (arith, cuts i (positive (ℕ-discrete i 0)) (below (decLe k i) (ℕ-discrete k i)) (u .0) (u .1) (rw (v .1) (v .0)) (v .1), ap (λ y. across J le own d o y (u .0)) e, ap (λ y. across J le own d o y (u .1)) rest)))
           where
             positive : Dec (i ≡ 0) → 1 ≤ i
             positive (yes v) = absurd (omega (arith, ap (λ i. getD list i 0) v, entry-is J d p list map fit given 0 (omega arith), positions-first J d))
@@ -132,20 +89,15 @@ module _ (J : Job) (weight : ℕ → ℕ) (fit : InRange J) where
                 let f = given .floored (getD list a 0 - getD list i 0) (omega (arith, entry-side J d p list map fit given a h)) in
                 entry-is J d p list map fit given (beyond list map a i) (omega (arith, f .0, given .counted)) ∙ f .1 ∙ ap (λ x. normal-floor J d (getD list a 0 - x)) e
 
-  -- a kind that fits and weighs at most the share earns no more than the figure
-  pub kind-most : (l w c i : ℕ) → i < J .count → J .size i .0 ≤ l → J .size i .1 ≤ w → weight i ≤ c → J .price i ≤ figure-of J weight l w c
-  unfolding total
-  kind-most l w c i h p q m = figure-most J weight (piece i) l w c (h, p, q) m
-
   module _ (p r : ℕ) (long longmap wide widemap : List ℕ) (lengths : Positions J Length p long longmap) (widths : Positions J Width r wide widemap) where
-    -- the figure of entry a of the lengths, entry b of the widths and share c
+    -- the figure of entry a of the lengths, entry b of the widths and state s
     abbrev cell : ℕ → ℕ → ℕ → ℕ
-    cell a b c = figure-of J weight (getD long a 0) (getD wide b 0) c
+    cell a b s = figure-at J le own (getD long a 0) (getD wide b 0) s
 
-    module _ (a b c g : ℕ) (ha : a < p) (hb : b < r) (above : cell (a - 1) b c ≤ g) (before : cell a (b - 1) c ≤ g)
-        (kinds : (i : ℕ) → i < J .count → J .size i .0 ≡ getD long a 0 → J .size i .1 ≡ getD wide b 0 → weight i ≤ c → J .price i ≤ g) where
+    module _ (a b s g : ℕ) (ha : a < p) (hb : b < r) (above : cell (a - 1) b s ≤ g) (before : cell a (b - 1) s ≤ g)
+        (kinds : (i : ℕ) → i < J .count → J .size i .0 ≡ getD long a 0 → J .size i .1 ≡ getD wide b 0 → T (le (own i) s) → J .price i ≤ g) where
       -- a kind that fits earns no more than g: a smaller one lies in a cell before
-      kind-le : (i : ℕ) → i < J .count → J .size i .0 ≤ getD long a 0 → J .size i .1 ≤ getD wide b 0 → weight i ≤ c → J .price i ≤ g
+      kind-le : (i : ℕ) → i < J .count → J .size i .0 ≤ getD long a 0 → J .size i .1 ≤ getD wide b 0 → T (le (own i) s) → J .price i ≤ g
       kind-le i h u v m = go (ℕ-discrete (J .size i .0) (getD long a 0)) (ℕ-discrete (J .size i .1) (getD wide b 0))
         where
           on-length : getD long a 0 ≤ J .plate .0
@@ -159,28 +111,30 @@ module _ (J : Job) (weight : ℕ → ℕ) (fit : InRange J) where
 
           go : Dec (J .size i .0 ≡ getD long a 0) → Dec (J .size i .1 ≡ getD wide b 0) → J .price i ≤ g
           go (yes e) (yes f) = kinds i h e f m
-          go (no e) f = omega (arith, kind-most (getD long (a - 1) 0) (getD wide b 0) c i h (between Length p long longmap lengths (J .size i .0) a ha (normal Length) (omega arith)) v m)
-          go (yes e) (no f) = omega (arith, kind-most (getD long a 0) (getD wide (b - 1) 0) c i h u (between Width r wide widemap widths (J .size i .1) b hb (normal Width) (omega arith)) m)
+          go (no e) f = omega (arith, kind-most J le own order fit (getD long (a - 1) 0) (getD wide b 0) s i h (between J Length p long longmap fit lengths (J .size i .0) a ha (normal Length) (omega arith)) v m)
+          go (yes e) (no f) = omega (arith, kind-most J le own order fit (getD long a 0) (getD wide (b - 1) 0) s i h u (between J Width r wide widemap fit widths (J .size i .1) b hb (normal Width) (omega arith)) m)
 
-      singles : greatest (λ i. only (fits-in (J .size i) (getD long a 0, getD wide b 0) && leb (weight i) c) (J .price i)) (range 0 (J .count)) ≤ g
-      singles = greatest-le _ g (range 0 (J .count)) (λ i m. (let h = mem-range 0 (J .count) i m in go i (omega arith) (decLe (J .size i .0) (getD long a 0)) (decLe (J .size i .1) (getD wide b 0)) (decLe (weight i) c)))
+      singles : greatest (λ i. only (fits-in (J .size i) (getD long a 0, getD wide b 0) && le (own i) s) (J .price i)) (range 0 (J .count)) ≤ g
+      singles = greatest-le _ g (range 0 (J .count)) (λ i m. (let h = mem-range 0 (J .count) i m in go i (omega arith) (ℕ-discrete (only (fits-in (J .size i) (getD long a 0, getD wide b 0) && le (own i) s) (J .price i)) 0)))
         where
-          go : (i : ℕ) → i < J .count → Dec (J .size i .0 ≤ getD long a 0) → Dec (J .size i .1 ≤ getD wide b 0) → Dec (weight i ≤ c)
-              → only (fits-in (J .size i) (getD long a 0, getD wide b 0) && leb (weight i) c) (J .price i) ≤ g
-          go i h (yes u) (yes v) (yes w) = rw (le-leb (J .size i .0) (getD long a 0) u, le-leb (J .size i .1) (getD wide b 0) v, le-leb (weight i) c w) (kind-le i h u v w)
-          go i h (yes u) (yes v) (no w) = rw (le-leb (J .size i .0) (getD long a 0) u, le-leb (J .size i .1) (getD wide b 0) v, lt-leb (weight i) c (omega arith)) (omega arith)
-          go i h (yes u) (no v) w = rw (le-leb (J .size i .0) (getD long a 0) u, lt-leb (J .size i .1) (getD wide b 0) (omega arith)) (omega arith)
-          go i h (no u) v w = rw (lt-leb (J .size i .0) (getD long a 0) (omega arith)) (omega arith)
+          go : (i : ℕ) → i < J .count → Dec (only (fits-in (J .size i) (getD long a 0, getD wide b 0) && le (own i) s) (J .price i) ≡ 0)
+              → only (fits-in (J .size i) (getD long a 0, getD wide b 0) && le (own i) s) (J .price i) ≤ g
+          go i h (yes e) = omega arith
+          go i h (no e) =
+              let o = only-positive (fits-in (J .size i) (getD long a 0, getD wide b 0) && le (own i) s) (J .price i) (omega arith) in
+              let t = T-and (fits-in (J .size i) (getD long a 0, getD wide b 0)) (le (own i) s) (o .0) in
+              let f = true-fits-in (J .size i) (getD long a 0, getD wide b 0) (t .0) in
+              omega (arith, o .1, kind-le i h (f .0) (f .1) (t .1))
 
       -- the cells before it, the kinds of exactly its size and the cuts up to half of its sides give a cell its figure
       pub complete : (ka kb : ℕ) → Half long a ka → Half wide b kb
-          → ((i : ℕ) → 1 ≤ i → i < ka → (e m : ℕ) → e + m ≤ c → cell i b e + cell (beyond long longmap a i) b m ≤ g)
-          → ((i : ℕ) → 1 ≤ i → i < kb → (e m : ℕ) → e + m ≤ c → cell a i e + cell a (beyond wide widemap b i) m ≤ g)
-          → cell a b c ≤ g
+          → ((i : ℕ) → 1 ≤ i → i < ka → (e m : ℕ) → T (le e (e + m)) → e + m ≡ s → cell i b e + cell (beyond long longmap a i) b m ≤ g)
+          → ((i : ℕ) → 1 ≤ i → i < kb → (e m : ℕ) → T (le e (e + m)) → e + m ≡ s → cell a i e + cell a (beyond wide widemap b i) m ≤ g)
+          → cell a b s ≤ g
       complete ka kb half-a half-b long-cuts wide-cuts = omega (
         arith,
-        figure-half J weight fit (getD long a 0) (getD wide b 0) c (entry-side J Length p long longmap fit lengths a ha) (entry-side J Width r wide widemap fit widths b hb),
+        state-half J le own order fit (getD long a 0) (getD wide b 0) s (entry-side J Length p long longmap fit lengths a ha) (entry-side J Width r wide widemap fit widths b hb),
         singles,
-        half-le Length p long longmap lengths (getD wide b 0) a ka c g ha half-a long-cuts,
-        half-le Width r wide widemap widths (getD long a 0) b kb c g hb half-b wide-cuts,
+        half-le Length p long longmap lengths (getD wide b 0) a ka s g ha half-a long-cuts,
+        half-le Width r wide widemap widths (getD long a 0) b kb s g hb half-b wide-cuts,
       )

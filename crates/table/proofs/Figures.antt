@@ -1,27 +1,20 @@
--- The positions of a side as the fills are lent them, and how large a figure is.
--- Assumes nothing.
+-- The positions of a side as the fills are lent them.
 use mathlib.Core.Path.{_≡_, sym, _∙_, ap}
 use mathlib.Core.List.{List}
-use Prim.Native.Nat.{ℕ, _-_, _*_, _≤_, _<_}
-use native.Mathlib.Nat.{mul-le-mul-right}
+use Prim.Native.Nat.{ℕ, _-_, _≤_, _<_}
+use native.Mathlib.Decide.{ℕ-discrete, decLe}
 use native.Mathlib.Omega.{arith}
+use lib.Dec.{T}
 use lib.ListN.{length, getD, length-take}
 use lib.Seq.{getD-take}
 use Rattle.cutting.specs.declared.Direction.{Direction}
 use Rattle.cutting.specs.declared.Direction.the-variants.{Length, Width}
-use Rattle.cutting.specs.Lists.{range}
 use Rattle.cutting.specs.Tree.{side}
-use Rattle.cutting.specs.Job.{Job, InRange, figure-of, normal-side}
+use Rattle.cutting.specs.Job.{Job, InRange, normal-side}
 use Rattle.cutting.proofs.Floor.{floor-le}
-use Rattle.cutting.proofs.Job.{figure-ceiling}
-use Rattle.cutting.proofs.Table.{positions-rise, positions-normal}
+use Rattle.cutting.proofs.Table.{positions-entry, positions-rise, positions-normal}
 use Rattle.table.specs.Table.{position, Positions}
 use Rattle.table.specs.Words.{Axis}
-
-module _ (J : Job) (weight : ℕ → ℕ) (fit : InRange J) where
-  -- no figure is above 1,000,000,000 for each unit of its width
-  pub figure-low : (l w c : ℕ) → l ≤ 1000 → figure-of J weight l w c ≤ w * 1000000000
-  figure-low l w c h = omega (arith, figure-ceiling J weight fit l w c, mul-le-mul-right {m = l} {n = 1000} w h)
 
 -- a side of a plate in range
 side-range : (J : Job) (d : Direction) → InRange J → side d (J .plate) ≤ 1000
@@ -47,3 +40,16 @@ module _ (J : Job) (d : Direction) (p : ℕ) (list map : List ℕ) (fit : InRang
         let m : getD map x 0 < p = omega (arith, f .0, given .counted) in
         (m, omega (arith, f .1, entry-is (getD map x 0) m, floor-le (normal-side J d) x)));
   }
+
+  -- no normal position lies between two entries
+  pub between : (x a : ℕ) → a < p → T (normal-side J d x) → x < getD list a 0 → x ≤ getD list (a - 1) 0
+  between x a h t l =
+      let f = positions-entry J d x (omega (arith, entry-side a h)) t in
+      let e = entry-is (f .0) (omega (arith, f .1, given .counted)) in
+      go (f .0) (omega (arith, f .1, given .counted)) (e ∙ f .2) (decLe a (f .0)) (ℕ-discrete a (f .0)) (ℕ-discrete (f .0) (a - 1))
+    where
+      go : (i : ℕ) → i < p → getD list i 0 ≡ x → Dec (a ≤ i) → Dec (a ≡ i) → Dec (i ≡ a - 1) → x ≤ getD list (a - 1) 0
+      go i q e (yes u) (yes v) w = absurd (omega (arith, ap (λ i. getD list i 0) v))
+      go i q e (yes u) (no v) w = absurd (omega (arith, positions-axis .rise a i (omega arith) q))
+      go i q e (no u) v (yes w) = omega (arith, ap (λ i. getD list i 0) w)
+      go i q e (no u) v (no w) = omega (arith, positions-axis .rise i (a - 1) (omega arith) (omega arith))

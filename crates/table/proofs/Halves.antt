@@ -52,6 +52,10 @@ module _ (list map : List ℕ) (r : ℕ) (axis : Axis list map r) where
           same (yes e) = omega (arith, fit .1, ap (λ j. getD list j 0) e, axis .rise 0 i (omega arith) (omega (arith, half .most)))
           same (no e) = omega (arith, fit .1, axis .rise b (beyond list map b i) (omega arith) (fit .0))
 
+  -- and no more than the entry together
+  pub half-parts : (b k i : ℕ) → b < r → Half list b k → 1 ≤ i → i < k → (beyond list map b i < b) × (getD list i 0 + getD list (beyond list map b i) 0 ≤ getD list b 0)
+  half-parts b k i h half l m = (half-cuts b k h half .earlier i l m, parts-fit b k i h half l m .1)
+
   -- the half found for one entry serves the next
   pub half-next : (b k : ℕ) → Half list b k → (i : ℕ) → 1 ≤ i → i < k → b + 1 < r → 2 * getD list i 0 ≤ getD list (b + 1) 0
   half-next b k half i l m h = omega (arith, half .within i l m, axis .rise b (b + 1) (omega arith) h)

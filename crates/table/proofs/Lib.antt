@@ -1,6 +1,8 @@
 pub mod Words
 pub mod Halves
 pub mod Figures
-pub mod Rows
+pub mod Shares
+pub mod Weighed
+pub mod Across
 pub mod Covered
 pub mod Complete

@@ -1,13 +1,14 @@
--- Laws of written runs: nothing written yet, one word more; and of cells that lie one after the other.
+-- Laws of written runs: nothing written yet, one word more; of the words past the table; and of cells that lie one after the other.
 -- Assumes nothing.
-use mathlib.Core.Path.{_≡_, refl, _∙_}
+use mathlib.Core.Path.{_≡_, refl, sym, _∙_}
 use mathlib.Core.List.{List}
 use Prim.Native.Nat.{ℕ, _+_, _*_, _≤_, _<_}
 use native.Mathlib.Nat.{not-suc-le-zero, mul-le-mul-right}
 use native.Mathlib.Omega.{arith}
 use borrow.Author.Count.{below-more}
-use lib.ListN.{length, getD, set}
-use lib.Seq.{getD-set-same, getD-set-other}
+use lib.ListN.{length, getD, set, drop, length-drop}
+use lib.Seq.{getD-set-same, getD-set-other, getD-drop, ext-getD}
+use Rattle.table.specs.Table.{Kept}
 use Rattle.table.specs.Words.{Outside, Run}
 
 pub outside-none : (at end : ℕ) (xs : List ℕ) → Outside at end xs xs
@@ -38,3 +39,10 @@ first-more f j old xs v l e w = let z : 0 + j ≡ j = omega arith in rw z at (ru
 -- a cell lies before the next one
 pub cell-before : (b r n : ℕ) → b < r → b * n + n ≤ r * n
 cell-before b r n h = omega (arith, mul-le-mul-right {m = b + 1} {n = r} n (omega arith))
+
+-- no word from m on has changed
+pub words-past : (m : ℕ) (old new : List ℕ) → length new ≡ length old → ((i : ℕ) → m ≤ i → getD new i 0 ≡ getD old i 0) → Kept m old new
+words-past m old new l f = (
+  l,
+  ext-getD 0 (drop m new) (drop m old) (omega (arith, length-drop m new, length-drop m old)) (λ i h. getD-drop m new i 0 ∙ f (m + i) (omega arith) ∙ sym (getD-drop m old i 0)),
+)

@@ -57,4 +57,4 @@ pub record Positions (J : Job) (d : Direction) (p : ℕ) (list map : List ℕ) :
   pub counted : p ≡ position-count J d
   pub listed : take p list ≡ normal-positions J d
   pub mapped : side d (J .plate) < length map
-  pub floored : (x : ℕ) → x ≤ side d (J .plate) → (getD map x 0 < position-count J d) × (position J d (getD map x 0) ≡ normal-floor J d x)
+  pub floored : Mapped J d map

@@ -38,12 +38,12 @@ pub fn copy(table: &mut [u64], from: usize, at: usize, m: usize)
     }
 }
 
-// The first m words become 0.
-pub fn clear(table: &mut [u64], m: usize)
-    requires { ⌜ m ≤ length (now table) ⌝ }
-    ensures { λ _. ⌜ Run (λ j. 0) 0 m (now (table .entry)) (now (table .exit)) ⌝ }
+// The m words from `at` on become 0.
+pub fn clear(table: &mut [u64], at: usize, m: usize)
+    requires { ⌜ at + m ≤ length (now table) ⌝ }
+    ensures { λ _. ⌜ Run (λ j. 0) at m (now (table .entry)) (now (table .exit)) ⌝ }
 {
     for j in 0..m {
-        table[j] = 0;
+        table[at + j] = 0;
     }
 }

@@ -1,5 +1,4 @@
 -- `one_share::fill` meets its contract. The loop's invariant: the rows below a hold their figures, and every word past the last row is as it was. One row more is `fill_row`.
--- Assumes nothing.
 use native.Mathlib.Omega.{arith}
 use mathlib.Core.Path.{_≡_, _∙_, refl, subst}
 use Prim.Native.Nat.{ℕ, _+_, _-_, _*_, _≤_, _<_}
@@ -8,14 +7,13 @@ use denote.Ref.{now}
 use Rattle.cutting.specs.declared.Direction.the-variants.{Length}
 use Rattle.cutting.specs.Job.{Job}
 use Rattle.cutting.proofs.Table.{positions-some}
-use Rattle.table.specs.Table.{kinds-job, Positions}
+use Rattle.table.specs.Table.{kinds-job, words-needed, Positions}
 use Rattle.table.specs.Words.{Axis}
-use Rattle.table.proofs.Words.{cell-before}
+use Rattle.table.proofs.Words.{cell-before, words-past}
 use Rattle.table.proofs.Halves.{half-next}
 use Rattle.table.proofs.Figures.{positions-axis}
-use Rattle.table.proofs.Rows.{rows-room, rows-past}
 use Rattle.one_share.specs.Rows.{Rows, Lent}
-use Rattle.one_share.proofs.Filling.{rows-none, rows-all}
+use Rattle.one_share.proofs.Filling.{rows-none, words-are, rows-all}
 use Rattle.one_share.proofs.fill.Statement.{statement}
 use Rattle.one_share.proofs.fill.Tie as tie
 
@@ -49,8 +47,11 @@ lent s = record {
 some-rows : (s : tie.Start Inv-loop μ-loop) → 1 ≤ s .args .p
 some-rows s = omega (arith, s .pre .2 .counted, positions-some (job s) Length)
 
+needed : (s : tie.Start Inv-loop μ-loop) → words-needed (job s) 0 ≡ s .args .p * s .args .r
+needed s = words-are (job s) (weigh s) (s .pre .0) (s .args .p) (s .args .r) (now (s .args .long)) (now (s .args .longmap)) (now (s .args .wide)) (now (s .args .widemap)) (s .pre .2) (s .pre .3)
+
 all-room : (s : tie.Start Inv-loop μ-loop) → s .args .p * s .args .r ≤ length (now (s .args .table))
-all-room s = omega (arith, rows-room (job s) (weigh s) (s .pre .0) (s .args .p) (s .args .r) 0 (now (s .args .long)) (now (s .args .longmap)) (now (s .args .wide)) (now (s .args .widemap)) (s .pre .2) (s .pre .3) (now (s .args .table)) (s .pre .4))
+all-room s = omega (arith, needed s, s .pre .4)
 
 first-row : (s : tie.Start Inv-loop μ-loop) → s .args .r ≤ s .args .p * s .args .r
 first-row s = omega (arith, cell-before 0 (s .args .p) (s .args .r) (some-rows s))
@@ -104,10 +105,11 @@ same-length c = c .before .loop .inv .6 ∙ c .before .before .before .before .c
 
 returns : tie.Need-returns Inv-loop μ-loop
 returns c =
-    let e : c .before .loop .a ≡ c .before .before .before .before .before .before .before .before .before .before .before .before .args .p = omega (arith, c .before .loop .inv .1, c .loop-test .left) in (
-      rows-all (job (c .before .before .before .before .before .before .before .before .before .before .before .before)) (weigh (c .before .before .before .before .before .before .before .before .before .before .before .before)) (c .before .before .before .before .before .before .before .before .before .before .before .before .pre .0) (c .before .before .before .before .before .before .before .before .before .before .before .before .args .p) (c .before .before .before .before .before .before .before .before .before .before .before .before .args .r) (now (c .before .before .before .before .before .before .before .before .before .before .before .before .args .long)) (now (c .before .before .before .before .before .before .before .before .before .before .before .before .args .longmap)) (now (c .before .before .before .before .before .before .before .before .before .before .before .before .args .wide)) (now (c .before .before .before .before .before .before .before .before .before .before .before .before .args .widemap)) (c .before .before .before .before .before .before .before .before .before .before .before .before .pre .2) (c .before .before .before .before .before .before .before .before .before .before .before .before .pre .3) (c .before .loop .table) (rw e at (c .before .loop .inv .7)),
-      rows-past (job (c .before .before .before .before .before .before .before .before .before .before .before .before)) (weigh (c .before .before .before .before .before .before .before .before .before .before .before .before)) (c .before .before .before .before .before .before .before .before .before .before .before .before .pre .0) (c .before .before .before .before .before .before .before .before .before .before .before .before .args .p) (c .before .before .before .before .before .before .before .before .before .before .before .before .args .r) 0 (now (c .before .before .before .before .before .before .before .before .before .before .before .before .args .long)) (now (c .before .before .before .before .before .before .before .before .before .before .before .before .args .longmap)) (now (c .before .before .before .before .before .before .before .before .before .before .before .before .args .wide)) (now (c .before .before .before .before .before .before .before .before .before .before .before .before .args .widemap)) (c .before .before .before .before .before .before .before .before .before .before .before .before .pre .2) (c .before .before .before .before .before .before .before .before .before .before .before .before .pre .3) (now (c .before .before .before .before .before .before .before .before .before .before .before .before .args .table)) (c .before .loop .table) (c .before .loop .inv .6 ∙ c .before .before .before .before .clear .kept .0)
-          (λ i h. c .before .loop .inv .8 i (omega arith) ∙ c .before .before .before .before .clear .ensures .rest .after i (omega (arith, first-row (c .before .before .before .before .before .before .before .before .before .before .before .before)))),
+    let start = c .before .before .before .before .before .before .before .before .before .before .before .before in
+    let e : c .before .loop .a ≡ start .args .p = omega (arith, c .before .loop .inv .1, c .loop-test .left) in (
+      rows-all (job start) (weigh start) (start .pre .0) (start .args .p) (start .args .r) (now (start .args .long)) (now (start .args .longmap)) (now (start .args .wide)) (now (start .args .widemap)) (start .pre .2) (start .pre .3) (c .before .loop .table) (rw e at (c .before .loop .inv .7)),
+      words-past (words-needed (job start) 0) (now (start .args .table)) (c .before .loop .table) (c .before .loop .inv .6 ∙ c .before .before .before .before .clear .kept .0)
+          (λ i h. c .before .loop .inv .8 i (omega (arith, needed start)) ∙ c .before .before .before .before .clear .ensures .rest .after i (omega (arith, needed start, first-row start))),
     )
 
 pub fill-spec : {M : Type 1} → statement M

@@ -1,29 +1,31 @@
--- `table::clear` meets its contract. The loop's invariant: the words passed are 0, every other word is as it was.
--- Assumes nothing.
+-- `table::clear` meets its contract.
 use borrow.Author.Needs.{needs}
 use native.Mathlib.Omega.{arith}
 use mathlib.Core.Path.{_≡_, refl}
 use Prim.Native.Nat.{_-_, _≤_}
 use lib.ListN.{length, length-set}
 use Rattle.table.specs.Words.{Run}
-use Rattle.table.proofs.Words.{run-none, first-more}
+use Rattle.table.proofs.Words.{run-none, run-more}
 use Rattle.table.proofs.clear.Statement.{statement}
 use Rattle.table.proofs.clear.Tie as tie
 
 abbrev Inv-loop : tie.InvT-loop
-Inv-loop table₀ m j₀ table j = (j ≤ m) × (length table ≡ length table₀) × Run (λ j. 0) 0 j table₀ table
+Inv-loop table₀ at m j₀ table j = (j ≤ m) × (length table ≡ length table₀) × Run (λ j. 0) at j table₀ table
 
 abbrev μ-loop : tie.MeasureT-loop
-μ-loop table₀ m j₀ table j = m - j
+μ-loop table₀ at m j₀ table j = m - j
 
 loop-holds : tie.Need-loop-holds Inv-loop μ-loop
-loop-holds c = (search needs, refl, run-none _ _ _)
+loop-holds c = (omega arith, refl, run-none _ _ _)
+
+add-table : tie.Need-add-table Inv-loop μ-loop
+add-table c = search needs
 
 mul-table : tie.Need-mul-table Inv-loop μ-loop
 mul-table c = search needs
 
 slice-write-table : tie.Need-slice-write-table Inv-loop μ-loop
-slice-write-table c = search needs
+slice-write-table c = omega (arith, c .before .loop .inv .1)
 
 add-j : tie.Need-add-j Inv-loop μ-loop
 add-j c = search needs
@@ -32,10 +34,10 @@ loop-less : tie.Need-loop-less Inv-loop μ-loop
 loop-less c = search needs
 
 loop-again : tie.Need-loop-again Inv-loop μ-loop
-loop-again c = (search needs, simp length-set (c .before .loop .inv .1), first-more _ _ _ _ _ (omega arith) refl (c .before .loop .inv .2))
+loop-again c = (omega arith, simp length-set (c .before .loop .inv .1), run-more _ _ _ _ _ _ (omega (arith, c .before .loop .inv .1)) refl (c .before .loop .inv .2))
 
 same-length : tie.Need-same-length Inv-loop μ-loop
-same-length c = search needs
+same-length c = c .before .loop .inv .1
 
 returns : tie.Need-returns Inv-loop μ-loop
 returns c = let e : c .before .loop .j ≡ c .before .before .args .m = omega arith in rw e at (c .before .loop .inv .2)
@@ -47,6 +49,7 @@ clear-spec =
     Inv-loop
     μ-loop
     loop-holds
+    add-table
     mul-table
     slice-write-table
     add-j

@@ -1,5 +1,4 @@
 -- `state_fill::cells::finish` meets its contract. The loop's invariant: the flags of the first s words are the first k entries of the list.
---
 use borrow.Author.Needs.{needs}
 use native.Mathlib.Omega.{arith}
 use mathlib.Core.Path.{_≡_, refl}

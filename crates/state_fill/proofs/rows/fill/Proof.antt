@@ -1,5 +1,4 @@
 -- `state_fill::rows::fill` meets its contract. The loop's invariant: the rows passed are made, and no word past the table has changed.
---
 use borrow.Author.Needs.{needs}
 use native.Mathlib.Omega.{arith}
 use mathlib.Core.Path.{_∙_}

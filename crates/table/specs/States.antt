@@ -1,13 +1,16 @@
 -- States as numbers of several digits, and the shares that they stand for. B d is the number of states that the digits from 0 to d have
 -- together, so B d is what one step of digit d + 1 is worth, and the last B is the number of all states. One digit: a plain number.
---
 use mathlib.Core.Path.{_≡_}
+use mathlib.Core.Logic.{_⊎_}
 use mathlib.Core.Bool.{Bool, true, false, _&&_}
 use mathlib.Core.List.{map}
 use Prim.Native.Nat.{ℕ, zero, suc, _+_, _-_, _*_, _/_, _%_, _≤_, _<_}
 use lib.Dec.{T, leb, ltb, eqb}
 use Rattle.cutting.specs.Lists.{range, filter}
 use Rattle.cutting.specs.Tree.{Shares}
+use Rattle.cutting.specs.Figure.{figure}
+use Rattle.cutting.specs.Saws.{saw}
+use Rattle.cutting.specs.Job.{Job, pieces}
 
 -- no digit of t, up to digit d, is above that of s; the last digit has no bound here, so no t past all states is below a state
 unfoldable pub below : (ℕ → ℕ) → ℕ → ℕ → ℕ → Bool
@@ -33,6 +36,14 @@ pub record Order (le : ℕ → ℕ → Bool) : Type 0 where
   pub first : (t s u : ℕ) → T (le t s) → T (le s (s + u)) → T (le t (t + u))
   pub sums : (t s u : ℕ) → T (le t s) → T (le s (s + u)) → T (le (t + u) (s + u))
   pub least : (s : ℕ) → T (le 0 s)
+
+-- the figure of a rectangle l by w and a state, where every kind has a state of its own (one past all states: the kind is not open)
+unfoldable pub figure-at : Job → (ℕ → ℕ → Bool) → (ℕ → ℕ) → ℕ → ℕ → ℕ → ℕ
+figure-at J le own l w s = figure (pieces J) (saw 0) (by-state le own) (l, w) s
+
+-- some states cover the values f over those of g: at each state s, f is not above g, or not above its own value at one of them below s
+abbrev pub Covers : (ℕ → ℕ → Bool) → ℕ → (ℕ → Type 0) → (ℕ → ℕ) → (ℕ → ℕ) → Type 0
+Covers le n some f g = (s : ℕ) → s < n → (f s ≤ g s) ⊎ ((t : ℕ) × (t < n) × T (le t s) × some t × (f s ≤ f t))
 
 -- digit i of a number whose last digit is digit d
 unfoldable pub digit : (ℕ → ℕ) → ℕ → ℕ → ℕ → ℕ

@@ -1,9 +1,8 @@
 -- Laws of a job's figures over an order of states: states above, longer sides, two parts, single kinds, the ceiling, and half of the cuts.
---
 use mathlib.Core.Path.{_≡_}
 use mathlib.Core.Bool.{Bool, _&&_}
 use Prim.Native.Nat.{ℕ, _+_, _-_, _*_, _/_, _≤_, _<_, max}
-use native.Mathlib.Nat.{mul-le-mul}
+use native.Mathlib.Nat.{mul-le-mul-right}
 use native.Mathlib.Decide.{ℕ-discrete}
 use native.Mathlib.Omega.{arith}
 use lib.Dec.{T}
@@ -24,9 +23,8 @@ use Rattle.cutting.proofs.Ceiling.{figure-area}
 use Rattle.cutting.proofs.Half.{half-figure}
 use Rattle.cutting.proofs.Job.{kinds-solid}
 use Rattle.cutting.proofs.Table.{sides-suffice}
-use Rattle.state_fill.specs.States.{by-state, Order}
-use Rattle.state_fill.specs.Figures.{figure-at}
-use Rattle.state_fill.proofs.Shares.{state-split, by-state-monotone, by-state-symmetric, figure-above}
+use Rattle.table.specs.States.{by-state, Order, figure-at}
+use Rattle.table.proofs.Shares.{state-split, by-state-monotone, by-state-symmetric, figure-above}
 
 module _ (J : Job) (le : ℕ → ℕ → Bool) (own : ℕ → ℕ) where
   -- the figure of a rectangle with one side given as x and the other as o
@@ -49,8 +47,9 @@ module _ (J : Job) (le : ℕ → ℕ → Bool) (own : ℕ → ℕ) (order : Orde
   state-ceiling l w s = figure-area (range 0 (J .count)) (J .price) (J .size) (kinds-solid J fit) (by-state le own) 1000000
       (λ i m. (let l = mem-range 0 (J .count) i m in fit .prices i (omega arith))) (l, w) s
 
-  pub state-low : (l w s : ℕ) → l ≤ 1000 → w ≤ 1000 → figure-at J le own l w s ≤ 1000000000000
-  state-low l w s h k = omega (arith, state-ceiling l w s, mul-le-mul h k)
+  -- so none is above 1,000,000,000 for each unit of its width
+  pub state-low : (l w s : ℕ) → l ≤ 1000 → figure-at J le own l w s ≤ w * 1000000000
+  state-low l w s h = omega (arith, state-ceiling l w s, mul-le-mul-right {m = l} {n = 1000} w h)
 
   -- a kind that fits and whose state is below earns no more than the figure
   pub kind-most : (l w s i : ℕ) → i < J .count → J .size i .0 ≤ l → J .size i .1 ≤ w → T (le (own i) s) → J .price i ≤ figure-at J le own l w s

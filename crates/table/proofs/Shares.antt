@@ -1,5 +1,4 @@
 -- The shares of an order of states are monotone and symmetric, so what holds of figures in general holds of theirs.
---
 use mathlib.Core.Path.{_≡_, sym, ap}
 use mathlib.Core.Bool.{Bool}
 use mathlib.Core.List.{List·Memᴰ}
@@ -12,7 +11,7 @@ use Rattle.cutting.specs.Tree.{Rect, Tree, waste, piece, cut, Pieces, Saw, Prop
 use Rattle.cutting.specs.Figure.{figure}
 use Rattle.cutting.proofs.Lists.{range-mem, map-mem, mem-map, filter-mem, mem-filter}
 use Rattle.cutting.proofs.Exact.{figure-upper, figure-attained}
-use Rattle.state_fill.specs.States.{by-state, Order}
+use Rattle.table.specs.States.{by-state, Order}
 
 module _ {P : Type 0} (le : ℕ → ℕ → Bool) (order : Order le) (own : P → ℕ) where
   -- a state is divided into any two that sum to it without a carry

@@ -1,0 +1,61 @@
+-- One weight: plain numbers are an order of states, a tree is within a share exactly if it weighs no more, and the figures over this order
+-- are those by weight.
+use mathlib.Core.Path.{_≡_}
+use Prim.Native.Nat.{ℕ, _+_, _-_, _≤_}
+use native.Mathlib.Omega.{arith}
+use lib.Dec.{leb, leb→le, le→leb}
+use Rattle.cutting.specs.Tree.{Rect, Tree, waste, piece, cut, Pieces, Saw, Shares, Proper, total, Within}
+use Rattle.cutting.specs.Figure.{figure}
+use Rattle.cutting.specs.Saws.{saw}
+use Rattle.cutting.specs.Shares.{by-weight}
+use Rattle.cutting.specs.Job.{Job, pieces, figure-of}
+use Rattle.cutting.proofs.Exact.{figure-upper, figure-attained}
+use Rattle.cutting.proofs.Saws.{saw-proper}
+use Rattle.cutting.proofs.Weights.{within-weight, weight-within}
+use Rattle.table.specs.States.{by-state, Order, figure-at}
+use Rattle.table.proofs.Shares.{split-state, state-split}
+
+pub plain-order : Order leb
+plain-order = record {
+  same = λ s. le→leb s s (omega arith);
+  chain = λ t u s h k. le→leb t s (omega (arith, leb→le t u h, leb→le u s k));
+  less = leb→le;
+  other = λ t u h. le→leb u (t + u) (omega arith);
+  first = λ t s u h k. le→leb t (t + u) (omega arith);
+  sums = λ t s u h k. le→leb (t + u) (s + u) (omega (arith, leb→le t s h));
+  least = λ s. le→leb 0 s (omega arith);
+}
+
+module _ {P : Type 0} (w : P → ℕ) where
+  -- what is within a share weighs no more
+  pub one-within : (t : Tree P) (s : ℕ) → Within (by-state leb w) s t → total w t ≤ s
+  unfolding by-state total
+  one-within waste s h = omega arith
+  one-within (piece p) s h = leb→le (w p) s h
+  one-within (cut d x a b) s h = omega (arith, split-state leb plain-order w d s (h .0) (h .1) .1, one-within a (h .0 .0) (h .2), one-within b (h .0 .1) (h .3))
+
+  pub within-one : (t : Tree P) (s : ℕ) → total w t ≤ s → Within (by-state leb w) s t
+  unfolding by-state total
+  within-one waste s h = tt
+  within-one (piece p) s h = le→leb (w p) s h
+  within-one (cut d x a b) s h =
+      let e : total w a + (s - total w a) ≡ s = omega arith in (
+        (total w a, s - total w a),
+        rw e at (state-split leb plain-order w d (total w a) (s - total w a) (le→leb (total w a) (total w a + (s - total w a)) (omega arith))),
+        within-one a (total w a) (omega arith),
+        within-one b (s - total w a) (omega arith),
+      )
+
+-- shares that have the same trees have the same figures
+pub figure-within : {P S S′ : Type 0} (K : Pieces P) (C : Saw) (proper : Proper C) (H : Shares P S) (H′ : Shares P S′) (r : Rect) (s : S) (s′ : S′)
+    → ((t : Tree P) → Within H s t → Within H′ s′ t) → ((t : Tree P) → Within H′ s′ t → Within H s t) → figure K C H r s ≡ figure K C H′ r s′
+figure-within K C proper H H′ r s s′ to from =
+    let e = figure-attained K C H proper r s in
+    let f = figure-attained K C H′ proper r s′ in
+    omega (arith, e .3, f .3, figure-upper K C H′ proper (e .0) r s′ (e .1) (to (e .0) (e .2)), figure-upper K C H proper (f .0) r s (f .1) (from (f .0) (f .2)))
+
+-- the figures of the scope
+pub figure-one : (J : Job) (weight : ℕ → ℕ) (l w c : ℕ) → figure-at J leb weight l w c ≡ figure-of J weight l w c
+unfolding figure-at figure-of
+figure-one J weight l w c = figure-within (pieces J) (saw 0) (saw-proper 0) (by-state leb weight) (by-weight weight) (l, w) c c
+    (λ t h. weight-within weight t c (one-within weight t c h)) (λ t h. within-one weight t c (within-weight weight t c h))
