@@ -2,6 +2,7 @@
 use mathlib.Core.Path.{_≡_, refl, sym, _∙_, ap, ap₂}
 use mathlib.Core.List.{List}
 use Prim.Native.Nat.{ℕ}
+use native.Mathlib.Omega.{arith}
 use Rattle.cutting.specs.Job.{Job}
 use Rattle.cutting.specs.Promises.{Recursion, NormalSums, FloorFigures}
 use Rattle.cutting.proofs.Promises.{recursion, normal-listed, floor-figures}
@@ -9,11 +10,14 @@ use Rattle.refusal.specs.Refusals.{next, first-refusal, by-check, outcome-by}
 use Rattle.refusal.specs.declared.Refusal.{Refusal}
 use Rattle.refusal.specs.declared.Checked.{Checked}
 use Rattle.refusal.specs.declared.Checked.the-variants.{Passed, Refused}
-use Rattle.job.specs.Block.{job-checks}
-use Rattle.job.specs.Weights.{block-job, weight-in, weight-checks, Accepted}
+use Rattle.job.specs.declared.JobAnswer.{JobAnswer}
+use Rattle.job.specs.declared.WeightsAnswer.the-variants as weights
+use Rattle.job.specs.Block.{job-checks, read-of, job-of}
+use Rattle.job.specs.Weights.{block-job, weight-in, weight-checks, weights-answer, Accepted}
 use Rattle.job.proofs.Checks.{first-append, passed-both}
-use Rattle.job.proofs.Weights.{accepted-in-range}
-use Rattle.bound.specs.Bound.{Memory, Leaves, Bounded, answer-by, memory-checks, report-of, report-values, accept-verdict, bound-verdict, bound-answer, bound-outcome, bound-said, BoundSaid}
+use Rattle.job.proofs.Read.{read-in-range, answered}
+use Rattle.job.proofs.Weights.{capacity-answered, weights-passed, accepted-in-range}
+use Rattle.bound.specs.Bound.{Memory, Leaves, Weighed, Bounded, answer-by, memory-checks, report-of, report-values, accept-verdict, bound-verdict, bound-answer, bound-outcome, bound-said, BoundSaid}
 use Rattle.bound.specs.declared.BoundReport.{BoundReport}
 use Rattle.bound.specs.declared.BoundAnswer.{BoundAnswer}
 use Rattle.bound.specs.declared.BoundAnswer.the-variants as answer
@@ -28,6 +32,14 @@ module _ (J : Job) (weight : ℕ → ℕ) (m : Memory) where
 -- the verdict of job and weights: the job's, and where it passes the weights'
 pub accept-by : (s ws : List ℕ) {v w : Checked} → first-refusal (job-checks s) ≡ v → first-refusal (weight-checks (block-job s) ws) ≡ w → accept-verdict s ws ≡ next v w
 accept-by s ws e f = first-append (job-checks s) (weight-checks (block-job s) ws) ∙ ap₂ next e f
+
+-- what the bound of a job asks, from the answers of the job and of its weights
+pub weighed : (s ws : List ℕ) {a : JobAnswer} {q : ℕ} → a ≡ read-of s → a .verdict ≡ Passed → weights-answer (job-of (a .job)) ws ≡ weights.Capacity q → Weighed (job-of (a .job)) ws q
+weighed s ws {a} {q} e p f =
+    let j = answered s e p in
+    let k = capacity-answered (job-of (a .job)) ws q f in
+    let n = weights-passed (job-of (a .job)) ws (k .0) in
+    record { in-range = rw (j .1) (read-in-range s (j .0)); weights = omega (arith, n .0); total = k .1; most = omega (arith, k .1, n .1) }
 
 -- an answer's number and values are those of its verdict
 said-by : (v : Checked) (b : BoundReport) → bound-outcome (answer-by v b) ≡ outcome-by v (report-values b)

@@ -1,5 +1,4 @@
 -- What the storage checks decide: a short list, a short table, or neither, and what lent memory then holds.
--- Assumes nothing.
 use mathlib.Core.Path.{_≡_, refl, sym, _∙_, ap}
 use mathlib.Core.Bool.{Bool, true, false, _||_}
 use mathlib.Core.List.{[], _∷_}
@@ -34,7 +33,7 @@ report-is a b c d = cc
 pub counts-are : {a b p r : ℕ} → a ≡ p → b ≡ r → _≡_ {A = Counts} (record { lengths = a; widths = b }) (record { lengths = p; widths = r })
 counts-are e f = cc
 
-module _ (J : Job) (weight : ℕ → ℕ) (old new : Memory) where
+module _ (J : Job) (weight : ℕ → ℕ) (old : Memory) where
   -- whether a list is short
   abbrev short : Bool
   short = ltb (length (old .lengths)) (J .plate .0 + 1) || ltb (length (old .widths)) (J .plate .1 + 1)
@@ -54,25 +53,23 @@ module _ (J : Job) (weight : ℕ → ℕ) (old new : Memory) where
       ∙ ap (λ x. next (refuse-when b ListShort) (next (refuse-when x (TableShort (words-needed J (capacity J weight)))) Passed)) f
 
   -- a list is short: refusal 19, and nothing is changed
-  lists-short : short ≡ true → new .lengths ≡ old .lengths → new .widths ≡ old .widths → new .table ≡ old .table → Bounded J weight old new (answer.Refused ListShort)
-  lists-short e l w t = record {
+  lists-short : short ≡ true → Bounded J weight old old (answer.Refused ListShort)
+  lists-short e = record {
     answer = sym (ap (λ v. answer-by v (report-of J weight)) (storage-by true small e refl));
     memory = record {
-      lengths = l ∙ sym (ap (λ v. list-after v (normal-positions J Length) (old .lengths)) (lists-by true e));
-      widths = w ∙ sym (ap (λ v. list-after v (normal-positions J Width) (old .widths)) (lists-by true e));
-      table = rw (storage-by true small e refl) t;
+      lengths = sym (ap (λ v. list-after v (normal-positions J Length) (old .lengths)) (lists-by true e));
+      widths = sym (ap (λ v. list-after v (normal-positions J Width) (old .widths)) (lists-by true e));
+      table = rw (storage-by true small e refl) refl;
     };
   }
 
-  pub lengths-short : length (old .lengths) ≤ J .plate .0 → new .lengths ≡ old .lengths → new .widths ≡ old .widths → new .table ≡ old .table
-      → Bounded J weight old new (answer.Refused ListShort)
-  lengths-short h l w t = lists-short (simp (lt-ltb (length (old .lengths)) (J .plate .0 + 1) (omega arith))) l w t
+  pub lengths-short : length (old .lengths) ≤ J .plate .0 → Bounded J weight old old (answer.Refused ListShort)
+  lengths-short h = lists-short (simp (lt-ltb (length (old .lengths)) (J .plate .0 + 1) (omega arith)))
 
-  pub widths-short : length (old .widths) ≤ J .plate .1 → new .lengths ≡ old .lengths → new .widths ≡ old .widths → new .table ≡ old .table
-      → Bounded J weight old new (answer.Refused ListShort)
-  widths-short h l w t = lists-short (or-true (ltb (length (old .lengths)) (J .plate .0 + 1)) (lt-ltb (length (old .widths)) (J .plate .1 + 1) (omega arith))) l w t
+  pub widths-short : length (old .widths) ≤ J .plate .1 → Bounded J weight old old (answer.Refused ListShort)
+  widths-short h = lists-short (or-true (ltb (length (old .lengths)) (J .plate .0 + 1)) (lt-ltb (length (old .widths)) (J .plate .1 + 1) (omega arith)))
 
-  module _ (long : J .plate .0 < length (old .lengths)) (wide : J .plate .1 < length (old .widths))
+  module _ (new : Memory) (long : J .plate .0 < length (old .lengths)) (wide : J .plate .1 < length (old .widths))
       (lengths : new .lengths ≡ over (normal-positions J Length) (old .lengths)) (widths : new .widths ≡ over (normal-positions J Width) (old .widths)) where
     none-short : short ≡ false
     none-short = simp (le-ltb (length (old .lengths)) (J .plate .0 + 1) (omega arith), le-ltb (length (old .widths)) (J .plate .1 + 1) (omega arith))

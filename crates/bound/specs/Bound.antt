@@ -9,7 +9,7 @@ use lib.ListN.{length, take}
 use Rattle.cutting.specs.declared.Direction.{Direction}
 use Rattle.cutting.specs.declared.Direction.the-variants.{Length, Width}
 use Rattle.cutting.specs.Lists.{over}
-use Rattle.cutting.specs.Job.{Job, capacity, figure-of, bound-of, normal-positions}
+use Rattle.cutting.specs.Job.{Job, InRange, capacity, figure-of, bound-of, normal-positions}
 use Rattle.cutting.specs.Promises.{NoneAbove, MostWithin}
 use Rattle.refusal.specs.Refusals.{Check, Outcome, next, first-refusal, by-check, refused-as, outcome-by}
 use Rattle.refusal.specs.declared.Checked.{Checked}
@@ -78,6 +78,13 @@ pub record Leaves (before : Checked) (J : Job) (weight : ℕ → ℕ) (old new :
   pub lengths : new .lengths ≡ list-after (next before (first-refusal (list-check J (length (old .lengths)) (length (old .widths)) ∷ []))) (normal-positions J Length) (old .lengths)
   pub widths : new .widths ≡ list-after (next before (first-refusal (list-check J (length (old .lengths)) (length (old .widths)) ∷ []))) (normal-positions J Width) (old .widths)
   pub table : TableAfter (next before (first-refusal (memory-checks J weight old))) J weight (old .table) (new .table)
+
+-- a job that was read, and weights that were accepted for it with the capacity q
+pub record Weighed (J : Job) (ws : List ℕ) (q : ℕ) : Type 0 where
+  pub in-range : InRange J
+  pub weights : J .count ≤ length ws
+  pub total : q ≡ capacity J (weight-in ws)
+  pub most : q ≤ 4095
 
 -- the answer of a job and weights that were accepted, and what it leaves in lent memory
 pub record Bounded (J : Job) (weight : ℕ → ℕ) (old new : Memory) (r : BoundAnswer) : Type 0 where

@@ -9,12 +9,12 @@ ghost use Prim.Native.Nat.{_+_, _*_, _≤_, _<_};
 ghost use lib.ListN.{length};
 ghost use Rattle.cutting.specs.declared.Direction.the-variants.{Length, Width};
 ghost use Rattle.cutting.specs.Lists.{over};
-ghost use Rattle.cutting.specs.Job.{InRange, capacity, normal-positions};
+ghost use Rattle.cutting.specs.Job.{InRange, normal-positions};
 ghost use Rattle.cutting.specs.Promises.{Recursion, NormalSums, FloorFigures};
 ghost use Rattle.job.specs.Block.{job-of};
 ghost use Rattle.job.specs.Weights.{block-job, weight-in, Accepted};
 ghost use Rattle.table.specs.Table.{words-needed, Figures, Kept};
-ghost use Rattle.bound.specs.Bound.{counts-of, Begins, lent, Bounded, Leaves, accept-verdict, bound-answer, bound-outcome, bound-said, BoundSaid};
+ghost use Rattle.bound.specs.Bound.{counts-of, Begins, lent, Weighed, Bounded, Leaves, accept-verdict, bound-answer, bound-outcome, bound-said, BoundSaid};
 
 // What the bound call reports: the bound, the capacity Q, and the numbers p and r of normal lengths and widths.
 pub struct BoundReport {
@@ -130,7 +130,7 @@ pub fn bound_of_job(
     widths: &mut [u16],
     table: &mut [u64],
 ) -> BoundAnswer
-    requires { ⌜ InRange (job-of job) × (job .count ≤ length (now weights)) × (q ≡ capacity (job-of job) (weight-in (now weights))) × (q ≤ 4095) ⌝ }
+    requires { ⌜ Weighed (job-of job) (now weights) q ⌝ }
     ensures { λ r. ⌜ Bounded (job-of job) (weight-in (now (weights .entry)))
         (lent (now (lengths .entry)) (now (widths .entry)) (now (table .entry)))
         (lent (now (lengths .exit)) (now (widths .exit)) (now (table .exit))) r ⌝ }

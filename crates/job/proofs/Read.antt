@@ -83,7 +83,7 @@ pair-passed s p i h =
     let q = cons-passed _ _ _ (each-passed (pair-checks s) 0 (count-at s) i (job-passed s p .2) (omega arith) (omega (arith, h))) in
     (ltb-false 1000000 (price-at s i) (q .0), ltb-false 255 (demand-at s i) (cons-passed _ _ _ (q .1) .0))
 
--- the job that was read from a block that passed is in document 01's ranges
+-- the job that was read from a block that passed is in the scope's ranges
 pub read-in-range : (s : List ℕ) → first-refusal (job-checks s) ≡ Passed → InRange (job-of (record-of s))
 unfolding record-of
 read-in-range s p =

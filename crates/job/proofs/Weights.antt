@@ -97,6 +97,6 @@ pub accepted-weights : (s ws : List ℕ) → Accepted s ws → (length ws ≡ co
 unfolding record-of
 accepted-weights s ws p = weights-passed (block-job s) ws (accepted-both s ws p .1)
 
--- the job of an accepted block is in document 01's ranges
+-- the job of an accepted block is in the scope's ranges
 pub accepted-in-range : (s ws : List ℕ) → Accepted s ws → InRange (block-job s)
 accepted-in-range s ws p = read-in-range s (accepted-both s ws p .0)

@@ -1,12 +1,11 @@
 -- `bound::bound` meets its contract. Assumes nothing.
 use mathlib.Core.Path.{sym, _∙_}
-use native.Mathlib.Omega.{arith}
 use denote.Ref.{now}
 use Rattle.job.specs.Block.{job-of}
 use Rattle.job.proofs.Read.{read-in-range, answered, refused}
-use Rattle.job.proofs.Weights.{capacity-answered, refusal-answered, weights-passed}
+use Rattle.job.proofs.Weights.{capacity-answered, refusal-answered}
 use Rattle.bound.specs.Bound.{lent}
-use Rattle.bound.proofs.Calls.{job-refused, weights-refused, accepted}
+use Rattle.bound.proofs.Calls.{weighed, job-refused, weights-refused, accepted}
 use borrow.Author.Needs.{needs}
 use Rattle.bound.proofs.bound.Statement.{statement}
 use Rattle.bound.proofs.bound.Tie as tie
@@ -35,12 +34,7 @@ enum-known-accepted-2 : tie.Need-enum-known-accepted-2
 enum-known-accepted-2 c = search needs
 
 bound-of-job-requires : tie.Need-bound-of-job-requires
-bound-of-job-requires c κs =
-    let a = answered (now (c .before .before .before .before .before .before .before .before .before .before .before .before .before .before .before .before .args .block)) (c .before .before .before .before .before .before .before .before .before .before .read-job .ensures .0) (c .before .before .before .before .before .before .before .before .enum-told .given .1) in
-    let J = job-of (c .before .before .before .before .before .before .before .before .before .before .read-job .result .job) in
-    let k = capacity-answered J (now (c .before .before .before .before .before .before .before .before .before .before .before .before .before .before .before .before .args .weights)) _ (sym (c .before .before .before .before .before .before .check-weights .ensures .0) ∙ c .before .before .before .before .accepted2 .given .1) in
-    let n = weights-passed J (now (c .before .before .before .before .before .before .before .before .before .before .before .before .before .before .before .before .args .weights)) (k .0) in
-    (rw (a .1) (read-in-range (now (c .before .before .before .before .before .before .before .before .before .before .before .before .before .before .before .before .args .block)) (a .0)), omega (arith, n .0), k .1, omega (arith, k .1, n .1))
+bound-of-job-requires c κs = weighed (now (c .before .before .before .before .before .before .before .before .before .before .before .before .before .before .before .before .args .block)) (now (c .before .before .before .before .before .before .before .before .before .before .before .before .before .before .before .before .args .weights)) (c .before .before .before .before .before .before .before .before .before .before .read-job .ensures .0) (c .before .before .before .before .before .before .before .before .enum-told .given .1) (sym (c .before .before .before .before .before .before .check-weights .ensures .0) ∙ c .before .before .before .before .accepted2 .given .1)
 
 returns-2 : tie.Need-returns-2
 returns-2 c =

@@ -17,13 +17,13 @@ cast-if1 : tie.Need-cast-if1
 cast-if1 c = search needs
 
 returns : tie.Need-returns
-returns c = lengths-short _ _ _ _ (c .if1 .taken) refl refl refl
+returns c = lengths-short _ _ _ (c .if1 .taken)
 
 cast-if2 : tie.Need-cast-if2
 cast-if2 c = search needs
 
 returns-2 : tie.Need-returns-2
-returns-2 c = widths-short _ _ _ _ (c .if2 .taken) refl refl refl
+returns-2 c = widths-short _ _ _ (c .if2 .taken)
 
 list-positions-requires : tie.Need-list-positions-requires
 list-positions-requires c κs = search needs
@@ -33,7 +33,7 @@ words-requires c κs =
     let h = c .before .before .before .before .before .before .before .before .before .before .before .before .before .pre in
     let J = job-of (c .before .before .before .before .before .before .before .before .before .before .before .before .before .args .job) in
     let n = c .before .before .before .before .list-positions .ensures .0 in
-    (omega (arith, ap (λ (x : Counts). x .lengths) n, count-most J (h .0) Length), omega (arith, ap (λ (x : Counts). x .widths) n, count-most J (h .0) Width), omega (arith, h .3))
+    (omega (arith, ap (λ (x : Counts). x .lengths) n, count-most J (h .in-range) Length), omega (arith, ap (λ (x : Counts). x .widths) n, count-most J (h .in-range) Width), omega (arith, h .most))
 
 same-length : tie.Need-same-length
 same-length c = search needs
@@ -46,7 +46,7 @@ returns-3 c =
     let h = c .before .before .before .before .before .before .before .before .before .before .before .before .before .before .before .pre in
     let s = c .before .before .before .before .before .before .list-positions .ensures in
     let n = c .before .words .ensures in
-    table-short _ _ _ _ (c .before .before .before .before .before .before .before .before .before .before .if1 .left) (c .before .before .before .before .before .before .before .before .before .if2 .left) (s .1) (s .2) _ (words-are (job-of (c .before .before .before .before .before .before .before .before .before .before .before .before .before .before .before .args .job)) (s .0) n (h .2)) (c .if3 .taken) refl
+    table-short _ _ _ _ (c .before .before .before .before .before .before .before .before .before .before .if1 .left) (c .before .before .before .before .before .before .before .before .before .if2 .left) (s .1) (s .2) _ (words-are (job-of (c .before .before .before .before .before .before .before .before .before .before .before .before .before .before .before .args .job)) (s .0) n (h .total)) (c .if3 .taken) refl
 
 fill-table-requires : tie.Need-fill-table-requires
 fill-table-requires c κs =
@@ -54,7 +54,7 @@ fill-table-requires c κs =
     let s = c .before .before .before .before .before .before .before .before .before .list-positions .ensures in
     let J = job-of (c .before .before .before .before .before .before .before .before .before .before .before .before .before .before .before .before .before .before .args .job) in
     let n = words-are J (s .0) (c .before .before .before .before .words .ensures) refl in
-    (h .0, h .1, h .3, s .0, begins J Length (now (c .before .before .before .before .before .before .before .before .before .before .before .before .before .before .before .before .before .before .args .lengths)) (s .1), begins J Width (now (c .before .before .before .before .before .before .before .before .before .before .before .before .before .before .before .before .before .before .args .widths)) (s .2), omega (arith, n, c .before .before .before .if3 .left))
+    (h .in-range, h .weights, h .most, s .0, begins J Length (now (c .before .before .before .before .before .before .before .before .before .before .before .before .before .before .before .before .before .before .args .lengths)) (s .1), begins J Width (now (c .before .before .before .before .before .before .before .before .before .before .before .before .before .before .before .before .before .before .args .widths)) (s .2), omega (arith, n, c .before .before .before .if3 .left))
 
 sub-last : tie.Need-sub-last
 sub-last c =
@@ -64,7 +64,7 @@ sub-last c =
 mul-t14 : tie.Need-mul-t14
 mul-t14 c =
     let J = job-of (c .before .before .before .before .before .before .before .before .before .before .before .before .before .before .before .before .before .before .before .before .before .args .job) in
-    record { fits = omega (arith, words-are J (c .before .before .before .before .before .before .before .before .before .before .before .before .list-positions .ensures .0) (c .before .before .before .before .before .before .before .words .ensures) refl, words-most J (c .before .before .before .before .before .before .before .before .before .before .before .before .before .before .before .before .before .before .before .before .before .pre .0) (c .before .before .before .before .before .before .before .before .before .before .before .before .before .before .before .before .before .before .before .before .before .args .q) (c .before .before .before .before .before .before .before .before .before .before .before .before .before .before .before .before .before .before .before .before .before .pre .3)) }
+    record { fits = omega (arith, words-are J (c .before .before .before .before .before .before .before .before .before .before .before .before .list-positions .ensures .0) (c .before .before .before .before .before .before .before .words .ensures) refl, words-most J (c .before .before .before .before .before .before .before .before .before .before .before .before .before .before .before .before .before .before .before .before .before .pre .in-range) (c .before .before .before .before .before .before .before .before .before .before .before .before .before .before .before .before .before .before .before .before .before .args .q) (c .before .before .before .before .before .before .before .before .before .before .before .before .before .before .before .before .before .before .before .before .before .pre .most)) }
 
 slice-read-t23 : tie.Need-slice-read-t23
 slice-read-t23 c =
@@ -86,12 +86,12 @@ returns-4 c =
     let J = job-of (c .before .before .before .before .before .before .before .before .before .before .before .before .before .before .before .before .before .before .before .before .before .before .args .job) in
     let h = c .before .before .before .before .before .before .before .before .before .before .before .before .before .before .before .before .before .before .before .before .before .before .pre in
     let s = c .before .before .before .before .before .before .before .before .before .before .before .before .before .list-positions .ensures in
-    let n = words-are J (s .0) (c .before .before .before .before .before .before .before .before .words .ensures) (h .2) in
+    let n = words-are J (s .0) (c .before .before .before .before .before .before .before .before .words .ensures) (h .total) in
     let f = c .before .before .before .fill-table .ensures in
-    let g = rw (h .2) at (f .0) in
+    let g = rw (h .total) at (f .0) in
     reported _ _ _ _ (c .before .before .before .before .before .before .before .before .before .before .before .before .before .before .before .before .before .if1 .left) (c .before .before .before .before .before .before .before .before .before .before .before .before .before .before .before .before .if2 .left) (s .1) (s .2) _
-    (report-is (ap (λ k. getD (c .before .before .before .fill-table .last .1 .1 .1 .1 .1 .1 .0) (k - 1) 0) n ∙ bound-last J _ (h .0) (c .before .before .before .fill-table .last .1 .1 .1 .1 .1 .1 .0) g) (h .2) (ap (λ (x : Counts). x .lengths) (s .0)) (ap (λ (x : Counts). x .widths) (s .0)))
-    (omega (arith, n, c .before .before .before .before .before .before .before .if3 .left)) g (rw (h .2) at (f .1))
+    (report-is (ap (λ k. getD (c .before .before .before .fill-table .last .1 .1 .1 .1 .1 .1 .0) (k - 1) 0) n ∙ bound-last J _ (h .in-range) (c .before .before .before .fill-table .last .1 .1 .1 .1 .1 .1 .0) g) (h .total) (ap (λ (x : Counts). x .lengths) (s .0)) (ap (λ (x : Counts). x .widths) (s .0)))
+    (omega (arith, n, c .before .before .before .before .before .before .before .if3 .left)) g (rw (h .total) at (f .1))
 
 pub bound-of-job-spec : {M : Type 1} → statement M
 bound-of-job-spec =

@@ -4,9 +4,10 @@ use native.Mathlib.Omega.{arith}
 use denote.Ref.{now}
 use Rattle.job.specs.Block.{job-of}
 use Rattle.job.proofs.Read.{read-in-range, answered, refused}
-use Rattle.job.proofs.Weights.{capacity-answered, refusal-answered, weights-passed}
+use Rattle.job.proofs.Weights.{capacity-answered, refusal-answered}
 use Rattle.plan.specs.declared.PlanAnswer.{PlanAnswer}
 use Rattle.bound.specs.Bound.{lent}
+use Rattle.bound.proofs.Calls.{weighed}
 use Rattle.certificate.specs.declared.Certificate.the-variants.{Best}
 use Rattle.certificate.specs.Certificate.{handed-on, weights-handed-on, bound-handed-on, compared}
 use Rattle.certificate.proofs.Calls.{job-refused, weights-refused, plan-refused, storage-refused, certified, profit-most}
@@ -81,11 +82,7 @@ returns-3 c =
     (plan-refused (now (c .before .before .before .before .before .before .before .before .before .before .before .before .before .before .before .before .before .before .before .args .block)) (now (c .before .before .before .before .before .before .before .before .before .before .before .before .before .before .before .before .before .before .before .args .weights)) (now (c .before .before .before .before .before .before .before .before .before .before .before .before .before .before .before .before .before .before .before .args .kinds)) (now (c .before .before .before .before .before .before .before .before .before .before .before .before .before .before .before .before .before .before .before .args .operands)) m (a .0) (rw (a .1) at (k .0)) _ (ap (λ (x : PlanAnswer). x .verdict) (sym p) ∙ v))
 
 bound-of-job-requires : tie.Need-bound-of-job-requires
-bound-of-job-requires c κs =
-    let a = answered (now (c .before .before .before .before .before .before .before .before .before .before .before .before .before .before .before .before .before .before .before .before .before .before .args .block)) (c .before .before .before .before .before .before .before .before .before .before .before .before .before .before .read-job .ensures .0) (c .before .before .before .before .before .before .before .before .before .before .before .before .enum-told .given .1) in
-    let k = capacity-answered (job-of (c .before .before .before .before .before .before .before .before .before .before .before .before .before .before .read-job .result .job)) (now (c .before .before .before .before .before .before .before .before .before .before .before .before .before .before .before .before .before .before .before .before .before .before .args .weights)) _ (sym (c .before .before .before .before .before .before .before .before .before .before .check-weights .ensures .0) ∙ c .before .before .before .before .before .before .before .before .accepted .given .1) in
-    let n = weights-passed (job-of (c .before .before .before .before .before .before .before .before .before .before .before .before .before .before .read-job .result .job)) (now (c .before .before .before .before .before .before .before .before .before .before .before .before .before .before .before .before .before .before .before .before .before .before .args .weights)) (k .0) in
-    (rw (a .1) (read-in-range (now (c .before .before .before .before .before .before .before .before .before .before .before .before .before .before .before .before .before .before .before .before .before .before .args .block)) (a .0)), omega (arith, n .0), k .1, omega (arith, k .1, n .1))
+bound-of-job-requires c κs = weighed (now (c .before .before .before .before .before .before .before .before .before .before .before .before .before .before .before .before .before .before .before .before .before .before .args .block)) (now (c .before .before .before .before .before .before .before .before .before .before .before .before .before .before .before .before .before .before .before .before .before .before .args .weights)) (c .before .before .before .before .before .before .before .before .before .before .before .before .before .before .read-job .ensures .0) (c .before .before .before .before .before .before .before .before .before .before .before .before .enum-told .given .1) (sym (c .before .before .before .before .before .before .before .before .before .before .check-weights .ensures .0) ∙ c .before .before .before .before .before .before .before .before .accepted .given .1)
 
 enum-known-found : tie.Need-enum-known-found
 enum-known-found c = search needs
