@@ -1,6 +1,5 @@
 -- The calls on blocks: what reading the job gives, a plan block's answers one by one, and the theorem about trees for both calls.
--- Assumes nothing.
-use mathlib.Core.Path.{_≡_, _∙_, sym, ap, subst}
+use mathlib.Core.Path.{_≡_, _∙_, refl, sym, ap, subst}
 use mathlib.Core.List.{List}
 use Prim.Native.Nat.{ℕ, _+_, _*_, _-_, _≤_, _<_}
 use native.Mathlib.Omega.{arith}
@@ -13,6 +12,7 @@ use Rattle.cutting.proofs.Lists.{range-length}
 use Rattle.refusal.specs.Refusals.{first-refusal}
 use Rattle.refusal.specs.declared.Refusal.{Refusal}
 use Rattle.refusal.specs.declared.Refusal.the-variants.{PlanLength, NodeCount}
+use Rattle.refusal.specs.declared.Checked.{Checked}
 use Rattle.refusal.specs.declared.Checked.the-variants.{Passed, Refused}
 use Rattle.job.specs.declared.JobRecord.{JobRecord}
 use Rattle.job.specs.declared.JobAnswer.{JobAnswer}
@@ -22,7 +22,7 @@ use Rattle.job.proofs.Read as read
 use Rattle.plan.specs.declared.PlanAnswer.{PlanAnswer}
 use Rattle.plan.specs.Plan.{plan-answer, unreported, refused, proceed}
 use Rattle.plan.specs.Trees.{ChecksPlan}
-use Rattle.plan.specs.Calls.{arrays-answer, plan-count, plan-kinds, plan-operands, block-checks, plan-block-answer, block-answer, JobPasses, BlockPasses}
+use Rattle.plan.specs.Calls.{arrays-answer, plan-count, plan-kinds, plan-operands, block-checks, plan-block-answer, block-answer, JobPasses, BlockPasses, plan-outcome, said-after, arrays-said, block-said}
 use Rattle.plan.proofs.Whole.{many-refused}
 use Rattle.plan.proofs.Plans.{plans-checked, checked-after}
 
@@ -64,8 +64,8 @@ module _ (J : Job) (p : List ℕ) where
     block-many m = block-on ∙ many-refused J (plan-kinds p) (plan-operands p) (kinds-length ∙ sym operands-length) (omega (arith, kinds-length, m)) (omega (arith, kinds-length, m))
 
 -- both calls pass exactly for the plans of trees
-arrays-checked : (s ks os : List ℕ) → ChecksPlan (JobPasses s) (block-job s) ks os (arrays-answer s ks os)
-arrays-checked s ks os = checked-after (first-refusal (job-checks s)) (λ p. plans-checked (block-job s) (read.read-in-range s p .kinds .1) ks os) (λ a. (a, tt)) (λ v b. v)
+arrays-checked : (s kinds operands : List ℕ) → ChecksPlan (JobPasses s) (block-job s) kinds operands (arrays-answer s kinds operands)
+arrays-checked s kinds operands = checked-after (first-refusal (job-checks s)) (λ p. plans-checked (block-job s) (read.read-in-range s p .kinds .1) kinds operands) (λ a. (a, tt)) (λ v b. v)
 
 block-checked : (s p : List ℕ) → ChecksPlan (JobPasses s × BlockPasses p) (block-job s) (plan-kinds p) (plan-operands p) (block-answer s p)
 unfolding plan-block-answer
@@ -73,9 +73,28 @@ block-checked s p = checked-after (first-refusal (job-checks s))
     (λ v. checked-after (first-refusal (block-checks p)) (λ w. plans-checked (block-job s) (read.read-in-range s v .kinds .1) (plan-kinds p) (plan-operands p)) (λ a. (a, tt)) (λ v b. v))
     (λ a. (a .0, a .1)) (λ v b. (v, b))
 
--- so an answer that equals the definition meets the whole contract
-pub arrays-met : (s ks os : List ℕ) {r : PlanAnswer} → r ≡ arrays-answer s ks os → (r ≡ arrays-answer s ks os) × ChecksPlan (JobPasses s) (block-job s) ks os r
-arrays-met s ks os e = (e, subst (λ (a : PlanAnswer). ChecksPlan (JobPasses s) (block-job s) ks os a) (sym e) (arrays-checked s ks os))
+-- the number and values of an answer that follows a check
+outcome-after : (v : Checked) (a : PlanAnswer) → plan-outcome (proceed v a) ≡ said-after v a
+outcome-after Passed a = refl
+outcome-after (Refused r) a = refl
 
-pub block-met : (s p : List ℕ) {r : PlanAnswer} → r ≡ block-answer s p → (r ≡ block-answer s p) × ChecksPlan (JobPasses s × BlockPasses p) (block-job s) (plan-kinds p) (plan-operands p) r
-block-met s p e = (e, subst (λ (a : PlanAnswer). ChecksPlan (JobPasses s × BlockPasses p) (block-job s) (plan-kinds p) (plan-operands p) a) (sym e) (block-checked s p))
+-- so an answer that equals the definition meets the whole contract
+pub arrays-met : (s kinds operands : List ℕ) {r : PlanAnswer} → r ≡ arrays-answer s kinds operands
+    → (r ≡ arrays-answer s kinds operands) × ((plan-outcome r ≡ arrays-said s kinds operands) × ChecksPlan (JobPasses s) (block-job s) kinds operands r)
+arrays-met s kinds operands e = (
+  e,
+  (
+    ap (λ a. plan-outcome a) e ∙ outcome-after (first-refusal (job-checks s)) (plan-answer (block-job s) kinds operands),
+    subst (λ (a : PlanAnswer). ChecksPlan (JobPasses s) (block-job s) kinds operands a) (sym e) (arrays-checked s kinds operands),
+  ),
+)
+
+pub block-met : (s p : List ℕ) {r : PlanAnswer} → r ≡ block-answer s p
+    → (r ≡ block-answer s p) × ((plan-outcome r ≡ block-said s p) × ChecksPlan (JobPasses s × BlockPasses p) (block-job s) (plan-kinds p) (plan-operands p) r)
+block-met s p e = (
+  e,
+  (
+    ap (λ a. plan-outcome a) e ∙ outcome-after (first-refusal (job-checks s)) (plan-block-answer (block-job s) p),
+    subst (λ (a : PlanAnswer). ChecksPlan (JobPasses s × BlockPasses p) (block-job s) (plan-kinds p) (plan-operands p) a) (sym e) (block-checked s p),
+  ),
+)

@@ -1,5 +1,4 @@
 -- What a tree adds to a report, node by node, is the tree's own profit, copies and areas.
--- Assumes nothing.
 use mathlib.Core.Path.{_≡_, _∙_, refl, sym}
 use mathlib.Core.List.{List}
 use Prim.Native.Nat.{ℕ, _+_, _-_, _<_}

@@ -1,6 +1,4 @@
-pub mod Product
-pub mod Nodes
-pub mod Steps
+pub mod Walk
 pub mod Whole
 pub mod Counts
 pub mod Preorder

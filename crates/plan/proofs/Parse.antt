@@ -1,15 +1,13 @@
 -- A walk that passes has read the nodes of a guillotine tree that keeps every demand.
--- Assumes nothing.
-use mathlib.Core.Path.{_≡_, _∙_, refl, sym, ap, ap₂, subst}
-use mathlib.Core.Bool.{true, false}
+use mathlib.Core.Path.{_≡_, _∙_, refl, sym, ap, subst}
+use mathlib.Core.Bool.{true}
 use mathlib.Core.List.{List, [], _∷_, _++_}
 use Prim.Native.Nat.{ℕ, zero, suc, _+_, _-_, _≤_, _<_}
 use native.Mathlib.Decide.{ℕ-discrete}
 use native.Mathlib.Omega.{arith}
-use lib.Dec.{T, ltb, eqb}
+use lib.Dec.{T}
 use lib.ListN.{length, getD, set, length-append, length-set}
 use lib.Seq.{getD-set-same, getD-set-other}
-use borrow.Author.Tests.{leb-false, ltb-false, eqb-true, not-false}
 use Rattle.cutting.specs.declared.Direction.{Direction}
 use Rattle.cutting.specs.declared.Direction.the-variants.{Length, Width}
 use Rattle.cutting.specs.declared.Node.{Node}
@@ -19,18 +17,16 @@ use Rattle.cutting.specs.Preorder.{preorder, node-count}
 use Rattle.cutting.specs.Pieces.{fits-in}
 use Rattle.cutting.specs.Job.{Job, GuillotineTree}
 use Rattle.cutting.proofs.Pieces.{true-fits-in}
-use Rattle.refusal.specs.Refusals.{first-refusal}
 use Rattle.refusal.specs.declared.Refusal.{Refusal}
 use Rattle.refusal.specs.declared.Checked.{Checked}
 use Rattle.refusal.specs.declared.Checked.the-variants.{Passed, Refused}
-use Rattle.job.proofs.Checks.{cons-passed}
+use Rattle.node.proofs.Nodes.{pair-of, NodeFits, node-passed}
 use Rattle.plan.specs.declared.Report.{Report}
 use Rattle.plan.specs.declared.PlanAnswer.{PlanAnswer}
-use Rattle.plan.specs.Plan.{node-of, unnumbered, misplaced, misfit, excess, node-checks, proceed, walk}
-use Rattle.plan.proofs.Nodes.{Read, is-waste, is-piece, is-length, is-width, read, inside-range}
+use Rattle.plan.specs.Plan.{node-of, proceed, walk}
 use Rattle.plan.proofs.Counts.{added}
-use Rattle.plan.proofs.Preorder.{pair-of, written, written-cut, count-cut}
-use Rattle.plan.proofs.Trees.{NodeFits, node-walks}
+use Rattle.plan.proofs.Preorder.{written, written-cut, count-cut}
+use Rattle.plan.proofs.Trees.{node-walks}
 
 -- what follows from a refusal that passed
 pub no-pass : {r : Refusal} {A : Type 0} → Refused r ≡ Passed → A
@@ -44,24 +40,6 @@ proceed-passed (Refused r) a e = no-pass e
 -- a piece that fits is no larger
 fits-true : (q r : Rect) → fits-in q r ≡ true → (q .0 ≤ r .0) × (q .1 ≤ r .1)
 fits-true q r e = true-fits-in q r (subst T (sym e) tt)
-
--- a kind and an operand whose checks passed are those of a node that fits
-node-read : (J : Job) (c : List ℕ) (r : Rect) (k o : ℕ) (n : Node) → Read k o n → ltb 3 k ≡ false → unnumbered J n ≡ false → misplaced r n o ≡ false → misfit J r n ≡ false → excess J c n ≡ false
-    → ((k, o) ≡ pair-of n) × NodeFits J c r n
-node-read J c r k o Waste (is-waste e) a b d f g = (ap₂ (λ x y. (x, y)) e (eqb-true o 0 (not-false (eqb o 0) d)), tt)
-node-read J c r k o (Piece i) (is-piece e) a b d f g =
-    (ap (λ x. (x, o)) e, (leb-false (J .count) o b, not-false (fits-in (J .size o) r) f, leb-false (J .demand o) (getD c o 0) g))
-node-read J c r k o (Cut Length x) (is-length e) a b d f g = (ap (λ x. (x, o)) e, inside-range (r .0) o d)
-node-read J c r k o (Cut Width x) (is-width h) a b d f g = (ap (λ x. (x, o)) (let l = ltb-false 3 k a in let e : k ≡ 3 = omega arith in e), inside-range (r .1) o d)
-
-pub node-passed : (J : Job) (c : List ℕ) (r : Rect) (at k o : ℕ) → first-refusal (node-checks J c r at k o) ≡ Passed → ((k, o) ≡ pair-of (node-of k o)) × NodeFits J c r (node-of k o)
-node-passed J c r at k o p =
-    let e = cons-passed _ _ _ p in
-    let f = cons-passed _ _ _ (e .1) in
-    let g = cons-passed _ _ _ (f .1) in
-    let h = cons-passed _ _ _ (g .1) in
-    let i = cons-passed _ _ _ (h .1) in
-    node-read J c r k o (node-of k o) (read k o) (e .0) (f .0) (g .0) (h .0) (i .0)
 
 module _ (J : Job) (few : J .count ≤ 64) where
   -- a report whose copies keep every demand

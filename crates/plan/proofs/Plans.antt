@@ -1,6 +1,5 @@
 -- A plan passes exactly when its arrays are the preorder of a guillotine tree on the plate that keeps every demand and has at most
 -- 4,095 nodes; it then reports that tree's own profit, copies and areas, and else zeros.
--- Assumes nothing.
 use mathlib.Core.Path.{_≡_, _∙_, refl, sym, ap, ap₂}
 use mathlib.Core.List.{List, [], _∷_, _++_, append-nil}
 use Prim.Native.Nat.{ℕ, _+_, _-_, _≤_, _<_}
@@ -22,13 +21,13 @@ use Rattle.refusal.specs.declared.Checked.{Checked}
 use Rattle.refusal.specs.declared.Checked.the-variants.{Passed, Refused}
 use Rattle.job.specs.Block.{entries}
 use Rattle.job.proofs.Checks.{cons-passed}
+use Rattle.node.proofs.Nodes.{inside-range}
 use Rattle.job.proofs.Entries.{entries-length, entries-in, entries-past}
 use Rattle.plan.specs.declared.Report.{Report}
 use Rattle.plan.specs.declared.PlanAnswer.{PlanAnswer}
 use Rattle.plan.specs.Plan.{plan-checks, plan-answer, walk, node-of, node-checks, parts, counted, nodes-in, passed, proceed, empty-report}
 use Rattle.plan.specs.Trees.{PlanOf, tree-report, ChecksPlan}
-use Rattle.plan.proofs.Nodes.{inside-range}
-use Rattle.plan.proofs.Steps.{nodes-length}
+use Rattle.plan.proofs.Walk.{nodes-length}
 use Rattle.plan.proofs.Whole.{walks-on}
 use Rattle.plan.proofs.Counts.{added, added-profit, added-pieces, added-waste, added-trim, added-length, added-copies}
 use Rattle.plan.proofs.Preorder.{written, count-written, arrays-written, kinds-length, operands-length, written-kinds, written-operands}
@@ -106,56 +105,56 @@ module _ (J : Job) (few : J .count ≤ 64) where
       copies = ext-getD 0 _ _ (size ∙ sym (entries-length (λ i. copies-of i t) (J .count)))
           (λ i h. (let k : i < 64 = omega (arith, size, h) in whole-copies t i k ∙ at i k (decLt i (J .count))))
 
-  module _ (ks os : List ℕ) where
+  module _ (kinds operands : List ℕ) where
     -- a plan's tree passes
-    passes : (t : Tree ℕ) → PlanOf J t ks os → plan-answer J ks os ≡ passed (whole t)
+    passes : (t : Tree ℕ) → PlanOf J t kinds operands → plan-answer J kinds operands ≡ passed (whole t)
     unfolding walk
     passes t h =
-        let a = ap length (h .kinds) ∙ kinds-length t in
-        let b = ap length (h .operands) ∙ operands-length t in
+        let a = ap length (h .kinds-are) ∙ kinds-length t in
+        let b = ap length (h .operands-are) ∙ operands-length t in
         let n = some-node t in
-        walks-on J ks os (a ∙ sym b) (omega (arith, a, n)) (omega (arith, a, h .nodes))
-        ∙ ap (λ ns. walk J 0 ns (J .plate ∷ []) empty-report) (ap₂ nodes-in (h .kinds) (h .operands) ∙ arrays-written t ∙ sym (append-nil (written t)))
+        walks-on J kinds operands (a ∙ sym b) (omega (arith, a, n)) (omega (arith, a, h .nodes))
+        ∙ ap (λ ns. walk J 0 ns (J .plate ∷ []) empty-report) (ap₂ nodes-in (h .kinds-are) (h .operands-are) ∙ arrays-written t ∙ sym (append-nil (written t)))
         ∙ tree-walks J few t 0 [] (J .plate) [] empty-report (h .on-plate) (empty-length, λ i l. omega (arith, empty-copies i (omega (arith, l, few)), h .demands i l))
 
     -- a plan that passes is a tree's
-    parsed : length ks ≡ length os → 1 ≤ length ks → length ks ≤ 4095 → plan-answer J ks os .verdict ≡ Passed → (t : Tree ℕ) × PlanOf J t ks os × (plan-answer J ks os ≡ passed (whole t))
+    parsed : length kinds ≡ length operands → 1 ≤ length kinds → length kinds ≤ 4095 → plan-answer J kinds operands .verdict ≡ Passed → (t : Tree ℕ) × PlanOf J t kinds operands × (plan-answer J kinds operands ≡ passed (whole t))
     parsed same some most p =
-        let w = walks-on J ks os same some most in
+        let w = walks-on J kinds operands same some most in
         let kept : Kept J few empty-report = (empty-length, λ i l. omega (arith, empty-copies i (omega (arith, l, few)))) in
-        let u = parse J few (length (nodes-in ks os)) 0 (nodes-in ks os) (J .plate) [] empty-report (omega arith) kept (ap (λ (a : PlanAnswer). a .verdict) (sym w) ∙ p) in
+        let u = parse J few (length (nodes-in kinds operands)) 0 (nodes-in kinds operands) (J .plate) [] empty-report (omega arith) kept (ap (λ (a : PlanAnswer). a .verdict) (sym w) ∙ p) in
         let z = ended J (0 + node-count (u .tree)) (u .left) (whole (u .tree)) (ap (λ (a : PlanAnswer). a .verdict) (sym (w ∙ u .goes)) ∙ p) in
-        let e : nodes-in ks os ≡ written (u .tree) = u .nodes ∙ ap (λ l. written (u .tree) ++ l) (z .0) ∙ append-nil (written (u .tree)) in (
+        let e : nodes-in kinds operands ≡ written (u .tree) = u .nodes ∙ ap (λ l. written (u .tree) ++ l) (z .0) ∙ append-nil (written (u .tree)) in (
           u .tree,
           record {
             on-plate = u .on;
             demands = λ i l. (let c = whole-copies (u .tree) i (omega (arith, l, few)) in omega (arith, c, u .kept .1 i l));
-            nodes = omega (arith, most, nodes-length ks os same, ap length e, count-written (u .tree));
-            kinds = written-kinds ks os (u .tree) same e;
-            operands = written-operands ks os (u .tree) same e;
+            nodes = omega (arith, most, nodes-length kinds operands same, ap length e, count-written (u .tree));
+            kinds-are = written-kinds kinds operands (u .tree) same e;
+            operands-are = written-operands kinds operands (u .tree) same e;
           },
           w ∙ u .goes ∙ z .1,
         )
 
 -- the whole check passes exactly for the plans of trees, and reports the tree
-pub plans-checked : (J : Job) → J .count ≤ 64 → (ks os : List ℕ) → ChecksPlan Unit J ks os (plan-answer J ks os)
+pub plans-checked : (J : Job) → J .count ≤ 64 → (kinds operands : List ℕ) → ChecksPlan Unit J kinds operands (plan-answer J kinds operands)
 unfolding plan-answer
-plans-checked J few ks os =
+plans-checked J few kinds operands =
     record {
       before = λ p. tt;
-      passes = λ u t h. ap (λ (a : PlanAnswer). a .verdict) (passes J few ks os t h);
-      tree = λ p. (let f = cons-passed _ _ _ (proceed-passed (first-refusal (plan-checks ks os)) (walk J 0 (nodes-in ks os) (J .plate ∷ []) empty-report) p) in
-          let g = inside-range 4096 (length ks) (cons-passed _ _ _ (f .1) .0) in
-          let t = parsed J few ks os (eqb-true (length ks) (length os) (not-false (eqb (length ks) (length os)) (f .0))) (g .0) (omega (arith, g .1)) p in
+      passes = λ u t h. ap (λ (a : PlanAnswer). a .verdict) (passes J few kinds operands t h);
+      tree = λ p. (let f = cons-passed _ _ _ (proceed-passed (first-refusal (plan-checks kinds operands)) (walk J 0 (nodes-in kinds operands) (J .plate ∷ []) empty-report) p) in
+          let g = inside-range 4096 (length kinds) (cons-passed _ _ _ (f .1) .0) in
+          let t = parsed J few kinds operands (eqb-true (length kinds) (length operands) (not-false (eqb (length kinds) (length operands)) (f .0))) (g .0) (omega (arith, g .1)) p in
           let e = whole-own J few (t .0) (t .1 .on-plate) in
           let r = ap (λ (a : PlanAnswer). a .report) (t .2) ∙ e in
           (t .0, t .1, record { own = r; areas = ap (λ (s : Report). s .pieces + s .waste + s .trim) r ∙ areas-sum J (t .0) (J .plate .0) (J .plate .1) (t .1 .on-plate) }));
-      zeros = proceed-zeros (first-refusal (plan-checks ks os)) _ (walk-zeros J 0 (nodes-in ks os) (J .plate ∷ []) empty-report);
+      zeros = proceed-zeros (first-refusal (plan-checks kinds operands)) _ (walk-zeros J 0 (nodes-in kinds operands) (J .plate ∷ []) empty-report);
     }
 
 -- a check before the others
-pub checked-after : {J : Job} {ks os : List ℕ} {a : PlanAnswer} {Before All : Type 0} (v : Checked) → (v ≡ Passed → ChecksPlan Before J ks os a)
-    → (All → (v ≡ Passed) × Before) → (v ≡ Passed → Before → All) → ChecksPlan All J ks os (proceed v a)
+pub checked-after : {J : Job} {kinds operands : List ℕ} {a : PlanAnswer} {Before All : Type 0} (v : Checked) → (v ≡ Passed → ChecksPlan Before J kinds operands a)
+    → (All → (v ≡ Passed) × Before) → (v ≡ Passed → Before → All) → ChecksPlan All J kinds operands (proceed v a)
 checked-after Passed f apart both =
     let c = f refl in
     record { passes = λ b. c .passes (apart b .1); before = λ p. both refl (c .before p); tree = c .tree; zeros = c .zeros }

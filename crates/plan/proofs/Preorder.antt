@@ -1,32 +1,20 @@
 -- A tree's nodes as pairs of kind and operand, and the two arrays that hold them.
--- Assumes nothing.
 use mathlib.Core.Path.{_≡_, _∙_, refl, sym, ap}
 use mathlib.Core.List.{List, [], _∷_, _++_, map, map-map, append-assoc}
 use Prim.Native.Nat.{ℕ, _+_}
 use native.Mathlib.Omega.{arith}
 use lib.ListN.{length, length-append, length-map}
 use Rattle.cutting.specs.declared.Direction.{Direction}
-use Rattle.cutting.specs.declared.Direction.the-variants.{Length, Width}
 use Rattle.cutting.specs.declared.Node.{Node}
-use Rattle.cutting.specs.declared.Node.the-variants.{Waste, Piece, Cut}
+use Rattle.cutting.specs.declared.Node.the-variants.{Cut}
 use Rattle.cutting.specs.Tree.{Tree, cut}
 use Rattle.cutting.specs.Preorder.{preorder, kind-of, operand-of, node-count, kinds-of, operands-of}
-use Rattle.plan.specs.Plan.{node-of, nodes-in}
-
--- a node's kind and operand
-abbrev pub pair-of : Node → ℕ × ℕ
-pair-of n = (kind-of n, operand-of n)
+use Rattle.node.proofs.Nodes.{pair-of}
+use Rattle.plan.specs.Plan.{nodes-in}
 
 -- a tree's nodes in preorder
 abbrev pub written : Tree ℕ → List (ℕ × ℕ)
 written t = map (λ n. pair-of n) (preorder t)
-
--- a node is known by its kind and operand
-pub node-back : (n : Node) → node-of (kind-of n) (operand-of n) ≡ n
-node-back Waste = refl
-node-back (Piece i) = refl
-node-back (Cut Length x) = refl
-node-back (Cut Width x) = refl
 
 map-append : (xs ys : List Node) → map (λ n. pair-of n) (xs ++ ys) ≡ map (λ n. pair-of n) xs ++ map (λ n. pair-of n) ys
 map-append [] ys = refl

@@ -1,49 +1,22 @@
 -- The walk over a tree's nodes passes and adds the tree, where its demands are kept.
--- Assumes nothing.
 use mathlib.Core.Path.{_≡_, _∙_, refl, ap}
-use mathlib.Core.Bool.{true, false}
 use mathlib.Core.List.{List, _∷_, _++_}
 use Prim.Native.Nat.{ℕ, _+_, _-_, _≤_, _<_}
 use native.Mathlib.Omega.{arith}
 use lib.ListN.{length, getD}
-use borrow.Author.Tests.{le-leb, le-ltb, eq-eqb}
+use borrow.Author.Tests.{le-leb, eq-eqb}
 use Rattle.cutting.specs.declared.Direction.{Direction}
 use Rattle.cutting.specs.declared.Direction.the-variants.{Length, Width}
 use Rattle.cutting.specs.declared.Node.{Node}
 use Rattle.cutting.specs.declared.Node.the-variants.{Waste, Piece, Cut}
 use Rattle.cutting.specs.Tree.{Rect, side, part, Tree, waste, piece, cut, total}
 use Rattle.cutting.specs.Preorder.{preorder, kind-of, operand-of, node-count}
-use Rattle.cutting.specs.Pieces.{fits-in}
 use Rattle.cutting.specs.Job.{Job, GuillotineTree, copies-of}
-use Rattle.refusal.specs.Refusals.{first-refusal, refuse-when}
-use Rattle.refusal.specs.declared.Refusal.the-variants.{Operand}
-use Rattle.refusal.specs.declared.Checked.the-variants.{Passed}
-use Rattle.job.specs.Block.{outside}
+use Rattle.node.proofs.Nodes.{node-back, pair-of, NodeFits, node-passes}
 use Rattle.plan.specs.declared.Report.{Report}
-use Rattle.plan.specs.Plan.{node-of, node-checks, parts, counted, proceed, walk}
-use Rattle.plan.proofs.Nodes.{waste-passes, piece-passes, cut-checks}
+use Rattle.plan.specs.Plan.{node-of, parts, counted, proceed, walk}
 use Rattle.plan.proofs.Counts.{added, added-copies, added-length}
-use Rattle.plan.proofs.Preorder.{pair-of, written, node-back, written-cut, count-cut}
-
--- what the checks ask of a node
-abbrev pub NodeFits : Job → List ℕ → Rect → Node → Type 0
-NodeFits J c r Waste = Unit {0}
-NodeFits J c r (Piece i) = (i < J .count) × (fits-in (J .size i) r ≡ true) × (getD c i 0 < J .demand i)
-NodeFits J c r (Cut d x) = (1 ≤ x) × (x < side d r)
-
--- a position in a cut's range
-inside : (s x : ℕ) → 1 ≤ x → x < s → outside 1 (s - 1) x ≡ false
-inside s x h l = simp (le-ltb x 1 h, le-ltb (s - 1) x (omega arith))
-
-known : (d : Direction) (x : ℕ) → kind-of (Cut d x) ≤ 3
-known Length x = omega arith
-known Width x = omega arith
-
--- such a node passes
-pub node-passes : (J : Job) (c : List ℕ) (r : Rect) (k : ℕ) (n : Node) → NodeFits J c r n → first-refusal (node-checks J c r k (kind-of n) (operand-of n)) ≡ Passed
-node-passes J c r k Waste h = waste-passes J c r k 0 refl
-node-passes J c r k (Piece i) h = piece-passes J c r k i (h .0) (h .1) (h .2)
-node-passes J c r k (Cut d x) h = cut-checks J c r k (kind-of (Cut d x)) x d x (known d x) (node-back (Cut d x)) ∙ ap (λ b. refuse-when b (Operand k)) (inside (side d r) x (h .0) (h .1))
+use Rattle.plan.proofs.Preorder.{written, written-cut, count-cut}
 
 -- the walk goes on after a node that fits
 pub node-walks : (J : Job) (k : ℕ) (n : Node) (ns : List (ℕ × ℕ)) (r : Rect) (rs : List Rect) (s : Report) → NodeFits J (s .copies) r n

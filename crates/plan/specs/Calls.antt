@@ -1,5 +1,5 @@
--- The public calls: a plan's arrays, or a plan block, for a job block. The job's checks 1 to 7 come first.
--- Assumes nothing.
+-- The public calls: a plan's arrays, or a plan block, for a job block. The job's checks 1 to 7 come first. Each answer has a number and
+-- values too.
 use mathlib.Core.Path.{_≡_}
 use mathlib.Core.Bool.{_||_, not}
 use mathlib.Core.List.{List, [], _∷_, map}
@@ -9,10 +9,12 @@ use lib.ListN.{length, take, drop}
 use Rattle.cutting.specs.Lists.{range}
 use Rattle.cutting.specs.Job.{Job}
 use Rattle.refusal.specs.declared.Refusal.the-variants.{PlanLength}
+use Rattle.refusal.specs.declared.Checked.{Checked}
 use Rattle.refusal.specs.declared.Checked.the-variants.{Passed}
-use Rattle.refusal.specs.Refusals.{Check, first-refusal}
+use Rattle.refusal.specs.Refusals.{Check, Outcome, next, first-refusal, outcome-by}
 use Rattle.job.specs.Block.{u16-at, job-checks}
 use Rattle.job.specs.Weights.{block-job}
+use Rattle.plan.specs.declared.Report.{Report}
 use Rattle.plan.specs.declared.PlanAnswer.{PlanAnswer}
 use Rattle.plan.specs.Plan.{proceed, plan-answer}
 
@@ -49,3 +51,23 @@ JobPasses s = first-refusal (job-checks s) ≡ Passed
 -- and a plan block has the bytes of its nodes
 abbrev pub BlockPasses : List ℕ → Type 0
 BlockPasses p = first-refusal (block-checks p) ≡ Passed
+
+-- a plan's report in words: profit, the areas of pieces, waste nodes and trim, and the copies of each kind
+abbrev pub plan-values : Report → List ℕ
+plan-values r = r .profit ∷ r .pieces ∷ r .waste ∷ r .trim ∷ r .copies
+
+-- the number and values of a plan's answer
+abbrev pub plan-outcome : PlanAnswer → Outcome
+plan-outcome a = outcome-by (a .verdict) (plan-values (a .report))
+
+-- the number and values of an answer that follows a check
+abbrev pub said-after : Checked → PlanAnswer → Outcome
+said-after v a = outcome-by (next v (a .verdict)) (plan-values (a .report))
+
+-- the number and values that the check of a plan's arrays answers for a job block
+abbrev pub arrays-said : List ℕ → List ℕ → List ℕ → Outcome
+arrays-said s kinds operands = said-after (first-refusal (job-checks s)) (plan-answer (block-job s) kinds operands)
+
+-- the number and values that the check of a plan block answers for a job block
+abbrev pub block-said : List ℕ → List ℕ → Outcome
+block-said s p = said-after (first-refusal (job-checks s)) (plan-block-answer (block-job s) p)

@@ -1,86 +1,35 @@
--- A plan's check in document 01's words: the checks of one node, the walk over the nodes in preorder, and what the whole plan answers.
--- Assumes nothing.
-use mathlib.Core.Bool.{Bool, true, false, not}
+-- A plan's check in the scope's words: the walk over the nodes in preorder, and what the whole plan answers.
+use mathlib.Core.Bool.{not}
 use mathlib.Core.List.{List, [], _∷_, _++_}
-use Prim.Native.Nat.{ℕ, _+_, _-_}
-use lib.Dec.{leb, ltb, eqb}
-use lib.ListN.{length, getD, set, replicate}
-use Rattle.cutting.specs.declared.Direction.the-variants.{Length, Width}
+use Prim.Native.Nat.{ℕ, _+_}
+use lib.Dec.{eqb}
+use lib.ListN.{length, replicate}
 use Rattle.cutting.specs.declared.Node.{Node}
-use Rattle.cutting.specs.declared.Node.the-variants.{Waste, Piece, Cut}
-use Rattle.cutting.specs.Tree.{Rect, side, part}
-use Rattle.cutting.specs.Pieces.{fits-in}
-use Rattle.cutting.specs.Areas.{area}
+use Rattle.cutting.specs.Tree.{Rect}
 use Rattle.cutting.specs.Job.{Job}
 use Rattle.refusal.specs.declared.Refusal.{Refusal}
-use Rattle.refusal.specs.declared.Refusal.the-variants.{PlanLength, NodeCount, NodeKind, PieceNumber, Operand, Misfit, Excess, NodeMissing, NodeLeft}
+use Rattle.refusal.specs.declared.Refusal.the-variants.{PlanLength, NodeCount, NodeMissing, NodeLeft}
 use Rattle.refusal.specs.declared.Checked.{Checked}
 use Rattle.refusal.specs.declared.Checked.the-variants.{Passed, Refused}
 use Rattle.refusal.specs.Refusals.{Check, first-refusal}
 use Rattle.job.specs.Block.{outside}
+use Rattle.node.specs.declared.Tally.{Tally}
+use Rattle.node.specs.Nodes.{tallied, copied}
+pub use Rattle.node.specs.Nodes.{node-of, node-checks, parts}
 use Rattle.plan.specs.declared.Report.{Report}
 use Rattle.plan.specs.declared.PlanAnswer.{PlanAnswer}
 
--- a choice by a test
-abbrev pub pick : Bool → Node → Node → Node
-pick true a b = a
-pick false a b = b
+-- the sums of a report
+abbrev pub sums-of : Report → Tally
+sums-of s = record { profit = s .profit; pieces = s .pieces; waste = s .waste; trim = s .trim }
 
--- the node of a kind from 0 to 3 and an operand
-abbrev pub node-of : ℕ → ℕ → Node
-node-of kind operand = pick (eqb kind 0) Waste (pick (eqb kind 1) (Piece operand) (pick (eqb kind 2) (Cut Length operand) (Cut Width operand)))
-
--- 13: a piece number of n or more
-abbrev pub unnumbered : Job → Node → Bool
-unnumbered J Waste = false
-unnumbered J (Piece i) = leb (J .count) i
-unnumbered J (Cut d x) = false
-
--- 14: a waste operand that is not 0, or a cut position outside 1 to the side less 1
-abbrev pub misplaced : Rect → Node → ℕ → Bool
-misplaced r Waste operand = not (eqb operand 0)
-misplaced r (Piece i) operand = false
-misplaced r (Cut d x) operand = outside 1 (side d r - 1) x
-
--- 15: a piece that does not fit the rectangle
-abbrev pub misfit : Job → Rect → Node → Bool
-misfit J r Waste = false
-misfit J r (Piece i) = not (fits-in (J .size i) r)
-misfit J r (Cut d x) = false
-
--- 16: a piece whose copies so far have reached its demand
-abbrev pub excess : Job → List ℕ → Node → Bool
-excess J copies Waste = false
-excess J copies (Piece i) = leb (J .demand i) (getD copies i 0)
-excess J copies (Cut d x) = false
-
--- checks 12 to 16 of node k, on the rectangle that it fills and after the copies before it
-abbrev pub node-checks : Job → List ℕ → Rect → ℕ → ℕ → ℕ → List Check
-node-checks J copies r k kind operand =
-    (ltb 3 kind, NodeKind k)
-    ∷ (unnumbered J (node-of kind operand), PieceNumber k)
-    ∷ (misplaced r (node-of kind operand) operand, Operand k)
-    ∷ (misfit J r (node-of kind operand), Misfit k)
-    ∷ (excess J copies (node-of kind operand), Excess k)
-    ∷ []
-
--- the parts of a rectangle that a node leaves to be filled, first part first
-abbrev pub parts : Node → Rect → List Rect
-parts Waste r = []
-parts (Piece i) r = []
-parts (Cut d x) r = part d x r ∷ part d (side d r - x) r ∷ []
+-- the report of sums and of the copies of each kind
+abbrev pub report-of : Tally → List ℕ → Report
+report-of t copies = record { profit = t .profit; copies = copies; pieces = t .pieces; waste = t .waste; trim = t .trim }
 
 -- a report with one node more
 abbrev pub counted : Job → Node → Rect → Report → Report
-counted J Waste r s = record { profit = s .profit; copies = s .copies; pieces = s .pieces; waste = s .waste + area r; trim = s .trim }
-counted J (Piece i) r s = record {
-  profit = s .profit + J .price i;
-  copies = set (s .copies) i (getD (s .copies) i 0 + 1);
-  pieces = s .pieces + area (J .size i);
-  waste = s .waste;
-  trim = s .trim + (area r - area (J .size i));
-}
-counted J (Cut d x) r s = s
+counted J n r s = report-of (tallied J n r (sums-of s)) (copied n (s .copies))
 
 -- the report before any node: the copies of 64 kinds, and every figure, are 0
 abbrev pub empty-report : Report

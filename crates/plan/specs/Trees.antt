@@ -1,5 +1,4 @@
 -- What a passed plan is: the preorder of a guillotine tree, which the report describes.
--- Assumes nothing.
 use mathlib.Core.Path.{_≡_}
 use mathlib.Core.List.{List}
 use Prim.Native.Nat.{ℕ, _+_, _*_, _≤_}
@@ -14,12 +13,12 @@ use Rattle.plan.specs.declared.PlanAnswer.{PlanAnswer}
 use Rattle.plan.specs.Plan.{empty-report}
 
 -- the arrays are the preorder of a guillotine tree on the plate that keeps every demand and has at most 4,095 nodes
-pub record PlanOf (J : Job) (t : Tree ℕ) (ks os : List ℕ) : Type 0 where
+pub record PlanOf (J : Job) (t : Tree ℕ) (kinds operands : List ℕ) : Type 0 where
   pub on-plate : OnPlate J t
   pub demands : KeepsDemands J t
   pub nodes : node-count t ≤ 4095
-  pub kinds : ks ≡ kinds-of t
-  pub operands : os ≡ operands-of t
+  pub kinds-are : kinds ≡ kinds-of t
+  pub operands-are : operands ≡ operands-of t
 
 -- a tree's own profit, copies of each kind (0 for numbers past the job's), and areas on the plate
 abbrev pub tree-report : Job → Tree ℕ → Report
@@ -38,8 +37,8 @@ pub record Reports (J : Job) (t : Tree ℕ) (r : Report) : Type 0 where
 
 -- where what stands before the plan's checks holds, an answer passes exactly for the plan of a tree; it then reports that tree, and a
 -- refusal reports zeros
-pub record ChecksPlan (Before : Type 0) (J : Job) (ks os : List ℕ) (a : PlanAnswer) : Type 0 where
-  pub passes : Before → (t : Tree ℕ) → PlanOf J t ks os → a .verdict ≡ Passed
+pub record ChecksPlan (Before : Type 0) (J : Job) (kinds operands : List ℕ) (a : PlanAnswer) : Type 0 where
+  pub passes : Before → (t : Tree ℕ) → PlanOf J t kinds operands → a .verdict ≡ Passed
   pub before : a .verdict ≡ Passed → Before
-  pub tree : a .verdict ≡ Passed → (t : Tree ℕ) × PlanOf J t ks os × Reports J t (a .report)
+  pub tree : a .verdict ≡ Passed → (t : Tree ℕ) × PlanOf J t kinds operands × Reports J t (a .report)
   pub zeros : (r : Refusal) → a .verdict ≡ Refused r → a .report ≡ empty-report

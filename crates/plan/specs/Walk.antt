@@ -1,54 +1,44 @@
--- What the functions of the recursive check promise: a node's checks, what it adds, and the walk of one rectangle's tree.
--- Assumes nothing.
+-- What the functions of the walk promise: the list of rectangles that wait in two arrays, and a node of the plan's arrays.
 use mathlib.Core.Path.{_≡_}
-use mathlib.Core.List.{List, _∷_}
-use Prim.Native.Nat.{ℕ, _+_, _*_, _≤_, _<_, _^_}
-use lib.ListN.{length, drop}
-use Rattle.cutting.specs.Tree.{Rect}
-use Rattle.cutting.specs.Job.{Job}
-use Rattle.refusal.specs.Refusals.{first-refusal}
-use Rattle.refusal.specs.declared.Refusal.{Refusal}
-use Rattle.refusal.specs.declared.Checked.the-variants.{Passed, Refused}
-use Rattle.plan.specs.declared.Report.{Report}
-use Rattle.plan.specs.declared.PlanAnswer.{PlanAnswer}
-use Rattle.plan.specs.declared.Tally.{Tally}
-use Rattle.plan.specs.declared.Walked.{Walked}
-use Rattle.plan.specs.Plan.{node-of, node-checks, counted, proceed, walk}
+use mathlib.Core.List.{List, [], _∷_}
+use Prim.Native.Nat.{ℕ, zero, suc, _≤_, _<_}
+use lib.ListN.{length, getD}
+use Rattle.cutting.specs.declared.Node.{Node}
+use Rattle.cutting.specs.declared.Node.the-variants.{Waste, Piece, Cut}
+use Rattle.cutting.specs.Tree.{Rect, side}
+use Rattle.node.specs.declared.Tally.{Tally}
+use Rattle.node.specs.declared.NodeEntry.{NodeEntry}
 
--- the sums over the nodes read so far cannot pass 64 bits
-pub record Sized (t : Tally) : Type 0 where
-  pub at : t .at ≤ 4095
-  pub profit : t .profit ≤ 2 ^ 32 * t .at
-  pub pieces : t .pieces ≤ 2 ^ 32 * t .at
-  pub waste : t .waste ≤ 2 ^ 32 * t .at
-  pub trim : t .trim ≤ 2 ^ 32 * t .at
+-- the first n rectangles of two arrays, the last one first
+unfoldable pub waiting : List ℕ → List ℕ → ℕ → List Rect
+waiting lengths widths zero = []
+waiting lengths widths (suc n) = (getD lengths n 0, getD widths n 0) ∷ waiting lengths widths n
 
--- the report of a tally and the copies counted beside it
-abbrev pub report-of : Tally → List ℕ → Report
-report-of t copies = record { profit = t .profit; copies = copies; pieces = t .pieces; waste = t .waste; trim = t .trim }
+-- the sums before any node
+abbrev pub no-sums : Tally
+no-sums = record { profit = 0; pieces = 0; waste = 0; trim = 0 }
 
--- the walk from a tally on
-abbrev pub from : Job → List (ℕ × ℕ) → List Rect → Tally → List ℕ → PlanAnswer
-from J nodes rs t copies = walk J (t .at) (drop (t .at) nodes) rs (report-of t copies)
+-- node k of a plan's arrays
+abbrev pub entry-at : List ℕ → List ℕ → ℕ → NodeEntry
+entry-at kinds operands k = record { at = k; kind = getD kinds k 0; operand = getD operands k 0 }
 
--- a walk that a refusal ends
-abbrev pub stopped : Refusal → Tally → Walked
-stopped r t = record { verdict = Refused r; tally = t }
+-- a cut's position is at most the side that it divides
+abbrev pub Inside : Node → Rect → Type 0
+Inside Waste r = Unit {0}
+Inside (Piece i) r = Unit {0}
+Inside (Cut d x) r = x ≤ side d r
 
--- one node more was read
-abbrev pub step : Tally → Tally
-step t = record { at = t .at + 1; profit = t .profit; pieces = t .pieces; waste = t .waste; trim = t .trim }
+-- the two arrays of the rectangles that wait have 4,096 places
+abbrev pub Held : List ℕ → List ℕ → Type 0
+Held lengths widths = (length lengths ≡ 4096) × (length widths ≡ 4096)
 
--- a waste or piece node: its checks decide, and where they pass it is counted
-pub record Placed (J : Job) (kind operand : ℕ) (r : Rect) (t : Tally) (copies : List ℕ) (a : Walked) (after : List ℕ) : Type 0 where
-  pub verdict : a .verdict ≡ first-refusal (node-checks J copies r (t .at) kind operand)
-  pub at : a .verdict ≡ Passed → a .tally .at ≡ t .at + 1
-  pub counts : a .verdict ≡ Passed → report-of (a .tally) after ≡ counted J (node-of kind operand) r (report-of t copies)
-  pub sized : a .verdict ≡ Passed → Sized (a .tally)
+-- of n rectangles that wait the last one has a node, and there is a place for a part more
+pub record Opens (node : Node) (r : Rect) (lengths widths : List ℕ) (n : ℕ) : Type 0 where
+  pub some : 1 ≤ n
+  pub place : n < 4096
+  pub inside : Inside node r
+  pub held : Held lengths widths
 
--- the tree of one rectangle, whatever is still to be filled after it
-pub record Filled (J : Job) (nodes : List (ℕ × ℕ)) (r : Rect) (t : Tally) (copies : List ℕ) (a : Walked) (after : List ℕ) : Type 0 where
-  pub walks : (rs : List Rect) → from J nodes (r ∷ rs) t copies ≡ proceed (a .verdict) (from J nodes rs (a .tally) after)
-  pub more : a .verdict ≡ Passed → t .at < a .tally .at
-  pub within : a .verdict ≡ Passed → a .tally .at ≤ length nodes
-  pub sized : a .verdict ≡ Passed → Sized (a .tally)
+-- two arrays of one length, of at most 4,095 nodes
+abbrev pub Walkable : List ℕ → List ℕ → Type 0
+Walkable kinds operands = (length kinds ≡ length operands) × (length kinds ≤ 4095)

@@ -1,4 +1,4 @@
--- `plan::check_block` meets its contract: each answer is one of a plan block's. Assumes nothing.
+-- `plan::check_block` meets its contract: each answer is one of a plan block's.
 use mathlib.Core.Path.{_≡_, _∙_, sym, ap, ap₂}
 use Prim.Native.Nat.{_+_, _-_}
 use native.Mathlib.Omega.{arith}

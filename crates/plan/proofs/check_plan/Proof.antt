@@ -1,4 +1,4 @@
--- `plan::check_plan` meets its contract: the job is read first; the rest is the check of its arrays. Assumes nothing.
+-- `plan::check_plan` meets its contract: the job is read first; the rest is the check of its arrays.
 use mathlib.Core.Path.{_∙_}
 use denote.Ref.{now}
 use Rattle.plan.specs.Plan.{plan-answer}

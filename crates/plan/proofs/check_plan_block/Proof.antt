@@ -1,4 +1,4 @@
--- `plan::check_plan_block` meets its contract: the job is read first; the rest is the check of the block. Assumes nothing.
+-- `plan::check_plan_block` meets its contract: the job is read first; the rest is the check of the block.
 use mathlib.Core.Path.{_∙_}
 use denote.Ref.{now}
 use Rattle.plan.specs.Calls.{plan-block-answer}

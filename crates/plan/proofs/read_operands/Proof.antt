@@ -1,4 +1,4 @@
--- `plan::read_operands` meets its contract: after i turns the first i entries are the block's. Assumes nothing.
+-- `plan::read_operands` meets its contract: after i turns the first i entries are the block's.
 use mathlib.Core.Path.{_≡_, _∙_, refl}
 use mathlib.Core.List.{map}
 use Prim.Native.Nat.{_+_, _*_, _-_, _≤_, ℕ}

@@ -1,11 +1,11 @@
--- `plan::outside_cut` meets its contract: from 1 on, a position is outside where the side is no greater. Assumes nothing.
+-- `node::outside_cut` meets its contract: from 1 on, a position is outside where the side is no greater.
 use mathlib.Core.Path.{_∙_, ap}
 use lib.Dec.{leb}
-use Rattle.plan.proofs.Nodes.{past-side}
 use borrow.Author.Tests.{lt-ltb}
 use borrow.Author.Needs.{needs}
-use Rattle.plan.proofs.outside_cut.Statement.{statement}
-use Rattle.plan.proofs.outside_cut.Tie as tie
+use Rattle.node.proofs.Nodes.{past-side}
+use Rattle.node.proofs.outside_cut.Statement.{statement}
+use Rattle.node.proofs.outside_cut.Tie as tie
 
 returns : tie.Need-returns
 returns c = simp (lt-ltb _ _ (c .if1 .taken))

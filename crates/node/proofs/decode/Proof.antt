@@ -1,7 +1,7 @@
--- `plan::decode` meets its contract: each kind gives its node. Assumes nothing.
+-- `node::decode` meets its contract: each kind gives its node.
 use borrow.Author.Tests.{ne-eqb}
-use Rattle.plan.proofs.decode.Statement.{statement}
-use Rattle.plan.proofs.decode.Tie as tie
+use Rattle.node.proofs.decode.Statement.{statement}
+use Rattle.node.proofs.decode.Tie as tie
 
 returns : tie.Need-returns
 returns c = simp (c .match .keys1)

@@ -1,0 +1,83 @@
+-- What a node leaves: the sums stay within their bound, and the verdict, the sums and the copies are the definition's.
+use mathlib.Core.Path.{_≡_, _∙_, refl, sym, ap, subst}
+use mathlib.Core.Bool.{true, not}
+use mathlib.Core.List.{List}
+use Prim.Native.Nat.{ℕ, _+_, _-_, _≤_, _<_, _^_}
+use native.Mathlib.Omega.{arith}
+use lib.Dec.{eqb}
+use lib.ListN.{getD, set}
+use Rattle.cutting.specs.declared.Direction.{Direction}
+use Rattle.cutting.specs.declared.Node.the-variants.{Cut}
+use Rattle.cutting.specs.Tree.{Rect, side}
+use Rattle.cutting.specs.Pieces.{fits-in}
+use Rattle.cutting.specs.Job.{Job}
+use Rattle.refusal.specs.Refusals.{first-refusal, refuse-when}
+use Rattle.refusal.specs.declared.Refusal.{Refusal}
+use Rattle.refusal.specs.declared.Refusal.the-variants.{Operand}
+use Rattle.refusal.specs.declared.Checked.{Checked}
+use Rattle.refusal.specs.declared.Checked.the-variants.{Passed, Refused}
+use Rattle.node.specs.declared.Tally.{Tally}
+use Rattle.node.specs.declared.NodeAnswer.{NodeAnswer}
+use Rattle.job.specs.Block.{outside}
+use Rattle.node.specs.Nodes.{node-of, node-checks, with-waste, with-piece, tallied, copied}
+use Rattle.node.specs.Placed.{Sized, Grows, stopped, Placed}
+use Rattle.node.proofs.Nodes.{waste-checks, piece-passes, cut-checks}
+
+-- the sums of fewer nodes
+pub sized-more : {m n : ℕ} {t : Tally} → m ≤ n → Sized m t → Sized n t
+sized-more h s = record { profit = omega (arith, s .profit); pieces = omega (arith, s .pieces); waste = omega (arith, s .waste); trim = omega (arith, s .trim) }
+
+-- sums that stay
+pub grows-not : (t : Tally) → Grows t t
+grows-not t n s = sized-more (omega arith) s
+
+-- sums that grow by less than 2 ^ 32: the waste, or all the others
+pub waste-grows : (t : Tally) (a : ℕ) → a < 2 ^ 32 → Grows t (record { profit = t .profit; pieces = t .pieces; waste = t .waste + a; trim = t .trim })
+waste-grows t a h n s = record { profit = omega (arith, s .profit); pieces = omega (arith, s .pieces); waste = omega (arith, s .waste); trim = omega (arith, s .trim) }
+
+pub piece-grows : (t : Tally) (a b c : ℕ) → a < 2 ^ 32 → b < 2 ^ 32 → c < 2 ^ 32
+    → Grows t (record { profit = t .profit + a; pieces = t .pieces + b; waste = t .waste; trim = t .trim + c })
+piece-grows t a b c f g h n s = record { profit = omega (arith, s .profit); pieces = omega (arith, s .pieces); waste = omega (arith, s .waste); trim = omega (arith, s .trim) }
+
+-- a refused node did not pass
+never : {t : Tally} {r : Refusal} {a : NodeAnswer} {A : Type 0} → a ≡ stopped r t → a .verdict ≡ Passed → A
+never {t} {r} {a} {A} e h =
+    let f : a .verdict ≡ Refused r = ap (λ (x : NodeAnswer). x .verdict) e in
+    let z : _≡_ {A = ℕ} 0 1 = cc in
+    absurd (let w : ⊥ = omega arith in w)
+
+-- a node that is refused
+pub stops : (J : Job) (k kind o : ℕ) (r : Rect) (t : Tally) (c : List ℕ) (a : NodeAnswer) (x : Refusal) → a ≡ stopped x t →
+    first-refusal (node-checks J c r k kind o) ≡ Refused x → Placed J k kind o r t c a c
+stops J k kind o r t c a x e f =
+    record {
+      verdict = ap (λ (y : NodeAnswer). y .verdict) e ∙ sym f;
+      sums = λ p. never e p;
+      counts = λ p. never e p;
+      sized = rw e (grows-not t);
+    }
+
+-- a waste node
+pub waste-placed : (J : Job) (k o : ℕ) (r : Rect) (t : Tally) (c : List ℕ) (v : Checked) (s : Tally) → v ≡ refuse-when (not (eqb o 0)) (Operand k)
+    → s ≡ with-waste r t → Grows t s → Placed J k 0 o r t c (record { verdict = v; tally = s }) c
+waste-placed J k o r t c v s e f g = record { verdict = e ∙ sym (waste-checks J c r k o); sums = λ p. f; counts = λ p. refl; sized = g }
+
+-- a piece that passes
+pub piece-placed : (J : Job) (k i : ℕ) (r : Rect) (t : Tally) (c : List ℕ) (s : Tally) (copies : ℕ) → i < J .count → fits-in (J .size i) r ≡ true → getD c i 0 < J .demand i
+    → s ≡ with-piece (J .price i) (J .size i) r t → Grows t s → copies ≡ getD c i 0 + 1 → Placed J k 1 i r t c (record { verdict = Passed; tally = s }) (set c i copies)
+piece-placed J k i r t c s copies n f d e g m = record { verdict = sym (piece-passes J c r k i n f d); sums = λ p. e; counts = λ p. ap (set c i) m; sized = g }
+
+-- a cut
+pub cut-placed : (J : Job) (k kind o : ℕ) (r : Rect) (t : Tally) (c : List ℕ) (v : Checked) (d : Direction) (x : ℕ) → v ≡ refuse-when (outside 1 (side d r - 1) x) (Operand k)
+    → kind ≤ 3 → node-of kind o ≡ Cut d x → Placed J k kind o r t c (record { verdict = v; tally = t }) c
+cut-placed J k kind o r t c v d x e h n =
+    record {
+      verdict = e ∙ sym (cut-checks J c r k kind o d x h n);
+      sums = λ p. sym (ap (λ m. tallied J m r t) n);
+      counts = λ p. sym (ap (λ m. copied m c) n);
+      sized = grows-not t;
+    }
+
+-- a node whose kind is known
+pub placed-as : {J : Job} {k kind n o : ℕ} {r : Rect} {t : Tally} {c : List ℕ} {a : NodeAnswer} {after : List ℕ} → kind ≡ n → Placed J k n o r t c a after → Placed J k kind o r t c a after
+placed-as {J} {k} {kind} {n} {o} {r} {t} {c} {a} {after} e p = subst (λ x. Placed J k x o r t c a after) (sym e) p

@@ -1,0 +1,220 @@
+// One node of a plan on the rectangle that it fills: refusals 12 to 16, and what the node adds to the sums and to the copies of its kind.
+// The job's arrays and the copies are lent, so that a walk over many nodes copies none of them.
+use cutting::Direction;
+use cutting::Node;
+use cutting::Sides;
+use cutting::cut_side;
+use cutting::fits;
+use refusal::Checked;
+use refusal::Refusal;
+use refusal::refuse_if;
+ghost use mathlib.Core.Path.{_≡_};
+ghost use mathlib.Core.Bool.{true};
+ghost use mathlib.Core.List.{List};
+ghost use Prim.Native.Nat.{ℕ, _+_, _-_, _≤_, _<_, _^_};
+ghost use Rattle.cutting.specs.declared.Node.the-variants.{Cut};
+ghost use Rattle.cutting.specs.Tree.{side};
+ghost use Rattle.cutting.specs.Sides.{rect-of};
+ghost use Rattle.cutting.specs.Pieces.{fits-in};
+ghost use Rattle.cutting.specs.Areas.{area};
+ghost use Rattle.cutting.specs.Job.{Job};
+ghost use Rattle.job.specs.Block.{outside, job-from};
+ghost use Rattle.node.specs.Nodes.{node-of, with-waste, with-piece};
+ghost use Rattle.node.specs.Placed.{Sized, Grows, stopped, Placed};
+
+// The sums over the nodes read: profit, and the areas of pieces, waste nodes and trim.
+pub struct Tally {
+    pub profit: u64,
+    pub pieces: u64,
+    pub waste: u64,
+    pub trim: u64,
+}
+
+// A node as a plan's arrays have it: its place, its kind and its operand.
+pub struct NodeEntry {
+    pub at: u16,
+    pub kind: u8,
+    pub operand: u16,
+}
+
+// What one node answers: its verdict, and the sums with it where it passes.
+pub struct NodeAnswer {
+    pub verdict: Checked,
+    pub tally: Tally,
+}
+
+// One copy more, below the demand.
+fn one_more(copies: u16, demand: u16) -> u16
+    requires { ⌜ copies < demand ⌝ }
+    ensures { λ r. ⌜ r ≡ copies + 1 ⌝ }
+{
+    copies + 1
+}
+
+// The area of a rectangle.
+fn area(s: Sides) -> u64
+    ensures { λ r. ⌜ (r ≡ area (rect-of s)) × (r < 2 ^ 32) ⌝ }
+{
+    (s.length as u64) * (s.width as u64)
+}
+
+// The node of a kind from 0 to 3.
+pub fn decode(kind: u8, operand: u16) -> Node
+    ensures { λ r. ⌜ r ≡ node-of kind operand ⌝ }
+{
+    match kind {
+        0 => Node::Waste,
+        1 => Node::Piece(operand),
+        2 => Node::Cut(Direction::Length, operand),
+        _ => Node::Cut(Direction::Width, operand),
+    }
+}
+
+// Whether a cut's position is outside 1 to the side less 1.
+fn outside_cut(d: Direction, x: u16, whole: Sides) -> bool
+    ensures { λ r. ⌜ r ≡ outside 1 (side d (rect-of whole) - 1) x ⌝ }
+{
+    if x < 1 {
+        return true;
+    }
+    cut_side(d, whole) <= x
+}
+
+// The sums with a waste node more.
+fn add_waste(room: Sides, t: Tally) -> Tally
+    requires { ⌜ Sized 4094 t ⌝ }
+    ensures { λ r. ⌜ (r ≡ with-waste (rect-of room) t) × Grows t r ⌝ }
+{
+    let waste = area(room);
+    Tally {
+        profit: t.profit,
+        pieces: t.pieces,
+        waste: t.waste + waste,
+        trim: t.trim,
+    }
+}
+
+// The sums with a piece more.
+fn add_piece(price: u32, piece: Sides, room: Sides, t: Tally) -> Tally
+    requires { ⌜ Sized 4094 t × (fits-in (rect-of piece) (rect-of room) ≡ true) ⌝ }
+    ensures { λ r. ⌜ (r ≡ with-piece price (rect-of piece) (rect-of room) t) × Grows t r ⌝ }
+{
+    let used = area(piece);
+    let left = area(room) - used;
+    Tally {
+        profit: t.profit + (price as u64),
+        pieces: t.pieces + used,
+        waste: t.waste,
+        trim: t.trim + left,
+    }
+}
+
+// The node is refused.
+fn refuse(r: Refusal, t: Tally) -> NodeAnswer
+    ensures { λ a. ⌜ a ≡ stopped r t ⌝ }
+{
+    NodeAnswer {
+        verdict: Checked::Refused(r),
+        tally: t,
+    }
+}
+
+// A waste node.
+fn place_waste(at: u16, operand: u16, room: Sides, t: Tally) -> NodeAnswer
+    requires { ⌜ Sized 4094 t ⌝ }
+    ensures { λ r. ⌜ ((J : Job) (copies : List ℕ) → Placed J at 0 operand (rect-of room) t copies r copies) ⌝ }
+{
+    let verdict = refuse_if(operand != 0, Refusal::Operand(at));
+    NodeAnswer {
+        verdict: verdict,
+        tally: add_waste(room, t),
+    }
+}
+
+// A piece node: its copy is counted.
+fn place_piece(
+    kind_lengths: &[u16; 64],
+    kind_widths: &[u16; 64],
+    prices: &[u32; 64],
+    demands: &[u16; 64],
+    copies: &mut [u16; 64],
+    count: u16,
+    node: NodeEntry,
+    room: Sides,
+    t: Tally,
+) -> NodeAnswer
+    requires { ⌜ Sized 4094 t × (count ≤ 64) ⌝ }
+    ensures { λ r. ⌜ ((p q : ℕ) → Placed (job-from p q count (now («kind_lengths» .entry)) (now («kind_widths» .entry)) (now (prices .entry)) (now (demands .entry))) (node .at) 1 (node .operand) (rect-of room) t (now (copies .entry)) r (now (copies .exit))) ⌝ }
+{
+    let i = node.operand;
+    if count <= i {
+        return refuse(Refusal::PieceNumber(node.at), t);
+    }
+    let k = i as usize;
+    let piece = Sides {
+        length: kind_lengths[k],
+        width: kind_widths[k],
+    };
+    if !fits(piece, room) {
+        return refuse(Refusal::Misfit(node.at), t);
+    }
+    let have = copies[k];
+    let most = demands[k];
+    if most <= have {
+        return refuse(Refusal::Excess(node.at), t);
+    }
+    copies[k] = one_more(have, most);
+    NodeAnswer {
+        verdict: Checked::Passed,
+        tally: add_piece(prices[k], piece, room, t),
+    }
+}
+
+// A cut: its parts are left to be filled.
+fn place_cut(d: Direction, x: u16, at: u16, room: Sides, t: Tally) -> NodeAnswer
+    ensures { λ r. ⌜ ((J : Job) (copies : List ℕ) (kind operand : ℕ) → kind ≤ 3 → node-of kind operand ≡ Cut d x → Placed J at kind operand (rect-of room) t copies r copies) ⌝ }
+{
+    let verdict = refuse_if(outside_cut(d, x, room), Refusal::Operand(at));
+    NodeAnswer {
+        verdict: verdict,
+        tally: t,
+    }
+}
+
+// One node on its rectangle, after the copies before it: checks 12 to 16, and where they pass it is counted.
+pub fn check_node(
+    kind_lengths: &[u16; 64],
+    kind_widths: &[u16; 64],
+    prices: &[u32; 64],
+    demands: &[u16; 64],
+    copies: &mut [u16; 64],
+    count: u16,
+    node: NodeEntry,
+    room: Sides,
+    t: Tally,
+) -> NodeAnswer
+    requires { ⌜ Sized 4094 t × (count ≤ 64) ⌝ }
+    ensures { λ r. ⌜ ((p q : ℕ) → Placed (job-from p q count (now («kind_lengths» .entry)) (now («kind_widths» .entry)) (now (prices .entry)) (now (demands .entry))) (node .at) (node .kind) (node .operand) (rect-of room) t (now (copies .entry)) r (now (copies .exit))) ⌝ }
+{
+    let at = node.at;
+    let operand = node.operand;
+    if 3 < node.kind {
+        return refuse(Refusal::NodeKind(at), t);
+    }
+    let decoded = decode(node.kind, operand);
+    match decoded {
+        Node::Waste => place_waste(at, operand, room, t),
+        Node::Piece(_) => place_piece(
+            kind_lengths,
+            kind_widths,
+            prices,
+            demands,
+            copies,
+            count,
+            node,
+            room,
+            t,
+        ),
+        Node::Cut(d, x) => place_cut(d, x, at, room, t),
+    }
+}

@@ -1,0 +1,211 @@
+-- The walk step by step: the node at a place, what one node that passes or is refused makes of the walk, and the rectangles that wait in
+-- two arrays.
+use mathlib.Core.Path.{_≡_, _∙_, refl, sym, ap, ap₂, subst}
+use mathlib.Core.List.{List, [], _∷_, _++_}
+use Prim.Native.Nat.{ℕ, zero, suc, _+_, _-_, _≤_, _<_}
+use native.Mathlib.Omega.{arith}
+use native.Mathlib.Numerals.{add-one}
+use lib.ListN.{length, getD, set, drop, replicate, drop-of-length-le, length-set, length-replicate}
+use lib.Seq.{getD-set-same, getD-set-other}
+use Rattle.cutting.specs.declared.Direction.{Direction}
+use Rattle.cutting.specs.declared.Node.{Node}
+use Rattle.cutting.specs.declared.Node.the-variants.{Waste, Piece, Cut}
+use Rattle.cutting.specs.declared.Sides.{Sides}
+use Rattle.cutting.specs.Tree.{Rect, side, part}
+use Rattle.cutting.specs.Sides.{rect-of, sides-of}
+use Rattle.cutting.specs.Job.{Job}
+use Rattle.refusal.specs.declared.Refusal.{Refusal}
+use Rattle.refusal.specs.declared.Refusal.the-variants.{NodeMissing, NodeLeft}
+use Rattle.refusal.specs.declared.Checked.the-variants.{Passed, Refused}
+use Rattle.node.specs.declared.Tally.{Tally}
+use Rattle.node.specs.declared.NodeEntry.{NodeEntry}
+use Rattle.node.specs.declared.NodeAnswer.{NodeAnswer}
+use Rattle.node.specs.Placed.{Sized, Placed}
+use Rattle.node.proofs.Nodes.{NodeFits, node-passed}
+use Rattle.plan.specs.declared.Report.{Report}
+use Rattle.plan.specs.declared.PlanAnswer.{PlanAnswer}
+use Rattle.plan.specs.Plan.{node-of, parts, counted, report-of, empty-report, passed, refused, unreported, proceed, walk, nodes-in}
+use Rattle.plan.specs.Walk.{waiting, no-sums, entry-at, Inside, Held, Opens}
+
+-- two arrays of one length have as many nodes
+pub nodes-length : (kinds operands : List ℕ) → length kinds ≡ length operands → length (nodes-in kinds operands) ≡ length kinds
+nodes-length [] os h = refl
+nodes-length (k ∷ ks) [] h = absurd (omega arith)
+nodes-length (k ∷ ks) (o ∷ os) h = ap suc (nodes-length ks os (omega arith))
+
+nodes-suc : (kinds operands : List ℕ) (k : ℕ) → length kinds ≡ length operands → k < length kinds
+    → drop k (nodes-in kinds operands) ≡ (getD kinds k 0, getD operands k 0) ∷ drop (suc k) (nodes-in kinds operands)
+nodes-suc [] os k h l = absurd (omega arith)
+nodes-suc (a ∷ ks) [] k h l = absurd (omega arith)
+nodes-suc (a ∷ ks) (b ∷ os) zero h l = refl
+nodes-suc (a ∷ ks) (b ∷ os) (suc k) h l = nodes-suc ks os k (omega arith) (omega arith)
+
+module _ (J : Job) (kinds operands : List ℕ) (same : length kinds ≡ length operands) where
+  -- the walk from node k on
+  abbrev pub from : ℕ → List Rect → Tally → List ℕ → PlanAnswer
+  from k rs t copies = walk J k (drop k (nodes-in kinds operands)) rs (report-of t copies)
+
+  module _ (k : ℕ) (more : k < length kinds) where
+    -- the node at a place
+    here : drop k (nodes-in kinds operands) ≡ (getD kinds k 0, getD operands k 0) ∷ drop (k + 1) (nodes-in kinds operands)
+    here = rw add-one (nodes-suc kinds operands k same more)
+
+    -- 18: a node, and no rectangle waits
+    pub left-over : (t : Tally) (copies : List ℕ) → from k [] t copies ≡ refused (NodeLeft k)
+    unfolding walk
+    left-over t copies = rw here
+
+    module _ {r : Rect} (rs : List Rect) {t : Tally} {copies : List ℕ} {a : NodeAnswer} {after : List ℕ}
+        (placed : Placed J k (getD kinds k 0) (getD operands k 0) r t copies a after) where
+      -- what follows the node
+      abbrev then : PlanAnswer
+      then = walk J (k + 1) (drop (k + 1) (nodes-in kinds operands)) (parts (node-of (getD kinds k 0) (getD operands k 0)) r ++ rs) (counted J (node-of (getD kinds k 0) (getD operands k 0)) r (report-of t copies))
+
+      opens-to : from k (r ∷ rs) t copies ≡ proceed (a .verdict) then
+      unfolding walk
+      opens-to = rw here (ap (λ v. proceed v then) (sym (placed .verdict)))
+
+      -- a node that is refused ends the walk
+      pub stops : {x : Refusal} → a .verdict ≡ Refused x → from k (r ∷ rs) t copies ≡ unreported (a .verdict)
+      stops e = opens-to ∙ ap (λ v. proceed v then) e ∙ sym (ap unreported e)
+
+      -- the walk goes on after one that passes
+      pub steps : a .verdict ≡ Passed → from k (r ∷ rs) t copies ≡ from (k + 1) (parts (node-of (getD kinds k 0) (getD operands k 0)) r ++ rs) (a .tally) after
+      steps e = opens-to ∙ ap (λ v. proceed v then) e
+          ∙ ap₂ (λ s c. from (k + 1) (parts (node-of (getD kinds k 0) (getD operands k 0)) r ++ rs) s c) (sym (placed .sums e)) (sym (placed .counts e))
+
+-- a cut that passed its checks has its position inside the side
+pub fits-inside : (J : Job) (copies : List ℕ) (r : Rect) (n : Node) → NodeFits J copies r n → Inside n r
+fits-inside J copies r Waste h = tt
+fits-inside J copies r (Piece i) h = tt
+fits-inside J copies r (Cut d x) h = omega (arith, h .1)
+
+-- after the last node: 17 where a rectangle waits, and else the plan passes
+module _ (J : Job) (k : ℕ) (lengths widths : List ℕ) (s : Report) where
+  pub missing : (n : ℕ) → 0 < n → refused (NodeMissing k) ≡ walk J k [] (waiting lengths widths n) s
+  unfolding walk waiting
+  missing zero h = absurd (omega arith)
+  missing (suc n) h = refl
+
+  pub filled : (n : ℕ) → n ≤ 0 → passed s ≡ walk J k [] (waiting lengths widths n) s
+  unfolding walk waiting
+  filled zero h = refl
+  filled (suc n) h = absurd (omega arith)
+
+-- no rectangle waits
+pub none-wait : (lengths widths : List ℕ) (n : ℕ) → n < 1 → waiting lengths widths n ≡ []
+unfolding waiting
+none-wait lengths widths zero h = refl
+none-wait lengths widths (suc n) h = absurd (omega arith)
+
+-- the next rectangle, and the others
+pub next-waits : (lengths widths : List ℕ) (n : ℕ) → 1 ≤ n → waiting lengths widths n ≡ (getD lengths (n - 1) 0, getD widths (n - 1) 0) ∷ waiting lengths widths (n - 1)
+unfolding waiting
+next-waits lengths widths zero h = absurd (omega arith)
+next-waits lengths widths (suc n) h = let e : suc n - 1 ≡ n = omega arith in rw e
+
+-- stores past the list leave it
+stored-past : (lengths widths : List ℕ) (i x y n : ℕ) → n ≤ i → waiting (set lengths i x) (set widths i y) n ≡ waiting lengths widths n
+unfolding waiting
+stored-past lengths widths i x y zero h = refl
+stored-past lengths widths i x y (suc n) h =
+    let other : n ≡ i → ⊥ = λ e. omega arith in
+    ap₂ (λ q rs. q ∷ rs) (ap₂ (λ a b. (a, b)) (getD-set-other lengths i n x 0 other) (getD-set-other widths i n y 0 other)) (stored-past lengths widths i x y n (omega arith))
+
+-- two rectangles put in the place of the next one, the first part last
+pub parts-wait : (lengths widths : List ℕ) (n : ℕ) (first second : Rect) → 1 ≤ n → n < length lengths → n < length widths
+    → waiting (set (set lengths (n - 1) (second .0)) n (first .0)) (set (set widths (n - 1) (second .1)) n (first .1)) (n + 1) ≡ first ∷ second ∷ waiting lengths widths (n - 1)
+unfolding waiting
+parts-wait lengths widths n first second h l w =
+    let less : n - 1 ≡ n → ⊥ = λ e. omega arith in
+    let stored : (a : List ℕ) (x y : ℕ) → n < length a → getD (set (set a (n - 1) y) n x) n 0 ≡ x = λ a x y b. getD-set-same (set a (n - 1) y) n x 0 (omega (arith, length-set a (n - 1) y, b)) in
+    let kept : (a : List ℕ) (x y : ℕ) → n < length a → getD (set (set a (n - 1) y) n x) (n - 1) 0 ≡ y = λ a x y b. getD-set-other (set a (n - 1) y) n (n - 1) x 0 less ∙ getD-set-same a (n - 1) y 0 (omega (arith, b)) in
+    let L = set lengths (n - 1) (second .0) in
+    let W = set widths (n - 1) (second .1) in
+    rw add-one
+    (ap₂ (λ q rs. q ∷ rs) (ap₂ (λ a b. (a, b)) (stored lengths (first .0) (second .0) l) (stored widths (first .1) (second .1) w))
+    (next-waits (set L n (first .0)) (set W n (first .1)) n h
+    ∙ ap₂ (λ q rs. q ∷ rs) (ap₂ (λ a b. (a, b)) (kept lengths (first .0) (second .0) l) (kept widths (first .1) (second .1) w))
+    (stored-past L W n (first .0) (first .1) (n - 1) (omega arith) ∙ stored-past lengths widths (n - 1) (second .0) (second .1) (n - 1) (omega arith))))
+
+-- the parts that a cut leaves
+pub cut-waits : (lengths widths : List ℕ) (n : ℕ) (node : Node) (d : Direction) (x : ℕ) (r : Rect) (first second : Sides) → 1 ≤ n → n < length lengths → n < length widths
+    → node ≡ Cut d x → first ≡ sides-of (part d x r) → second ≡ sides-of (part d (side d r - x) r)
+    → waiting (set (set lengths (n - 1) (second .length)) n (first .length)) (set (set widths (n - 1) (second .width)) n (first .width)) (n + 1) ≡ parts node r ++ waiting lengths widths (n - 1)
+cut-waits lengths widths n node d x r first second h l w c e f =
+    parts-wait lengths widths n (rect-of first) (rect-of second) h l w ∙ ap₂ (λ p q. rect-of p ∷ rect-of q ∷ waiting lengths widths (n - 1)) e f
+    ∙ sym (ap (λ m. parts m r ++ waiting lengths widths (n - 1)) c)
+
+-- where the walk stands before node k: n rectangles wait in two arrays
+pub record Walking (J : Job) (kinds operands copies lengths widths : List ℕ) (n : ℕ) (t : Tally) (k : ℕ) : Type 0 where
+  pub nodes : k ≤ length kinds
+  pub few : n ≤ k + 1
+  pub held : Held lengths widths
+  pub sized : Sized k t
+  pub walks : walk J 0 (nodes-in kinds operands) (J .plate ∷ []) empty-report ≡ walk J k (drop k (nodes-in kinds operands)) (waiting lengths widths n) (report-of t copies)
+
+-- it begins with the plate
+pub begins : (J : Job) (kinds operands : List ℕ) (t : Tally) → t ≡ no-sums → Walking J kinds operands (replicate 64 0) (replicate 4096 (J .plate .0)) (replicate 4096 (J .plate .1)) 1 t 0
+unfolding waiting
+begins J kinds operands t e = rw e
+    (record {
+      nodes = omega arith;
+      few = omega arith;
+      held = (length-replicate {A = ℕ} 4096 (J .plate .0), length-replicate {A = ℕ} 4096 (J .plate .1));
+      sized = record { profit = omega arith; pieces = omega arith; waste = omega arith; trim = omega arith };
+      walks = refl;
+    })
+
+module _ {J : Job} {kinds operands copies lengths widths : List ℕ} {n : ℕ} {t : Tally} {k : ℕ} (given : Walking J kinds operands copies lengths widths n t k) (same : length kinds ≡ length operands) where
+  abbrev answer : PlanAnswer
+  answer = walk J 0 (nodes-in kinds operands) (J .plate ∷ []) empty-report
+
+  -- after the last node
+  pub ends : length kinds ≤ k → (a : PlanAnswer) → a ≡ walk J (length kinds) [] (waiting lengths widths n) (report-of t copies) → a ≡ answer
+  ends h a e = let m : length kinds ≡ k = omega (arith, given .nodes) in
+      let l : length (nodes-in kinds operands) ≤ k = omega (arith, nodes-length kinds operands same) in
+      e ∙ ap (λ i. walk J i [] (waiting lengths widths n) (report-of t copies)) m
+      ∙ sym (given .walks ∙ ap (λ ns. walk J k ns (waiting lengths widths n) (report-of t copies)) (drop-of-length-le (nodes-in kinds operands) l))
+
+  module _ (more : k < length kinds) where
+    -- no rectangle waits for node k
+    pub left : n < 1 → refused (NodeLeft k) ≡ answer
+    left h = sym (given .walks ∙ ap (λ rs. from J kinds operands same k rs t copies) (none-wait lengths widths n h) ∙ left-over J kinds operands same k more t copies)
+
+    module _ (some : 1 ≤ n) {room : Sides} (next : room ≡ sides-of (getD lengths (n - 1) 0, getD widths (n - 1) 0)) {e : NodeEntry} (here : e ≡ entry-at kinds operands k)
+        {a : NodeAnswer} {after : List ℕ} (placed : Placed J (e .at) (e .kind) (e .operand) (rect-of room) t copies a after) where
+      -- node k, at the next rectangle
+      at-k : Placed J k (getD kinds k 0) (getD operands k 0) (rect-of room) t copies a after
+      at-k = subst (λ (x : NodeEntry). Placed J (x .at) (x .kind) (x .operand) (rect-of room) t copies a after) here placed
+
+      opened : answer ≡ from J kinds operands same k (rect-of room ∷ waiting lengths widths (n - 1)) t copies
+      opened = given .walks ∙ ap (λ rs. from J kinds operands same k rs t copies) (next-waits lengths widths n some ∙ sym (ap (λ r. rect-of r ∷ waiting lengths widths (n - 1)) next))
+
+      -- it is refused
+      pub halts : {x : Refusal} → a .verdict ≡ Refused x → unreported (a .verdict) ≡ answer
+      halts v = sym (opened ∙ stops J kinds operands same k more (waiting lengths widths (n - 1)) at-k v)
+
+      -- it passes
+      module _ (v : a .verdict ≡ Passed) where
+        -- its parts can be put in the list
+        pub opens : length kinds ≤ 4095 → {node : Node} → node ≡ node-of (e .kind) (e .operand) → Opens node (rect-of room) lengths widths n
+        opens most {node} m =
+            record {
+              some = some;
+              place = omega (arith, given .few);
+              inside = rw m (fits-inside J copies (rect-of room) (node-of (e .kind) (e .operand)) (node-passed J copies (rect-of room) (e .at) (e .kind) (e .operand) (sym (placed .verdict) ∙ v) .1));
+              held = given .held;
+            }
+
+        -- and the walk goes on
+        pub goes-on : {node : Node} → node ≡ node-of (e .kind) (e .operand) → (lengths′ widths′ : List ℕ) (n′ : ℕ)
+            → (waiting lengths′ widths′ n′ ≡ parts node (rect-of room) ++ waiting lengths widths (n - 1)) × (n′ ≤ n + 1) × Held lengths′ widths′ → Walking J kinds operands after lengths′ widths′ n′ (a .tally) (k + 1)
+        goes-on {node} m lengths′ widths′ n′ w =
+            record {
+              nodes = omega arith;
+              few = omega (arith, given .few, w .1);
+              held = w .2;
+              sized = placed .sized k (given .sized);
+              walks = opened ∙ steps J kinds operands same k more (waiting lengths widths (n - 1)) at-k v
+                  ∙ sym (ap (λ rs. from J kinds operands same (k + 1) rs (a .tally) after) (w .0 ∙ ap (λ x. parts x (rect-of room) ++ waiting lengths widths (n - 1)) (m ∙ ap (λ (x : NodeEntry). node-of (x .kind) (x .operand)) here)));
+            }
