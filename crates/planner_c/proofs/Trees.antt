@@ -7,7 +7,7 @@ use lib.ListN.{length}
 use Rattle.cutting.specs.Lists.{over}
 use Rattle.cutting.specs.Job.{Job}
 use Rattle.refusal.specs.declared.Refusal.{Refusal}
-use Rattle.refusal.specs.Refusals.{outcome-by}
+use Rattle.refusal.specs.Refusals.{Outcome, outcome-by}
 use Rattle.refusal.proofs.Numbers.{number-some}
 use Rattle.refusal.specs.declared.Checked.{Checked}
 use Rattle.refusal.specs.declared.Checked.the-variants.{Passed, Refused}
@@ -21,7 +21,8 @@ use Rattle.certificate.specs.declared.Certificate.{Certificate}
 use Rattle.certificate.specs.declared.Certificate.the-variants as certificate
 use Rattle.certificate.specs.Certificate.{certificate-outcome}
 use Rattle.certificate.specs.Promises.{BestSaid, GapSaid}
-use Rattle.planner_c.specs.Exports.{Gives, word, plan-values, plan-outcome, BoundGiven, TreeChecked, Certified, CertificateGiven, returned, answered}
+use Rattle.plan.specs.Calls.{plan-values, plan-outcome}
+use Rattle.planner_c.specs.Exports.{Gives, word, BoundGiven, TreeChecked, Certified, CertificateGiven, returned, answered}
 use Rattle.planner_c.proofs.Exports.{short, enough}
 
 -- a bound
@@ -54,16 +55,16 @@ module _ (J : Job) (kinds operands : List ℕ) {n : ℕ} (old : List ℕ) {new :
       passed (Refused r) p e = absurd (omega (arith, number-some r, e, g .0 ∙ ap (λ v. outcome-by v (plan-values (a .report)) .0) p))
 
 -- both cases of an exported check, whichever way the plan is given: too few words, and enough
-module _ (Before : Type 0) (J : Job) (kinds operands : List ℕ) (a : PlanAnswer) (old : List ℕ) where
+module _ (Before : Type 0) (J : Job) (kinds operands : List ℕ) (said : Outcome) (old : List ℕ) where
   abbrev pub ChecksAnswer : ℕ → List ℕ → Type 0
-  ChecksAnswer n new = (n ≡ returned 68 old (plan-outcome a)) × ((new ≡ answered 68 old (plan-outcome a)) × TreeChecked Before J kinds operands old new n)
+  ChecksAnswer n new = (n ≡ returned 68 old said) × ((new ≡ answered 68 old said) × TreeChecked Before J kinds operands old new n)
 
   pub check-short : length old < 68 → ChecksAnswer 100 old
   check-short h =
-      let s = short 68 (plan-outcome a) old h in
+      let s = short 68 said old h in
       (s .0, (s .1, record { tree = λ e. absurd (omega arith); passes = λ k b t p. absurd (omega (arith, h, k)) }))
 
-  pub check-enough : {n : ℕ} {new : List ℕ} {r : PlanAnswer} → 68 ≤ length old → r ≡ a → ChecksPlan Before J kinds operands r → Gives (plan-outcome r) n old new → ChecksAnswer n new
+  pub check-enough : {n : ℕ} {new : List ℕ} {r : PlanAnswer} → 68 ≤ length old → plan-outcome r ≡ said → ChecksPlan Before J kinds operands r → Gives (plan-outcome r) n old new → ChecksAnswer n new
   check-enough {r = r} h e checks g =
-      let s = enough 68 (plan-outcome a) old h (ap plan-outcome e) g in
+      let s = enough 68 said old h e g in
       (s .0, (s .1, tree-given J kinds operands old Before r checks g))

@@ -10,9 +10,8 @@ use Rattle.cutting.specs.Tree.{Tree}
 use Rattle.cutting.specs.Job.{Job, bound-of}
 use Rattle.cutting.specs.Promises.{NoneAbove}
 use Rattle.cutting.specs.Preorder.{kinds-of, operands-of}
-use Rattle.refusal.specs.Refusals.{Outcome, outcome-by}
-use Rattle.plan.specs.declared.Report.{Report}
-use Rattle.plan.specs.declared.PlanAnswer.{PlanAnswer}
+use Rattle.refusal.specs.Refusals.{Outcome}
+use Rattle.plan.specs.Calls.{plan-values}
 use Rattle.plan.specs.Trees.{PlanOf, tree-report}
 use Rattle.bound.specs.Bound.{Memory, BoundHolds}
 use Rattle.writer.specs.Write.{array-after, block-plan}
@@ -58,14 +57,6 @@ PlanLeft s ws m old new =
 -- a certificate's profit and gap sum to at most the bound's ceiling
 abbrev pub Sums : Certificate → Type 0
 Sums r = (profit gap : ℕ) → r ≡ Gap profit gap → profit + gap ≤ 1000000000000
-
--- a plan's report in words: profit, the areas of pieces, waste nodes and trim, and the copies of each kind
-abbrev pub plan-values : Report → List ℕ
-plan-values r = r .profit ∷ r .pieces ∷ r .waste ∷ r .trim ∷ r .copies
-
--- the number and values of a plan's answer
-abbrev pub plan-outcome : PlanAnswer → Outcome
-plan-outcome a = outcome-by (a .verdict) (plan-values (a .report))
 
 -- a word of the answer
 abbrev pub word : List ℕ → ℕ → ℕ

@@ -5,11 +5,11 @@ mod words;
 
 ghost use mathlib.Core.Path.{_≡_};
 ghost use Rattle.job.specs.Weights.{block-job, weight-in};
-ghost use Rattle.plan.specs.Calls.{arrays-answer, block-answer, plan-kinds, plan-operands, JobPasses, BlockPasses};
+ghost use Rattle.plan.specs.Calls.{arrays-said, block-said, plan-kinds, plan-operands, JobPasses, BlockPasses};
 ghost use Rattle.bound.specs.Bound.{lent, Leaves, accept-verdict, bound-said};
 ghost use Rattle.writer.specs.Write.{write-said};
 ghost use Rattle.certificate.specs.Certificate.{plan-verdict, certificate-said};
-ghost use Rattle.planner_c.specs.Exports.{returned, answered, Left, PlanLeft, plan-outcome, TreeChecked, BoundGiven, CertificateGiven};
+ghost use Rattle.planner_c.specs.Exports.{returned, answered, Left, PlanLeft, TreeChecked, BoundGiven, CertificateGiven};
 
 // The check of a plan's arrays for a job block. The answer has 68 words: profit, the areas of pieces, waste nodes and trim, and the
 // copies of 64 kinds.
@@ -20,8 +20,8 @@ pub extern "C" fn planner_check_plan(
     operands: &[u16],
     answer: &mut [u64],
 ) -> u32
-    ensures number { λ n. ⌜ n ≡ returned 68 (now (answer .entry)) (plan-outcome (arrays-answer (now (block .entry)) (now (kinds .entry)) (now (operands .entry)))) ⌝ }
-    ensures words { λ _. ⌜ now (answer .exit) ≡ answered 68 (now (answer .entry)) (plan-outcome (arrays-answer (now (block .entry)) (now (kinds .entry)) (now (operands .entry)))) ⌝ }
+    ensures number { λ n. ⌜ n ≡ returned 68 (now (answer .entry)) (arrays-said (now (block .entry)) (now (kinds .entry)) (now (operands .entry))) ⌝ }
+    ensures words { λ _. ⌜ now (answer .exit) ≡ answered 68 (now (answer .entry)) (arrays-said (now (block .entry)) (now (kinds .entry)) (now (operands .entry))) ⌝ }
     ensures trees { λ n. ⌜ TreeChecked (JobPasses (now (block .entry))) (block-job (now (block .entry))) (now (kinds .entry)) (now (operands .entry)) (now (answer .entry)) (now (answer .exit)) n ⌝ }
 {
     if answer.len() < 68 {
@@ -34,8 +34,8 @@ pub extern "C" fn planner_check_plan(
 // The same for a plan block.
 #[no_mangle]
 pub extern "C" fn planner_check_plan_block(block: &[u8], plan: &[u8], answer: &mut [u64]) -> u32
-    ensures number { λ n. ⌜ n ≡ returned 68 (now (answer .entry)) (plan-outcome (block-answer (now (block .entry)) (now (plan .entry)))) ⌝ }
-    ensures words { λ _. ⌜ now (answer .exit) ≡ answered 68 (now (answer .entry)) (plan-outcome (block-answer (now (block .entry)) (now (plan .entry)))) ⌝ }
+    ensures number { λ n. ⌜ n ≡ returned 68 (now (answer .entry)) (block-said (now (block .entry)) (now (plan .entry))) ⌝ }
+    ensures words { λ _. ⌜ now (answer .exit) ≡ answered 68 (now (answer .entry)) (block-said (now (block .entry)) (now (plan .entry))) ⌝ }
     ensures trees { λ n. ⌜ TreeChecked (JobPasses (now (block .entry)) × BlockPasses (now (plan .entry))) (block-job (now (block .entry))) (plan-kinds (now (plan .entry))) (plan-operands (now (plan .entry))) (now (answer .entry)) (now (answer .exit)) n ⌝ }
 {
     if answer.len() < 68 {

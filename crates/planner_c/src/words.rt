@@ -15,10 +15,11 @@ ghost use lib.ListN.{length};
 ghost use lib.Seq.{sets};
 ghost use Rattle.cutting.specs.Lists.{over};
 ghost use Rattle.refusal.specs.Refusals.{refused-as};
+ghost use Rattle.plan.specs.Calls.{plan-values, plan-outcome};
 ghost use Rattle.bound.specs.Bound.{bound-outcome};
 ghost use Rattle.certificate.specs.Certificate.{certificate-outcome};
 ghost use Rattle.writer.specs.Write.{write-values, write-outcome};
-ghost use Rattle.planner_c.specs.Exports.{Gives, Sums, plan-values, plan-outcome};
+ghost use Rattle.planner_c.specs.Exports.{Gives, Sums};
 
 // A refusal: its number is returned, its place put in the first word.
 fn refuse(r: Refusal, answer: &mut [u64]) -> u32

@@ -1,7 +1,7 @@
 -- `planner_c::planner_check_plan_block` meets its contract: too few words, or the block check's outcome.
 use denote.Ref.{now}
 use Rattle.job.specs.Weights.{block-job}
-use Rattle.plan.specs.Calls.{block-answer, plan-kinds, plan-operands}
+use Rattle.plan.specs.Calls.{block-said, plan-kinds, plan-operands}
 use Rattle.planner_c.proofs.Trees.{check-short, check-enough}
 use borrow.Author.Needs.{needs}
 use Rattle.planner_c.proofs.planner_check_plan_block.Statement.{statement}
@@ -10,13 +10,13 @@ use Rattle.planner_c.proofs.planner_check_plan_block.Tie as tie
 returns : tie.Need-returns
 returns c =
     let a = c .before .before .before .before .args in
-    check-short _ (block-job (now (a .block))) (plan-kinds (now (a .plan))) (plan-operands (now (a .plan))) (block-answer (now (a .block)) (now (a .plan))) (now (a .answer)) (c .if1 .taken)
+    check-short _ (block-job (now (a .block))) (plan-kinds (now (a .plan))) (plan-operands (now (a .plan))) (block-said (now (a .block)) (now (a .plan))) (now (a .answer)) (c .if1 .taken)
 
 returns-2 : tie.Need-returns-2
 returns-2 c =
     let a = c .before .before .before .before .before .before .before .before .before .args in
     let e = c .before .before .before .before .check-plan-block .ensures in
-    check-enough _ (block-job (now (a .block))) (plan-kinds (now (a .plan))) (plan-operands (now (a .plan))) (block-answer (now (a .block)) (now (a .plan))) (now (a .answer)) (c .before .before .before .before .before .if1 .left) (e .0) (e .1) (c .before .before .put-plan .ensures)
+    check-enough _ (block-job (now (a .block))) (plan-kinds (now (a .plan))) (plan-operands (now (a .plan))) (block-said (now (a .block)) (now (a .plan))) (now (a .answer)) (c .before .before .before .before .before .if1 .left) (e .1 .0) (e .1 .1) (c .before .before .put-plan .ensures)
 
 pub planner-check-plan-block-spec : {M : Type 1} → statement M
 planner-check-plan-block-spec = tie.close (tie.spec returns (search needs) (search needs) (search needs) returns-2)

@@ -2,7 +2,7 @@
 use mathlib.Core.Path.{refl}
 use denote.Ref.{now}
 use Rattle.refusal.specs.Refusals.{outcome-by}
-use Rattle.planner_c.specs.Exports.{plan-values}
+use Rattle.plan.specs.Calls.{plan-values}
 use Rattle.planner_c.proofs.Exports.{given}
 use borrow.Author.Needs.{needs}
 use Rattle.planner_c.proofs.words.put_plan.Statement.{statement}

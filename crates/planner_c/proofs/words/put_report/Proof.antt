@@ -3,7 +3,7 @@ use mathlib.Core.Path.{_∙_, ap}
 use native.Mathlib.Omega.{arith}
 use denote.Ref.{now}
 use lib.Seq.{sets}
-use Rattle.planner_c.specs.Exports.{plan-values}
+use Rattle.plan.specs.Calls.{plan-values}
 use Rattle.planner_c.proofs.Exports.{front}
 use borrow.Author.Needs.{needs}
 use Rattle.planner_c.proofs.words.put_report.Statement.{statement}
