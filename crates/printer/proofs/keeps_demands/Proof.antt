@@ -14,10 +14,10 @@ enum-told-2 : tie.Need-enum-told-2
 enum-told-2 c = search needs
 
 returns : tie.Need-returns
-returns c = kept (c .before .before .check-plan .ensures .1) (c .enum-told .given .1)
+returns c = kept (c .before .before .check-plan .ensures .1 .1) (c .enum-told .given .1)
 
 returns-2 : tie.Need-returns-2
-returns-2 c = exceeded (c .before .before .check-plan .ensures .1) (c .enum-told2 .given .1)
+returns-2 c = exceeded (c .before .before .check-plan .ensures .1 .1) (c .enum-told2 .given .1)
 
 pub keeps-demands-spec : {M : Type 1} → statement M
 keeps-demands-spec =
