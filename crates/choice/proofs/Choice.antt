@@ -1,5 +1,4 @@
--- The choice from a filled table: the two searches over lent arrays answer the definition's searches over figures of the job.
--- Assumes nothing.
+-- The choice from a filled table: the two searches over the table answer the definition's searches over figures of the job.
 use mathlib.Core.Path.{_≡_, refl, sym, _∙_, ap, ap₂}
 use mathlib.Core.Bool.{Bool, true, false}
 use mathlib.Core.Option.{Option, none, some, Option·map}
@@ -9,8 +8,8 @@ use native.Mathlib.Numerals.{add-one}
 use native.Mathlib.Omega.{arith}
 use borrow.Author.Tests.{eq-eqb, ne-eqb}
 use lib.Dec.{eqb}
-use lib.ListN.{length, getD, length-map}
-use lib.Seq.{ext-getD}
+use lib.ListN.{length, getD, take, drop, length-drop, length-map}
+use lib.Seq.{ext-getD, take-all}
 use Rattle.cutting.specs.declared.Direction.{Direction}
 use Rattle.cutting.specs.declared.Direction.the-variants.{Length, Width}
 use Rattle.cutting.specs.declared.Node.the-variants.{Waste, Piece, Cut}
@@ -23,6 +22,7 @@ use Rattle.cutting.proofs.Positions.{between-length, between-entry}
 use Rattle.cutting.proofs.Table.{normal-zero}
 use Rattle.job.specs.Weights.{weight-in}
 use Rattle.table.specs.Table.{position-count, position, Listed, Mapped}
+use Rattle.choice.specs.declared.Cell.{Cell}
 use Rattle.choice.specs.declared.Chosen.{Chosen}
 use Rattle.choice.specs.declared.Dimensions.{Dimensions}
 use Rattle.choice.specs.declared.KindFound.{KindFound}
@@ -30,7 +30,7 @@ use Rattle.choice.specs.declared.KindFound.the-variants as kind
 use Rattle.choice.specs.declared.CutFound.{CutFound}
 use Rattle.choice.specs.declared.CutFound.the-variants as found
 use Rattle.choice.specs.Search.{kind-test, kind-found, pair-test, first-index, cut-found, or-width-cut, or-length-cut, Searchable}
-use Rattle.choice.specs.Lent.{Tabled, lent-job, Lent, Cell, chosen-of, chosen-at}
+use Rattle.choice.specs.Choice.{Tabled, ChoiceInput, Inside, chosen-of, chosen-at}
 use Rattle.choice.proofs.Rows.{stride-of, base-of, figure-at, row-figure, mapped-figure, cell-figure, cell-there, cell-sizes, searchable}
 
 -- searches over mapped lists
@@ -56,6 +56,10 @@ pairs-map g h [] ys = refl
 pairs-map g h (x ∷ xs) ys =
     ap₂ _++_ (map-map (λ y. (g x, y)) h ys ∙ sym (map-map (λ u. (g (u .0), h (u .1))) (λ y. (x, y)) ys)) (pairs-map g h xs ys)
     ∙ sym (map-append (λ u. (g (u .0), h (u .1))) (map (λ y. (x, y)) ys) (pairs xs ys))
+
+-- a list from an entry on
+pub rest-part : (n : ℕ) (xs : List ℕ) → take (length xs - n) (drop n xs) ≡ drop n xs
+rest-part n xs = take-all (length xs - n) (drop n xs) (omega (arith, length-drop n xs))
 
 -- the cuts of a side are the listed positions between the first and the side's own
 cuts-listed : (J : Job) (d : Direction) (positions : List ℕ) (a n : ℕ) → Listed J d positions → a < position-count J d → position J d a ≡ normal-floor J d n
@@ -102,7 +106,7 @@ searched lengths widths c false none (some u) j e f = rw e refl
 searched lengths widths c false none none (some v) e f = rw (e, f) refl
 searched lengths widths c false none none none e f = rw (e, f) refl
 
-module _ {J : Job} {weights : List ℕ} {columns q : ℕ} {lengths widths length-map width-map table : List ℕ} (t : Tabled J weights columns q lengths widths length-map width-map table)
+module _ {J : Job} {weights : List ℕ} {columns q : ℕ} {lengths widths length-floors width-floors table : List ℕ} (t : Tabled J weights columns q lengths widths length-floors width-floors table)
     (l w c : ℕ) (on-length : l ≤ J .plate .0) (on-width : w ≤ J .plate .1) (share : c ≤ q) where
   module _ (d : Direction) (positions floors : List ℕ) (listed : Listed J d positions) (mapped : Mapped J d floors) where
     on-side : side d (l, w) ≤ side d (J .plate)
@@ -110,14 +114,14 @@ module _ {J : Job} {weights : List ℕ} {columns q : ℕ} {lengths widths length
 
     -- the test of a pair reads the figures of its two parts
     pair-same : (i k : ℕ) → i < position-count J d → k ≤ c → pair-earns J (weight-in weights) d l w c (pair-of positions c (i, k))
-        ≡ pair-test positions floors table (side d (l, w)) (stride-of columns q d) (base-of columns q d (getD length-map l 0) (getD width-map w 0)) c (figure-of J (weight-in weights) l w c) (i, k)
+        ≡ pair-test positions floors table (side d (l, w)) (stride-of columns q d) (base-of columns q d (getD length-floors l 0) (getD width-floors w 0)) c (figure-of J (weight-in weights) l w c) (i, k)
     pair-same i k h g = pair-figures J (weight-in weights) d l w c (pair-of positions c (i, k)) ∙ ap₂ (λ a b. eqb (a + b) (figure-of J (weight-in weights) l w c))
         (ap (λ x. figure-at J (weight-in weights) (part d x (l, w)) k) (listed .1 i h) ∙ sym (row-figure t l w on-length on-width d i k h (omega arith)))
         (sym (mapped-figure t l w on-length on-width d floors mapped (side d (l, w) - getD positions i 0) (c - k) (omega (arith, on-side)) (omega arith)))
 
     -- the search over indexes answers the definition's search
     pair-index : first-pair J (weight-in weights) d l w c ≡ Option·map (pair-of positions c)
-        (first-index positions floors table (side d (l, w)) (getD floors (side d (l, w)) 0) (stride-of columns q d) (base-of columns q d (getD length-map l 0) (getD width-map w 0)) c (figure-of J (weight-in weights) l w c))
+        (first-index positions floors table (side d (l, w)) (getD floors (side d (l, w)) 0) (stride-of columns q d) (base-of columns q d (getD length-floors l 0) (getD width-floors w 0)) c (figure-of J (weight-in weights) l w c))
     unfolding first-pair first-index
     pair-index =
         let a = getD floors (side d (l, w)) 0 in
@@ -153,62 +157,81 @@ width-out e h = rw (e, h) refl
 pub waste-out : {f g : CutFound} → f ≡ found.Missing → g ≡ found.Missing → record { node = Waste; share = 0 } ≡ or-length-cut f (or-width-cut g)
 waste-out e h = rw (e, h) refl
 
--- the searches that the choice makes over lent arrays, at a cell of a value
-module _ (g : Dimensions) (kind-lengths kind-widths prices weights lengths widths length-map width-map table : List ℕ) (l w c value : ℕ) where
+-- the searches that the choice makes at a cell of a value
+module _ (J : Job) (weight : ℕ → ℕ) (g : Dimensions) (lengths widths floors table : List ℕ) (cell : Cell) (value : ℕ) where
+  -- the indexes of the tabled length and width
+  abbrev pub row-of : ℕ
+  row-of = getD floors (cell .sides .length) 0
+
+  abbrev pub column-of : ℕ
+  column-of = getD (drop 1001 floors) (cell .sides .width) 0
+
   abbrev pub kind-search : Option ℕ
-  kind-search = first (kind-test kind-lengths kind-widths prices weights l w c value) (range 0 (g .count))
+  kind-search = first (kind-test J weight cell value) (range 0 (J .count))
 
   abbrev pub length-search : Option (ℕ × ℕ)
-  length-search = first-index lengths length-map table l (getD length-map l 0) (g .columns * (g .capacity + 1)) (getD width-map w 0 * (g .capacity + 1)) c value
+  length-search = first-index lengths floors table (cell .sides .length) row-of (g .columns * (g .capacity + 1)) (column-of * (g .capacity + 1)) (cell .share) value
 
   abbrev pub width-search : Option (ℕ × ℕ)
-  width-search = first-index widths width-map table w (getD width-map w 0) (g .capacity + 1) (getD length-map l 0 * (g .columns * (g .capacity + 1))) c value
+  width-search = first-index widths (drop 1001 floors) table (cell .sides .width) column-of (g .capacity + 1) (row-of * (g .columns * (g .capacity + 1))) (cell .share) value
+
+  -- a cut that they find, or waste
+  abbrev pub cut-answer : Chosen
+  cut-answer = or-length-cut (cut-found lengths length-search) (or-width-cut (cut-found widths width-search))
 
   -- their answer: waste where the value is 0, or the kind, or the length cut, or the width cut
   abbrev pub answer : Chosen
-  answer = or-none (eqb value 0) (or-kind (kind-found kind-search) (or-length-cut (cut-found lengths length-search) (or-width-cut (cut-found widths width-search))))
+  answer = or-none (eqb value 0) (or-kind (kind-found kind-search) cut-answer)
 
 -- the answer is the choice
-module _ {g : Dimensions} {kl kw prices weights lengths widths mx my table : List ℕ} (t : Lent g kl kw prices weights lengths widths mx my table) {l w c : ℕ} (at : Cell g l w c) where
-  answer-figure : answer g kl kw prices weights lengths widths mx my table l w c (figure-of (lent-job g kl kw prices) (weight-in weights) l w c) ≡ chosen-at g kl kw prices weights l w c
+module _ {J : Job} {weights : List ℕ} {g : Dimensions} {lengths widths floors table : List ℕ} (t : ChoiceInput J weights g lengths widths floors table) {cell : Cell} (at : Inside J g cell) where
+  answer-figure : answer J (weight-in weights) g lengths widths floors table cell (figure-of J (weight-in weights) (cell .sides .length) (cell .sides .width) (cell .share)) ≡ chosen-at J (weight-in weights) cell
   unfolding plan-choice
   answer-figure =
-      let v = figure-of (lent-job g kl kw prices) (weight-in weights) l w c in
-      sym (searched lengths widths c (eqb v 0) (kind-search g kl kw prices weights lengths widths mx my table l w c v) (length-search g kl kw prices weights lengths widths mx my table l w c v)
-      (width-search g kl kw prices weights lengths widths mx my table l w c v)
-      (pair-index (t .tabled) l w c (at .on-length) (at .on-width) (at .in-capacity) Length lengths mx (t .tabled .lengths-are) (t .tabled .length-floors)) (pair-index (t .tabled) l w c (at .on-length) (at .on-width) (at .in-capacity) Width widths my (t .tabled .widths-are) (t .tabled .width-floors)))
+      let v = figure-of J (weight-in weights) (cell .sides .length) (cell .sides .width) (cell .share) in
+      let pairs-of : (d : Direction) (positions floors : List ℕ) → Listed J d positions → Mapped J d floors → _ = pair-index (t .tabled) (cell .sides .length) (cell .sides .width) (cell .share) (at .on-length) (at .on-width) (at .in-capacity) in
+      sym (searched lengths widths (cell .share) (eqb v 0) (kind-search J (weight-in weights) g lengths widths floors table cell v) (length-search J (weight-in weights) g lengths widths floors table cell v)
+      (width-search J (weight-in weights) g lengths widths floors table cell v)
+      (pairs-of Length lengths floors (t .tabled .lengths-are) (t .tabled .lengths-floored)) (pairs-of Width widths (drop 1001 floors) (t .tabled .widths-are) (t .tabled .widths-floored)))
 
   -- what the code multiplies and reads is in reach
-  pub sizes : (getD mx l 0 < 1002) × (getD my w 0 < 1002) × (g .columns * (g .capacity + 1) ≤ 4100096) × (getD mx l 0 * (g .columns * (g .capacity + 1)) ≤ 4104196096) × (getD my w 0 * (g .capacity + 1) ≤ 4100096)
-  sizes = cell-sizes (t .tabled) l w (at .on-length) (at .on-width)
+  pub sizes : (getD floors (cell .sides .length) 0 < 1002) × (getD (drop 1001 floors) (cell .sides .width) 0 < 1002) × (g .columns * (g .capacity + 1) ≤ 4100096)
+      × (getD floors (cell .sides .length) 0 * (g .columns * (g .capacity + 1)) ≤ 4104196096) × (getD (drop 1001 floors) (cell .sides .width) 0 * (g .capacity + 1) ≤ 4100096)
+  sizes = cell-sizes (t .tabled) (cell .sides .length) (cell .sides .width) (at .on-length) (at .on-width)
 
-  pub there : getD mx l 0 * (g .columns * (g .capacity + 1)) + getD my w 0 * (g .capacity + 1) + c < length table
-  there = cell-there (t .tabled) l w (at .on-length) (at .on-width) c (at .in-capacity)
+  pub there : getD floors (cell .sides .length) 0 * (g .columns * (g .capacity + 1)) + getD (drop 1001 floors) (cell .sides .width) 0 * (g .capacity + 1) + cell .share < length table
+  there = cell-there (t .tabled) (cell .sides .length) (cell .sides .width) (at .on-length) (at .on-width) (cell .share) (at .in-capacity)
 
-  pub cuts-searchable : Searchable lengths mx table l (getD mx l 0) (g .columns * (g .capacity + 1)) (getD my w 0 * (g .capacity + 1)) c
-      × Searchable widths my table w (getD my w 0) (g .capacity + 1) (getD mx l 0 * (g .columns * (g .capacity + 1))) c
-  cuts-searchable = (
-    searchable (t .tabled) l w (at .on-length) (at .on-width) Length lengths mx (t .tabled .lengths-are) (t .tabled .length-floors) c (at .in-capacity),
-    searchable (t .tabled) l w (at .on-length) (at .on-width) Width widths my (t .tabled .widths-are) (t .tabled .width-floors) c (at .in-capacity),
+  pub cuts-searchable : {a b : ℕ} → a ≡ getD floors (cell .sides .length) 0 → b ≡ getD (drop 1001 floors) (cell .sides .width) 0
+      → Searchable lengths floors table (cell .sides .length) a (g .columns * (g .capacity + 1)) (b * (g .capacity + 1)) (cell .share)
+      × Searchable widths (drop 1001 floors) table (cell .sides .width) b (g .capacity + 1) (a * (g .columns * (g .capacity + 1))) (cell .share)
+  cuts-searchable e f = rw (e, f) (
+    searchable (t .tabled) (cell .sides .length) (cell .sides .width) (at .on-length) (at .on-width) Length lengths floors (t .tabled .lengths-are) (t .tabled .lengths-floored) (omega (arith, t .floors-there)) (cell .share) (at .in-capacity),
+    searchable (t .tabled) (cell .sides .length) (cell .sides .width) (at .on-length) (at .on-width) Width widths (drop 1001 floors) (t .tabled .widths-are) (t .tabled .widths-floored) (omega (arith, t .floors-there, length-drop 1001 floors)) (cell .share) (at .in-capacity),
   )
 
   -- the value of the cell
-  abbrev pub cell : ℕ
-  cell = getD table (getD mx l 0 * (g .columns * (g .capacity + 1)) + getD my w 0 * (g .capacity + 1) + c) 0
+  abbrev pub word-at : ℕ
+  word-at = getD table (getD floors (cell .sides .length) 0 * (g .columns * (g .capacity + 1)) + getD (drop 1001 floors) (cell .sides .width) 0 * (g .capacity + 1) + cell .share) 0
 
-  answer-choice : answer g kl kw prices weights lengths widths mx my table l w c cell ≡ chosen-at g kl kw prices weights l w c
-  answer-choice = ap (λ v. answer g kl kw prices weights lengths widths mx my table l w c v) (cell-figure (t .tabled) l w (at .on-length) (at .on-width) c (at .in-capacity)) ∙ answer-figure
+  answer-choice : answer J (weight-in weights) g lengths widths floors table cell word-at ≡ chosen-at J (weight-in weights) cell
+  answer-choice = ap (λ v. answer J (weight-in weights) g lengths widths floors table cell v) (cell-figure (t .tabled) (cell .sides .length) (cell .sides .width) (at .on-length) (at .on-width) (cell .share) (at .in-capacity)) ∙ answer-figure
 
   -- each way out of the code answers the choice
-  pub none-chosen : cell ≡ 0 → record { node = Waste; share = 0 } ≡ chosen-at g kl kw prices weights l w c
-  none-chosen z = sym (exit-none _ _ (eq-eqb cell 0 z)) ∙ answer-choice
+  module _ {a b value : ℕ} (e : a ≡ getD floors (cell .sides .length) 0) (f : b ≡ getD (drop 1001 floors) (cell .sides .width) 0)
+      (v : value ≡ getD table (a * (g .columns * (g .capacity + 1)) + b * (g .capacity + 1) + cell .share) 0) where
+    word-is : value ≡ word-at
+    word-is = v ∙ ap₂ (λ a b. getD table (a * (g .columns * (g .capacity + 1)) + b * (g .capacity + 1) + cell .share) 0) e f
 
-  module _ (z : cell ≡ 0 → ⊥) where
-    pub kind-chosen : {i : ℕ} → kind-found (kind-search g kl kw prices weights lengths widths mx my table l w c cell) ≡ kind.Kind i
-        → record { node = Piece i; share = 0 } ≡ chosen-at g kl kw prices weights l w c
-    kind-chosen k = sym (exit-kind _ _ _ (ne-eqb cell 0 z) k) ∙ answer-choice
+    pub none-chosen : value ≡ 0 → record { node = Waste; share = 0 } ≡ chosen-at J (weight-in weights) cell
+    none-chosen z = sym (exit-none _ _ (eq-eqb word-at 0 (sym word-is ∙ z))) ∙ answer-choice
 
-    pub cut-chosen : kind-found (kind-search g kl kw prices weights lengths widths mx my table l w c cell) ≡ kind.Missing
-        → or-length-cut (cut-found lengths (length-search g kl kw prices weights lengths widths mx my table l w c cell)) (or-width-cut (cut-found widths (width-search g kl kw prices weights lengths widths mx my table l w c cell)))
-        ≡ chosen-at g kl kw prices weights l w c
-    cut-chosen k = sym (exit-cut _ _ _ (ne-eqb cell 0 z) k) ∙ answer-choice
+    module _ (z : value ≡ 0 → ⊥) where
+      pub kind-chosen : {i : ℕ} → kind-found (kind-search J (weight-in weights) g lengths widths floors table cell value) ≡ kind.Kind i → record { node = Piece i; share = 0 } ≡ chosen-at J (weight-in weights) cell
+      kind-chosen k = sym (exit-kind _ _ _ (ne-eqb value 0 z) k) ∙ ap (λ v. answer J (weight-in weights) g lengths widths floors table cell v) word-is ∙ answer-choice
+
+      pub cut-chosen : {r : Chosen} → kind-found (kind-search J (weight-in weights) g lengths widths floors table cell value) ≡ kind.Missing
+          → r ≡ or-length-cut (cut-found lengths (first-index lengths floors table (cell .sides .length) a (g .columns * (g .capacity + 1)) (b * (g .capacity + 1)) (cell .share) value))
+          (or-width-cut (cut-found widths (first-index widths (drop 1001 floors) table (cell .sides .width) b (g .capacity + 1) (a * (g .columns * (g .capacity + 1))) (cell .share) value)))
+          → r ≡ chosen-at J (weight-in weights) cell
+      cut-chosen k c = rw (e, f) at c ∙ sym (exit-cut _ _ _ (ne-eqb value 0 z) k) ∙ ap (λ v. answer J (weight-in weights) g lengths widths floors table cell v) word-is ∙ answer-choice

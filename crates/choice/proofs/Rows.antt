@@ -1,6 +1,5 @@
 -- The rows of a filled table in one direction: the row of index i holds the figures of the rectangle whose side in that direction is the
 -- i-th normal position, and whose other side stays.
--- Assumes nothing.
 use mathlib.Core.Path.{_≡_, sym, _∙_, ap, ap₂}
 use mathlib.Core.List.{List}
 use Prim.Native.Nat.{ℕ, suc, _+_, _*_, _≤_, _<_}
@@ -17,7 +16,7 @@ use Rattle.cutting.proofs.Table.{positions-rise, positions-normal, positions-le
 use Rattle.job.specs.Weights.{weight-in}
 use Rattle.table.specs.Table.{position-count, position, Listed, Mapped, words-needed, word}
 use Rattle.choice.specs.Search.{Row, Searchable}
-use Rattle.choice.specs.Lent.{Tabled}
+use Rattle.choice.specs.Choice.{Tabled}
 
 -- the words from one row to the next, and the word where row 0 begins; a and b are the indexes of the tabled length and width
 abbrev pub stride-of : ℕ → ℕ → Direction → ℕ
@@ -50,27 +49,27 @@ figure-most J weight h r c a b =
     let y : r .1 ≤ 1000 = omega (arith, h .plate-width) in
     omega (arith, figure-ceiling J weight h (r .0) (r .1) c, mul-le-mul x y)
 
-module _ {J : Job} {weights : List ℕ} {columns q : ℕ} {lengths widths length-map width-map table : List ℕ} (t : Tabled J weights columns q lengths widths length-map width-map table)
+module _ {J : Job} {weights : List ℕ} {columns q : ℕ} {lengths widths length-floors width-floors table : List ℕ} (t : Tabled J weights columns q lengths widths length-floors width-floors table)
     (l w : ℕ) (on-length : l ≤ J .plate .0) (on-width : w ≤ J .plate .1) where
   -- the indexes of the tabled length and width
   abbrev pub a-of : ℕ
-  a-of = getD length-map l 0
+  a-of = getD length-floors l 0
 
   abbrev pub b-of : ℕ
-  b-of = getD width-map w 0
+  b-of = getD width-floors w 0
 
   -- a row's word, and its figure
   row-cell : (d : Direction) (i k : ℕ) → i < position-count J d → k ≤ q
       → (i * stride-of columns q d + base-of columns q d a-of b-of + k < words-needed J q) × (getD table (i * stride-of columns q d + base-of columns q d a-of b-of + k) 0 ≡ figure-at J (weight-in weights) (part d (position J d i) (l, w)) k)
   row-cell Length i k h g =
-      let m = t .width-floors w on-width in
+      let m = t .widths-floored w on-width in
       let e : i * (columns * (q + 1)) + b-of * (q + 1) + k ≡ word J q i b-of k = rw (t .columns-are) (omega arith) in (
         rw e (word-below _ _ _ i b-of k h (m .0) (omega arith)),
         ap (λ n. getD table n 0) e ∙ t .figures i b-of k h (m .0) (omega arith)
             ∙ sym (figure-floor J (weight-in weights) (t .in-range) (position J Length i) w k (positions-normal J Length i h .1) on-width ∙ ap₂ (λ x y. figure-of J (weight-in weights) x y k) (position-floor J Length i h) (sym (m .1))),
       )
   row-cell Width i k h g =
-      let m = t .length-floors l on-length in
+      let m = t .lengths-floored l on-length in
       let e : i * (q + 1) + a-of * (columns * (q + 1)) + k ≡ word J q a-of i k = rw (t .columns-are) (omega arith) in (
         rw e (word-below _ _ _ a-of i k (m .0) h (omega arith)),
         ap (λ n. getD table n 0) e ∙ t .figures a-of i k (m .0) h (omega arith)
@@ -109,15 +108,15 @@ module _ {J : Job} {weights : List ℕ} {columns q : ℕ} {lengths widths length
 
   -- the word of the rectangle itself
   pub cell-there : (c : ℕ) → c ≤ q → a-of * (columns * (q + 1)) + b-of * (q + 1) + c < length table
-  cell-there c h = omega (arith, row-cell Length a-of c (t .length-floors l on-length .0) h .0, t .words-there)
+  cell-there c h = omega (arith, row-cell Length a-of c (t .lengths-floored l on-length .0) h .0, t .words-there)
 
   pub cell-figure : (c : ℕ) → c ≤ q → getD table (a-of * (columns * (q + 1)) + b-of * (q + 1) + c) 0 ≡ figure-of J (weight-in weights) l w c
-  cell-figure c h = mapped-figure Length length-map (t .length-floors) l c on-length h
+  cell-figure c h = mapped-figure Length length-floors (t .lengths-floored) l c on-length h
 
   -- a cut in one direction can be searched for
-  pub searchable : (d : Direction) (positions floors : List ℕ) → Listed J d positions → Mapped J d floors → (c : ℕ) → c ≤ q
+  pub searchable : (d : Direction) (positions floors : List ℕ) → Listed J d positions → Mapped J d floors → 1000 < length floors → (c : ℕ) → c ≤ q
       → Searchable positions floors table (side d (l, w)) (getD floors (side d (l, w)) 0) (stride-of columns q d) (base-of columns q d a-of b-of) c
-  searchable d positions floors listed mapped c h =
+  searchable d positions floors listed mapped there c h =
       let on : (side d (l, w) ≤ side d (J .plate)) × (side d (J .plate) ≤ 1000) = elim d [ Length ↦ (on-length, t .in-range .plate-length .1) | Width ↦ (on-width, t .in-range .plate-width .1) ] in
       let last = mapped (side d (l, w)) (on .0) in
       record {
@@ -131,9 +130,9 @@ module _ {J : Job} {weights : List ℕ} {columns q : ℕ} {lengths widths length
   -- no index, and no word where a row begins, is large
   pub cell-sizes : (a-of < 1002) × (b-of < 1002) × (columns * (q + 1) ≤ 4100096) × (a-of * (columns * (q + 1)) ≤ 4104196096) × (b-of * (q + 1) ≤ 4100096)
   cell-sizes =
-      let a : a-of ≤ 1001 = omega (arith, t .length-floors l on-length .0, positions-length J Length, t .in-range .plate-length) in
+      let a : a-of ≤ 1001 = omega (arith, t .lengths-floored l on-length .0, positions-length J Length, t .in-range .plate-length) in
       let r : columns ≤ 1001 = omega (arith, t .columns-are, positions-length J Width, t .in-range .plate-width) in
-      let b : b-of ≤ 1001 = omega (arith, t .width-floors w on-width .0, positions-length J Width, t .in-range .plate-width) in
+      let b : b-of ≤ 1001 = omega (arith, t .widths-floored w on-width .0, positions-length J Width, t .in-range .plate-width) in
       let n : q + 1 ≤ 4096 = omega (arith, t .capacity-most) in
       let s : columns * (q + 1) ≤ 4100096 = mul-le-mul r n in
       (omega arith, omega arith, s, mul-le-mul a s, mul-le-mul b n)

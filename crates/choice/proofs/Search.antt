@@ -1,5 +1,4 @@
 -- Searches step by step: what is left of a search over a run of numbers, and of one over pairs, after the members tried so far failed.
--- Assumes nothing.
 use mathlib.Core.Path.{_≡_, refl, _∙_, ap}
 use mathlib.Core.Bool.{Bool, true, false}
 use mathlib.Core.Option.{Option, none, some}

@@ -1,6 +1,5 @@
--- The two searches of the choice, over lent arrays: the lowest-numbered kind that earns a value, and the first pair of position and
--- share whose two words of the table sum to it.
--- Assumes nothing.
+-- The two searches of the choice: the lowest-numbered kind that earns a value, and the first pair of position and share whose two words
+-- of the table sum to it.
 use mathlib.Core.Bool.{Bool, _&&_}
 use mathlib.Core.Option.{Option, none, some}
 use mathlib.Core.List.{List}
@@ -10,19 +9,19 @@ use lib.ListN.{length, getD}
 use Rattle.cutting.specs.declared.Direction.the-variants.{Length, Width}
 use Rattle.cutting.specs.declared.Node.the-variants.{Waste, Cut}
 use Rattle.cutting.specs.Lists.{range, first, pairs}
+use Rattle.cutting.specs.Pieces.{fits-in}
+use Rattle.cutting.specs.Sides.{rect-of}
+use Rattle.cutting.specs.Job.{Job}
+use Rattle.choice.specs.declared.Cell.{Cell}
 use Rattle.choice.specs.declared.Chosen.{Chosen}
 use Rattle.choice.specs.declared.KindFound.{KindFound}
 use Rattle.choice.specs.declared.KindFound.the-variants as kind
 use Rattle.choice.specs.declared.CutFound.{CutFound}
 use Rattle.choice.specs.declared.CutFound.the-variants as cut
 
--- whether a kind fits the rectangle, weighs at most the share and has the value as its price
-abbrev pub earns-alone : ℕ → ℕ → ℕ → ℕ → ℕ → ℕ → ℕ → ℕ → Bool
-earns-alone length width price weight l w c value = ((leb length l && leb width w) && leb weight c) && eqb price value
-
--- the same of kind i of lent arrays
-abbrev pub kind-test : List ℕ → List ℕ → List ℕ → List ℕ → ℕ → ℕ → ℕ → ℕ → ℕ → Bool
-kind-test lengths widths prices weights l w c value i = earns-alone (getD lengths i 0) (getD widths i 0) (getD prices i 0) (getD weights i 0) l w c value
+-- whether kind i fits the cell, weighs at most its share and has the value as its price
+abbrev pub kind-test : Job → (ℕ → ℕ) → Cell → ℕ → ℕ → Bool
+kind-test J weight cell value i = (fits-in (J .size i) (rect-of (cell .sides)) && leb (weight i) (cell .share)) && eqb (J .price i) value
 
 -- the kind that a search found
 abbrev pub kind-found : Option ℕ → KindFound
@@ -30,14 +29,14 @@ kind-found none = kind.Missing
 kind-found (some i) = kind.Kind i
 
 -- whether the i-th position with share k for the first part earns the value: the first part has row i of the table, the second the row
--- that the map gives for the true remainder
+-- of the floor of the true remainder
 abbrev pub pair-test : List ℕ → List ℕ → List ℕ → ℕ → ℕ → ℕ → ℕ → ℕ → ℕ × ℕ → Bool
-pair-test positions map table side stride base c value u =
-    eqb (getD table (u .0 * stride + base + u .1) 0 + getD table (getD map (side - getD positions (u .0) 0) 0 * stride + base + (c - u .1)) 0) value
+pair-test positions floors table side stride base c value u =
+    eqb (getD table (u .0 * stride + base + u .1) 0 + getD table (getD floors (side - getD positions (u .0) 0) 0 * stride + base + (c - u .1)) 0) value
 
 -- the first pair that earns the value: the positions from the first to the last but one rising, and for each the shares rising
 unfoldable pub first-index : List ℕ → List ℕ → List ℕ → ℕ → ℕ → ℕ → ℕ → ℕ → ℕ → Option (ℕ × ℕ)
-first-index positions map table side last stride base c value = first (pair-test positions map table side stride base c value) (pairs (range 1 (last - 1)) (range 0 (c + 1)))
+first-index positions floors table side last stride base c value = first (pair-test positions floors table side stride base c value) (pairs (range 1 (last - 1)) (range 0 (c + 1)))
 
 -- the cut that a search found: its position and the first part's share
 abbrev pub cut-found : List ℕ → Option (ℕ × ℕ) → CutFound
@@ -60,9 +59,9 @@ Row table stride base c i = (k : ℕ) → k ≤ c → (i * stride + base + k < l
 
 -- what the search for a cut reads: the positions below the last are listed and not above the side, and their rows and those of the
 -- remainders are there
-pub record Searchable (positions map table : List ℕ) (side last stride base c : ℕ) : Type 0 where
-  pub mapped : side ≤ 1000
+pub record Searchable (positions floors table : List ℕ) (side last stride base c : ℕ) : Type 0 where
+  pub mapped : side < length floors
   pub shares : c ≤ 4095
   pub listed : (i : ℕ) → i < last → (i < length positions) × (getD positions i 0 ≤ side)
   pub rows : (i : ℕ) → i < last → Row table stride base c i
-  pub remainders : (x : ℕ) → x ≤ side → Row table stride base c (getD map x 0)
+  pub remainders : (x : ℕ) → x ≤ side → Row table stride base c (getD floors x 0)

@@ -1,5 +1,4 @@
 -- The writing call: after the bound call's refusal nothing more is done, and after its answer lists and table are filled.
--- Assumes nothing.
 use mathlib.Core.Path.{_≡_, refl, sym, _∙_, ap, subst}
 use mathlib.Core.Bool.{Bool, false}
 use mathlib.Core.List.{List, [], _∷_}
@@ -12,14 +11,16 @@ use Rattle.cutting.specs.declared.Direction.the-variants.{Length, Width}
 use Rattle.cutting.specs.Lists.{over}
 use Rattle.cutting.specs.Preorder.{kinds-of, operands-of, node-count}
 use Rattle.cutting.specs.Job.{Job, capacity, normal-positions}
+use Rattle.cutting.proofs.Job.{bound-ceiling}
 use Rattle.cutting.proofs.Plan.{plan-bound}
+use Rattle.cutting.proofs.Promises.{bound-exact, none-above, plan-follows}
 use Rattle.refusal.specs.Refusals.{next, refuse-when, first-refusal, outcome-by}
 use Rattle.refusal.specs.declared.Refusal.{Refusal}
 use Rattle.refusal.specs.declared.Checked.{Checked}
 use Rattle.refusal.specs.declared.Checked.the-variants.{Passed, Refused}
 use Rattle.job.specs.declared.JobAnswer.{JobAnswer}
 use Rattle.job.specs.Block.{record-of, read-of, job-of}
-use Rattle.job.specs.Weights.{block-job, weight-in}
+use Rattle.job.specs.Weights.{block-job, weight-in, Accepted}
 use Rattle.job.proofs.Checks.{passed-both, cons-passed}
 use Rattle.job.proofs.Read.{answered, read-verdict}
 use Rattle.job.proofs.Weights.{accepted-both, weights-passed, accepted-in-range}
@@ -31,7 +32,7 @@ use Rattle.bound.specs.Bound as bound
 use Rattle.writer.specs.declared.WriteReport.{WriteReport}
 use Rattle.writer.specs.declared.WriteAnswer.{WriteAnswer}
 use Rattle.writer.specs.declared.WriteAnswer.the-variants as answer
-use Rattle.writer.specs.Write.{plan-check, write-report, write-answer-by, write-values, write-outcome, Filled, plan-verdict, Planned, block-plan, write-verdict, write-answer, write-said, array-after, PlanEarnsBound}
+use Rattle.writer.specs.Write.{plan-check, write-report, write-answer-by, write-values, write-outcome, Filled, plan-verdict, Planned, block-plan, write-verdict, write-answer, write-said, array-after, PlanChosen, PlanWritten, BoundHolds}
 use Rattle.writer.proofs.Write.{none-long}
 
 -- an answer of the bound call is its report, where no check refuses
@@ -58,11 +59,47 @@ listed-over J d old = (
   λ i h. List·getD-append (normal-positions J d) (drop (length (normal-positions J d)) old) 0 i h,
 )
 
+written-by : (v : Checked) (b : WriteReport) {report : WriteReport} → answer.Written report ≡ write-answer-by v b → (v ≡ Passed) × (report ≡ b)
+written-by Passed b e = (refl, cc)
+written-by (Refused x) b e = absurd (let z : _≡_ {A = ℕ} 0 1 = cc in omega arith)
+
+-- the plan of an accepted job and weights
+plan-chosen : (s ws : List ℕ) → PlanChosen s ws
+plan-chosen s ws h = let r = accepted-in-range s ws h in (plan-follows (block-job s) (weight-in ws) r, plan-bound (block-job s) (weight-in ws) r)
+
+-- what an answer that reports a written plan says
+module _ (s ws : List ℕ) (m : bound.Memory) (kinds operands : List ℕ) {v : Checked} (e : write-verdict s ws m kinds operands ≡ v) {r : WriteAnswer}
+    (a : r ≡ write-answer-by v (write-report (block-job s) (weight-in ws))) where
+  module _ {b : WriteReport} (w : r ≡ answer.Written b) where
+    reported : (v ≡ Passed) × (b ≡ write-report (block-job s) (weight-in ws))
+    reported = written-by v (write-report (block-job s) (weight-in ws)) (sym w ∙ a)
+
+    accepted : Accepted s ws
+    accepted =
+        let stored = passed-both (bound.bound-verdict s ws m) (plan-verdict (block-job s) (weight-in ws) kinds operands) (e ∙ reported .0) in
+        passed-both (bound.accept-verdict s ws) (first-refusal (bound.memory-checks (block-job s) (weight-in ws) m)) (stored .0) .0
+
+  plan-kept : {new-kinds new-operands : List ℕ} → new-kinds ≡ bound.list-after v (kinds-of (block-plan s ws)) kinds → new-operands ≡ bound.list-after v (operands-of (block-plan s ws)) operands
+      → PlanWritten s ws kinds operands new-kinds new-operands r
+  plan-kept k o b w = record {
+    earns = rw (reported w .1) (plan-chosen s ws (accepted w) .1);
+    kinds-hold = k ∙ ap (λ u. bound.list-after u (kinds-of (block-plan s ws)) kinds) (reported w .0);
+    operands-hold = o ∙ ap (λ u. bound.list-after u (operands-of (block-plan s ws)) operands) (reported w .0);
+    counted = ap (λ u. u .nodes) (reported w .1);
+  }
+
+  bound-kept : BoundHolds s ws r
+  bound-kept b w =
+      let J = block-job s in
+      let weight = weight-in ws in
+      rw (reported w .1) (bound-exact J weight, none-above J weight, bound-ceiling J weight (accepted-in-range s ws (accepted w)))
+
 -- what the call promises, in the order of its contract
 abbrev pub Promised : List ℕ → List ℕ → (old new : bound.Memory) (kinds operands new-kinds new-operands : List ℕ) → WriteAnswer → Type 0
 Promised s ws old new kinds operands new-kinds new-operands r = (r ≡ write-answer s ws old kinds operands) × ((write-outcome r ≡ write-said s ws old kinds operands)
     × (bound.Leaves (bound.accept-verdict s ws) (block-job s) (weight-in ws) old new × ((new-kinds ≡ array-after s ws old kinds operands (kinds-of (block-plan s ws)) kinds)
-    × ((new-operands ≡ array-after s ws old kinds operands (operands-of (block-plan s ws)) operands) × PlanEarnsBound s ws))))
+    × ((new-operands ≡ array-after s ws old kinds operands (operands-of (block-plan s ws)) operands)
+    × (PlanChosen s ws × (PlanWritten s ws kinds operands new-kinds new-operands r × BoundHolds s ws r))))))
 
 module _ (s ws : List ℕ) {old new : bound.Memory} (left : bound.Leaves (bound.accept-verdict s ws) (block-job s) (weight-in ws) old new) (kinds operands : List ℕ) where
   -- the answer and the arrays give the rest
@@ -70,14 +107,13 @@ module _ (s ws : List ℕ) {old new : bound.Memory} (left : bound.Leaves (bound.
       → new-kinds ≡ bound.list-after v (kinds-of (block-plan s ws)) kinds → new-operands ≡ bound.list-after v (operands-of (block-plan s ws)) operands
       → Promised s ws old new kinds operands new-kinds new-operands r
   promised v e a k o =
-      let b = write-report (block-job s) (weight-in ws) in
-      let earns : PlanEarnsBound s ws = λ h. plan-bound (block-job s) (weight-in ws) (accepted-in-range s ws h) in (
+      let b = write-report (block-job s) (weight-in ws) in (
         a ∙ sym (ap (λ v. write-answer-by v b) e),
         (
           ap write-outcome a ∙ said-by v b ∙ sym (ap (λ v. outcome-by v (write-values b)) e),
           (
             left,
-            (k ∙ sym (ap (λ v. bound.list-after v (kinds-of (block-plan s ws)) kinds) e), (o ∙ sym (ap (λ v. bound.list-after v (operands-of (block-plan s ws)) operands) e), earns)),
+            (k ∙ sym (ap (λ v. bound.list-after v (kinds-of (block-plan s ws)) kinds) e), (o ∙ sym (ap (λ v. bound.list-after v (operands-of (block-plan s ws)) operands) e), (plan-chosen s ws, (plan-kept s ws old kinds operands e a k o, bound-kept s ws old kinds operands e a)))),
           ),
         ),
       )
@@ -135,10 +171,6 @@ module _ (s ws : List ℕ) {old new : bound.Memory} (left : bound.Leaves (bound.
           let q : Planned (block-job s) (weight-in ws) kinds operands new-kinds new-operands r = subst (λ j. Planned (job-of j) (weight-in ws) kinds operands new-kinds new-operands r) record-is p in
           let v : bound.bound-verdict s ws old ≡ Passed = ap (λ u. next u (first-refusal (bound.memory-checks (block-job s) (weight-in ws) old))) (passed .0) ∙ passed .1 in
           promised (plan-verdict (block-job s) (weight-in ws) kinds operands) (ap (λ u. next u (plan-verdict (block-job s) (weight-in ws) kinds operands)) v) (q .answer) (q .kinds-left) (q .operands-left)
-
-written-by : (v : Checked) (b : WriteReport) {report : WriteReport} → answer.Written report ≡ write-answer-by v b → (v ≡ Passed) × (report ≡ b)
-written-by Passed b e = (refl, cc)
-written-by (Refused x) b e = absurd (let z : _≡_ {A = ℕ} 0 1 = cc in omega arith)
 
 -- a plan that was written has at most 4,095 nodes, and each array holds them
 pub written-fits : (s ws : List ℕ) (m : bound.Memory) (kinds operands : List ℕ) {r : WriteAnswer} {report : WriteReport} → r ≡ write-answer s ws m kinds operands → r ≡ answer.Written report

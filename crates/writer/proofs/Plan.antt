@@ -1,5 +1,4 @@
 -- The plan behind the bound by its choices: the tree below each node that the choice answers, and the number of its nodes.
--- Assumes nothing.
 use mathlib.Core.Path.{_≡_, refl, sym, _∙_, ap}
 use mathlib.Core.Bool.{Bool, true, false}
 use mathlib.Core.Option.{Option, none, some}
@@ -7,26 +6,28 @@ use mathlib.Core.List.{List, [], _∷_, _++_, map, List·Memᴰ}
 use Prim.Native.Nat.{ℕ, suc, _+_, _-_, _≤_, _<_}
 use native.Mathlib.Nat.{mul-le-mul}
 use native.Mathlib.Omega.{arith}
+use lib.Dec.{eqb}
 use Rattle.cutting.specs.declared.Direction.{Direction}
 use Rattle.cutting.specs.declared.Direction.the-variants.{Length, Width}
+use Rattle.cutting.specs.declared.Node.{Node}
 use Rattle.cutting.specs.declared.Node.the-variants.{Waste, Piece, Cut}
-use lib.Dec.{eqb}
+use Rattle.cutting.specs.declared.Sides.{Sides}
 use Rattle.cutting.specs.Lists.{range, filter, first, pairs}
 use Rattle.cutting.specs.Tree.{Rect, side, part, Tree, waste, piece, cut}
+use Rattle.cutting.specs.Sides.{rect-of, sides-of}
 use Rattle.cutting.specs.Preorder.{preorder, node-count}
 use Rattle.cutting.specs.Choice.{Choice, as-waste, as-piece, as-cut, or-waste, or-length, or-piece, or-zero}
-use Rattle.cutting.specs.Job.{Job, figure-of, normal-side, normal-floor, plan-of, kind-earns, pair-earns, first-pair, plan-choice, plan-after}
+use Rattle.cutting.specs.Job.{Job, InRange, figure-of, normal-side, normal-floor, plan-of, kind-earns, pair-earns, first-pair, plan-choice, plan-after}
 use Rattle.cutting.proofs.Lists.{mem-range, mem-filter, mem-map, mem-pairs}
 use Rattle.cutting.proofs.Search.{Found, found, missing, first-found}
 use Rattle.cutting.proofs.Floor.{floor-le}
 use Rattle.cutting.proofs.Plan.{plan-tree, plan-recursion}
-use Rattle.job.specs.Weights.{weight-in}
+use Rattle.choice.specs.declared.Cell.{Cell}
 use Rattle.choice.specs.declared.Chosen.{Chosen}
 use Rattle.choice.specs.declared.Dimensions.{Dimensions}
-use Rattle.writer.specs.declared.nodes.Sides.{Sides}
-use Rattle.choice.specs.Lent.{Lent, Cell, lent-job, chosen-of, chosen-at}
-use Rattle.writer.specs.Plan.{plan-at, sides-of}
-use Rattle.writer.proofs.Preorder.{count-waste, count-piece, count-cut, count-some, nodes-most}
+use Rattle.choice.specs.Choice.{Inside, chosen-of, chosen-at}
+use Rattle.writer.specs.Waiting.{plan-at}
+use Rattle.writer.proofs.Preorder.{nodes-most}
 
 module _ (J : Job) (weight : ℕ → ℕ) (l w c : ℕ) where
   -- a cut in range, and shares that sum to the cell's
@@ -90,88 +91,88 @@ module _ (J : Job) (weight : ℕ → ℕ) (l w c : ℕ) where
       let b : y ≡ x = cc in
       rw (sym a, sym b) (s .0, s .1, s .2, cut-same f y q ∙ ap (λ k. cut f y (plan-in (part f y (l, w)) (q .0)) (plan-in (part f (side f (l, w) - y) (l, w)) k)) (s .3))
 
--- the parts of a cut: both are rectangles on the plate with a share, and less than the whole
-pub record Parts (g : Dimensions) (l w c : ℕ) (d : Direction) (x share : ℕ) (a b : Sides) : Type 0 where
-  pub first-cell : Cell g (a .length) (a .width) share
-  pub second-cell : Cell g (b .length) (b .width) (c - share)
-  pub first-less : a .length + a .width < l + w
-  pub second-less : b .length + b .width < l + w
+-- the cells of a cut's two parts
+abbrev pub first-cell : Cell → Direction → ℕ → ℕ → Cell
+first-cell cell d x share = record { sides = sides-of (part d x (rect-of (cell .sides))); share = share }
 
-parts : {g : Dimensions} {l w c : ℕ} → Cell g l w c → (d : Direction) (x share : ℕ) → 1 ≤ x → x < side d (l, w) → share ≤ c → Parts g l w c d x share (sides-of (part d x (l, w))) (sides-of (part d (side d (l, w) - x) (l, w)))
-parts at Length x share p q s = record {
-  first-cell = record { some-length = p; on-length = omega (arith, at .on-length); some-width = at .some-width; on-width = at .on-width; in-capacity = omega (arith, at .in-capacity) };
-  second-cell = record { some-length = omega arith; on-length = omega (arith, at .on-length); some-width = at .some-width; on-width = at .on-width; in-capacity = omega (arith, at .in-capacity) };
+abbrev pub second-cell : Cell → Direction → ℕ → ℕ → Cell
+second-cell cell d x share = record { sides = sides-of (part d (side d (rect-of (cell .sides)) - x) (rect-of (cell .sides))); share = cell .share - share }
+
+-- the half perimeter of a cell
+abbrev pub half-of : Cell → ℕ
+half-of cell = cell .sides .length + cell .sides .width
+
+-- both lie on the plate where the cell does, and are less than the whole
+pub record Parts (J : Job) (g : Dimensions) (cell a b : Cell) : Type 0 where
+  pub first-inside : Inside J g a
+  pub second-inside : Inside J g b
+  pub first-less : half-of a < half-of cell
+  pub second-less : half-of b < half-of cell
+
+parts : {J : Job} {g : Dimensions} (cell : Cell) → Inside J g cell → (d : Direction) (x share : ℕ) → 1 ≤ x → x < side d (rect-of (cell .sides)) → share ≤ cell .share
+    → Parts J g cell (first-cell cell d x share) (second-cell cell d x share)
+parts cell at Length x share p q s = record {
+  first-inside = record { some-length = p; on-length = omega (arith, at .on-length); some-width = at .some-width; on-width = at .on-width; in-capacity = omega (arith, at .in-capacity) };
+  second-inside = record { some-length = omega arith; on-length = omega (arith, at .on-length); some-width = at .some-width; on-width = at .on-width; in-capacity = omega (arith, at .in-capacity) };
   first-less = omega arith;
   second-less = omega arith;
 }
-parts at Width x share p q s = record {
-  first-cell = record { some-length = at .some-length; on-length = at .on-length; some-width = p; on-width = omega (arith, at .on-width); in-capacity = omega (arith, at .in-capacity) };
-  second-cell = record { some-length = at .some-length; on-length = at .on-length; some-width = omega arith; on-width = omega (arith, at .on-width); in-capacity = omega (arith, at .in-capacity) };
+parts cell at Width x share p q s = record {
+  first-inside = record { some-length = at .some-length; on-length = at .on-length; some-width = p; on-width = omega (arith, at .on-width); in-capacity = omega (arith, at .in-capacity) };
+  second-inside = record { some-length = at .some-length; on-length = at .on-length; some-width = omega arith; on-width = omega (arith, at .on-width); in-capacity = omega (arith, at .in-capacity) };
   first-less = omega arith;
   second-less = omega arith;
 }
 
--- the plan has at most 1,999,999 nodes
-pub plan-nodes : {g : Dimensions} {kl kw prices weights lengths widths mx my table : List ℕ} → Lent g kl kw prices weights lengths widths mx my table → {l w c : ℕ} → Cell g l w c
-    → node-count (plan-at g kl kw prices weights l w c) < 2000000
-plan-nodes {g} {kl} {kw} {prices} {weights} t {l} {w} {c} at =
-    let p = plan-tree (lent-job g kl kw prices) (weight-in weights) (t .tabled .in-range) l w c (at .on-length) (at .on-width) in
-    let x : l ≤ 1000 = omega (arith, at .on-length, t .tabled .in-range .plate-length) in
-    let y : w ≤ 1000 = omega (arith, at .on-width, t .tabled .in-range .plate-width) in
-    omega (arith, nodes-most (lent-job g kl kw prices) (plan-at g kl kw prices weights l w c) l w (p .0) (at .some-length) (at .some-width), mul-le-mul x y)
+module _ {J : Job} (weight : ℕ → ℕ) (h : InRange J) {g : Dimensions} (cell : Cell) (at : Inside J g cell) where
+  -- the plan has at most 1,999,999 nodes
+  pub plan-nodes : node-count (plan-at J weight cell) < 2000000
+  plan-nodes =
+      let l = cell .sides .length in
+      let w = cell .sides .width in
+      let p = plan-tree J weight h l w (cell .share) (at .on-length) (at .on-width) in
+      let x : l ≤ 1000 = omega (arith, at .on-length, h .plate-length) in
+      let y : w ≤ 1000 = omega (arith, at .on-width, h .plate-width) in
+      omega (arith, nodes-most J (plan-at J weight cell) l w (p .0) (at .some-length) (at .some-width), mul-le-mul x y)
 
--- and at least one
-pub plan-some : {g : Dimensions} {kl kw prices weights lengths widths mx my table : List ℕ} → Lent g kl kw prices weights lengths widths mx my table → {l w c : ℕ} → Cell g l w c
-    → 1 ≤ node-count (plan-at g kl kw prices weights l w c)
-plan-some t at = count-some _
+  -- what the node of a choice says of the plan
+  module _ {r : Chosen} (e : r ≡ chosen-at J weight cell) where
+    abbrev chosen : Choice ℕ ℕ
+    chosen = plan-choice J weight (cell .sides .length) (cell .sides .width) (cell .share)
 
--- what the node of a choice says of the plan
-module _ {g : Dimensions} {kl kw prices weights lengths widths mx my table : List ℕ} (t : Lent g kl kw prices weights lengths widths mx my table) {l w c : ℕ} (at : Cell g l w c)
-    {r : Chosen} (e : r ≡ chosen-at g kl kw prices weights l w c) where
-  after : plan-at g kl kw prices weights l w c ≡ plan-after (lent-job g kl kw prices) (weight-in weights) l w (plan-choice (lent-job g kl kw prices) (weight-in weights) l w c)
-  after = plan-recursion (lent-job g kl kw prices) (weight-in weights) (t .tabled .in-range) l w c (at .on-length) (at .on-width)
+    after : plan-at J weight cell ≡ plan-after J weight (cell .sides .length) (cell .sides .width) chosen
+    after = plan-recursion J weight h (cell .sides .length) (cell .sides .width) (cell .share) (at .on-length) (at .on-width)
 
-  pub waste-plan : r .node ≡ Waste → plan-at g kl kw prices weights l w c ≡ waste
-  waste-plan n = after ∙ waste-after (lent-job g kl kw prices) (weight-in weights) l w c (plan-choice (lent-job g kl kw prices) (weight-in weights) l w c) (ap (λ u. u .node) (sym e) ∙ n)
+    waste-nodes : r .node ≡ Waste → preorder (plan-at J weight cell) ≡ r .node ∷ []
+    unfolding preorder
+    waste-nodes n = ap preorder (after ∙ waste-after J weight (cell .sides .length) (cell .sides .width) (cell .share) chosen (ap (λ u. u .node) (sym e) ∙ n)) ∙ ap (λ m. m ∷ []) (sym n)
 
-  pub piece-plan : (i : ℕ) → r .node ≡ Piece i → plan-at g kl kw prices weights l w c ≡ piece i
-  piece-plan i n = after ∙ piece-after (lent-job g kl kw prices) (weight-in weights) l w c (plan-choice (lent-job g kl kw prices) (weight-in weights) l w c) i (ap (λ u. u .node) (sym e) ∙ n)
+    piece-nodes : {i : ℕ} → r .node ≡ Piece i → preorder (plan-at J weight cell) ≡ r .node ∷ []
+    unfolding preorder
+    piece-nodes {i} n = ap preorder (after ∙ piece-after J weight (cell .sides .length) (cell .sides .width) (cell .share) chosen i (ap (λ u. u .node) (sym e) ∙ n)) ∙ ap (λ m. m ∷ []) (sym n)
 
-  pub waste-count : r .node ≡ Waste → node-count (plan-at g kl kw prices weights l w c) ≡ 1
-  waste-count n = ap node-count (waste-plan n) ∙ count-waste
+    -- a node that is no cut is all of the plan
+    pub leaf-nodes : ((d : Direction) (x : ℕ) → r .node ≡ Cut d x → ⊥) → preorder (plan-at J weight cell) ≡ r .node ∷ []
+    leaf-nodes k = go (r .node) refl
+      where
+        go : (node : Node) → r .node ≡ node → preorder (plan-at J weight cell) ≡ r .node ∷ []
+        go Waste n = waste-nodes n
+        go (Piece i) n = piece-nodes n
+        go (Cut d x) n = absurd (k d x n)
 
-  pub piece-count : (i : ℕ) → r .node ≡ Piece i → node-count (plan-at g kl kw prices weights l w c) ≡ 1
-  piece-count i n = ap node-count (piece-plan i n) ∙ count-piece i
+    module _ {d : Direction} {x : ℕ} (n : r .node ≡ Cut d x) where
+      found-cut : (1 ≤ x) × (x < side d (rect-of (cell .sides))) × (r .share ≤ cell .share)
+          × (plan-at J weight cell ≡ cut d x (plan-at J weight (first-cell cell d x (r .share))) (plan-at J weight (second-cell cell d x (r .share))))
+      found-cut =
+          let f = cut-after J weight (cell .sides .length) (cell .sides .width) (cell .share) chosen d x (choice-sound J weight (cell .sides .length) (cell .sides .width) (cell .share)) (ap (λ u. u .node) (sym e) ∙ n) in
+          rw e (f .0, f .1, f .2, after ∙ f .3)
 
-  pub waste-preorder : r .node ≡ Waste → preorder (plan-at g kl kw prices weights l w c) ≡ r .node ∷ []
-  unfolding preorder
-  waste-preorder n = ap preorder (waste-plan n) ∙ ap (λ m. m ∷ []) (sym n)
+      pub cut-position : (x ≤ side d (rect-of (cell .sides))) × (r .share ≤ cell .share)
+      cut-position = (omega (arith, found-cut .1), found-cut .2)
 
-  pub piece-preorder : (i : ℕ) → r .node ≡ Piece i → preorder (plan-at g kl kw prices weights l w c) ≡ r .node ∷ []
-  unfolding preorder
-  piece-preorder i n = ap preorder (piece-plan i n) ∙ ap (λ m. m ∷ []) (sym n)
+      pub cut-parts : Parts J g cell (first-cell cell d x (r .share)) (second-cell cell d x (r .share))
+      cut-parts = parts cell at d x (r .share) (found-cut .0) (found-cut .1) (found-cut .2)
 
-  module _ {d : Direction} {x : ℕ} (n : r .node ≡ Cut d x) where
-    found-cut : (1 ≤ x) × (x < side d (l, w)) × (r .share ≤ c)
-        × (plan-at g kl kw prices weights l w c ≡ cut d x (plan-in (lent-job g kl kw prices) (weight-in weights) l w c (part d x (l, w)) (r .share)) (plan-in (lent-job g kl kw prices) (weight-in weights) l w c (part d (side d (l, w) - x) (l, w)) (c - r .share)))
-    found-cut =
-        let J = lent-job g kl kw prices in
-        let f = cut-after J (weight-in weights) l w c (plan-choice J (weight-in weights) l w c) d x (choice-sound J (weight-in weights) l w c) (ap (λ u. u .node) (sym e) ∙ n) in
-        rw e (f .0, f .1, f .2, after ∙ f .3)
-
-    pub cut-position : (x ≤ side d (l, w)) × (r .share ≤ c)
-    cut-position = (omega (arith, found-cut .1), found-cut .2)
-
-    module _ {a b : Sides} (p : a ≡ sides-of (part d x (l, w))) (q : b ≡ sides-of (part d (side d (l, w) - x) (l, w))) where
-      pub cut-parts : Parts g l w c d x (r .share) a b
-      cut-parts = rw (p, q) (parts at d x (r .share) (found-cut .0) (found-cut .1) (found-cut .2))
-
-      pub cut-plan : plan-at g kl kw prices weights l w c ≡ cut d x (plan-at g kl kw prices weights (a .length) (a .width) (r .share)) (plan-at g kl kw prices weights (b .length) (b .width) (c - r .share))
-      cut-plan = rw (p, q) (found-cut .3)
-
-      pub cut-count : node-count (plan-at g kl kw prices weights l w c) ≡ 1 + node-count (plan-at g kl kw prices weights (a .length) (a .width) (r .share)) + node-count (plan-at g kl kw prices weights (b .length) (b .width) (c - r .share))
-      cut-count = ap node-count cut-plan ∙ count-cut d x _ _
-
-      pub cut-preorder : preorder (plan-at g kl kw prices weights l w c) ≡ r .node ∷ (preorder (plan-at g kl kw prices weights (a .length) (a .width) (r .share)) ++ preorder (plan-at g kl kw prices weights (b .length) (b .width) (c - r .share)))
+      pub cut-nodes : preorder (plan-at J weight cell) ≡ Cut d x ∷ (preorder (plan-at J weight (first-cell cell d x (r .share))) ++ preorder (plan-at J weight (second-cell cell d x (r .share))))
       unfolding preorder
-      cut-preorder = ap preorder cut-plan ∙ ap (λ m. m ∷ (preorder (plan-at g kl kw prices weights (a .length) (a .width) (r .share)) ++ preorder (plan-at g kl kw prices weights (b .length) (b .width) (c - r .share)))) (sym n)
+      cut-nodes = ap preorder (found-cut .3)

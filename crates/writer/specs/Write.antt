@@ -1,15 +1,17 @@
--- The writing call: check 21, its answer with the paper's number and values, and what it leaves in the plan arrays.
--- Assumes nothing.
+-- The writing call: check 21, its answer with the number and values, what it leaves in the plan arrays, and what it promises of the plan
+-- and of the answered bound.
 use mathlib.Core.Path.{_≡_}
 use mathlib.Core.Bool.{_||_}
 use mathlib.Core.List.{List, [], _∷_}
-use Prim.Native.Nat.{ℕ, _≤_}
+use Prim.Native.Nat.{ℕ, _+_, _≤_, _<_}
 use lib.Dec.{ltb}
-use lib.ListN.{length}
+use lib.ListN.{length, getD, drop}
 use Rattle.cutting.specs.declared.Direction.the-variants.{Length, Width}
 use Rattle.cutting.specs.Tree.{Tree}
 use Rattle.cutting.specs.Preorder.{kinds-of, operands-of, node-count}
-use Rattle.cutting.specs.Job.{Job, InRange, OnPlate, profit, weight-of, capacity, bound-of, plan-of}
+use Rattle.cutting.specs.Lists.{over}
+use Rattle.cutting.specs.Job.{Job, InRange, capacity, bound-of, bound-plan}
+use Rattle.cutting.specs.Promises.{NoneAbove, EarnsWithin, MostWithin, PlanFollows}
 use Rattle.refusal.specs.Refusals.{Check, Outcome, next, first-refusal, refused-as, outcome-by}
 use Rattle.refusal.specs.declared.Checked.{Checked}
 use Rattle.refusal.specs.declared.Checked.the-variants.{Passed, Refused}
@@ -20,10 +22,6 @@ use Rattle.bound.specs.Bound.{Memory, list-after, bound-verdict}
 use Rattle.writer.specs.declared.WriteReport.{WriteReport}
 use Rattle.writer.specs.declared.WriteAnswer.{WriteAnswer}
 use Rattle.writer.specs.declared.WriteAnswer.the-variants as answer
-
--- the plan behind the bound: from the plate and the capacity downward
-abbrev pub bound-plan : Job → (ℕ → ℕ) → Tree ℕ
-bound-plan J weight = plan-of J weight (J .plate .0) (J .plate .1) (capacity J weight)
 
 -- check 21: the plan needs above 4,095 nodes, or more than an array of m or of n entries holds, with the nodes needed
 abbrev pub plan-check : Tree ℕ → ℕ → ℕ → Check
@@ -52,6 +50,12 @@ write-values b = b .bound ∷ b .capacity ∷ b .lengths ∷ b .widths ∷ b .no
 abbrev pub write-outcome : WriteAnswer → Outcome
 write-outcome (answer.Written b) = (0, write-values b)
 write-outcome (answer.Refused r) = refused-as r
+
+-- an array holds the first n entries of one list, and from entry n on those of another
+pub record Joined (a b : List ℕ) (n : ℕ) (r : List ℕ) : Type 0 where
+  pub entries : length r ≡ n + n
+  pub lower : (i : ℕ) → i < n → getD r i 0 ≡ getD a i 0
+  pub upper : (i : ℕ) → i < n → getD (drop n r) i 0 ≡ getD b i 0
 
 -- a job and weights that were accepted, with lists and table filled
 pub record Filled (J : Job) (weights lengths widths table : List ℕ) : Type 0 where
@@ -93,7 +97,26 @@ write-said s ws m kinds operands = outcome-by (write-verdict s ws m kinds operan
 abbrev pub array-after : List ℕ → List ℕ → Memory → List ℕ → List ℕ → List ℕ → List ℕ → List ℕ
 array-after s ws m kinds operands xs old = list-after (write-verdict s ws m kinds operands) xs old
 
--- for an accepted job and weights, the plan is a guillotine tree on the plate, weighs at most Q and earns the bound
-abbrev pub PlanEarnsBound : List ℕ → List ℕ → Type 0
-PlanEarnsBound s ws = Accepted s ws → OnPlate (block-job s) (block-plan s ws) × (weight-of (weight-in ws) (block-plan s ws) ≤ capacity (block-job s) (weight-in ws))
-    × (profit (block-job s) (block-plan s ws) ≡ bound-of (block-job s) (weight-in ws))
+-- for every accepted job and weights, whatever storage is lent: the plan follows the order of choice, and earns the bound within Q
+abbrev pub PlanChosen : List ℕ → List ℕ → Type 0
+PlanChosen s ws = Accepted s ws → PlanFollows (block-job s) (weight-in ws)
+    × EarnsWithin (block-job s) (weight-in ws) (capacity (block-job s) (weight-in ws)) (bound-of (block-job s) (weight-in ws)) (block-plan s ws)
+
+-- a tree that was written and reported: it earns the answered bound within the answered capacity, the arrays hold its preorder over
+-- their old contents, and it has the answered number of nodes
+pub record TreeWritten (J : Job) (weight : ℕ → ℕ) (t : Tree ℕ) (kinds operands new-kinds new-operands : List ℕ) (b : WriteReport) : Type 0 where
+  pub earns : EarnsWithin J weight (b .capacity) (b .bound) t
+  pub kinds-hold : new-kinds ≡ over (kinds-of t) kinds
+  pub operands-hold : new-operands ≡ over (operands-of t) operands
+  pub counted : b .nodes ≡ node-count t
+
+-- an answer reports the plan behind the bound as it was written
+abbrev pub PlanWritten : List ℕ → List ℕ → (kinds operands new-kinds new-operands : List ℕ) → WriteAnswer → Type 0
+PlanWritten s ws kinds operands new-kinds new-operands r = (b : WriteReport) → r ≡ answer.Written b
+    → TreeWritten (block-job s) (weight-in ws) (block-plan s ws) kinds operands new-kinds new-operands b
+
+-- an answered bound is the most that a tree within the answered capacity earns, at least what any tree within the demands earns, and at
+-- most 1,000,000,000,000
+abbrev pub BoundHolds : List ℕ → List ℕ → WriteAnswer → Type 0
+BoundHolds s ws r = (b : WriteReport) → r ≡ answer.Written b
+    → MostWithin (block-job s) (weight-in ws) (b .capacity) (b .bound) × NoneAbove (block-job s) (b .bound) × (b .bound ≤ 1000000000000)

@@ -18,7 +18,7 @@ ghost use Rattle.cutting.specs.Preorder.{kinds-of, operands-of};
 ghost use Rattle.job.specs.Block.{job-of};
 ghost use Rattle.job.specs.Weights.{block-job, weight-in};
 ghost use Rattle.bound.specs.Bound.{report-of, lent, Leaves, accept-verdict};
-ghost use Rattle.writer.specs.Write.{Filled, Planned, block-plan, write-answer, write-outcome, write-said, array-after, PlanEarnsBound};
+ghost use Rattle.writer.specs.Write.{Joined, Filled, Planned, block-plan, write-answer, write-outcome, write-said, array-after, PlanChosen, PlanWritten, BoundHolds};
 
 // What the writing call reports: what the bound call does, and the number of the plan's nodes.
 pub struct WriteReport {
@@ -48,6 +48,18 @@ fn too_long(nodes: u64, m: usize, n: usize) -> bool
     (n as u64) < nodes
 }
 
+// The floors of both sides in one array: those of the lengths first, those of the widths from entry 1001 on.
+fn join_floors(length_floors: &[u16; 1001], width_floors: &[u16; 1001]) -> [u16; 2002]
+    ensures { λ r. ⌜ Joined (now («length_floors» .entry)) (now («width_floors» .entry)) 1001 r ⌝ }
+{
+    let mut floors = [0u16; 2002];
+    for i in 0..1001 {
+        floors[i] = length_floors[i];
+        floors[1001 + i] = width_floors[i];
+    }
+    floors
+}
+
 // The plan of a job whose lists and table are filled: refusal 21 with the nodes needed, or the plan in preorder.
 pub fn plan_of_job(
     job: JobRecord,
@@ -62,58 +74,31 @@ pub fn plan_of_job(
     requires { ⌜ Filled (job-of job) (now weights) (now lengths) (now widths) (now table) × (report ≡ report-of (job-of job) (weight-in (now weights))) ⌝ }
     ensures { λ r. ⌜ Planned (job-of job) (weight-in (now (weights .entry))) (now (kinds .entry)) (now (operands .entry)) (now (kinds .exit)) (now (operands .exit)) r ⌝ }
 {
-    let klengths = job.lengths;
-    let kwidths = job.widths;
-    let prices = job.prices;
-    let lengthmap = floor_map(lengths, report.lengths, job.length);
-    let widthmap = floor_map(widths, report.widths, job.width);
-    let q = report.capacity;
+    let length_floors = floor_map(lengths, report.lengths, job.length);
+    let width_floors = floor_map(widths, report.widths, job.width);
+    let floors = join_floors(&length_floors, &width_floors);
     let g = Dimensions {
-        length: job.length,
-        width: job.width,
-        count: job.count,
         columns: report.widths,
-        capacity: q,
+        capacity: report.capacity,
     };
-    let nodes = count_nodes(
-        job.length,
-        job.width,
-        q,
-        g,
-        &klengths,
-        &kwidths,
-        &prices,
-        weights,
-        lengths,
-        widths,
-        &lengthmap,
-        &widthmap,
-        table,
-    );
+    let nodes = count_nodes(job, weights, g, lengths, widths, &floors[..], table);
     if too_long(nodes, kinds.len(), operands.len()) {
         return WriteAnswer::Refused(Refusal::PlanLong(nodes));
     }
     write_nodes(
-        job.length,
-        job.width,
-        q,
-        kinds,
-        operands,
-        0,
-        g,
-        &klengths,
-        &kwidths,
-        &prices,
+        job,
         weights,
+        g,
         lengths,
         widths,
-        &lengthmap,
-        &widthmap,
+        &floors[..],
         table,
+        kinds,
+        operands,
     );
     WriteAnswer::Written(WriteReport {
         bound: report.bound,
-        capacity: q,
+        capacity: report.capacity,
         lengths: report.lengths,
         widths: report.widths,
         nodes: nodes,
@@ -121,8 +106,7 @@ pub fn plan_of_job(
 }
 
 // The plan behind the bound of a job block and weights, in preorder in the two plan arrays. Lists and table are left as the bound call
-// leaves them; where a check refuses, the plan arrays are untouched. Whatever storage is lent, for every accepted job and weights the plan
-// is a guillotine tree on the plate, weighs at most the capacity and earns the bound.
+// leaves them; where a check refuses, the plan arrays are untouched.
 pub fn write_plan(
     block: &[u8],
     weights: &[u8],
@@ -140,7 +124,9 @@ pub fn write_plan(
         (kinds-of (block-plan (now (block .entry)) (now (weights .entry)))) (now (kinds .entry)) ⌝ }
     ensures operands { λ _. ⌜ now (operands .exit) ≡ array-after (now (block .entry)) (now (weights .entry)) (lent (now (lengths .entry)) (now (widths .entry)) (now (table .entry))) (now (kinds .entry)) (now (operands .entry))
         (operands-of (block-plan (now (block .entry)) (now (weights .entry)))) (now (operands .entry)) ⌝ }
-    ensures plan { λ _. ⌜ PlanEarnsBound (now (block .entry)) (now (weights .entry)) ⌝ }
+    ensures choice { λ _. ⌜ PlanChosen (now (block .entry)) (now (weights .entry)) ⌝ }
+    ensures plan { λ r. ⌜ PlanWritten (now (block .entry)) (now (weights .entry)) (now (kinds .entry)) (now (operands .entry)) (now (kinds .exit)) (now (operands .exit)) r ⌝ }
+    ensures bound { λ r. ⌜ BoundHolds (now (block .entry)) (now (weights .entry)) r ⌝ }
 {
     let bounded = bound(block, weights, lengths, widths, table);
     match bounded {

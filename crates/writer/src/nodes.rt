@@ -1,22 +1,43 @@
-// The nodes of the plan from a cell downward: their number, and their preorder into two lent arrays. Counting and writing share one
-// choice; the job's arrays are lent, so that a frame of the recursion holds references and small numbers.
+// The nodes of the plan from the plate downward: their number, and their preorder into two lent arrays. Both walk the plan by a list of
+// waiting cells, the next on top: a node's cell makes way for the second part of its cut with the first part above it. Every waiting cell
+// is smaller than those below it, so the half perimeter bounds the list, and the stack that the walk needs is that of three arrays.
+use choice::Cell;
 use choice::Dimensions;
 use choice::choose;
 use cutting::Direction;
 use cutting::Node;
+use cutting::Sides;
+use cutting::first_part;
+use cutting::second_part;
+use job::JobRecord;
 ghost use mathlib.Core.Path.{_≡_};
-ghost use Prim.Native.Nat.{_+_, _-_, _≤_};
+ghost use Prim.Native.Nat.{_≤_, _<_};
 ghost use lib.ListN.{length};
-ghost use lib.Seq.{sets};
-ghost use Rattle.cutting.specs.Tree.{side, part};
+ghost use Rattle.cutting.specs.Lists.{over};
 ghost use Rattle.cutting.specs.Preorder.{kind-of, operand-of, kinds-of, operands-of, node-count};
-ghost use Rattle.choice.specs.Lent.{Lent, Cell};
-ghost use Rattle.writer.specs.Plan.{plan-at, sides-of};
+ghost use Rattle.cutting.specs.Job.{capacity, bound-plan};
+ghost use Rattle.job.specs.Block.{job-of};
+ghost use Rattle.job.specs.Weights.{weight-in};
+ghost use Rattle.choice.specs.Choice.{ChoiceInput};
+ghost use Rattle.writer.specs.Waiting.{cell-at, with-cell, Waiting, Stepped};
 
-// The sides of a rectangle.
-pub struct Sides {
-    pub length: u16,
-    pub width: u16,
+// A step of the walk: the node that it reached, and how many cells wait after it.
+struct Step {
+    pub node: Node,
+    pub depth: usize,
+}
+
+// The cell of the plate with all of the capacity.
+fn plate_cell(length: u16, width: u16, capacity: u16) -> Cell
+    ensures { λ r. ⌜ r ≡ record { sides = record { length = length; width = width }; share = capacity } ⌝ }
+{
+    Cell {
+        sides: Sides {
+            length: length,
+            width: width,
+        },
+        share: capacity,
+    }
 }
 
 // A node's kind as a number.
@@ -44,204 +65,154 @@ fn operand(node: Node) -> u16
     }
 }
 
-// The first part of a cut.
-fn first_part(d: Direction, x: u16, l: u16, w: u16) -> Sides
-    ensures { λ r. ⌜ r ≡ sides-of (part d x (l, w)) ⌝ }
+// The cell that waits at a place of the list: three entries, its length, width and share.
+fn waiting_cell(waiting: &[u16; 6000], i: usize) -> Cell
+    requires { ⌜ i < 2000 ⌝ }
+    ensures { λ r. ⌜ r ≡ cell-at (now (waiting .entry)) i ⌝ }
 {
-    match d {
-        Direction::Length => Sides {
-            length: x,
-            width: w,
+    let at = 3 * i;
+    Cell {
+        sides: Sides {
+            length: waiting[at],
+            width: waiting[at + 1],
         },
-        Direction::Width => Sides {
-            length: l,
-            width: x,
-        },
+        share: waiting[at + 2],
     }
 }
 
-// The second part of a cut: the true remainder.
-fn second_part(d: Direction, x: u16, l: u16, w: u16) -> Sides
-    requires { ⌜ x ≤ side d (l, w) ⌝ }
-    ensures { λ r. ⌜ r ≡ sides-of (part d (side d (l, w) - x) (l, w)) ⌝ }
+// Puts a cell at a place of the list.
+fn put_cell(waiting: &mut [u16; 6000], i: usize, cell: Cell)
+    requires { ⌜ (i < 2000) × (length (now waiting) ≡ 6000) ⌝ }
+    ensures { λ _. ⌜ now (waiting .exit) ≡ with-cell (now (waiting .entry)) i cell ⌝ }
 {
-    match d {
-        Direction::Length => Sides {
-            length: l - x,
-            width: w,
-        },
-        Direction::Width => Sides {
-            length: l,
-            width: w - x,
-        },
-    }
+    let at = 3 * i;
+    waiting[at] = cell.sides.length;
+    waiting[at + 1] = cell.sides.width;
+    waiting[at + 2] = cell.share;
 }
 
-// The number of nodes of the plan from a rectangle and a share downward.
-pub fn count_nodes(
-    l: u16,
-    w: u16,
-    c: u16,
-    g: Dimensions,
-    klengths: &[u16; 64],
-    kwidths: &[u16; 64],
-    prices: &[u32; 64],
+// The node of the cell on top, which the parts of its cut replace, the second below the first.
+fn next_node(
+    waiting: &mut [u16; 6000],
+    depth: usize,
+    job: JobRecord,
     weights: &[u8],
+    g: Dimensions,
     lengths: &[u16],
     widths: &[u16],
-    lengthmap: &[u16; 1001],
-    widthmap: &[u16; 1001],
+    floors: &[u16],
+    table: &[u64],
+) -> Step
+    requires { ⌜ ChoiceInput (job-of job) (now weights) g (now lengths) (now widths) (now floors) (now table) × Waiting (job-of job) g (now waiting) depth × (0 < depth) ⌝ }
+    ensures { λ r. ⌜ Stepped (job-of job) (weight-in (now (weights .entry))) g (now (waiting .entry)) (now (waiting .exit)) depth r ⌝ }
+{
+    let top = depth - 1;
+    let cell = waiting_cell(waiting, top);
+    let chosen = choose(cell, job, weights, g, lengths, widths, floors, table);
+    let node = chosen.node;
+    let Node::Cut(d, x) = node else {
+        return Step {
+            node: node,
+            depth: top,
+        };
+    };
+    let first = Cell {
+        sides: first_part(d, x, cell.sides),
+        share: chosen.share,
+    };
+    let second = Cell {
+        sides: second_part(d, x, cell.sides),
+        share: cell.share - chosen.share,
+    };
+    put_cell(waiting, top, second);
+    put_cell(waiting, depth, first);
+    Step {
+        node: node,
+        depth: depth + 1,
+    }
+}
+
+// The number of nodes of the plan behind the bound.
+pub fn count_nodes(
+    job: JobRecord,
+    weights: &[u8],
+    g: Dimensions,
+    lengths: &[u16],
+    widths: &[u16],
+    floors: &[u16],
     table: &[u64],
 ) -> u64
-    requires { ⌜ Lent g (now klengths) (now kwidths) (now prices) (now weights) (now lengths) (now widths) (now lengthmap) (now widthmap) (now table) × Cell g l w c ⌝ }
-    ensures { λ r. ⌜ r ≡ node-count (plan-at g (now (klengths .entry)) (now (kwidths .entry)) (now (prices .entry)) (now (weights .entry)) l w c) ⌝ }
+    requires { ⌜ ChoiceInput (job-of job) (now weights) g (now lengths) (now widths) (now floors) (now table) × (g .capacity ≡ capacity (job-of job) (weight-in (now weights))) ⌝ }
+    ensures { λ r. ⌜ r ≡ node-count (bound-plan (job-of job) (weight-in (now (weights .entry)))) ⌝ }
 {
-    let chosen = choose(
-        l,
-        w,
-        c,
-        g,
-        klengths,
-        kwidths,
-        prices,
-        weights,
-        lengths,
-        widths,
-        lengthmap,
-        widthmap,
-        table,
+    let mut waiting = [0u16; 6000];
+    put_cell(
+        &mut waiting,
+        0,
+        plate_cell(job.length, job.width, g.capacity),
     );
-    let node = chosen.node;
-    let share = chosen.share;
-    match node {
-        Node::Waste => 1,
-        Node::Piece(_) => 1,
-        Node::Cut(d, x) => {
-            let a = first_part(d, x, l, w);
-            let b = second_part(d, x, l, w);
-            let first = count_nodes(
-                a.length,
-                a.width,
-                share,
-                g,
-                klengths,
-                kwidths,
-                prices,
-                weights,
-                lengths,
-                widths,
-                lengthmap,
-                widthmap,
-                table,
-            );
-            let second = count_nodes(
-                b.length,
-                b.width,
-                c - share,
-                g,
-                klengths,
-                kwidths,
-                prices,
-                weights,
-                lengths,
-                widths,
-                lengthmap,
-                widthmap,
-                table,
-            );
-            1 + first + second
-        }
+    let mut depth: usize = 1;
+    let mut nodes: u64 = 0;
+    while 0 < depth {
+        let step = next_node(
+            &mut waiting,
+            depth,
+            job,
+            weights,
+            g,
+            lengths,
+            widths,
+            floors,
+            table,
+        );
+        depth = step.depth;
+        nodes += 1;
     }
+    nodes
 }
 
-// Writes the plan from a rectangle and a share downward in preorder, from entry `at` on, and answers where the next node goes.
+// Writes the plan behind the bound in preorder from the arrays' first entries on.
 pub fn write_nodes(
-    l: u16,
-    w: u16,
-    c: u16,
-    kinds: &mut [u8],
-    operands: &mut [u16],
-    at: usize,
-    g: Dimensions,
-    klengths: &[u16; 64],
-    kwidths: &[u16; 64],
-    prices: &[u32; 64],
+    job: JobRecord,
     weights: &[u8],
+    g: Dimensions,
     lengths: &[u16],
     widths: &[u16],
-    lengthmap: &[u16; 1001],
-    widthmap: &[u16; 1001],
+    floors: &[u16],
     table: &[u64],
-) -> usize
-    requires { ⌜ Lent g (now klengths) (now kwidths) (now prices) (now weights) (now lengths) (now widths) (now lengthmap) (now widthmap) (now table) × Cell g l w c
-        × (at + node-count (plan-at g (now klengths) (now kwidths) (now prices) (now weights) l w c) ≤ length (now kinds))
-        × (at + node-count (plan-at g (now klengths) (now kwidths) (now prices) (now weights) l w c) ≤ length (now operands)) ⌝ }
-    ensures { λ r. ⌜ (r ≡ at + node-count (plan-at g (now (klengths .entry)) (now (kwidths .entry)) (now (prices .entry)) (now (weights .entry)) l w c))
-        × (now (kinds .exit) ≡ sets (now (kinds .entry)) at (kinds-of (plan-at g (now (klengths .entry)) (now (kwidths .entry)) (now (prices .entry)) (now (weights .entry)) l w c)))
-        × (now (operands .exit) ≡ sets (now (operands .entry)) at (operands-of (plan-at g (now (klengths .entry)) (now (kwidths .entry)) (now (prices .entry)) (now (weights .entry)) l w c))) ⌝ }
+    kinds: &mut [u8],
+    operands: &mut [u16],
+)
+    requires { ⌜ ChoiceInput (job-of job) (now weights) g (now lengths) (now widths) (now floors) (now table) × (g .capacity ≡ capacity (job-of job) (weight-in (now weights)))
+        × (node-count (bound-plan (job-of job) (weight-in (now weights))) ≤ length (now kinds))
+        × (node-count (bound-plan (job-of job) (weight-in (now weights))) ≤ length (now operands)) ⌝ }
+    ensures { λ _. ⌜ (now (kinds .exit) ≡ over (kinds-of (bound-plan (job-of job) (weight-in (now (weights .entry))))) (now (kinds .entry)))
+        × (now (operands .exit) ≡ over (operands-of (bound-plan (job-of job) (weight-in (now (weights .entry))))) (now (operands .entry))) ⌝ }
 {
-    let chosen = choose(
-        l,
-        w,
-        c,
-        g,
-        klengths,
-        kwidths,
-        prices,
-        weights,
-        lengths,
-        widths,
-        lengthmap,
-        widthmap,
-        table,
+    let mut waiting = [0u16; 6000];
+    put_cell(
+        &mut waiting,
+        0,
+        plate_cell(job.length, job.width, g.capacity),
     );
-    let node = chosen.node;
-    let share = chosen.share;
-    kinds[at] = kind_number(node);
-    operands[at] = operand(node);
-    let next = at + 1;
-    match node {
-        Node::Waste => next,
-        Node::Piece(_) => next,
-        Node::Cut(d, x) => {
-            let a = first_part(d, x, l, w);
-            let b = second_part(d, x, l, w);
-            let middle = write_nodes(
-                a.length,
-                a.width,
-                share,
-                kinds,
-                operands,
-                next,
-                g,
-                klengths,
-                kwidths,
-                prices,
-                weights,
-                lengths,
-                widths,
-                lengthmap,
-                widthmap,
-                table,
-            );
-            write_nodes(
-                b.length,
-                b.width,
-                c - share,
-                kinds,
-                operands,
-                middle,
-                g,
-                klengths,
-                kwidths,
-                prices,
-                weights,
-                lengths,
-                widths,
-                lengthmap,
-                widthmap,
-                table,
-            )
-        }
+    let mut depth: usize = 1;
+    let mut at: usize = 0;
+    while 0 < depth {
+        let step = next_node(
+            &mut waiting,
+            depth,
+            job,
+            weights,
+            g,
+            lengths,
+            widths,
+            floors,
+            table,
+        );
+        let node = step.node;
+        kinds[at] = kind_number(node);
+        operands[at] = operand(node);
+        depth = step.depth;
+        at += 1;
     }
 }

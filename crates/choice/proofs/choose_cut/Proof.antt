@@ -1,16 +1,62 @@
--- `choice::choose_cut` meets its contract. Assumes nothing.
-use Rattle.choice.proofs.Choice.{length-out, width-out, waste-out}
+-- `choice::choose_cut` meets its contract.
+use Rattle.choice.proofs.Choice.{rest-part, length-out, width-out, waste-out}
+use Rattle.choice.specs.Search.{Searchable}
+use native.Mathlib.Nat.{mul-le-mul}
 use native.Mathlib.Omega.{arith}
+use lib.ListN.{length, take, drop, length-drop}
+use Prim.Native.Nat.{_≤_, _+_, _-_, _*_}
+use denote.Ref.{now}
 use mathlib.Core.Path.{_∙_, sym}
 use borrow.Author.Needs.{needs}
 use Rattle.choice.proofs.choose_cut.Statement.{statement}
 use Rattle.choice.proofs.choose_cut.Tie as tie
 
-mul-find-cut : tie.Need-mul-find-cut
-mul-find-cut c = omega (arith, c .before .before .before .pre .0 .remainders 0 (omega arith) 0 (omega arith))
+-- the floors of the widths are a part of the floors, and searched by it
+width-searchable : (s : tie.Start) → Searchable (now (s .args .widths)) (take (length (now (s .args .floors)) - 1001) (drop 1001 (now (s .args .floors)))) (now (s .args .table)) (s .args .cell .sides .width) (s .args .b)
+    (s .args .g .capacity + 1) (s .args .a * (s .args .g .columns * (s .args .g .capacity + 1))) (s .args .cell .share)
+width-searchable s = rw (rest-part 1001 (now (s .args .floors))) (s .pre .1)
+
+cast-l : tie.Need-cast-l
+cast-l c = search needs
+
+cast-w : tie.Need-cast-w
+cast-w c = search needs
+
+cast-c : tie.Need-cast-c
+cast-c c = search needs
+
+cast-shares : tie.Need-cast-shares
+cast-shares c = search needs
+
+add-shares : tie.Need-add-shares
+add-shares c = search needs
+
+cast-row : tie.Need-cast-row
+cast-row c = search needs
+
+mul-row : tie.Need-mul-row
+mul-row c =
+    let a : c .before .before .before .before .before .before .before .before .before .args .g .columns ≤ 65535 = search needs in
+    let b : c .before .before .before .before .before .before .before .before .before .args .g .capacity + 1 ≤ 65536 = search needs in
+    omega (arith, mul-le-mul a b)
+
+mul-column : tie.Need-mul-column
+mul-column c = omega (arith, c .before .before .before .before .before .before .before .before .before .pre .0 .remainders 0 (omega arith) 0 (omega arith))
+
+mul-start : tie.Need-mul-start
+mul-start c = omega (arith, c .before .before .before .before .before .before .before .before .before .pre .1 .remainders 0 (omega arith) 0 (omega arith))
+
+sub-width-floors : tie.Need-sub-width-floors
+sub-width-floors c = omega (arith, c .before .before .before .before .before .before .before .before .before .pre .1 .mapped, length-drop 1001 (now (c .before .before .before .before .before .before .before .before .before .args .floors)))
+
+part-width-floors-start : tie.Need-part-width-floors-start
+part-width-floors-start c = omega (arith, c .before .before .before .before .before .before .before .before .before .pre .1 .mapped, length-drop 1001 (now (c .before .before .before .before .before .before .before .before .before .args .floors)))
+
+part-width-floors-end : tie.Need-part-width-floors-end
+part-width-floors-end c = search needs
 
 find-cut-requires : tie.Need-find-cut-requires
-find-cut-requires c κs = search needs
+find-cut-requires c κs = let across = width-searchable (c .before .before .before .before .before .before .before .before .before .before) in search needs
 
 enum-known-along : tie.Need-enum-known-along
 enum-known-along c = search needs
@@ -21,34 +67,41 @@ returns c = length-out _ (sym (c .before .before .before .find-cut .ensures) ∙
 enum-told : tie.Need-enum-told
 enum-told c = search needs
 
-mul-find-cut-2 : tie.Need-mul-find-cut-2
-mul-find-cut-2 c = omega (arith, c .before .before .before .before .before .before .pre .1 .remainders 0 (omega arith) 0 (omega arith))
-
 find-cut-requires-2 : tie.Need-find-cut-requires-2
-find-cut-requires-2 c κs = search needs
+find-cut-requires-2 c κs = width-searchable (c .before .before .before .before .before .before .before .before .before .before .before .before .before)
 
 enum-known-across : tie.Need-enum-known-across
 enum-known-across c = search needs
 
 returns-2 : tie.Need-returns-2
-returns-2 c = width-out (sym (c .before .before .before .before .before .before .find-cut .ensures) ∙ c .before .before .before .before .enum-told .given .1) (sym (c .before .before .before .find-cut2 .ensures) ∙ c .before .across .given .1)
+returns-2 c = width-out (sym (c .before .before .before .before .before .before .find-cut .ensures) ∙ c .before .before .before .before .enum-told .given .1) (sym (rw (rest-part 1001 (now (c .before .before .before .before .before .before .before .before .before .before .before .before .before .before .before .before .before .args .floors))) at (c .before .before .before .find-cut2 .ensures)) ∙ c .before .across .given .1)
 
 enum-told-2 : tie.Need-enum-told-2
 enum-told-2 c = search needs
 
 returns-3 : tie.Need-returns-3
-returns-3 c = waste-out (sym (c .before .before .before .before .before .find-cut .ensures) ∙ c .before .before .before .enum-told .given .1) (sym (c .before .before .find-cut2 .ensures) ∙ c .enum-told2 .given .1)
+returns-3 c = waste-out (sym (c .before .before .before .before .before .find-cut .ensures) ∙ c .before .before .before .enum-told .given .1) (sym (rw (rest-part 1001 (now (c .before .before .before .before .before .before .before .before .before .before .before .before .before .before .before .before .args .floors))) at (c .before .before .find-cut2 .ensures)) ∙ c .enum-told2 .given .1)
 
 pub choose-cut-spec : {M : Type 1} → statement M
 choose-cut-spec =
     tie.close
     (tie.spec
-    mul-find-cut
+    cast-l
+    cast-w
+    cast-c
+    cast-shares
+    add-shares
+    cast-row
+    mul-row
+    mul-column
+    mul-start
+    sub-width-floors
+    part-width-floors-start
+    part-width-floors-end
     find-cut-requires
     enum-known-along
     returns
     enum-told
-    mul-find-cut-2
     find-cut-requires-2
     enum-known-across
     returns-2

@@ -1,4 +1,4 @@
--- `writer::write_plan` meets its contract. Assumes nothing.
+-- `writer::write_plan` meets its contract.
 use Rattle.writer.proofs.Call.{bound-refused, job-filled, job-planned}
 use borrow.Author.Needs.{needs}
 use Rattle.writer.proofs.write_plan.Statement.{statement}

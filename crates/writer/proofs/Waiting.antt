@@ -1,0 +1,222 @@
+-- The list of waiting cells: a cell that is put is there and the others stay; what a step takes from the nodes to come; how many cells
+-- can wait.
+use mathlib.Core.Path.{_≡_, refl, sym, _∙_, ap, ap₂, subst}
+use mathlib.Core.List.{List, [], _∷_, _++_, map, append-assoc, append-nil}
+use Prim.Native.Nat.{ℕ, zero, suc, _+_, _-_, _*_, _≤_, _<_}
+use native.Mathlib.Numerals.{add-one}
+use native.Mathlib.Decide.{ℕ-discrete}
+use native.Mathlib.Omega.{arith}
+use lib.ListN.{length, getD, set, length-set, length-map}
+use lib.Seq.{getD-set-same, getD-set-other, sets, sets-eq}
+use Rattle.cutting.specs.declared.Direction.{Direction}
+use Rattle.cutting.specs.declared.Node.{Node}
+use Rattle.cutting.specs.declared.Node.the-variants.{Cut}
+use Rattle.cutting.specs.declared.Sides.{Sides}
+use Rattle.cutting.specs.Lists.{over}
+use Rattle.cutting.specs.Tree.{side, Tree}
+use Rattle.cutting.specs.Sides.{rect-of}
+use Rattle.cutting.specs.Preorder.{preorder, kind-of, operand-of, kinds-of, operands-of, node-count}
+use Rattle.cutting.specs.Job.{Job, InRange, capacity, plan-of, bound-plan}
+use Rattle.choice.specs.declared.Cell.{Cell}
+use Rattle.choice.specs.declared.Chosen.{Chosen}
+use Rattle.choice.specs.declared.Dimensions.{Dimensions}
+use Rattle.choice.specs.Choice.{Inside, chosen-at}
+use Rattle.writer.specs.Waiting.{cell-at, with-cell, plan-at, nodes-left, Waiting, Stepped}
+use Rattle.writer.proofs.Plan.{first-cell, second-cell, half-of, Parts, plan-nodes, leaf-nodes, cut-position, cut-parts, cut-nodes}
+
+module _ (xs : List ℕ) (i : ℕ) (cell : Cell) where
+  pub put-length : length (with-cell xs i cell) ≡ length xs
+  put-length = simp length-set
+
+  -- the cell that was put is there
+  pub put-there : 3 * i + 2 < length xs → cell-at (with-cell xs i cell) i ≡ cell
+  put-there h =
+      let a = set xs (3 * i) (cell .sides .length) in
+      let b = set a (3 * i + 1) (cell .sides .width) in
+      let n : length a ≡ length xs = length-set xs (3 * i) (cell .sides .length) in
+      let m : length b ≡ length a = length-set a (3 * i + 1) (cell .sides .width) in
+      let p : getD (with-cell xs i cell) (3 * i) 0 ≡ cell .sides .length =
+      getD-set-other b (3 * i + 2) (3 * i) (cell .share) 0 (λ e. omega arith) ∙ getD-set-other a (3 * i + 1) (3 * i) (cell .sides .width) 0 (λ e. omega arith) ∙ getD-set-same xs (3 * i) (cell .sides .length) 0 (omega arith) in
+      let q : getD (with-cell xs i cell) (3 * i + 1) 0 ≡ cell .sides .width =
+      getD-set-other b (3 * i + 2) (3 * i + 1) (cell .share) 0 (λ e. omega arith) ∙ getD-set-same a (3 * i + 1) (cell .sides .width) 0 (omega arith) in
+      let r : getD (with-cell xs i cell) (3 * i + 2) 0 ≡ cell .share = getD-set-same b (3 * i + 2) (cell .share) 0 (omega arith) in
+      λ k. record { sides = record { length = p k; width = q k }; share = r k }
+
+  -- every other cell stays
+  pub put-other : (j : ℕ) → (j ≡ i → ⊥) → cell-at (with-cell xs i cell) j ≡ cell-at xs j
+  put-other j ne = λ k. record {
+    sides = record { length = same (3 * j) (λ e. ne (omega arith)) (λ e. omega arith) (λ e. omega arith) k; width = same (3 * j + 1) (λ e. omega arith) (λ e. ne (omega arith)) (λ e. omega arith) k };
+    share = same (3 * j + 2) (λ e. omega arith) (λ e. omega arith) (λ e. ne (omega arith)) k;
+  }
+    where
+      same : (n : ℕ) → (n ≡ 3 * i → ⊥) → (n ≡ 3 * i + 1 → ⊥) → (n ≡ 3 * i + 2 → ⊥) → getD (with-cell xs i cell) n 0 ≡ getD xs n 0
+      same n a b c = getD-set-other (set (set xs (3 * i) (cell .sides .length)) (3 * i + 1) (cell .sides .width)) (3 * i + 2) n (cell .share) 0 c
+          ∙ getD-set-other (set xs (3 * i) (cell .sides .length)) (3 * i + 1) n (cell .sides .width) 0 b ∙ getD-set-other xs (3 * i) n (cell .sides .length) 0 a
+
+module _ (J : Job) (weight : ℕ → ℕ) where
+  -- the nodes to come depend on the cells that wait
+  nodes-same : (xs ys : List ℕ) (n : ℕ) → ((i : ℕ) → i < n → cell-at xs i ≡ cell-at ys i) → nodes-left J weight xs n ≡ nodes-left J weight ys n
+  unfolding nodes-left
+  nodes-same xs ys zero h = refl
+  nodes-same xs ys (suc n) h = ap₂ (λ c r. preorder (plan-at J weight c) ++ r) (h n (omega arith)) (nodes-same xs ys n (λ i l. h i (omega arith)))
+
+  nodes-top : (xs : List ℕ) (n : ℕ) → nodes-left J weight xs (n + 1) ≡ preorder (plan-at J weight (cell-at xs n)) ++ nodes-left J weight xs n
+  unfolding nodes-left
+  nodes-top xs n = rw (add-one n) refl
+
+  pub none-left : (xs : List ℕ) → nodes-left J weight xs 0 ≡ []
+  unfolding nodes-left
+  none-left xs = refl
+
+  -- the cell on top of n gives the next nodes
+  nodes-next : (xs : List ℕ) (n : ℕ) → 0 < n → nodes-left J weight xs n ≡ preorder (plan-at J weight (cell-at xs (n - 1))) ++ nodes-left J weight xs (n - 1)
+  nodes-next xs n h = let e : n ≡ n - 1 + 1 = omega arith in ap (nodes-left J weight xs) e ∙ nodes-top xs (n - 1)
+
+module _ {J : Job} {g : Dimensions} (h : InRange J) {xs : List ℕ} {n : ℕ} (w : Waiting J g xs n) (some : 0 < n) where
+  -- a cell on top of many is small: at most 1,999 wait
+  pub place : n < 2000
+  place =
+      let l : n - 1 < n = omega arith in
+      let c = w .inside (n - 1) l in
+      omega (arith, c .some-length, c .some-width, w .smaller (n - 1) l, h .plate-length, h .plate-width)
+
+  pub top-inside : Inside J g (cell-at xs (n - 1))
+  top-inside = w .inside (n - 1) (omega arith)
+
+  -- after a node without parts the cells below it wait
+  below-wait : Waiting J g xs (n - 1)
+  below-wait = record { entries = w .entries; inside = λ i l. w .inside i (omega arith); smaller = λ i l. w .smaller i (omega arith) }
+
+  -- after a cut its parts wait besides, the second below the first
+  module _ {a b : Cell} (p : Parts J g (cell-at xs (n - 1)) a b) where
+    abbrev new : List ℕ
+    new = with-cell (with-cell xs (n - 1) b) n a
+
+    entries-new : length new ≡ 6000
+    entries-new = put-length (with-cell xs (n - 1) b) n a ∙ put-length xs (n - 1) b ∙ w .entries
+
+    first-there : cell-at new n ≡ a
+    first-there = put-there (with-cell xs (n - 1) b) n a (omega (arith, place, put-length xs (n - 1) b, w .entries))
+
+    second-there : cell-at new (n - 1) ≡ b
+    second-there = put-other (with-cell xs (n - 1) b) n a (n - 1) (λ z. omega arith) ∙ put-there xs (n - 1) b (omega (arith, place, w .entries))
+
+    below-there : (i : ℕ) → i < n - 1 → cell-at new i ≡ cell-at xs i
+    below-there i l = put-other (with-cell xs (n - 1) b) n a i (λ z. omega arith) ∙ put-other xs (n - 1) b i (λ z. omega arith)
+
+    -- what holds of the parts and of the cells below holds of all
+    each : (P : Cell → ℕ → Type 0) → P a n → P b (n - 1) → ((i : ℕ) → i < n - 1 → P (cell-at xs i) i) → (i : ℕ) → i < n + 1 → P (cell-at new i) i
+    each P u v below i l = go (ℕ-discrete i n) (ℕ-discrete i (n - 1))
+      where
+        go : Dec (i ≡ n) → Dec (i ≡ n - 1) → P (cell-at new i) i
+        go (yes z) d = subst (λ i. P (cell-at new i) i) (sym z) (subst (λ c. P c n) (sym first-there) u)
+        go (no z) (yes y) = subst (λ i. P (cell-at new i) i) (sym y) (subst (λ c. P c (n - 1)) (sym second-there) v)
+        go (no z) (no y) = let m : i < n - 1 = omega arith in subst (λ c. P c i) (sym (below-there i m)) (below i m)
+
+    parts-wait : Waiting J g new (n + 1)
+    parts-wait =
+        let m = w .smaller (n - 1) (omega arith) in
+        record {
+          entries = entries-new;
+          inside = each (λ c i. Inside J g c) (p .first-inside) (p .second-inside) (λ i l. w .inside i (omega arith));
+          smaller = each (λ c i. half-of c + i ≤ J .plate .0 + J .plate .1) (omega (arith, p .first-less)) (omega (arith, p .second-less)) (λ i l. w .smaller i (omega arith));
+        }
+
+    -- and its node is taken
+    cut-taken : (weight : ℕ → ℕ) {node : Node} → preorder (plan-at J weight (cell-at xs (n - 1))) ≡ node ∷ (preorder (plan-at J weight a) ++ preorder (plan-at J weight b))
+        → nodes-left J weight xs n ≡ node ∷ nodes-left J weight new (n + 1)
+    cut-taken weight {node} q =
+        let A = preorder (plan-at J weight a) in
+        let B = preorder (plan-at J weight b) in
+        let rest = nodes-left J weight xs (n - 1) in
+        let lower : nodes-left J weight new n ≡ B ++ rest = nodes-next J weight new n some ∙ ap₂ (λ c r. preorder (plan-at J weight c) ++ r) second-there (nodes-same J weight new xs (n - 1) below-there) in
+        let upper : nodes-left J weight new (n + 1) ≡ A ++ (B ++ rest) = nodes-top J weight new n ∙ ap₂ (λ c r. preorder (plan-at J weight c) ++ r) first-there lower in
+        nodes-next J weight xs n some ∙ ap (λ ns. ns ++ rest) q ∙ ap (λ ns. node ∷ ns) (append-assoc A B rest ∙ sym upper)
+
+  -- a step, by the choice at the cell on top
+  module _ (weight : ℕ → ℕ) {cell : Cell} (at : cell ≡ cell-at xs (n - 1)) {r : Chosen} (e : r ≡ chosen-at J weight cell) where
+    cell-inside : Inside J g cell
+    cell-inside = rw at top-inside
+
+    pub leaf-stepped : ((d : Direction) (x : ℕ) → r .node ≡ Cut d x → ⊥) → Stepped J weight g xs xs n (record { node = r .node; depth = n - 1 })
+    leaf-stepped k = record {
+      nodes = nodes-next J weight xs n some ∙ ap (λ ns. ns ++ nodes-left J weight xs (n - 1)) (rw at at (leaf-nodes weight h cell cell-inside e k));
+      waits = below-wait;
+    }
+
+    module _ {d : Direction} {x : ℕ} (f : r .node ≡ Cut d x) where
+      pub cut-ready : (x ≤ side d (rect-of (cell .sides))) × (r .share ≤ cell .share)
+      cut-ready = cut-position weight h cell cell-inside e f
+
+      pub cut-stepped : {a b : Sides} → a ≡ first-cell cell d x (r .share) .sides → b ≡ second-cell cell d x (r .share) .sides → {middle new : List ℕ}
+          → middle ≡ with-cell xs (n - 1) (record { sides = b; share = cell .share - r .share }) → new ≡ with-cell middle n (record { sides = a; share = r .share })
+          → Stepped J weight g xs new n (record { node = Cut d x; depth = n + 1 })
+      cut-stepped {a} {b} p q {middle} {new} u v =
+          let first = first-cell cell d x (r .share) in
+          let second = second-cell cell d x (r .share) in
+          let parts : Parts J g (cell-at xs (n - 1)) first second = subst (λ c. Parts J g c first second) at (cut-parts weight h cell cell-inside e f) in
+          let list : new ≡ with-cell (with-cell xs (n - 1) second) n first = v ∙ ap₂ (λ ys s. with-cell ys n (record { sides = s; share = r .share })) (u ∙ ap (λ s. with-cell xs (n - 1) (record { sides = s; share = cell .share - r .share })) q) p in
+          subst (λ ys. Stepped J weight g xs ys n (record { node = Cut d x; depth = n + 1 })) (sym list) (record {
+            nodes = cut-taken parts weight (ap (λ c. preorder (plan-at J weight c)) (sym at) ∙ cut-nodes weight h cell cell-inside e f);
+            waits = parts-wait parts;
+          })
+
+-- the cell of the plate with all of the capacity
+abbrev pub plate-of : Job → Dimensions → Cell
+plate-of J g = record { sides = record { length = J .plate .0; width = J .plate .1 }; share = g .capacity }
+
+-- it waits alone at the start, and all nodes are to come
+module _ {J : Job} (weight : ℕ → ℕ) (h : InRange J) (g : Dimensions) (e : g .capacity ≡ capacity J weight) where
+  plate-inside : Inside J g (plate-of J g)
+  plate-inside = record { some-length = h .plate-length .0; on-length = omega arith; some-width = h .plate-width .0; on-width = omega arith; in-capacity = omega arith }
+
+  plate-plan : plan-at J weight (plate-of J g) ≡ bound-plan J weight
+  plate-plan = ap (λ q. plan-of J weight (J .plate .0) (J .plate .1) q) e
+
+  -- the plan has at most 1,999,999 nodes
+  pub bound-nodes : node-count (bound-plan J weight) < 2000000
+  bound-nodes = subst (λ t. node-count t < 2000000) plate-plan (plan-nodes weight h (plate-of J g) plate-inside)
+
+  module _ (xs : List ℕ) (k : length xs ≡ 6000) {new : List ℕ} (p : new ≡ with-cell xs 0 (plate-of J g)) where
+    plate-there : cell-at new 0 ≡ plate-of J g
+    plate-there = ap (λ ys. cell-at ys 0) p ∙ put-there xs 0 (plate-of J g) (omega arith)
+
+    pub plate-waits : Waiting J g new 1
+    plate-waits = record {
+      entries = ap length p ∙ put-length xs 0 (plate-of J g) ∙ k;
+      inside = λ i l. (let z : i ≡ 0 = omega arith in subst (λ i. Inside J g (cell-at new i)) (sym z) (subst (λ c. Inside J g c) (sym plate-there) plate-inside));
+      smaller = λ i l. (let z : i ≡ 0 = omega arith in subst (λ i. half-of (cell-at new i) + i ≤ J .plate .0 + J .plate .1) (sym z) (subst (λ c. half-of c + 0 ≤ J .plate .0 + J .plate .1) (sym plate-there) (omega arith)));
+    }
+
+    pub plan-left : nodes-left J weight new 1 ≡ preorder (bound-plan J weight)
+    plan-left = nodes-next J weight new 1 (omega arith) ∙ ap₂ (λ c r. preorder (plan-at J weight c) ++ r) plate-there (none-left J weight new) ∙ append-nil _ ∙ ap preorder plate-plan
+
+    -- all nodes are to come
+    pub count-left : length (nodes-left J weight new 1) ≡ node-count (bound-plan J weight)
+    unfolding node-count
+    count-left = ap length plan-left
+
+-- an array of the nodes' kinds, or of their operands, whose entries from one on are still to be written
+module _ (f : Node → ℕ) where
+  -- one entry more
+  pub one-written : {nodes rest : List Node} {node : Node} {goal : List ℕ} (old : List ℕ) (at : ℕ) {v : ℕ} → nodes ≡ node ∷ rest → v ≡ f node → sets old at (map f nodes) ≡ goal
+      → sets (set old at v) (at + 1) (map f rest) ≡ goal
+  one-written {rest = rest} {node} old at {v} e p q = rw (add-one at, p) refl ∙ ap (λ ns. sets old at (map f ns)) (sym e) ∙ q
+
+  -- none are left
+  pub all-written : {nodes : List Node} {goal : List ℕ} (old : List ℕ) (at : ℕ) → nodes ≡ [] → sets old at (map f nodes) ≡ goal → old ≡ goal
+  all-written old at e q = sym (ap (λ ns. sets old at (map f ns)) e) ∙ q
+
+-- entries written from the first on
+over-sets : (vs old : List ℕ) → length vs ≤ length old → sets old 0 vs ≡ over vs old
+over-sets vs old h = let e : 0 + length vs ≡ length vs = omega arith in rw e at (sets-eq vs old 0 (omega arith))
+
+-- all of a tree is still to be written
+module _ (t : Tree ℕ) {nodes : List Node} (e : nodes ≡ preorder t) (old : List ℕ) (h : node-count t ≤ length old) where
+  pub kinds-begin : sets old 0 (map (λ n. kind-of n) nodes) ≡ over (kinds-of t) old
+  unfolding kinds-of node-count
+  kinds-begin = ap (λ ns. sets old 0 (map (λ n. kind-of n) ns)) e ∙ over-sets (kinds-of t) old (omega (arith, length-map (preorder t) (λ n. kind-of n)))
+
+  pub operands-begin : sets old 0 (map (λ n. operand-of n) nodes) ≡ over (operands-of t) old
+  unfolding operands-of node-count
+  operands-begin = ap (λ ns. sets old 0 (map (λ n. operand-of n) ns)) e ∙ over-sets (operands-of t) old (omega (arith, length-map (preorder t) (λ n. operand-of n)))
