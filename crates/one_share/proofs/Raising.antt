@@ -3,9 +3,8 @@
 use mathlib.Core.Path.{_≡_, refl, sym, _∙_, ap, ap₂}
 use mathlib.Core.List.{List}
 use mathlib.Core.Logic.{_⊎_, inl, inr, ⊎-elim}
-use Prim.Native.Nat.{ℕ, _+_, _-_, _*_, _/_, _%_, _≤_, _<_, min, max}
+use Prim.Native.Nat.{ℕ, _+_, _-_, _*_, _≤_, _<_, min, max}
 use native.Mathlib.Decide.{ℕ-discrete, decLe}
-use native.Mathlib.Nat.{add-mul-mod-self-left, mod-eq-of-lt, div-eq-of-lt-le}
 use native.Mathlib.Omega.{arith}
 use borrow.Author.Count.{below-more}
 use lib.ListN.{length, getD, set, replicate, length-replicate, getD-replicate, List·getD-eq-default}
@@ -47,20 +46,6 @@ raised-max x v u xs l h = record { grown = λ i. grown i (ℕ-discrete i x); low
     low : (i b : ℕ) → ((w : ℕ) → Single x v i w → w ≤ b) → getD xs i 0 ≤ b → Dec (i ≡ x) → getD (set xs x u) i 0 ≤ b
     low i b f k (yes e) = let m : v ≤ b = f v (e, refl) in rw e (omega (arith, same, rw e at k))
     low i b f k (no e) = omega (arith, getD-set-other xs x i u 0 e)
-
--- by how much a number is above another: their difference above 2^63, where it has the top bit
-pub gain-is : (a b d : ℕ) → a ≤ 2000000000000 → b ≤ 2000000000000 → d ≡ b + 9223372036854775808 - a → d % 9223372036854775808 * (d / 9223372036854775808) ≡ max a b - a
-gain-is a b d h l e = go (decLe a b)
-  where
-    go : Dec (a ≤ b) → d % 9223372036854775808 * (d / 9223372036854775808) ≡ max a b - a
-    go (yes m) =
-        let p : d / 9223372036854775808 ≡ 1 = div-eq-of-lt-le {k = 1} 9223372036854775808 {m = d} (omega arith) (omega arith) in
-        let q : d ≡ b - a + 9223372036854775808 * 1 = omega arith in
-        let s : d % 9223372036854775808 ≡ b - a = ap (λ n. n % 9223372036854775808) q ∙ add-mul-mod-self-left (b - a) 9223372036854775808 1 ∙ mod-eq-of-lt {n = b - a} {m = 9223372036854775808} (omega arith) in
-        rw (s, p) (omega arith)
-    go (no m) =
-        let p : d / 9223372036854775808 ≡ 0 = div-eq-of-lt-le {k = 0} 9223372036854775808 {m = d} (omega arith) (omega arith) in
-        rw p (omega arith)
 
 -- a value that is not more is not stored
 pub raised-keep : (x v : ℕ) (xs : List ℕ) → v ≤ getD xs x 0 → Raised (Single x v) xs xs

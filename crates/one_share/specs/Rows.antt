@@ -42,7 +42,7 @@ abbrev pub Rows : Job → (ℕ → ℕ) → List ℕ → List ℕ → ℕ → �
 Rows J weight long wide r a xs = (i b : ℕ) → i < a → b < r → getD xs (i * r + b) 0 ≡ figure-at J leb weight (getD long i 0) (getD wide b 0) 0
 
 -- what the fill is lent: a job in range, a weight for each of its kinds, and the normal positions with their maps
-pub record Lent (J : Job) (weights long longmap wide widemap : List ℕ) (r : ℕ) : Type 0 where
+pub record RowsLent (J : Job) (weights long longmap wide widemap : List ℕ) (r : ℕ) : Type 0 where
   pub range : InRange J
   pub weighed : J .count ≤ length weights
   pub lengths : Positions J Length (position-count J Length) long longmap

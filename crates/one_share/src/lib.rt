@@ -4,31 +4,22 @@
 use table::clear;
 use table::copy;
 use table::entry;
+use table::greater;
 use table::half;
 ghost use mathlib.Core.Path.{_≡_};
-ghost use Prim.Native.Nat.{ℕ, _+_, _*_, _-_, _≤_, _<_, min, max};
+ghost use Prim.Native.Nat.{ℕ, _+_, _*_, _-_, _≤_, _<_, min};
 ghost use lib.ListN.{length, getD};
 ghost use Rattle.cutting.specs.declared.Direction.the-variants.{Length, Width};
 ghost use Rattle.cutting.specs.Job.{InRange};
 ghost use Rattle.table.specs.Table.{position-count, kinds-job, Positions, words-needed, Figures, Kept};
 ghost use Rattle.table.specs.Words.{Outside, Run, Half, Cuts};
 ghost use Rattle.one_share.specs.Raised.{Raised, Sums, LengthCuts, Kind, Kinds, Pushed, CellPush};
-ghost use Rattle.one_share.specs.Rows.{Entries, Spread, Widened, Rows, Lent};
+ghost use Rattle.one_share.specs.Rows.{Entries, Spread, Widened, Rows, RowsLent};
 
 fn smaller(a: usize, b: usize) -> usize
     ensures { λ r. ⌜ r ≡ min a b ⌝ }
 {
     if a < b { a } else { b }
-}
-
-// The greater of two figures or sums of two, without a comparison, which is slow on vectors of 64-bit words: 2^63 and the difference
-// have the top bit exactly if b is no less.
-fn greater(a: u64, b: u64) -> u64
-    requires { ⌜ (a ≤ 2000000000000) × (b ≤ 2000000000000) ⌝ }
-    ensures { λ r. ⌜ r ≡ max a b ⌝ }
-{
-    let d = b + 9223372036854775808 - a;
-    a + d % 9223372036854775808 * (d / 9223372036854775808)
 }
 
 // Each of the r words from `at` on becomes the sum of its fellows from x and y on where that is more.
@@ -189,7 +180,7 @@ fn fill_row(
     k: usize,
     at: usize,
 )
-    requires { ⌜ Lent (kinds-job l w count (now lengths) (now widths) (now prices)) (now weights) (now long) (now longmap) (now wide) (now widemap) r
+    requires { ⌜ RowsLent (kinds-job l w count (now lengths) (now widths) (now prices)) (now weights) (now long) (now longmap) (now wide) (now widemap) r
         × (1 ≤ a) × (a < position-count (kinds-job l w count (now lengths) (now widths) (now prices)) Length) × Half (now long) a k × (at ≡ a * r) × (at + r ≤ length (now table))
         × Rows (kinds-job l w count (now lengths) (now widths) (now prices)) (λ i. getD (now weights) i 0) (now long) (now wide) r a (now table) ⌝ }
     ensures { λ _. ⌜ Rows (kinds-job l w count (now (lengths .entry)) (now (widths .entry)) (now (prices .entry))) (λ i. getD (now (weights .entry)) i 0) (now (long .entry)) (now (wide .entry)) r (a + 1) (now (table .exit))

@@ -17,7 +17,7 @@ use Rattle.table.proofs.Halves.{half-next}
 use Rattle.table.proofs.Figures.{entry-is, positions-axis}
 use Rattle.table.specs.States.{figure-at}
 use Rattle.state_fill.specs.Cells.{figure-in, note-in, held, note, under, Digits}
-use Rattle.state_fill.specs.Tables.{tabled, cell, owns, Made, Rows, Cells, Lent, Spot, Figures, Bare, Plain}
+use Rattle.state_fill.specs.Tables.{tabled, cell, owns, Made, Rows, Cells, CellsLent, Spot, Figures, Bare, Plain}
 use Rattle.state_fill.proofs.Noted.{figure-plain, note-plain, plain-word}
 use Rattle.table.proofs.Across.{no-side}
 use Rattle.state_fill.proofs.Growing.{order-of}
@@ -29,7 +29,7 @@ some-state {blocks} {d} {n} given = omega (arith, given .states, given .digits .
 
 -- what is lent, with a table of the same length
 pub lent-kept : {J : Job} {states long longmap wide widemap blocks : List ℕ} {d n : ℕ} {old new : List ℕ}
-    → length new ≡ length old → Lent J states long longmap wide widemap blocks d n old → Lent J states long longmap wide widemap blocks d n new
+    → length new ≡ length old → CellsLent J states long longmap wide widemap blocks d n old → CellsLent J states long longmap wide widemap blocks d n new
 lent-kept e w = record {
   range = w .range;
   stated = w .stated;
@@ -53,7 +53,7 @@ pub half-ready : (list map : List ℕ) (p k b : ℕ) → Axis list map p → 1 �
     → (1 ≤ k) × (k ≤ b) × (b < length list) × (0 < getD list b 0) × ((i : ℕ) → 1 ≤ i → i < k → 2 * getD list i 0 ≤ getD list b 0)
 half-ready list map p k b axis h l m w = (h, l, omega (arith, axis .listed), omega (arith, axis .rise 0 b (omega arith) m), λ i u v. w i u v m)
 
-module _ {J : Job} {states long longmap wide widemap blocks : List ℕ} {d n : ℕ} {t0 : List ℕ} (lent : Lent J states long longmap wide widemap blocks d n t0) where
+module _ {J : Job} {states long longmap wide widemap blocks : List ℕ} {d n : ℕ} {t0 : List ℕ} (lent : CellsLent J states long longmap wide widemap blocks d n t0) where
   -- a cell of zeros, where the figures are 0, is made
   zeros-made : (i j : ℕ) (xs : List ℕ) → ((s : ℕ) → tabled J (under blocks d) (owns states) long wide i j s ≡ 0) → ((s : ℕ) → s < n → getD xs (cell J n i j + s) 0 ≡ 0) → Made J (under blocks d) (owns states) long wide n i j xs
   zeros-made i j xs f z = record {
@@ -178,7 +178,7 @@ pub record InRow (J : Job) (states long wide blocks : List ℕ) (d n r a at kb c
   pub cells : Cells J (under blocks d) (owns states) long wide n a b new
   pub rest : Outside at (at + r * n) old new
 
-module _ {J : Job} {states long longmap wide widemap blocks : List ℕ} {d n r a ka at : ℕ} {t0 : List ℕ} (lent : Lent J states long longmap wide widemap blocks d n t0)
+module _ {J : Job} {states long longmap wide widemap blocks : List ℕ} {d n r a ka at : ℕ} {t0 : List ℕ} (lent : CellsLent J states long longmap wide widemap blocks d n t0)
     (r-is : r ≡ position-count J Width) (la : 1 ≤ a) (ha : a < position-count J Length) (half-a : Half long a ka) (at-is : at ≡ cell J n a 0) (rows : Rows J (under blocks d) (owns states) long wide n a t0) where
   pub row-axis : Axis wide widemap r
   row-axis = subst (λ r. Axis wide widemap r) (sym r-is) (positions-axis J Width (position-count J Width) wide widemap (lent .range) (lent .widths))
@@ -267,7 +267,7 @@ pub record InTable (J : Job) (states long wide blocks : List ℕ) (d n p r at ka
 
 -- what is lent, as the code counts the positions
 pub lent-of : {J : Job} {states long longmap wide widemap blocks : List ℕ} {d n p r : ℕ} {t0 : List ℕ} → InRange J → J .count ≤ length states → Digits blocks d n
-    → Positions J Length p long longmap → Positions J Width r wide widemap → position-count J Length * position-count J Width * n ≤ length t0 → Lent J states long longmap wide widemap blocks d n t0
+    → Positions J Length p long longmap → Positions J Width r wide widemap → position-count J Length * position-count J Width * n ≤ length t0 → CellsLent J states long longmap wide widemap blocks d n t0
 lent-of {J} {long = long} {longmap = longmap} {wide = wide} {widemap = widemap} range stated digits lengths widths words = record {
   range = range;
   stated = stated;
@@ -277,7 +277,7 @@ lent-of {J} {long = long} {longmap = longmap} {wide = wide} {widemap = widemap} 
   words = words;
 }
 
-module _ {J : Job} {states long longmap wide widemap blocks : List ℕ} {d n p r : ℕ} {t0 : List ℕ} (lent : Lent J states long longmap wide widemap blocks d n t0)
+module _ {J : Job} {states long longmap wide widemap blocks : List ℕ} {d n p r : ℕ} {t0 : List ℕ} (lent : CellsLent J states long longmap wide widemap blocks d n t0)
     (p-is : p ≡ position-count J Length) (r-is : r ≡ position-count J Width) where
   pub table-axis : Axis long longmap p
   table-axis = subst (λ p. Axis long longmap p) (sym p-is) (positions-axis J Length (position-count J Length) long longmap (lent .range) (lent .lengths))

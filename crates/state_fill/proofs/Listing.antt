@@ -186,17 +186,26 @@ module _ (at n : ℕ) where
       };
     }
 
-  pub listing-end : (s k : ℕ) (old new : List ℕ) → s ≡ n → Listing at n s k old new → Finished at n old new
-  listing-end s k old new e p = record {
+  -- all flagged states are listed
+  pub listing-end : (s k : ℕ) (old new : List ℕ) → s ≤ n → ((t : ℕ) → t < n → Flagged old at t → t < s) → Listing at n s k old new → Finished at n old new
+  listing-end s k old new e top p = record {
     same = p .same;
-    listed = λ t h f. (let q = p .found t (omega arith) f in (q .0, omega (arith, q .1, p .most), q .2));
+    listed = λ t h f. (let q = p .found t (top t h f) f in (q .0, omega (arith, q .1, p .most), q .2));
     notes = λ j h. notes j h (decLe k j);
-    ended = λ i j h l z. p .none j (past i j h z (decLe k i)) (omega arith);
+    ended = λ i j h l z. none j l (past i j h z (decLe k i));
     rest = p .rest;
   }
     where
+      none : (j : ℕ) → j < n → k ≤ j → note new at j ≡ 0
+      none j h l = go (decLe s j) (decLe 1 (note old at j))
+        where
+          go : Dec (s ≤ j) → Dec (1 ≤ note old at j) → note new at j ≡ 0
+          go (no m) f = p .none j l (omega arith)
+          go (yes m) (yes f) = absurd (omega (arith, top j h f))
+          go (yes m) (no f) = omega (arith, ap note-in (p .left j m h))
+
       notes : (j : ℕ) → j < n → Dec (k ≤ j) → note new at j ≤ n
-      notes j h (yes l) = omega (arith, p .none j l (omega arith))
+      notes j h (yes l) = omega (arith, none j h l)
       notes j h (no l) = p .some j (omega arith) .1
 
       past : (i j : ℕ) → i ≤ j → note new at i ≡ 0 → Dec (k ≤ i) → k ≤ j

@@ -19,9 +19,9 @@ use Rattle.table.proofs.Words.{cell-before}
 use Rattle.table.proofs.Halves.{half-cuts, half-parts}
 use Rattle.table.proofs.Figures.{positions-axis}
 use Rattle.table.specs.States.{Order, Covers}
-use Rattle.state_fill.specs.Cells.{figure-in, held, under, Rises, Flagged, Listed, Low, Grown, Ready, CutAt, Placed, Inherited, Finished}
+use Rattle.state_fill.specs.Cells.{figure-in, note-in, held, under, Rises, Flagged, Listed, Low, Grown, Ready, CutAt, Placed, Inherited, Finished, Topped}
 use Rattle.state_fill.specs.Tables.{tabled, cell, owns, Made, Spot}
-use Rattle.state_fill.proofs.Noted.{figure-small, figure-plain}
+use Rattle.state_fill.proofs.Noted.{figure-small, figure-plain, note-plain}
 use Rattle.table.proofs.Across.{across, across-above, state-above, state-low, more-side, kind-most}
 use Rattle.table.proofs.Complete.{along, side-covered, complete}
 use Rattle.state_fill.proofs.Growing.{outside-chain, grown-then, order-of}
@@ -224,6 +224,14 @@ module _ {J : Job} {states long longmap wide widemap blocks : List ℕ} {d n row
 
     pub started : (s : ℕ) → s < n → held t1 at s ≡ max (F (a - 1) b s) (F a (b - 1) s)
     started s h = ap figure-in (run .here s h) ∙ (figure-plain _ (omega (arith, figure-small (getD t0 (at - row + s) 0), figure-small (getD t0 (at - n + s) 0))) ∙ ap₂ max (above-figure s h) (before-figure s h))
+
+    -- no state is flagged yet, so all that are flagged later lie below the number handed on
+    pub start-topped : (high : ℕ) (xs : List ℕ) → Topped at n 0 high t1 xs → (high ≤ n) × ((t : ℕ) → t < n → Flagged xs at t → t < high)
+    start-topped high xs p = (p .most (omega arith), λ t h f. go t h (p .flags t h f))
+      where
+        go : (t : ℕ) → t < n → Flagged t1 at t ⊎ (t < high) → t < high
+        go t h (inr l) = l
+        go t h (inl f) = absurd (omega (arith, ap note-in (run .here t h), note-plain (max (held t0 (at - row) t) (held t0 (at - n) t)) (omega (arith, figure-small (getD t0 (at - row + t) 0), figure-small (getD t0 (at - n + t) 0)))))
 
     pub start-rises : Rises (under blocks d) n (held t1 at)
     start-rises t s h l = omega (arith, started s h, started t (omega (arith, order .less t s l)), rising (a - 1) b t s h l, rising a (b - 1) t s h l)

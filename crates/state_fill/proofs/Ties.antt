@@ -8,16 +8,15 @@ use native.Mathlib.Nat.{mod-lt, div-add-mod'}
 use native.Mathlib.Decide.{ℕ-discrete, decLe}
 use native.Mathlib.Omega.{arith}
 use borrow.Author.Tests.{lt-ltb, le-ltb, eq-eqb, ne-eqb}
-use lib.Dec.{T, ltb, eqb, leb→le, le→leb}
+use lib.Dec.{T, ltb, eqb}
 use lib.ListN.{getD}
 use Rattle.cutting.specs.declared.Direction.the-variants.{Length, Width}
 use Rattle.cutting.specs.Lists.{only}
-use Rattle.cutting.specs.Tree.{Rect, Tree, waste, piece, cut, Pieces, Saw, Shares, Proper, total, Within}
+use Rattle.cutting.specs.Tree.{Tree, waste, piece, cut, total, Within}
 use Rattle.cutting.specs.Figure.{figure}
 use Rattle.cutting.specs.Saws.{saw}
 use Rattle.cutting.specs.Shares.{by-weight, paired, state, exact}
 use Rattle.cutting.specs.Job.{Job, GuillotineTree, pieces, figure-of}
-use Rattle.cutting.proofs.Exact.{figure-upper, figure-attained}
 use Rattle.cutting.proofs.Saws.{saw-proper}
 use Rattle.cutting.proofs.Weights.{within-weight, weight-within}
 use Rattle.cutting.proofs.Job.{figure-most, figure-earned}

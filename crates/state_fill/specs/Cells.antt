@@ -65,6 +65,12 @@ Listed xs x n t = (k : ℕ) × (k < n) × (note xs x k ≡ t + 1)
 abbrev pub Low : (ℕ → ℕ) → ℕ → ℕ → List ℕ → Type 0
 Low f x n xs = (s : ℕ) → s < n → held xs x s ≤ f s
 
+-- states flagged since lie below `high`, a number of states no less than `top`
+pub record Topped (at n top high : ℕ) (old new : List ℕ) : Type 0 where
+  pub more : top ≤ high
+  pub most : top ≤ n → high ≤ n
+  pub flags : (t : ℕ) → t < n → Flagged new at t → Flagged old at t ⊎ (t < high)
+
 -- a cell that is made grows: its figures do not fall, keep rising with the states, and stay covered by its flags
 pub record Grown (le : ℕ → ℕ → Bool) (at n : ℕ) (old new : List ℕ) : Type 0 where
   pub more : (s : ℕ) → s < n → held old at s ≤ held new at s

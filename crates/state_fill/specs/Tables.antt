@@ -43,7 +43,7 @@ owns states i = getD states i 0
 
 -- what the fill is lent: a job in range, a state for each of its kinds, the digits of the states, the normal positions with their maps,
 -- and a table that is long enough
-pub record Lent (J : Job) (states long longmap wide widemap blocks : List ℕ) (d n : ℕ) (table : List ℕ) : Type 0 where
+pub record CellsLent (J : Job) (states long longmap wide widemap blocks : List ℕ) (d n : ℕ) (table : List ℕ) : Type 0 where
   pub range : InRange J
   pub stated : J .count ≤ length states
   pub digits : Digits blocks d n
@@ -53,7 +53,7 @@ pub record Lent (J : Job) (states long longmap wide widemap blocks : List ℕ) (
 
 -- the place of a cell that is to be made: all cells before it are
 pub record Spot (J : Job) (states long longmap wide widemap blocks : List ℕ) (d n row a b ka kb at column : ℕ) (table : List ℕ) : Type 0 where
-  pub lent : Lent J states long longmap wide widemap blocks d n table
+  pub lent : CellsLent J states long longmap wide widemap blocks d n table
   pub long-in : (1 ≤ a) × (a < position-count J Length)
   pub wide-in : (1 ≤ b) × (b < position-count J Width)
   pub half-a : Half long a ka

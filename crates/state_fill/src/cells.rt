@@ -1,59 +1,67 @@
 // One cell: it starts from the cells before it in length and in width and inherits what they list, takes the kinds of exactly its size
 // and the cuts of its sides, and lists its flagged states.
 use crate::parts::cut;
+use crate::raise::past;
 use crate::raise::take;
 use crate::words::figure;
 use crate::words::note;
-ghost use mathlib.Core.Path.{_≡_};
+use table::greater;
 ghost use Prim.Native.Nat.{ℕ, _+_, _*_, _-_, _≤_, _<_, max};
 ghost use lib.ListN.{length, getD};
 ghost use Rattle.table.specs.Table.{kinds-job};
 ghost use Rattle.table.specs.Words.{Outside, Run};
-ghost use Rattle.state_fill.specs.Cells.{held, note, under, Digits, Rises, Taken, Ready, Inherited, Placed, Finished};
+ghost use Rattle.state_fill.specs.Cells.{held, note, under, Digits, Rises, Flagged, Taken, Ready, Inherited, Placed, Finished, Topped};
 ghost use Rattle.state_fill.specs.Tables.{owns, Made, Spot};
 
-fn larger(a: u64, b: u64) -> u64
-    ensures { λ r. ⌜ r ≡ max a b ⌝ }
-{
-    if a < b { b } else { a }
-}
-
 // The cell's words become the greater of the figures of the cells before it.
-fn start(table: &mut [u64], at: usize, above: usize, before: usize, n: usize)
-    requires { ⌜ (above + n ≤ at) × (before + n ≤ at) × (at + n ≤ length (now table)) ⌝ }
-    ensures { λ _. ⌜ Run (λ s. max (held (now (table .entry)) above s) (held (now (table .entry)) before s)) at n (now (table .entry)) (now (table .exit)) ⌝ }
+fn start(table: &mut [u64], at: usize, above: usize, before: usize, words: usize)
+    requires { ⌜ (above + words ≤ at) × (before + words ≤ at) × (at + words ≤ length (now table)) ⌝ }
+    ensures { λ _. ⌜ Run (λ s. max (held (now (table .entry)) above s) (held (now (table .entry)) before s)) at words (now (table .entry)) (now (table .exit)) ⌝ }
 {
-    for s in 0..n {
-        table[at + s] = larger(figure(table[above + s]), figure(table[before + s]));
+    for s in 0..words {
+        table[at + s] = greater(figure(table[above + s]), figure(table[before + s]));
     }
 }
 
 // The states that the cell from x on lists, and at which it is above the cell from y on, are flagged.
-fn inherit(table: &mut [u64], at: usize, x: usize, y: usize, n: usize)
-    requires { ⌜ (x + n ≤ at) × (y + n ≤ at) × (at + n ≤ length (now table)) × Ready (now table) x n ⌝ }
-    ensures { λ _. ⌜ Inherited x y at n (now (table .entry)) (now (table .exit)) ⌝ }
+fn inherit(table: &mut [u64], at: usize, x: usize, y: usize, words: usize, top: usize) -> usize
+    requires { ⌜ (words ≤ 65536) × (x + words ≤ at) × (y + words ≤ at) × (at + words ≤ length (now table)) × Ready (now table) x words ⌝ }
+    ensures { λ r. ⌜ Inherited x y at words (now (table .entry)) (now (table .exit)) × Topped at words top r (now (table .entry)) (now (table .exit)) ⌝ }
 {
-    for k in 0..n {
+    let mut high = top;
+    for k in 0..words {
         let listed = note(table[x + k]);
         if listed == 0 {
-            return;
+            return high;
         }
         let t = listed - 1;
         if figure(table[y + t]) < figure(table[x + t]) {
             table[at + t] = figure(table[at + t]) + 2199023255552;
+            high = past(high, t);
         }
     }
+    high
 }
 
 // The price of a kind at its state, where it has one.
-fn place(table: &mut [u64], blocks: &[u32], d: usize, n: usize, at: usize, state: u32, price: u32)
-    requires { ⌜ Digits (now blocks) d n × (at + n ≤ length (now table)) × Rises (under (now blocks) d) n (held (now table) at) ⌝ }
-    ensures { λ _. ⌜ Taken (under (now (blocks .entry)) d) at n state 0 price (now (table .entry)) (now (table .exit)) ⌝ }
+fn place(
+    table: &mut [u64],
+    blocks: &[u32],
+    d: usize,
+    words: usize,
+    at: usize,
+    state: u32,
+    price: u32,
+    top: usize,
+) -> usize
+    requires { ⌜ Digits (now blocks) d words × (at + words ≤ length (now table)) × Rises (under (now blocks) d) words (held (now table) at) ⌝ }
+    ensures { λ r. ⌜ Taken (under (now (blocks .entry)) d) at words state 0 price (now (table .entry)) (now (table .exit)) × Topped at words top r (now (table .entry)) (now (table .exit)) ⌝ }
 {
     let t = state as usize;
-    if t < n {
-        take(table, blocks, d, n, at, t, 0, price as u64);
+    if t < words {
+        return take(table, blocks, d, words, at, t, 0, price as u64, top);
     }
+    top
 }
 
 // The prices of the kinds of exactly the size l by w, at their states; smaller ones came with the cells before.
@@ -61,36 +69,39 @@ fn place_kinds(
     table: &mut [u64],
     blocks: &[u32],
     d: usize,
-    n: usize,
+    words: usize,
     at: usize,
-    lengths: &[u16; 64],
-    widths: &[u16; 64],
+    kind_lengths: &[u16; 64],
+    kind_widths: &[u16; 64],
     prices: &[u32; 64],
     states: &[u32],
     count: usize,
     l: u16,
     w: u16,
-)
-    requires { ⌜ Digits (now blocks) d n × (count ≤ 64) × (count ≤ length (now states)) × (at + n ≤ length (now table)) × Rises (under (now blocks) d) n (held (now table) at) ⌝ }
-    ensures { λ _. ⌜ Placed (under (now (blocks .entry)) d) (λ i. getD (now (lengths .entry)) i 0) (λ i. getD (now (widths .entry)) i 0) (λ i. getD (now (states .entry)) i 0) (λ i. getD (now (prices .entry)) i 0)
-        count l w at n (now (table .entry)) (now (table .exit)) ⌝ }
+    top: usize,
+) -> usize
+    requires { ⌜ Digits (now blocks) d words × (count ≤ 64) × (count ≤ length (now states)) × (at + words ≤ length (now table)) × Rises (under (now blocks) d) words (held (now table) at) ⌝ }
+    ensures { λ r. ⌜ Placed (under (now (blocks .entry)) d) (λ i. getD (now («kind_lengths» .entry)) i 0) (λ i. getD (now («kind_widths» .entry)) i 0) (λ i. getD (now (states .entry)) i 0) (λ i. getD (now (prices .entry)) i 0)
+        count l w at words (now (table .entry)) (now (table .exit)) × Topped at words top r (now (table .entry)) (now (table .exit)) ⌝ }
 {
+    let mut high = top;
     for i in 0..count {
-        if lengths[i] == l {
-            if widths[i] == w {
-                place(table, blocks, d, n, at, states[i], prices[i]);
+        if kind_lengths[i] == l {
+            if kind_widths[i] == w {
+                high = place(table, blocks, d, words, at, states[i], prices[i], high);
             }
         }
     }
+    high
 }
 
-// The flagged states become the cell's list: the k-th one, plus 1, above the figure of word k.
-fn finish(table: &mut [u64], at: usize, n: usize)
-    requires { ⌜ (at + n ≤ length (now table)) × (n ≤ 65536) ⌝ }
-    ensures { λ _. ⌜ Finished at n (now (table .entry)) (now (table .exit)) ⌝ }
+// The flagged states, all below `top`, become the cell's list: the k-th one, plus 1, above the figure of word k.
+fn finish(table: &mut [u64], at: usize, words: usize, top: usize)
+    requires { ⌜ (at + words ≤ length (now table)) × (words ≤ 65536) × (top ≤ words) × ((t : ℕ) → t < words → Flagged (now table) at t → t < top) ⌝ }
+    ensures { λ _. ⌜ Finished at words (now (table .entry)) (now (table .exit)) ⌝ }
 {
     let mut k: usize = 0;
-    for s in 0..n {
+    for s in 0..top {
         let word = table[at + s];
         if 0 < note(word) {
             table[at + s] = figure(word);
@@ -106,62 +117,77 @@ pub fn make_cell(
     table: &mut [u64],
     l: u16,
     w: u16,
-    lengths: &[u16; 64],
-    widths: &[u16; 64],
+    kind_lengths: &[u16; 64],
+    kind_widths: &[u16; 64],
     prices: &[u32; 64],
     states: &[u32],
     count: u16,
-    long: &[u16],
-    longmap: &[u16],
-    wide: &[u16],
-    widemap: &[u16],
+    normal_lengths: &[u16],
+    length_floors: &[u16],
+    normal_widths: &[u16],
+    width_floors: &[u16],
     blocks: &[u32],
     d: usize,
-    n: usize,
+    words: usize,
     row: usize,
     a: usize,
     b: usize,
-    ka: usize,
-    kb: usize,
+    length_half_end: usize,
+    width_half_end: usize,
     at: usize,
     column: usize,
 )
-    requires { ⌜ Spot (kinds-job l w count (now lengths) (now widths) (now prices)) (now states) (now long) (now longmap) (now wide) (now widemap) (now blocks) d n row a b ka kb at column (now table) ⌝ }
-    ensures { λ _. ⌜ Made (kinds-job l w count (now (lengths .entry)) (now (widths .entry)) (now (prices .entry))) (under (now (blocks .entry)) d) (owns (now (states .entry))) (now (long .entry)) (now (wide .entry)) n a b (now (table .exit))
-        × Outside at (at + n) (now (table .entry)) (now (table .exit)) ⌝ }
+    requires { ⌜ Spot (kinds-job l w count (now «kind_lengths») (now «kind_widths») (now prices)) (now states) (now «normal_lengths») (now «length_floors») (now «normal_widths») (now «width_floors») (now blocks) d words row a b «length_half_end» «width_half_end» at column (now table) ⌝ }
+    ensures { λ _. ⌜ Made (kinds-job l w count (now («kind_lengths» .entry)) (now («kind_widths» .entry)) (now (prices .entry))) (under (now (blocks .entry)) d) (owns (now (states .entry))) (now («normal_lengths» .entry)) (now («normal_widths» .entry)) words a b (now (table .exit))
+        × Outside at (at + words) (now (table .entry)) (now (table .exit)) ⌝ }
 {
     let above = at - row;
-    let before = at - n;
-    start(table, at, above, before, n);
-    inherit(table, at, before, above, n);
-    inherit(table, at, above, before, n);
-    place_kinds(
+    let before = at - words;
+    start(table, at, above, before, words);
+    let mut top = inherit(table, at, before, above, words, 0);
+    top = inherit(table, at, above, before, words, top);
+    top = place_kinds(
         table,
         blocks,
         d,
-        n,
+        words,
         at,
-        lengths,
-        widths,
+        kind_lengths,
+        kind_widths,
         prices,
         states,
         count as usize,
-        long[a],
-        wide[b],
+        normal_lengths[a],
+        normal_widths[b],
+        top,
     );
-    cut(table, long, longmap, blocks, d, n, a, ka, at, column, row);
-    cut(
+    top = cut(
         table,
-        wide,
-        widemap,
+        normal_lengths,
+        length_floors,
         blocks,
         d,
-        n,
+        words,
+        a,
+        length_half_end,
+        at,
+        column,
+        row,
+        top,
+    );
+    top = cut(
+        table,
+        normal_widths,
+        width_floors,
+        blocks,
+        d,
+        words,
         b,
-        kb,
+        width_half_end,
         at,
         at - column,
-        n,
+        words,
+        top,
     );
-    finish(table, at, n);
+    finish(table, at, words, top);
 }

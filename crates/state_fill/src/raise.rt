@@ -1,11 +1,11 @@
 // The order of states, and raising a cell at a state and at all states above.
 use crate::words::figure;
 ghost use mathlib.Core.Path.{_≡_};
-ghost use Prim.Native.Nat.{ℕ, _+_, _*_, _≤_, _<_};
-ghost use lib.Dec.{T, leb};
+ghost use Prim.Native.Nat.{_+_, _≤_, _<_, max};
+ghost use lib.Dec.{leb};
 ghost use lib.ListN.{length, getD};
 ghost use Rattle.table.specs.States.{Blocks};
-ghost use Rattle.state_fill.specs.Cells.{held, under, Digits, Rises, Lifted, Raised, Taken};
+ghost use Rattle.state_fill.specs.Cells.{held, under, Digits, Rises, Lifted, Raised, Taken, Topped};
 
 // The number of states that the digits from 0 to i have together.
 fn block(blocks: &[u32], i: usize) -> usize
@@ -73,36 +73,48 @@ fn up(table: &mut [u64], blocks: &[u32], d: usize, at: usize, t: usize, v: u64)
 }
 
 // State t is raised to v, which is more than it has, with all states above; it is flagged.
-fn raise(table: &mut [u64], blocks: &[u32], d: usize, n: usize, at: usize, t: usize, v: u64)
-    requires { ⌜ Digits (now blocks) d n × (at + n ≤ length (now table)) × (t < n) × (v < 2199023255552)
-        × Rises (under (now blocks) d) n (held (now table) at) ⌝ }
-    ensures { λ _. ⌜ Raised (under (now (blocks .entry)) d) at n t v (now (table .entry)) (now (table .exit)) ⌝ }
+fn raise(table: &mut [u64], blocks: &[u32], d: usize, words: usize, at: usize, t: usize, v: u64)
+    requires { ⌜ Digits (now blocks) d words × (at + words ≤ length (now table)) × (t < words) × (v < 2199023255552)
+        × Rises (under (now blocks) d) words (held (now table) at) ⌝ }
+    ensures { λ _. ⌜ Raised (under (now (blocks .entry)) d) at words t v (now (table .entry)) (now (table .exit)) ⌝ }
 {
     up(table, blocks, d, at, t, v);
     table[at + t] = v + 2199023255552;
 }
 
-// The cell takes v at state t + u, where that is a state, t and u add without a carry, and v is more than it has.
+// The number past state t, or `top` where that is more.
+pub fn past(top: usize, t: usize) -> usize
+    requires { ⌜ t < 65536 ⌝ }
+    ensures { λ r. ⌜ r ≡ max top (t + 1) ⌝ }
+{
+    if top <= t { t + 1 } else { top }
+}
+
+// The cell takes v at state t + u, where that is a state, t and u add without a carry, and v is more than it has. All states that are
+// flagged lie below `top`, and then below what is returned.
 pub fn take(
     table: &mut [u64],
     blocks: &[u32],
     d: usize,
-    n: usize,
+    words: usize,
     at: usize,
     t: usize,
     u: usize,
     v: u64,
-)
-    requires { ⌜ Digits (now blocks) d n × (at + n ≤ length (now table)) × (t < 65536) × (u < 65536) × (v < 2199023255552)
-        × Rises (under (now blocks) d) n (held (now table) at) ⌝ }
-    ensures { λ _. ⌜ Taken (under (now (blocks .entry)) d) at n t u v (now (table .entry)) (now (table .exit)) ⌝ }
+    top: usize,
+) -> usize
+    requires { ⌜ Digits (now blocks) d words × (at + words ≤ length (now table)) × (t < 65536) × (u < 65536) × (v < 2199023255552)
+        × Rises (under (now blocks) d) words (held (now table) at) ⌝ }
+    ensures { λ r. ⌜ Taken (under (now (blocks .entry)) d) at words t u v (now (table .entry)) (now (table .exit)) × Topped at words top r (now (table .entry)) (now (table .exit)) ⌝ }
 {
     let s = t + u;
-    if s < n {
+    if s < words {
         if figure(table[at + s]) < v {
             if below(blocks, d, t, s) {
-                raise(table, blocks, d, n, at, s, v);
+                raise(table, blocks, d, words, at, s, v);
+                return past(top, s);
             }
         }
     }
+    top
 }

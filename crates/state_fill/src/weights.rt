@@ -1,7 +1,7 @@
 // One weight: the states are the shares from 0 to the capacity, one digit, and the state of a kind is its weight.
 use crate::rows::fill;
 ghost use mathlib.Core.Path.{_≡_};
-ghost use Prim.Native.Nat.{ℕ, _+_, _*_, _≤_, _<_};
+ghost use Prim.Native.Nat.{ℕ, _≤_, _<_};
 ghost use lib.ListN.{length, getD};
 ghost use Rattle.cutting.specs.declared.Direction.the-variants.{Length, Width};
 ghost use Rattle.cutting.specs.Job.{InRange};
@@ -29,47 +29,47 @@ fn weight_states(weights: &[u8], count: u16) -> [u32; 64]
 pub fn fill_weighed(
     l: u16,
     w: u16,
-    lengths: &[u16; 64],
-    widths: &[u16; 64],
+    kind_lengths: &[u16; 64],
+    kind_widths: &[u16; 64],
     prices: &[u32; 64],
     weights: &[u8],
     count: u16,
-    long: &[u16],
-    longmap: &[u16],
-    p: u16,
-    wide: &[u16],
-    widemap: &[u16],
-    r: u16,
+    normal_lengths: &[u16],
+    length_floors: &[u16],
+    length_count: u16,
+    normal_widths: &[u16],
+    width_floors: &[u16],
+    columns: u16,
     q: u16,
     table: &mut [u64],
 )
-    requires { ⌜ InRange (kinds-job l w count (now lengths) (now widths) (now prices)) × (count ≤ length (now weights)) × (q ≤ 4095)
-        × Positions (kinds-job l w count (now lengths) (now widths) (now prices)) Length p (now long) (now longmap)
-        × Positions (kinds-job l w count (now lengths) (now widths) (now prices)) Width r (now wide) (now widemap)
-        × (words-needed (kinds-job l w count (now lengths) (now widths) (now prices)) q ≤ length (now table)) ⌝ }
-    ensures { λ _. ⌜ Figures (kinds-job l w count (now (lengths .entry)) (now (widths .entry)) (now (prices .entry))) (λ i. getD (now (weights .entry)) i 0) q (now (table .exit))
-        × Kept (words-needed (kinds-job l w count (now (lengths .entry)) (now (widths .entry)) (now (prices .entry))) q) (now (table .entry)) (now (table .exit)) ⌝ }
+    requires { ⌜ InRange (kinds-job l w count (now «kind_lengths») (now «kind_widths») (now prices)) × (count ≤ length (now weights)) × (q ≤ 4095)
+        × Positions (kinds-job l w count (now «kind_lengths») (now «kind_widths») (now prices)) Length «length_count» (now «normal_lengths») (now «length_floors»)
+        × Positions (kinds-job l w count (now «kind_lengths») (now «kind_widths») (now prices)) Width columns (now «normal_widths») (now «width_floors»)
+        × (words-needed (kinds-job l w count (now «kind_lengths») (now «kind_widths») (now prices)) q ≤ length (now table)) ⌝ }
+    ensures { λ _. ⌜ Figures (kinds-job l w count (now («kind_lengths» .entry)) (now («kind_widths» .entry)) (now (prices .entry))) (λ i. getD (now (weights .entry)) i 0) q (now (table .exit))
+        × Kept (words-needed (kinds-job l w count (now («kind_lengths» .entry)) (now («kind_widths» .entry)) (now (prices .entry))) q) (now (table .entry)) (now (table .exit)) ⌝ }
 {
     let states = weight_states(weights, count);
-    let n = (q as usize) + 1;
-    let blocks = [n as u32; 1];
+    let words = (q as usize) + 1;
+    let blocks = [words as u32; 1];
     fill(
         l,
         w,
-        lengths,
-        widths,
+        kind_lengths,
+        kind_widths,
         prices,
         &states,
         count,
-        long,
-        longmap,
-        p,
-        wide,
-        widemap,
-        r,
+        normal_lengths,
+        length_floors,
+        length_count,
+        normal_widths,
+        width_floors,
+        columns,
         &blocks,
         0,
-        n,
+        words,
         table,
     );
 }

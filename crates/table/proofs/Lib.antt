@@ -1,4 +1,5 @@
 pub mod Words
+pub mod Gains
 pub mod Halves
 pub mod Figures
 pub mod Shares

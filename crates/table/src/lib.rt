@@ -1,8 +1,8 @@
-// What the fills of the table share: reading a list of positions, the half of a side, and runs of words.
+// What the fills of the table share: reading a list of positions, the half of a side, the greater of two figures, and runs of words.
 // The definitions of the table's contents stand in specs/Table; which cuts can give a cell more, and what makes a cell complete, is
 // proved in proofs/Covered and proofs/Complete.
 ghost use mathlib.Core.Path.{_≡_};
-ghost use Prim.Native.Nat.{ℕ, _+_, _*_, _≤_, _<_};
+ghost use Prim.Native.Nat.{ℕ, _+_, _*_, _≤_, _<_, max};
 ghost use lib.ListN.{length, getD};
 ghost use Rattle.table.specs.Words.{Run, Half};
 
@@ -26,6 +26,16 @@ pub fn half(list: &[u16], from: usize, b: usize) -> usize
         k = k + 1;
     }
     k
+}
+
+// The greater of two numbers below 2^63, without a comparison, which is slow on vectors of 64-bit words: 2^63 and the difference have the
+// top bit exactly if b is no less.
+pub fn greater(a: u64, b: u64) -> u64
+    requires { ⌜ (a < 9223372036854775808) × (b < 9223372036854775808) ⌝ }
+    ensures { λ r. ⌜ r ≡ max a b ⌝ }
+{
+    let d = b + 9223372036854775808 - a;
+    a + d % 9223372036854775808 * (d / 9223372036854775808)
 }
 
 // The m words from `at` on become those from `from` on, which lie before.

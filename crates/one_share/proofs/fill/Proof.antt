@@ -12,7 +12,7 @@ use Rattle.table.specs.Words.{Axis}
 use Rattle.table.proofs.Words.{cell-before, words-past}
 use Rattle.table.proofs.Halves.{half-next}
 use Rattle.table.proofs.Figures.{positions-axis}
-use Rattle.one_share.specs.Rows.{Rows, Lent}
+use Rattle.one_share.specs.Rows.{Rows, RowsLent}
 use Rattle.one_share.proofs.Filling.{rows-none, words-are, rows-all}
 use Rattle.one_share.proofs.fill.Statement.{statement}
 use Rattle.one_share.proofs.fill.Tie as tie
@@ -35,7 +35,7 @@ weigh s i = getD (now (s .args .weights)) i 0
 long-axis : (s : tie.Start Inv-loop μ-loop) → Axis (now (s .args .long)) (now (s .args .longmap)) (s .args .p)
 long-axis s = positions-axis (job s) Length (s .args .p) (now (s .args .long)) (now (s .args .longmap)) (s .pre .0) (s .pre .2)
 
-lent : (s : tie.Start Inv-loop μ-loop) → Lent (job s) (now (s .args .weights)) (now (s .args .long)) (now (s .args .longmap)) (now (s .args .wide)) (now (s .args .widemap)) (s .args .r)
+lent : (s : tie.Start Inv-loop μ-loop) → RowsLent (job s) (now (s .args .weights)) (now (s .args .long)) (now (s .args .longmap)) (now (s .args .wide)) (now (s .args .widemap)) (s .args .r)
 lent s = record {
   range = s .pre .0;
   weighed = s .pre .1;

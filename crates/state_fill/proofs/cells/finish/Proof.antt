@@ -11,10 +11,10 @@ use Rattle.state_fill.proofs.cells.finish.Statement.{statement}
 use Rattle.state_fill.proofs.cells.finish.Tie as tie
 
 abbrev Inv-loop : tie.InvT-loop
-Inv-loop table₀ at n k₀ s₀ table k s = (s ≤ n) × (length table ≡ length table₀) × Listing at n s k table₀ table
+Inv-loop table₀ at n top k₀ s₀ table k s = (s ≤ top) × (length table ≡ length table₀) × Listing at n s k table₀ table
 
 abbrev μ-loop : tie.MeasureT-loop
-μ-loop table₀ at n k₀ s₀ table k s = n - s
+μ-loop table₀ at n top k₀ s₀ table k s = top - s
 
 loop-holds : tie.Need-loop-holds Inv-loop μ-loop
 loop-holds c = (omega arith, refl, listing-none _ _ _)
@@ -92,7 +92,10 @@ same-length : tie.Need-same-length Inv-loop μ-loop
 same-length c = c .before .loop .inv .1
 
 returns : tie.Need-returns Inv-loop μ-loop
-returns c = listing-end _ _ _ _ _ _ (omega arith) (c .before .loop .inv .2)
+returns c =
+    let given = c .before .before .before .pre in
+    let e : c .before .loop .s ≡ c .before .before .before .args .top = omega arith in
+    listing-end _ _ _ _ _ _ (omega (arith, given .2)) (λ t h f. omega (arith, given .3 t h f)) (c .before .loop .inv .2)
 
 pub finish-spec : {M : Type 1} → statement M
 finish-spec =

@@ -5,20 +5,21 @@ use mathlib.Core.Path.{_≡_, refl, sym, _∙_}
 use mathlib.Core.Logic.{⊎-elim}
 use Prim.Native.Nat.{_-_, _≤_}
 use lib.ListN.{length, length-set}
-use Rattle.state_fill.specs.Cells.{note}
+use Rattle.state_fill.specs.Cells.{note, Topped}
 use Rattle.state_fill.proofs.Joining.{note-kept, ready-kept, past-end}
 use Rattle.state_fill.proofs.Listing.{Inherit, inherit-none, inherit-passed, inherit-more, inherit-end}
+use Rattle.state_fill.proofs.Topping.{topped-none, topped-then, topped-set}
 use Rattle.state_fill.proofs.cells.inherit.Statement.{statement}
 use Rattle.state_fill.proofs.cells.inherit.Tie as tie
 
 abbrev Inv-loop : tie.InvT-loop
-Inv-loop table₀ at x y n k₀ table k = (k ≤ n) × (length table ≡ length table₀) × Inherit x y at n k table₀ table
+Inv-loop table₀ at x y n top high₀ k₀ table high k = (k ≤ n) × (length table ≡ length table₀) × Inherit x y at n k table₀ table × Topped at n top high table₀ table
 
 abbrev μ-loop : tie.MeasureT-loop
-μ-loop table₀ at x y n k₀ table k = n - k
+μ-loop table₀ at x y n top high₀ k₀ table high k = n - k
 
 loop-holds : tie.Need-loop-holds Inv-loop μ-loop
-loop-holds c = (omega arith, refl, inherit-none _ _ _ _ (c .before .pre .0) (c .before .pre .1) _)
+loop-holds c = (omega arith, refl, inherit-none _ _ _ _ (c .before .pre .1) (c .before .pre .2) _, topped-none _ _ _ _)
 
 add-note : tie.Need-add-note Inv-loop μ-loop
 add-note c = search needs
@@ -27,7 +28,7 @@ mul-note : tie.Need-mul-note Inv-loop μ-loop
 mul-note c = search needs
 
 slice-read-note : tie.Need-slice-read-note Inv-loop μ-loop
-slice-read-note c = omega (arith, c .before .before .loop .inv .1, c .before .before .before .before .pre .0, c .before .before .before .before .pre .2)
+slice-read-note c = omega (arith, c .before .before .loop .inv .1, c .before .before .before .before .pre .1, c .before .before .before .before .pre .3)
 
 note-requires : tie.Need-note-requires Inv-loop μ-loop
 note-requires c κs = search needs
@@ -36,43 +37,43 @@ same-length : tie.Need-same-length Inv-loop μ-loop
 same-length c = c .before .before .before .before .loop .inv .1
 
 returns : tie.Need-returns Inv-loop μ-loop
-returns c = inherit-end _ _ _ _ (c .before .before .before .before .before .before .pre .0) (c .before .before .before .before .before .before .pre .1) _ _ _ (λ i u h e. past-end _ _ (c .before .before .before .before .before .before .args .n) _ _ _ (c .before .before .before .before .before .before .pre .3) h (sym (note-kept _ _ _ _ (c .before .before .before .before .loop .inv .2 .rest) (c .before .before .before .before .before .before .args .x) (c .before .before .before .before .loop .k) (omega (arith, c .before .before .before .before .before .before .pre .0))) ∙ (sym (c .before .note .ensures .0) ∙ c .if1 .taken)) e) (c .before .before .before .before .loop .inv .2)
+returns c = (inherit-end _ _ _ _ (c .before .before .before .before .before .before .pre .1) (c .before .before .before .before .before .before .pre .2) _ _ _ (λ i u h e. past-end _ _ (c .before .before .before .before .before .before .args .words) _ _ _ (c .before .before .before .before .before .before .pre .4) h (sym (note-kept _ _ _ _ (c .before .before .before .before .loop .inv .2 .rest) (c .before .before .before .before .before .before .args .x) (c .before .before .before .before .loop .k) (omega (arith, c .before .before .before .before .before .before .pre .1))) ∙ (sym (c .before .note .ensures .0) ∙ c .if1 .taken)) e) (c .before .before .before .before .loop .inv .2), c .before .before .before .before .loop .inv .3)
 
 sub-t : tie.Need-sub-t Inv-loop μ-loop
 sub-t c = search needs
 
 add-figure : tie.Need-add-figure Inv-loop μ-loop
-add-figure c = omega (arith, c .before .before .before .before .before .before .pre .1, c .before .before .before .before .before .before .pre .2, ready-kept _ _ _ _ (c .before .before .before .before .loop .inv .2 .rest) (c .before .before .before .before .before .before .args .x) (c .before .before .before .before .before .before .args .n) (c .before .before .before .before .before .before .pre .0) (c .before .before .before .before .before .before .pre .3) .notes (c .before .before .before .before .loop .k) (omega arith), c .before .note .ensures .0)
+add-figure c = omega (arith, c .before .before .before .before .before .before .pre .2, c .before .before .before .before .before .before .pre .3, ready-kept _ _ _ _ (c .before .before .before .before .loop .inv .2 .rest) (c .before .before .before .before .before .before .args .x) (c .before .before .before .before .before .before .args .words) (c .before .before .before .before .before .before .pre .1) (c .before .before .before .before .before .before .pre .4) .notes (c .before .before .before .before .loop .k) (omega arith), c .before .note .ensures .0)
 
 mul-figure : tie.Need-mul-figure Inv-loop μ-loop
 mul-figure c = search needs
 
 slice-read-figure : tie.Need-slice-read-figure Inv-loop μ-loop
-slice-read-figure c = omega (arith, c .before .before .before .before .before .loop .inv .1, c .before .before .before .before .before .before .before .pre .1, c .before .before .before .before .before .before .before .pre .2, ready-kept _ _ _ _ (c .before .before .before .before .before .loop .inv .2 .rest) (c .before .before .before .before .before .before .before .args .x) (c .before .before .before .before .before .before .before .args .n) (c .before .before .before .before .before .before .before .pre .0) (c .before .before .before .before .before .before .before .pre .3) .notes (c .before .before .before .before .before .loop .k) (omega arith), c .before .before .note .ensures .0)
+slice-read-figure c = omega (arith, c .before .before .before .before .before .loop .inv .1, c .before .before .before .before .before .before .before .pre .2, c .before .before .before .before .before .before .before .pre .3, ready-kept _ _ _ _ (c .before .before .before .before .before .loop .inv .2 .rest) (c .before .before .before .before .before .before .before .args .x) (c .before .before .before .before .before .before .before .args .words) (c .before .before .before .before .before .before .before .pre .1) (c .before .before .before .before .before .before .before .pre .4) .notes (c .before .before .before .before .before .loop .k) (omega arith), c .before .before .note .ensures .0)
 
 figure-requires : tie.Need-figure-requires Inv-loop μ-loop
 figure-requires c κs = search needs
 
 add-figure-2 : tie.Need-add-figure-2 Inv-loop μ-loop
-add-figure-2 c = omega (arith, c .before .before .before .before .before .before .before .before .pre .0, c .before .before .before .before .before .before .before .before .pre .2, ready-kept _ _ _ _ (c .before .before .before .before .before .before .loop .inv .2 .rest) (c .before .before .before .before .before .before .before .before .args .x) (c .before .before .before .before .before .before .before .before .args .n) (c .before .before .before .before .before .before .before .before .pre .0) (c .before .before .before .before .before .before .before .before .pre .3) .notes (c .before .before .before .before .before .before .loop .k) (omega arith), c .before .before .before .note .ensures .0)
+add-figure-2 c = omega (arith, c .before .before .before .before .before .before .before .before .pre .1, c .before .before .before .before .before .before .before .before .pre .3, ready-kept _ _ _ _ (c .before .before .before .before .before .before .loop .inv .2 .rest) (c .before .before .before .before .before .before .before .before .args .x) (c .before .before .before .before .before .before .before .before .args .words) (c .before .before .before .before .before .before .before .before .pre .1) (c .before .before .before .before .before .before .before .before .pre .4) .notes (c .before .before .before .before .before .before .loop .k) (omega arith), c .before .before .before .note .ensures .0)
 
 mul-figure-2 : tie.Need-mul-figure-2 Inv-loop μ-loop
 mul-figure-2 c = search needs
 
 slice-read-figure-2 : tie.Need-slice-read-figure-2 Inv-loop μ-loop
-slice-read-figure-2 c = omega (arith, c .before .before .before .before .before .before .before .loop .inv .1, c .before .before .before .before .before .before .before .before .before .pre .0, c .before .before .before .before .before .before .before .before .before .pre .2, ready-kept _ _ _ _ (c .before .before .before .before .before .before .before .loop .inv .2 .rest) (c .before .before .before .before .before .before .before .before .before .args .x) (c .before .before .before .before .before .before .before .before .before .args .n) (c .before .before .before .before .before .before .before .before .before .pre .0) (c .before .before .before .before .before .before .before .before .before .pre .3) .notes (c .before .before .before .before .before .before .before .loop .k) (omega arith), c .before .before .before .before .note .ensures .0)
+slice-read-figure-2 c = omega (arith, c .before .before .before .before .before .before .before .loop .inv .1, c .before .before .before .before .before .before .before .before .before .pre .1, c .before .before .before .before .before .before .before .before .before .pre .3, ready-kept _ _ _ _ (c .before .before .before .before .before .before .before .loop .inv .2 .rest) (c .before .before .before .before .before .before .before .before .before .args .x) (c .before .before .before .before .before .before .before .before .before .args .words) (c .before .before .before .before .before .before .before .before .before .pre .1) (c .before .before .before .before .before .before .before .before .before .pre .4) .notes (c .before .before .before .before .before .before .before .loop .k) (omega arith), c .before .before .before .before .note .ensures .0)
 
 figure-requires-2 : tie.Need-figure-requires-2 Inv-loop μ-loop
 figure-requires-2 c κs = search needs
 
 add-figure-3 : tie.Need-add-figure-3 Inv-loop μ-loop
-add-figure-3 c = omega (arith, c .before .before .before .before .before .before .before .before .before .before .before .pre .2, ready-kept _ _ _ _ (c .before .before .before .before .before .before .before .before .before .loop .inv .2 .rest) (c .before .before .before .before .before .before .before .before .before .before .before .args .x) (c .before .before .before .before .before .before .before .before .before .before .before .args .n) (c .before .before .before .before .before .before .before .before .before .before .before .pre .0) (c .before .before .before .before .before .before .before .before .before .before .before .pre .3) .notes (c .before .before .before .before .before .before .before .before .before .loop .k) (omega arith), c .before .before .before .before .before .before .note .ensures .0)
+add-figure-3 c = omega (arith, c .before .before .before .before .before .before .before .before .before .before .before .pre .3, ready-kept _ _ _ _ (c .before .before .before .before .before .before .before .before .before .loop .inv .2 .rest) (c .before .before .before .before .before .before .before .before .before .before .before .args .x) (c .before .before .before .before .before .before .before .before .before .before .before .args .words) (c .before .before .before .before .before .before .before .before .before .before .before .pre .1) (c .before .before .before .before .before .before .before .before .before .before .before .pre .4) .notes (c .before .before .before .before .before .before .before .before .before .loop .k) (omega arith), c .before .before .before .before .before .before .note .ensures .0)
 
 mul-figure-3 : tie.Need-mul-figure-3 Inv-loop μ-loop
 mul-figure-3 c = search needs
 
 slice-read-figure-3 : tie.Need-slice-read-figure-3 Inv-loop μ-loop
-slice-read-figure-3 c = omega (arith, c .before .before .before .before .before .before .before .before .before .before .loop .inv .1, c .before .before .before .before .before .before .before .before .before .before .before .before .pre .2, ready-kept _ _ _ _ (c .before .before .before .before .before .before .before .before .before .before .loop .inv .2 .rest) (c .before .before .before .before .before .before .before .before .before .before .before .before .args .x) (c .before .before .before .before .before .before .before .before .before .before .before .before .args .n) (c .before .before .before .before .before .before .before .before .before .before .before .before .pre .0) (c .before .before .before .before .before .before .before .before .before .before .before .before .pre .3) .notes (c .before .before .before .before .before .before .before .before .before .before .loop .k) (omega arith), c .before .before .before .before .before .before .before .note .ensures .0)
+slice-read-figure-3 c = omega (arith, c .before .before .before .before .before .before .before .before .before .before .loop .inv .1, c .before .before .before .before .before .before .before .before .before .before .before .before .pre .3, ready-kept _ _ _ _ (c .before .before .before .before .before .before .before .before .before .before .loop .inv .2 .rest) (c .before .before .before .before .before .before .before .before .before .before .before .before .args .x) (c .before .before .before .before .before .before .before .before .before .before .before .before .args .words) (c .before .before .before .before .before .before .before .before .before .before .before .before .pre .1) (c .before .before .before .before .before .before .before .before .before .before .before .before .pre .4) .notes (c .before .before .before .before .before .before .before .before .before .before .loop .k) (omega arith), c .before .before .before .before .before .before .before .note .ensures .0)
 
 figure-requires-3 : tie.Need-figure-requires-3 Inv-loop μ-loop
 figure-requires-3 c κs = search needs
@@ -87,7 +88,10 @@ mul-table : tie.Need-mul-table Inv-loop μ-loop
 mul-table c = search needs
 
 slice-write-table : tie.Need-slice-write-table Inv-loop μ-loop
-slice-write-table c = omega (arith, c .before .before .before .before .before .before .before .before .before .before .before .loop .inv .1, c .before .before .before .before .before .before .before .before .before .before .before .before .before .pre .2, ready-kept _ _ _ _ (c .before .before .before .before .before .before .before .before .before .before .before .loop .inv .2 .rest) (c .before .before .before .before .before .before .before .before .before .before .before .before .before .args .x) (c .before .before .before .before .before .before .before .before .before .before .before .before .before .args .n) (c .before .before .before .before .before .before .before .before .before .before .before .before .before .pre .0) (c .before .before .before .before .before .before .before .before .before .before .before .before .before .pre .3) .notes (c .before .before .before .before .before .before .before .before .before .before .before .loop .k) (omega arith), c .before .before .before .before .before .before .before .before .note .ensures .0)
+slice-write-table c = omega (arith, c .before .before .before .before .before .before .before .before .before .before .before .loop .inv .1, c .before .before .before .before .before .before .before .before .before .before .before .before .before .pre .3, ready-kept _ _ _ _ (c .before .before .before .before .before .before .before .before .before .before .before .loop .inv .2 .rest) (c .before .before .before .before .before .before .before .before .before .before .before .before .before .args .x) (c .before .before .before .before .before .before .before .before .before .before .before .before .before .args .words) (c .before .before .before .before .before .before .before .before .before .before .before .before .before .pre .1) (c .before .before .before .before .before .before .before .before .before .before .before .before .before .pre .4) .notes (c .before .before .before .before .before .before .before .before .before .before .before .loop .k) (omega arith), c .before .before .before .before .before .before .before .before .note .ensures .0)
+
+past-requires : tie.Need-past-requires Inv-loop μ-loop
+past-requires c κs = omega (arith, c .before .before .before .before .before .before .before .before .before .before .before .before .before .pre .0, ready-kept _ _ _ _ (c .before .before .before .before .before .before .before .before .before .before .before .loop .inv .2 .rest) (c .before .before .before .before .before .before .before .before .before .before .before .before .before .args .x) (c .before .before .before .before .before .before .before .before .before .before .before .before .before .args .words) (c .before .before .before .before .before .before .before .before .before .before .before .before .before .pre .1) (c .before .before .before .before .before .before .before .before .before .before .before .before .before .pre .4) .notes (c .before .before .before .before .before .before .before .before .before .before .before .loop .k) (omega arith), c .before .before .before .before .before .before .before .before .note .ensures .0)
 
 add-k : tie.Need-add-k Inv-loop μ-loop
 add-k c = search needs
@@ -97,15 +101,15 @@ loop-less c = search needs
 
 loop-again : tie.Need-loop-again Inv-loop μ-loop
 loop-again c = ⊎-elim
-    (λ w. rw (w .3) (omega arith, simp length-set (c .before .before .before .before .before .before .before .before .before .loop .inv .1), inherit-more _ _ _ _ (c .before .before .before .before .before .before .before .before .before .before .before .pre .0) (c .before .before .before .before .before .before .before .before .before .before .before .pre .1) _ _ _ _ _ (omega (arith, c .before .before .before .before .before .before .before .before .before .loop .inv .1)) (omega arith) (omega (arith, ready-kept _ _ _ _ (c .before .before .before .before .before .before .before .before .before .loop .inv .2 .rest) (c .before .before .before .before .before .before .before .before .before .before .before .args .x) (c .before .before .before .before .before .before .before .before .before .before .before .args .n) (c .before .before .before .before .before .before .before .before .before .before .before .pre .0) (c .before .before .before .before .before .before .before .before .before .before .before .pre .3) .notes (c .before .before .before .before .before .before .before .before .before .loop .k) (omega arith), c .before .before .before .before .before .before .note .ensures .0)) (sym (c .before .before .before .before .before .before .note .ensures .0) ∙ omega arith) (w .2 .ensures .0) (c .before .before .before .before .before .before .before .before .before .loop .inv .2)))
-    (λ w. rw (w .1) (omega arith, c .before .before .before .before .before .before .before .before .before .loop .inv .1, inherit-passed _ _ _ _ (c .before .before .before .before .before .before .before .before .before .before .before .pre .0) (c .before .before .before .before .before .before .before .before .before .before .before .pre .1) _ (c .before .before .before .before .before .before .note .result - 1) _ _ (omega arith) (omega (arith, ready-kept _ _ _ _ (c .before .before .before .before .before .before .before .before .before .loop .inv .2 .rest) (c .before .before .before .before .before .before .before .before .before .before .before .args .x) (c .before .before .before .before .before .before .before .before .before .before .before .args .n) (c .before .before .before .before .before .before .before .before .before .before .before .pre .0) (c .before .before .before .before .before .before .before .before .before .before .before .pre .3) .notes (c .before .before .before .before .before .before .before .before .before .loop .k) (omega arith), c .before .before .before .before .before .before .note .ensures .0)) (sym (c .before .before .before .before .before .before .note .ensures .0) ∙ omega arith) (omega (arith, w .0 .left, c .before .before .before .figure .ensures .0, c .before .figure2 .ensures .0)) (c .before .before .before .before .before .before .before .before .before .loop .inv .2)))
+    (λ w. rw (w .4, w .5) (omega arith, simp length-set (c .before .before .before .before .before .before .before .before .before .loop .inv .1), inherit-more _ _ _ _ (c .before .before .before .before .before .before .before .before .before .before .before .pre .1) (c .before .before .before .before .before .before .before .before .before .before .before .pre .2) _ _ _ _ _ (omega (arith, c .before .before .before .before .before .before .before .before .before .loop .inv .1)) (omega arith) (omega (arith, ready-kept _ _ _ _ (c .before .before .before .before .before .before .before .before .before .loop .inv .2 .rest) (c .before .before .before .before .before .before .before .before .before .before .before .args .x) (c .before .before .before .before .before .before .before .before .before .before .before .args .words) (c .before .before .before .before .before .before .before .before .before .before .before .pre .1) (c .before .before .before .before .before .before .before .before .before .before .before .pre .4) .notes (c .before .before .before .before .before .before .before .before .before .loop .k) (omega arith), c .before .before .before .before .before .before .note .ensures .0)) (sym (c .before .before .before .before .before .before .note .ensures .0) ∙ omega arith) (w .2 .ensures .0) (c .before .before .before .before .before .before .before .before .before .loop .inv .2), topped-then _ _ _ _ _ _ _ _ (c .before .before .before .before .before .before .before .before .before .loop .inv .3) (topped-set _ _ _ _ _ _ _ (w .3 .ensures) (omega (arith, ready-kept _ _ _ _ (c .before .before .before .before .before .before .before .before .before .loop .inv .2 .rest) (c .before .before .before .before .before .before .before .before .before .before .before .args .x) (c .before .before .before .before .before .before .before .before .before .before .before .args .words) (c .before .before .before .before .before .before .before .before .before .before .before .pre .1) (c .before .before .before .before .before .before .before .before .before .before .before .pre .4) .notes (c .before .before .before .before .before .before .before .before .before .loop .k) (omega arith), c .before .before .before .before .before .before .note .ensures .0)))))
+    (λ w. rw (w .1, w .2) (omega arith, c .before .before .before .before .before .before .before .before .before .loop .inv .1, inherit-passed _ _ _ _ (c .before .before .before .before .before .before .before .before .before .before .before .pre .1) (c .before .before .before .before .before .before .before .before .before .before .before .pre .2) _ (c .before .before .before .before .before .before .note .result - 1) _ _ (omega arith) (omega (arith, ready-kept _ _ _ _ (c .before .before .before .before .before .before .before .before .before .loop .inv .2 .rest) (c .before .before .before .before .before .before .before .before .before .before .before .args .x) (c .before .before .before .before .before .before .before .before .before .before .before .args .words) (c .before .before .before .before .before .before .before .before .before .before .before .pre .1) (c .before .before .before .before .before .before .before .before .before .before .before .pre .4) .notes (c .before .before .before .before .before .before .before .before .before .loop .k) (omega arith), c .before .before .before .before .before .before .note .ensures .0)) (sym (c .before .before .before .before .before .before .note .ensures .0) ∙ omega arith) (omega (arith, w .0 .left, c .before .before .before .figure .ensures .0, c .before .figure2 .ensures .0)) (c .before .before .before .before .before .before .before .before .before .loop .inv .2), c .before .before .before .before .before .before .before .before .before .loop .inv .3))
     (c .if2 .came)
 
 same-length-2 : tie.Need-same-length-2 Inv-loop μ-loop
 same-length-2 c = c .before .loop .inv .1
 
 returns-2 : tie.Need-returns-2 Inv-loop μ-loop
-returns-2 c = inherit-end _ _ _ _ (c .before .before .before .pre .0) (c .before .before .before .pre .1) _ _ _ (λ i u h e. omega arith) (c .before .loop .inv .2)
+returns-2 c = (inherit-end _ _ _ _ (c .before .before .before .pre .1) (c .before .before .before .pre .2) _ _ _ (λ i u h e. omega arith) (c .before .loop .inv .2), c .before .loop .inv .3)
 
 pub inherit-spec : {M : Type 1} → statement M
 inherit-spec =
@@ -137,6 +141,7 @@ inherit-spec =
     add-table-2
     mul-table
     slice-write-table
+    past-requires
     add-k
     loop-less
     loop-again

@@ -6,20 +6,21 @@ use mathlib.Core.Logic.{⊎-elim}
 use Prim.Native.Nat.{_-_, _≤_}
 use lib.ListN.{length, getD}
 use denote.Ref.{now}
-use Rattle.state_fill.specs.Cells.{under, Placed}
+use Rattle.state_fill.specs.Cells.{under, Placed, Topped}
 use Rattle.state_fill.proofs.Growing.{order-of}
 use Rattle.state_fill.proofs.Joining.{placed-none, placed-other, placed-more}
+use Rattle.state_fill.proofs.Topping.{topped-none, topped-then}
 use Rattle.state_fill.proofs.cells.place_kinds.Statement.{statement}
 use Rattle.state_fill.proofs.cells.place_kinds.Tie as tie
 
 abbrev Inv-loop : tie.InvT-loop
-Inv-loop table₀ blocks d n at lengths widths prices states count l w i₀ table i = (i ≤ count) × (length table ≡ length table₀) × Placed (under blocks d) (λ i. getD lengths i 0) (λ i. getD widths i 0) (λ i. getD states i 0) (λ i. getD prices i 0) i l w at n table₀ table
+Inv-loop table₀ blocks d n at lengths widths prices states count l w top high₀ i₀ table high i = (i ≤ count) × (length table ≡ length table₀) × Placed (under blocks d) (λ i. getD lengths i 0) (λ i. getD widths i 0) (λ i. getD states i 0) (λ i. getD prices i 0) i l w at n table₀ table × Topped at n top high table₀ table
 
 abbrev μ-loop : tie.MeasureT-loop
-μ-loop table₀ blocks d n at lengths widths prices states count l w i₀ table i = count - i
+μ-loop table₀ blocks d n at lengths widths prices states count l w top high₀ i₀ table high i = count - i
 
 loop-holds : tie.Need-loop-holds Inv-loop μ-loop
-loop-holds c = (omega arith, refl, placed-none _ _ _ _ _ _ _ _ _ _)
+loop-holds c = (omega arith, refl, placed-none _ _ _ _ _ _ _ _ _ _, topped-none _ _ _ _)
 
 mul-if1 : tie.Need-mul-if1 Inv-loop μ-loop
 mul-if1 c = search needs
@@ -56,17 +57,17 @@ loop-less c = search needs
 
 loop-again : tie.Need-loop-again Inv-loop μ-loop
 loop-again c = ⊎-elim
-    (λ w. rw (w .9) (omega arith, w .6 .kept .0 ∙ c .before .before .before .loop .inv .1, placed-more _ _ _ (λ i. getD (now (c .before .before .before .before .before .before .before .args .lengths)) i 0) (λ i. getD (now (c .before .before .before .before .before .before .before .args .widths)) i 0) (λ i. getD (now (c .before .before .before .before .before .before .before .args .states)) i 0) (λ i. getD (now (c .before .before .before .before .before .before .before .args .prices)) i 0) (c .before .before .before .before .before .before .before .args .l) (c .before .before .before .before .before .before .before .args .w) (c .before .before .before .loop .i) _ _ _ (order-of _ _ _ (c .before .before .before .before .before .before .before .pre .0) .same) (w .0 .taken) (w .2 .taken) (c .before .before .before .loop .inv .2) (w .6 .ensures)))
+    (λ w. rw (w .9, w .10) (omega arith, w .6 .kept .0 ∙ c .before .before .before .loop .inv .1, placed-more _ _ _ (λ i. getD (now (c .before .before .before .before .before .before .before .args .kind-lengths)) i 0) (λ i. getD (now (c .before .before .before .before .before .before .before .args .kind-widths)) i 0) (λ i. getD (now (c .before .before .before .before .before .before .before .args .states)) i 0) (λ i. getD (now (c .before .before .before .before .before .before .before .args .prices)) i 0) (c .before .before .before .before .before .before .before .args .l) (c .before .before .before .before .before .before .before .args .w) (c .before .before .before .loop .i) _ _ _ (order-of _ _ _ (c .before .before .before .before .before .before .before .pre .0) .same) (w .0 .taken) (w .2 .taken) (c .before .before .before .loop .inv .2) (w .6 .ensures .0), topped-then _ _ _ _ _ _ _ _ (c .before .before .before .loop .inv .3) (w .6 .ensures .1)))
     (⊎-elim
-    (λ w. rw (w .3) (omega arith, c .before .before .before .loop .inv .1, placed-other _ _ _ (λ i. getD (now (c .before .before .before .before .before .before .before .args .lengths)) i 0) (λ i. getD (now (c .before .before .before .before .before .before .before .args .widths)) i 0) (λ i. getD (now (c .before .before .before .before .before .before .before .args .states)) i 0) (λ i. getD (now (c .before .before .before .before .before .before .before .args .prices)) i 0) (c .before .before .before .before .before .before .before .args .l) (c .before .before .before .before .before .before .before .args .w) (c .before .before .before .loop .i) _ _ (λ e f. w .2 .left f) (c .before .before .before .loop .inv .2)))
-    (λ w. rw (w .1) (omega arith, c .before .before .before .loop .inv .1, placed-other _ _ _ (λ i. getD (now (c .before .before .before .before .before .before .before .args .lengths)) i 0) (λ i. getD (now (c .before .before .before .before .before .before .before .args .widths)) i 0) (λ i. getD (now (c .before .before .before .before .before .before .before .args .states)) i 0) (λ i. getD (now (c .before .before .before .before .before .before .before .args .prices)) i 0) (c .before .before .before .before .before .before .before .args .l) (c .before .before .before .before .before .before .before .args .w) (c .before .before .before .loop .i) _ _ (λ e f. w .0 .left e) (c .before .before .before .loop .inv .2))))
+    (λ w. rw (w .3, w .4) (omega arith, c .before .before .before .loop .inv .1, placed-other _ _ _ (λ i. getD (now (c .before .before .before .before .before .before .before .args .kind-lengths)) i 0) (λ i. getD (now (c .before .before .before .before .before .before .before .args .kind-widths)) i 0) (λ i. getD (now (c .before .before .before .before .before .before .before .args .states)) i 0) (λ i. getD (now (c .before .before .before .before .before .before .before .args .prices)) i 0) (c .before .before .before .before .before .before .before .args .l) (c .before .before .before .before .before .before .before .args .w) (c .before .before .before .loop .i) _ _ (λ e f. w .2 .left f) (c .before .before .before .loop .inv .2), c .before .before .before .loop .inv .3))
+    (λ w. rw (w .1, w .2) (omega arith, c .before .before .before .loop .inv .1, placed-other _ _ _ (λ i. getD (now (c .before .before .before .before .before .before .before .args .kind-lengths)) i 0) (λ i. getD (now (c .before .before .before .before .before .before .before .args .kind-widths)) i 0) (λ i. getD (now (c .before .before .before .before .before .before .before .args .states)) i 0) (λ i. getD (now (c .before .before .before .before .before .before .before .args .prices)) i 0) (c .before .before .before .before .before .before .before .args .l) (c .before .before .before .before .before .before .before .args .w) (c .before .before .before .loop .i) _ _ (λ e f. w .0 .left e) (c .before .before .before .loop .inv .2), c .before .before .before .loop .inv .3)))
     (c .if1 .came)
 
 same-length : tie.Need-same-length Inv-loop μ-loop
 same-length c = c .before .loop .inv .1
 
 returns : tie.Need-returns Inv-loop μ-loop
-returns c = let e : c .before .loop .i ≡ c .before .before .before .before .before .args .count = omega arith in rw e at (c .before .loop .inv .2)
+returns c = let e : c .before .loop .i ≡ c .before .before .before .before .before .args .count = omega arith in (rw e at (c .before .loop .inv .2), c .before .loop .inv .3)
 
 pub place-kinds-spec : {M : Type 1} → statement M
 place-kinds-spec =

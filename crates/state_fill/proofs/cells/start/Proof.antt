@@ -44,8 +44,8 @@ slice-read-figure-2 c = omega (arith, c .before .before .before .before .loop .i
 figure-requires-2 : tie.Need-figure-requires-2 Inv-loop μ-loop
 figure-requires-2 c κs = search needs
 
-larger-requires : tie.Need-larger-requires Inv-loop μ-loop
-larger-requires c κs = search needs
+greater-requires : tie.Need-greater-requires Inv-loop μ-loop
+greater-requires c κs = (omega (arith, c .before .before .figure .ensures .1), omega (arith, c .figure2 .ensures .1))
 
 add-table : tie.Need-add-table Inv-loop μ-loop
 add-table c = search needs
@@ -63,13 +63,13 @@ loop-less : tie.Need-loop-less Inv-loop μ-loop
 loop-less c = search needs
 
 loop-again : tie.Need-loop-again Inv-loop μ-loop
-loop-again c = (omega arith, simp length-set (c .before .before .before .before .before .before .loop .inv .1), run-more _ _ _ _ _ _ (omega (arith, c .before .before .before .before .before .before .loop .inv .1)) (c .larger .ensures ∙ ap₂ max (c .before .before .before .figure .ensures .0 ∙ run-held _ _ _ _ _ (c .before .before .before .before .before .before .before .before .args .above) (c .before .before .before .before .before .before .loop .s) (omega arith) (c .before .before .before .before .before .before .loop .inv .2)) (c .before .figure2 .ensures .0 ∙ run-held _ _ _ _ _ (c .before .before .before .before .before .before .before .before .args .before) (c .before .before .before .before .before .before .loop .s) (omega arith) (c .before .before .before .before .before .before .loop .inv .2))) (c .before .before .before .before .before .before .loop .inv .2))
+loop-again c = (omega arith, simp length-set (c .before .before .before .before .before .before .loop .inv .1), run-more _ _ _ _ _ _ (omega (arith, c .before .before .before .before .before .before .loop .inv .1)) (c .greater .ensures ∙ ap₂ max (c .before .before .before .figure .ensures .0 ∙ run-held _ _ _ _ _ (c .before .before .before .before .before .before .before .before .args .above) (c .before .before .before .before .before .before .loop .s) (omega arith) (c .before .before .before .before .before .before .loop .inv .2)) (c .before .figure2 .ensures .0 ∙ run-held _ _ _ _ _ (c .before .before .before .before .before .before .before .before .args .before) (c .before .before .before .before .before .before .loop .s) (omega arith) (c .before .before .before .before .before .before .loop .inv .2))) (c .before .before .before .before .before .before .loop .inv .2))
 
 same-length : tie.Need-same-length Inv-loop μ-loop
 same-length c = c .before .loop .inv .1
 
 returns : tie.Need-returns Inv-loop μ-loop
-returns c = let e : c .before .loop .s ≡ c .before .before .before .args .n = omega arith in rw e at (c .before .loop .inv .2)
+returns c = let e : c .before .loop .s ≡ c .before .before .before .args .words = omega arith in rw e at (c .before .loop .inv .2)
 
 pub start-spec : {M : Type 1} → statement M
 start-spec =
@@ -86,7 +86,7 @@ start-spec =
     mul-figure-2
     slice-read-figure-2
     figure-requires-2
-    larger-requires
+    greater-requires
     add-table
     mul-table
     slice-write-table

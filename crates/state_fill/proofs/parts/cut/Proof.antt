@@ -5,22 +5,23 @@ use mathlib.Core.Path.{_≡_, refl, _∙_}
 use Prim.Native.Nat.{_-_, _≤_, _<_}
 use lib.ListN.{length}
 use Rattle.table.proofs.Halves.{entry-before}
-use Rattle.state_fill.specs.Cells.{under, CutAt}
+use Rattle.state_fill.specs.Cells.{under, CutAt, Topped}
 use Rattle.state_fill.proofs.Joining.{ready-kept, cut-none, cut-then, cuts-fewer}
+use Rattle.state_fill.proofs.Topping.{topped-none, topped-then}
 use Rattle.state_fill.proofs.parts.cut.Statement.{statement}
 use Rattle.state_fill.proofs.parts.cut.Tie as tie
 
 abbrev Inv-loop : tie.InvT-loop
-Inv-loop table₀ list map blocks d n a k at base step i₀ table i = (1 ≤ i) × (i ≤ k) × (length table ≡ length table₀) × CutAt (under blocks d) list map a 1 i base step at n table₀ table
+Inv-loop table₀ list map blocks d n a k at base step top high₀ i₀ table high i = (1 ≤ i) × (i ≤ k) × (length table ≡ length table₀) × CutAt (under blocks d) list map a 1 i base step at n table₀ table × Topped at n top high table₀ table
 
 abbrev μ-loop : tie.MeasureT-loop
-μ-loop table₀ list map blocks d n a k at base step i₀ table i = k - i
+μ-loop table₀ list map blocks d n a k at base step top high₀ i₀ table high i = k - i
 
 loop-holds : tie.Need-loop-holds Inv-loop μ-loop
-loop-holds c = (omega arith, c .before .before .before .before .pre .1 .least, refl, cut-none _ _ _ _ _ _ _ _ 1 _)
+loop-holds c = (omega arith, c .before .before .before .before .pre .1 .least, refl, cut-none _ _ _ _ _ _ _ _ 1 _, topped-none _ _ _ _)
 
 cut-at-requires : tie.Need-cut-at-requires Inv-loop μ-loop
-cut-at-requires c κs = (c .before .before .before .before .before .before .before .pre .0, cuts-fewer _ _ _ _ _ (omega arith) (omega arith) (c .before .before .before .before .before .before .before .pre .1), c .before .before .loop .inv .0, c .before .before .before .before .before .before .before .pre .2, c .before .before .before .before .before .before .before .pre .3, omega (arith, c .before .before .loop .inv .2, c .before .before .before .before .before .before .before .pre .4), λ j h. ready-kept _ _ _ _ (c .before .before .loop .inv .3 .grown .rest) _ _ (omega (arith, c .before .before .before .before .before .before .before .pre .3, entry-before (c .before .before .before .before .before .before .before .args .at) (c .before .before .before .before .before .before .before .args .base) (c .before .before .before .before .before .before .before .args .step) (c .before .before .before .before .before .before .before .args .a) j h (c .before .before .before .before .before .before .before .pre .2))) (c .before .before .before .before .before .before .before .pre .5 j h), c .before .before .loop .inv .3 .grown .rises (c .before .before .before .before .before .before .before .pre .6))
+cut-at-requires c κs = (c .before .before .before .before .before .before .before .pre .0, cuts-fewer _ _ _ _ _ (omega arith) (omega arith) (c .before .before .before .before .before .before .before .pre .1), c .before .before .loop .inv .0, c .before .before .before .before .before .before .before .pre .2, c .before .before .before .before .before .before .before .pre .3, omega (arith, c .before .before .loop .inv .2, c .before .before .before .before .before .before .before .pre .4), λ j h. ready-kept _ _ _ _ (c .before .before .loop .inv .3 .grown .rest) _ _ (omega (arith, c .before .before .before .before .before .before .before .pre .3, entry-before (c .before .before .before .before .before .before .before .args .at) (c .before .before .before .before .before .before .before .args .base) (c .before .before .before .before .before .before .before .args .stride) (c .before .before .before .before .before .before .before .args .a) j h (c .before .before .before .before .before .before .before .pre .2))) (c .before .before .before .before .before .before .before .pre .5 j h), c .before .before .loop .inv .3 .grown .rises (c .before .before .before .before .before .before .before .pre .6))
 
 add-i : tie.Need-add-i Inv-loop μ-loop
 add-i c = search needs
@@ -29,13 +30,13 @@ loop-less : tie.Need-loop-less Inv-loop μ-loop
 loop-less c = search needs
 
 loop-again : tie.Need-loop-again Inv-loop μ-loop
-loop-again c = (omega arith, omega arith, c .before .before .cut-at .kept .0 ∙ c .before .before .before .before .before .loop .inv .2, cut-then _ _ _ _ _ _ _ _ 1 _ _ _ _ _ (λ j l m. ((let h : j < c .before .before .before .before .before .before .before .before .before .before .args .a = omega (arith, c .before .before .before .before .before .before .before .before .before .before .pre .1 .most) in omega (arith, c .before .before .before .before .before .before .before .before .before .before .pre .3, entry-before (c .before .before .before .before .before .before .before .before .before .before .args .at) (c .before .before .before .before .before .before .before .before .before .before .args .base) (c .before .before .before .before .before .before .before .before .before .before .args .step) (c .before .before .before .before .before .before .before .before .before .before .args .a) j h (c .before .before .before .before .before .before .before .before .before .before .pre .2))), (let h = c .before .before .before .before .before .before .before .before .before .before .pre .1 .earlier j l (omega arith) in omega (arith, c .before .before .before .before .before .before .before .before .before .before .pre .3, entry-before (c .before .before .before .before .before .before .before .before .before .before .args .at) (c .before .before .before .before .before .before .before .before .before .before .args .base) (c .before .before .before .before .before .before .before .before .before .before .args .step) (c .before .before .before .before .before .before .before .before .before .before .args .a) _ h (c .before .before .before .before .before .before .before .before .before .before .pre .2))))) (c .before .before .before .before .before .loop .inv .0) (omega arith) (c .before .before .before .before .before .loop .inv .3) (c .before .before .cut-at .ensures))
+loop-again c = (omega arith, omega arith, c .before .before .cut-at .kept .0 ∙ c .before .before .before .before .before .loop .inv .2, cut-then _ _ _ _ _ _ _ _ 1 _ _ _ _ _ (λ j l m. ((let h : j < c .before .before .before .before .before .before .before .before .before .before .args .a = omega (arith, c .before .before .before .before .before .before .before .before .before .before .pre .1 .most) in omega (arith, c .before .before .before .before .before .before .before .before .before .before .pre .3, entry-before (c .before .before .before .before .before .before .before .before .before .before .args .at) (c .before .before .before .before .before .before .before .before .before .before .args .base) (c .before .before .before .before .before .before .before .before .before .before .args .stride) (c .before .before .before .before .before .before .before .before .before .before .args .a) j h (c .before .before .before .before .before .before .before .before .before .before .pre .2))), (let h = c .before .before .before .before .before .before .before .before .before .before .pre .1 .earlier j l (omega arith) in omega (arith, c .before .before .before .before .before .before .before .before .before .before .pre .3, entry-before (c .before .before .before .before .before .before .before .before .before .before .args .at) (c .before .before .before .before .before .before .before .before .before .before .args .base) (c .before .before .before .before .before .before .before .before .before .before .args .stride) (c .before .before .before .before .before .before .before .before .before .before .args .a) _ h (c .before .before .before .before .before .before .before .before .before .before .pre .2))))) (c .before .before .before .before .before .loop .inv .0) (omega arith) (c .before .before .before .before .before .loop .inv .3) (c .before .before .cut-at .ensures .0), topped-then _ _ _ _ _ _ _ _ (c .before .before .before .before .before .loop .inv .4) (c .before .before .cut-at .ensures .1))
 
 same-length : tie.Need-same-length Inv-loop μ-loop
 same-length c = c .before .loop .inv .2
 
 returns : tie.Need-returns Inv-loop μ-loop
-returns c = let e : c .before .loop .i ≡ c .before .before .before .before .before .before .args .k = omega (arith, c .before .before .before .before .before .before .pre .1 .least) in rw e at (c .before .loop .inv .3)
+returns c = let e : c .before .loop .i ≡ c .before .before .before .before .before .before .args .half-end = omega (arith, c .before .before .before .before .before .before .pre .1 .least) in (rw e at (c .before .loop .inv .3), c .before .loop .inv .4)
 
 pub cut-spec : {M : Type 1} → statement M
 cut-spec =

@@ -4,19 +4,20 @@ use native.Mathlib.Omega.{arith}
 use mathlib.Core.Path.{_≡_, refl, sym, _∙_}
 use Prim.Native.Nat.{_-_, _≤_}
 use lib.ListN.{length}
-use Rattle.state_fill.specs.Cells.{under, note}
+use Rattle.state_fill.specs.Cells.{under, note, Topped}
 use Rattle.state_fill.proofs.Joining.{note-kept, ready-kept, past-end, Join, join-none, join-more, join-end}
+use Rattle.state_fill.proofs.Topping.{topped-none, topped-then}
 use Rattle.state_fill.proofs.parts.join.Statement.{statement}
 use Rattle.state_fill.proofs.parts.join.Tie as tie
 
 abbrev Inv-loop : tie.InvT-loop
-Inv-loop table₀ blocks d n at x y k₀ table k = (k ≤ n) × (length table ≡ length table₀) × Join (under blocks d) at n x y k table₀ table
+Inv-loop table₀ blocks d n at x y top high₀ k₀ table high k = (k ≤ n) × (length table ≡ length table₀) × Join (under blocks d) at n x y k table₀ table × Topped at n top high table₀ table
 
 abbrev μ-loop : tie.MeasureT-loop
-μ-loop table₀ blocks d n at x y k₀ table k = n - k
+μ-loop table₀ blocks d n at x y top high₀ k₀ table high k = n - k
 
 loop-holds : tie.Need-loop-holds Inv-loop μ-loop
-loop-holds c = (omega arith, refl, join-none _ _ _ _ _ _)
+loop-holds c = (omega arith, refl, join-none _ _ _ _ _ _, topped-none _ _ _ _)
 
 add-note : tie.Need-add-note Inv-loop μ-loop
 add-note c = search needs
@@ -34,25 +35,25 @@ same-length : tie.Need-same-length Inv-loop μ-loop
 same-length c = c .before .before .before .before .loop .inv .1
 
 returns : tie.Need-returns Inv-loop μ-loop
-returns c = join-end _ _ _ _ _ _ _ _ (λ i u h e. past-end _ _ (c .before .before .before .before .before .before .before .args .n) _ _ _ (c .before .before .before .before .before .before .before .pre .4) h (sym (note-kept _ _ _ _ (c .before .before .before .before .loop .inv .2 .grown .rest) (c .before .before .before .before .before .before .before .args .x) (c .before .before .before .before .loop .k) (omega (arith, c .before .before .before .before .before .before .before .pre .1))) ∙ (sym (c .before .note .ensures .0) ∙ c .if1 .taken)) e) (c .before .before .before .before .loop .inv .2)
+returns c = (join-end _ _ _ _ _ _ _ _ (λ i u h e. past-end _ _ (c .before .before .before .before .before .before .before .args .words) _ _ _ (c .before .before .before .before .before .before .before .pre .4) h (sym (note-kept _ _ _ _ (c .before .before .before .before .loop .inv .2 .grown .rest) (c .before .before .before .before .before .before .before .args .x) (c .before .before .before .before .loop .k) (omega (arith, c .before .before .before .before .before .before .before .pre .1))) ∙ (sym (c .before .note .ensures .0) ∙ c .if1 .taken)) e) (c .before .before .before .before .loop .inv .2), c .before .before .before .before .loop .inv .3)
 
 sub-t : tie.Need-sub-t Inv-loop μ-loop
 sub-t c = search needs
 
 add-figure : tie.Need-add-figure Inv-loop μ-loop
-add-figure c = omega (arith, c .before .before .before .before .before .before .before .pre .1, c .before .before .before .before .before .before .before .pre .3, ready-kept _ _ _ _ (c .before .before .before .before .loop .inv .2 .grown .rest) (c .before .before .before .before .before .before .before .args .x) (c .before .before .before .before .before .before .before .args .n) (c .before .before .before .before .before .before .before .pre .1) (c .before .before .before .before .before .before .before .pre .4) .notes (c .before .before .before .before .loop .k) (omega arith), c .before .note .ensures .0)
+add-figure c = omega (arith, c .before .before .before .before .before .before .before .pre .1, c .before .before .before .before .before .before .before .pre .3, ready-kept _ _ _ _ (c .before .before .before .before .loop .inv .2 .grown .rest) (c .before .before .before .before .before .before .before .args .x) (c .before .before .before .before .before .before .before .args .words) (c .before .before .before .before .before .before .before .pre .1) (c .before .before .before .before .before .before .before .pre .4) .notes (c .before .before .before .before .loop .k) (omega arith), c .before .note .ensures .0)
 
 mul-figure : tie.Need-mul-figure Inv-loop μ-loop
 mul-figure c = search needs
 
 slice-read-figure : tie.Need-slice-read-figure Inv-loop μ-loop
-slice-read-figure c = omega (arith, c .before .before .before .before .before .loop .inv .1, c .before .before .before .before .before .before .before .before .pre .1, c .before .before .before .before .before .before .before .before .pre .3, ready-kept _ _ _ _ (c .before .before .before .before .before .loop .inv .2 .grown .rest) (c .before .before .before .before .before .before .before .before .args .x) (c .before .before .before .before .before .before .before .before .args .n) (c .before .before .before .before .before .before .before .before .pre .1) (c .before .before .before .before .before .before .before .before .pre .4) .notes (c .before .before .before .before .before .loop .k) (omega arith), c .before .before .note .ensures .0)
+slice-read-figure c = omega (arith, c .before .before .before .before .before .loop .inv .1, c .before .before .before .before .before .before .before .before .pre .1, c .before .before .before .before .before .before .before .before .pre .3, ready-kept _ _ _ _ (c .before .before .before .before .before .loop .inv .2 .grown .rest) (c .before .before .before .before .before .before .before .before .args .x) (c .before .before .before .before .before .before .before .before .args .words) (c .before .before .before .before .before .before .before .before .pre .1) (c .before .before .before .before .before .before .before .before .pre .4) .notes (c .before .before .before .before .before .loop .k) (omega arith), c .before .before .note .ensures .0)
 
 figure-requires : tie.Need-figure-requires Inv-loop μ-loop
 figure-requires c κs = search needs
 
 join-with-requires : tie.Need-join-with-requires Inv-loop μ-loop
-join-with-requires c κs = (c .before .before .before .before .before .before .before .before .before .before .pre .0, c .before .before .before .before .before .before .before .before .before .before .pre .2, omega (arith, c .before .before .before .before .before .before .before .loop .inv .1, c .before .before .before .before .before .before .before .before .before .before .pre .3), omega (arith, ready-kept _ _ _ _ (c .before .before .before .before .before .before .before .loop .inv .2 .grown .rest) (c .before .before .before .before .before .before .before .before .before .before .args .x) (c .before .before .before .before .before .before .before .before .before .before .args .n) (c .before .before .before .before .before .before .before .before .before .before .pre .1) (c .before .before .before .before .before .before .before .before .before .before .pre .4) .notes (c .before .before .before .before .before .before .before .loop .k) (omega arith), c .before .before .before .before .note .ensures .0), omega (arith, c .before .figure .ensures .0, ready-kept _ _ _ _ (c .before .before .before .before .before .before .before .loop .inv .2 .grown .rest) (c .before .before .before .before .before .before .before .before .before .before .args .x) (c .before .before .before .before .before .before .before .before .before .before .args .n) (c .before .before .before .before .before .before .before .before .before .before .pre .1) (c .before .before .before .before .before .before .before .before .before .before .pre .4) .small (c .before .before .before .before .note .result - 1) (omega (arith, ready-kept _ _ _ _ (c .before .before .before .before .before .before .before .loop .inv .2 .grown .rest) (c .before .before .before .before .before .before .before .before .before .before .args .x) (c .before .before .before .before .before .before .before .before .before .before .args .n) (c .before .before .before .before .before .before .before .before .before .before .pre .1) (c .before .before .before .before .before .before .before .before .before .before .pre .4) .notes (c .before .before .before .before .before .before .before .loop .k) (omega arith), c .before .before .before .before .note .ensures .0))), ready-kept _ _ _ _ (c .before .before .before .before .before .before .before .loop .inv .2 .grown .rest) (c .before .before .before .before .before .before .before .before .before .before .args .y) (c .before .before .before .before .before .before .before .before .before .before .args .n) (c .before .before .before .before .before .before .before .before .before .before .pre .2) (c .before .before .before .before .before .before .before .before .before .before .pre .5), c .before .before .before .before .before .before .before .loop .inv .2 .grown .rises (c .before .before .before .before .before .before .before .before .before .before .pre .6))
+join-with-requires c κs = (c .before .before .before .before .before .before .before .before .before .before .pre .0, c .before .before .before .before .before .before .before .before .before .before .pre .2, omega (arith, c .before .before .before .before .before .before .before .loop .inv .1, c .before .before .before .before .before .before .before .before .before .before .pre .3), omega (arith, ready-kept _ _ _ _ (c .before .before .before .before .before .before .before .loop .inv .2 .grown .rest) (c .before .before .before .before .before .before .before .before .before .before .args .x) (c .before .before .before .before .before .before .before .before .before .before .args .words) (c .before .before .before .before .before .before .before .before .before .before .pre .1) (c .before .before .before .before .before .before .before .before .before .before .pre .4) .notes (c .before .before .before .before .before .before .before .loop .k) (omega arith), c .before .before .before .before .note .ensures .0), omega (arith, c .before .figure .ensures .0, ready-kept _ _ _ _ (c .before .before .before .before .before .before .before .loop .inv .2 .grown .rest) (c .before .before .before .before .before .before .before .before .before .before .args .x) (c .before .before .before .before .before .before .before .before .before .before .args .words) (c .before .before .before .before .before .before .before .before .before .before .pre .1) (c .before .before .before .before .before .before .before .before .before .before .pre .4) .small (c .before .before .before .before .note .result - 1) (omega (arith, ready-kept _ _ _ _ (c .before .before .before .before .before .before .before .loop .inv .2 .grown .rest) (c .before .before .before .before .before .before .before .before .before .before .args .x) (c .before .before .before .before .before .before .before .before .before .before .args .words) (c .before .before .before .before .before .before .before .before .before .before .pre .1) (c .before .before .before .before .before .before .before .before .before .before .pre .4) .notes (c .before .before .before .before .before .before .before .loop .k) (omega arith), c .before .before .before .before .note .ensures .0))), ready-kept _ _ _ _ (c .before .before .before .before .before .before .before .loop .inv .2 .grown .rest) (c .before .before .before .before .before .before .before .before .before .before .args .y) (c .before .before .before .before .before .before .before .before .before .before .args .words) (c .before .before .before .before .before .before .before .before .before .before .pre .2) (c .before .before .before .before .before .before .before .before .before .before .pre .5), c .before .before .before .before .before .before .before .loop .inv .2 .grown .rises (c .before .before .before .before .before .before .before .before .before .before .pre .6))
 
 add-k : tie.Need-add-k Inv-loop μ-loop
 add-k c = search needs
@@ -61,13 +62,13 @@ loop-less : tie.Need-loop-less Inv-loop μ-loop
 loop-less c = search needs
 
 loop-again : tie.Need-loop-again Inv-loop μ-loop
-loop-again c = (omega arith, c .before .before .join-with .kept .0 ∙ c .before .before .before .before .before .before .before .before .before .before .loop .inv .1, join-more _ _ _ _ _ _ _ _ _ _ _ (c .before .before .before .before .before .before .before .before .before .before .before .before .before .pre .1) (c .before .before .before .before .before .before .before .before .before .before .before .before .before .pre .2) (omega arith) (omega (arith, ready-kept _ _ _ _ (c .before .before .before .before .before .before .before .before .before .before .loop .inv .2 .grown .rest) (c .before .before .before .before .before .before .before .before .before .before .before .before .before .args .x) (c .before .before .before .before .before .before .before .before .before .before .before .before .before .args .n) (c .before .before .before .before .before .before .before .before .before .before .before .before .before .pre .1) (c .before .before .before .before .before .before .before .before .before .before .before .before .before .pre .4) .notes (c .before .before .before .before .before .before .before .before .before .before .loop .k) (omega arith), c .before .before .before .before .before .before .before .note .ensures .0)) (sym (c .before .before .before .before .before .before .before .note .ensures .0) ∙ omega arith) (c .before .before .before .before .figure .ensures .0) (c .before .before .before .before .before .before .before .before .before .before .loop .inv .2) (c .before .before .join-with .ensures))
+loop-again c = (omega arith, c .before .before .join-with .kept .0 ∙ c .before .before .before .before .before .before .before .before .before .before .loop .inv .1, join-more _ _ _ _ _ _ _ _ _ _ _ (c .before .before .before .before .before .before .before .before .before .before .before .before .before .pre .1) (c .before .before .before .before .before .before .before .before .before .before .before .before .before .pre .2) (omega arith) (omega (arith, ready-kept _ _ _ _ (c .before .before .before .before .before .before .before .before .before .before .loop .inv .2 .grown .rest) (c .before .before .before .before .before .before .before .before .before .before .before .before .before .args .x) (c .before .before .before .before .before .before .before .before .before .before .before .before .before .args .words) (c .before .before .before .before .before .before .before .before .before .before .before .before .before .pre .1) (c .before .before .before .before .before .before .before .before .before .before .before .before .before .pre .4) .notes (c .before .before .before .before .before .before .before .before .before .before .loop .k) (omega arith), c .before .before .before .before .before .before .before .note .ensures .0)) (sym (c .before .before .before .before .before .before .before .note .ensures .0) ∙ omega arith) (c .before .before .before .before .figure .ensures .0) (c .before .before .before .before .before .before .before .before .before .before .loop .inv .2) (c .before .before .join-with .ensures .0), topped-then _ _ _ _ _ _ _ _ (c .before .before .before .before .before .before .before .before .before .before .loop .inv .3) (c .before .before .join-with .ensures .1))
 
 same-length-2 : tie.Need-same-length-2 Inv-loop μ-loop
 same-length-2 c = c .before .loop .inv .1
 
 returns-2 : tie.Need-returns-2 Inv-loop μ-loop
-returns-2 c = join-end _ _ _ _ _ _ _ _ (λ i u h e. omega arith) (c .before .loop .inv .2)
+returns-2 c = (join-end _ _ _ _ _ _ _ _ (λ i u h e. omega arith) (c .before .loop .inv .2), c .before .loop .inv .3)
 
 pub join-spec : {M : Type 1} → statement M
 join-spec =

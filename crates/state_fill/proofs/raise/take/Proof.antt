@@ -2,6 +2,7 @@
 use borrow.Author.Needs.{needs}
 use native.Mathlib.Omega.{arith}
 use Rattle.state_fill.proofs.Growing.{order-of, taken-none, taken-raised, test-true, test-false}
+use Rattle.state_fill.proofs.Topping.{topped-none, topped-raised}
 use Rattle.state_fill.proofs.raise.take.Statement.{statement}
 use Rattle.state_fill.proofs.raise.take.Tie as tie
 
@@ -26,20 +27,23 @@ below-requires c κs = (c .before .before .before .before .before .before .pre .
 raise-requires : tie.Need-raise-requires
 raise-requires c κs = (c .before .before .before .before .before .before .before .before .before .pre .0, omega (arith, c .before .before .before .before .before .before .before .before .before .pre .1), omega arith, c .before .before .before .before .before .before .before .before .before .pre .4, c .before .before .before .before .before .before .before .before .before .pre .5)
 
+past-requires : tie.Need-past-requires
+past-requires c κs = omega (arith, c .before .before .before .before .before .before .before .before .before .before .before .before .pre .0 .most)
+
 same-length : tie.Need-same-length
 same-length c = search needs
 
 returns : tie.Need-returns
-returns c = taken-raised _ _ _ _ _ _ _ _ (order-of _ _ _ (c .before .before .before .before .before .before .before .before .before .before .before .before .pre .0)) (omega arith) (c .before .before .before .before .before .before .before .before .before .before .before .before .pre .4) (omega (arith, c .before .before .before .before .before .before .before .figure .ensures .0)) (test-true _ _ (c .before .before .before .before .before .below .ensures) (c .before .before .before .before .if3 .taken)) (c .before .before .raise .ensures)
+returns c = (taken-raised _ _ _ _ _ _ _ _ (order-of _ _ _ (c .before .before .before .before .before .before .before .before .before .before .before .before .before .pre .0)) (omega arith) (c .before .before .before .before .before .before .before .before .before .before .before .before .before .pre .4) (omega (arith, c .before .before .before .before .before .before .before .before .figure .ensures .0)) (test-true _ _ (c .before .before .before .before .before .before .below .ensures) (c .before .before .before .before .before .if3 .taken)) (c .before .before .before .raise .ensures), topped-raised _ _ _ _ _ _ _ _ _ (c .past .ensures) (omega arith) (c .before .before .before .before .before .before .before .before .before .before .before .before .before .pre .4) (c .before .before .before .raise .ensures))
 
 returns-2 : tie.Need-returns-2
-returns-2 c = taken-none _ _ _ _ _ _ _ (λ h b. absurd (test-false _ _ (c .before .below .ensures) (c .if3 .left) b))
+returns-2 c = (taken-none _ _ _ _ _ _ _ (λ h b. absurd (test-false _ _ (c .before .below .ensures) (c .if3 .left) b)), topped-none _ _ _ _)
 
 returns-3 : tie.Need-returns-3
-returns-3 c = taken-none _ _ _ _ _ _ _ (λ h b. omega (arith, c .before .figure .ensures .0))
+returns-3 c = (taken-none _ _ _ _ _ _ _ (λ h b. omega (arith, c .before .figure .ensures .0)), topped-none _ _ _ _)
 
 returns-4 : tie.Need-returns-4
-returns-4 c = taken-none _ _ _ _ _ _ _ (λ h b. absurd (omega arith))
+returns-4 c = (taken-none _ _ _ _ _ _ _ (λ h b. absurd (omega arith)), topped-none _ _ _ _)
 
 pub take-spec : {M : Type 1} → statement M
 take-spec =
@@ -52,6 +56,7 @@ take-spec =
     figure-requires
     below-requires
     raise-requires
+    past-requires
     same-length
     returns
     returns-2

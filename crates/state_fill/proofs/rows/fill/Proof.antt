@@ -48,7 +48,7 @@ loop-again : tie.Need-loop-again Inv-loop μ-loop
 loop-again c = table-more (lent-of {states = now (c .before .before .before .before .before .before .before .before .before .before .before .before .before .before .before .before .before .before .args .states)} {t0 = now (c .before .before .before .before .before .before .before .before .before .before .before .before .before .before .before .before .before .before .args .table)} (c .before .before .before .before .before .before .before .before .before .before .before .before .before .before .before .before .before .before .pre .0) (c .before .before .before .before .before .before .before .before .before .before .before .before .before .before .before .before .before .before .pre .1) (c .before .before .before .before .before .before .before .before .before .before .before .before .before .before .before .before .before .before .pre .2) (c .before .before .before .before .before .before .before .before .before .before .before .before .before .before .before .before .before .before .pre .3) (c .before .before .before .before .before .before .before .before .before .before .before .before .before .before .before .before .before .before .pre .4) (c .before .before .before .before .before .before .before .before .before .before .before .before .before .before .before .before .before .before .pre .5)) (c .before .before .before .before .before .before .before .before .before .before .before .before .before .before .before .before .before .before .pre .3 .counted) (c .before .before .before .before .before .before .before .before .before .before .before .before .before .before .before .before .before .before .pre .4 .counted) (c .before .before .before .before .before .before .before .before .before .clear .kept .0) (omega arith) (c .before .before .before .before .before .before .loop .inv) _ _ (c .before .before .fill-row .kept .0) (c .before .before .before .before .half .ensures) (c .before .before .fill-row .ensures .0) (c .before .before .fill-row .ensures .1)
 
 mul-strip-all : tie.Need-mul-strip-all Inv-loop μ-loop
-mul-strip-all c = omega (arith, table-words (lent-of {states = now (c .before .before .before .before .before .before .before .before .before .before .before .before .before .before .args .states)} {t0 = now (c .before .before .before .before .before .before .before .before .before .before .before .before .before .before .args .table)} (c .before .before .before .before .before .before .before .before .before .before .before .before .before .before .pre .0) (c .before .before .before .before .before .before .before .before .before .before .before .before .before .before .pre .1) (c .before .before .before .before .before .before .before .before .before .before .before .before .before .before .pre .2) (c .before .before .before .before .before .before .before .before .before .before .before .before .before .before .pre .3) (c .before .before .before .before .before .before .before .before .before .before .before .before .before .before .pre .4) (c .before .before .before .before .before .before .before .before .before .before .before .before .before .before .pre .5)) (c .before .before .before .before .before .before .before .before .before .before .before .before .before .before .pre .3 .counted) (c .before .before .before .before .before .before .before .before .before .before .before .before .before .before .pre .4 .counted), c .before .before .before .before .before .before .before .before .before .before .before .before .before .before .pre .5, mul-le-mul-right {m = 1} {n = c .before .before .before .before .before .before .before .before .before .before .before .before .before .before .args .n} (c .before .before .before .before .before .before .before .before .before .before .before .before .before .before .args .p * c .before .before .before .before .before .before .before .before .before .before .before .before .before .before .args .r) (some-state (c .before .before .before .before .before .before .before .before .before .before .before .before .before .before .pre .2)))
+mul-strip-all c = omega (arith, table-words (lent-of {states = now (c .before .before .before .before .before .before .before .before .before .before .before .before .before .before .args .states)} {t0 = now (c .before .before .before .before .before .before .before .before .before .before .before .before .before .before .args .table)} (c .before .before .before .before .before .before .before .before .before .before .before .before .before .before .pre .0) (c .before .before .before .before .before .before .before .before .before .before .before .before .before .before .pre .1) (c .before .before .before .before .before .before .before .before .before .before .before .before .before .before .pre .2) (c .before .before .before .before .before .before .before .before .before .before .before .before .before .before .pre .3) (c .before .before .before .before .before .before .before .before .before .before .before .before .before .before .pre .4) (c .before .before .before .before .before .before .before .before .before .before .before .before .before .before .pre .5)) (c .before .before .before .before .before .before .before .before .before .before .before .before .before .before .pre .3 .counted) (c .before .before .before .before .before .before .before .before .before .before .before .before .before .before .pre .4 .counted), c .before .before .before .before .before .before .before .before .before .before .before .before .before .before .pre .5, mul-le-mul-right {m = 1} {n = c .before .before .before .before .before .before .before .before .before .before .before .before .before .before .args .words} (c .before .before .before .before .before .before .before .before .before .before .before .before .before .before .args .length-count * c .before .before .before .before .before .before .before .before .before .before .before .before .before .before .args .columns) (some-state (c .before .before .before .before .before .before .before .before .before .before .before .before .before .before .pre .2)))
 
 strip-all-requires : tie.Need-strip-all-requires Inv-loop μ-loop
 strip-all-requires c κs = table-bare (lent-of {states = now (c .before .before .before .before .before .before .before .before .before .before .before .before .before .before .args .states)} {t0 = now (c .before .before .before .before .before .before .before .before .before .before .before .before .before .before .args .table)} (c .before .before .before .before .before .before .before .before .before .before .before .before .before .before .pre .0) (c .before .before .before .before .before .before .before .before .before .before .before .before .before .before .pre .1) (c .before .before .before .before .before .before .before .before .before .before .before .before .before .before .pre .2) (c .before .before .before .before .before .before .before .before .before .before .before .before .before .before .pre .3) (c .before .before .before .before .before .before .before .before .before .before .before .before .before .before .pre .4) (c .before .before .before .before .before .before .before .before .before .before .before .before .before .before .pre .5)) (c .before .before .before .before .before .before .before .before .before .before .before .before .before .before .pre .3 .counted) (c .before .before .before .before .before .before .before .before .before .before .before .before .before .before .pre .4 .counted) (c .before .before .before .before .before .clear .ensures) (c .before .before .before .before .before .clear .kept .0) (omega arith) (c .before .before .loop .inv)

@@ -72,7 +72,7 @@ same-length-2 : tie.Need-same-length-2 Inv-loop μ-loop
 same-length-2 c = c .before .loop .inv .1
 
 returns-2 : tie.Need-returns-2 Inv-loop μ-loop
-returns-2 c = let e : c .before .loop .k ≡ c .before .before .before .args .n = omega arith in rw e at (c .before .loop .inv .2)
+returns-2 c = let e : c .before .loop .k ≡ c .before .before .before .args .words = omega arith in rw e at (c .before .loop .inv .2)
 
 pub strip-spec : {M : Type 1} → statement M
 strip-spec =

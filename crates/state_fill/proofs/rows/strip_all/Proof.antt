@@ -20,10 +20,10 @@ loop-holds : tie.Need-loop-holds Inv-loop μ-loop
 loop-holds c = (omega arith, omega arith, refl, plain-none _ _)
 
 strip-requires : tie.Need-strip-requires Inv-loop μ-loop
-strip-requires c κs = (omega (arith, c .before .before .loop .inv .1, c .before .before .loop .inv .2, c .before .before .before .before .pre .0, cell-before (c .before .before .loop .i) (c .before .before .before .before .args .s) (c .before .before .before .before .args .n) (omega arith)), bare-left _ _ _ _ _ _ (c .before .before .loop .inv .1) (omega arith) (c .before .before .before .before .pre .1) (c .before .before .loop .inv .3))
+strip-requires c κs = (omega (arith, c .before .before .loop .inv .1, c .before .before .loop .inv .2, c .before .before .before .before .pre .0, cell-before (c .before .before .loop .i) (c .before .before .before .before .args .s) (c .before .before .before .before .args .words) (omega arith)), bare-left _ _ _ _ _ _ (c .before .before .loop .inv .1) (omega arith) (c .before .before .before .before .pre .1) (c .before .before .loop .inv .3))
 
 add-x : tie.Need-add-x Inv-loop μ-loop
-add-x c = omega (arith, c .before .before .before .before .before .loop .inv .1, c .before .before .before .before .before .loop .inv .2, c .before .before .before .before .before .before .before .pre .0, cell-before (c .before .before .before .before .before .loop .i) (c .before .before .before .before .before .before .before .args .s) (c .before .before .before .before .before .before .before .args .n) (omega arith))
+add-x c = omega (arith, c .before .before .before .before .before .loop .inv .1, c .before .before .before .before .before .loop .inv .2, c .before .before .before .before .before .before .before .pre .0, cell-before (c .before .before .before .before .before .loop .i) (c .before .before .before .before .before .before .before .args .s) (c .before .before .before .before .before .before .before .args .words) (omega arith))
 
 add-i : tie.Need-add-i Inv-loop μ-loop
 add-i c = search needs

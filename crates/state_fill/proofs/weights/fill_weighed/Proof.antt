@@ -10,8 +10,8 @@ use Rattle.state_fill.proofs.weights.fill_weighed.Tie as tie
 weight-states-requires : tie.Need-weight-states-requires
 weight-states-requires c κs = search needs
 
-add-n : tie.Need-add-n
-add-n c = search needs
+add-words : tie.Need-add-words
+add-words c = search needs
 
 cast-t21 : tie.Need-cast-t21
 cast-t21 c = search needs
@@ -36,7 +36,7 @@ returns c =
     let e = c .before .before .before .before .before .before .before .before .before .before .before .before .before in
     let states = c .before .before .before .before .before .before .weight-states in
     let filled = c .before .before .fill in
-    let job = kinds-job (e .args .l) (e .args .w) (e .args .count) (now (e .args .lengths)) (now (e .args .widths)) (now (e .args .prices)) in
+    let job = kinds-job (e .args .l) (e .args .w) (e .args .count) (now (e .args .kind-lengths)) (now (e .args .kind-widths)) (now (e .args .prices)) in
     (figures-one job (states .result) (now (e .args .weights)) (filled .last .1 .1 .1 .1 .1 .1 .1 .1 .1 .1 .1 .1 .1 .1 .1 .1 .0) (e .args .q) (states .ensures .1) (filled .ensures .0), filled .ensures .1)
 
 pub fill-weighed-spec : {M : Type 1} → statement M
@@ -44,7 +44,7 @@ fill-weighed-spec =
     tie.close
     (tie.spec
     weight-states-requires
-    add-n
+    add-words
     cast-t21
     slice-aggregate-fill
     slice-aggregate-fill-2

@@ -1,8 +1,8 @@
 -- `state_fill::weights::weight_states` meets its contract. The loop's invariant: the states below i are the weights.
 use borrow.Author.Needs.{needs}
 use native.Mathlib.Omega.{arith}
-use mathlib.Core.Path.{_≡_, refl, _∙_}
-use Prim.Native.Nat.{ℕ, _+_, _-_, _≤_}
+use mathlib.Core.Path.{_≡_, refl}
+use Prim.Native.Nat.{_+_, _-_, _≤_}
 use lib.ListN.{length, getD, length-set}
 use Rattle.table.specs.Words.{Run}
 use Rattle.table.proofs.Words.{run-none, first-more}

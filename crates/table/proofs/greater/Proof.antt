@@ -1,10 +1,10 @@
--- `one_share::greater` meets its contract. Assumes nothing.
+-- `table::greater` meets its contract.
 use mathlib.Core.Path.{refl}
 use native.Mathlib.Omega.{arith}
 use borrow.Author.Needs.{needs}
-use Rattle.one_share.proofs.Raising.{gain-is}
-use Rattle.one_share.proofs.greater.Statement.{statement}
-use Rattle.one_share.proofs.greater.Tie as tie
+use Rattle.table.proofs.Gains.{gain-is}
+use Rattle.table.proofs.greater.Statement.{statement}
+use Rattle.table.proofs.greater.Tie as tie
 
 mul-result : tie.Need-mul-result
 mul-result c = omega (arith, gain-is (c .args .a) (c .args .b) _ (c .pre .0) (c .pre .1) refl)
