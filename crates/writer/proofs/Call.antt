@@ -11,9 +11,8 @@ use Rattle.cutting.specs.declared.Direction.the-variants.{Length, Width}
 use Rattle.cutting.specs.Lists.{over}
 use Rattle.cutting.specs.Preorder.{kinds-of, operands-of, node-count}
 use Rattle.cutting.specs.Job.{Job, capacity, normal-positions}
-use Rattle.cutting.proofs.Job.{bound-ceiling}
 use Rattle.cutting.proofs.Plan.{plan-bound}
-use Rattle.cutting.proofs.Promises.{bound-exact, none-above, plan-follows}
+use Rattle.cutting.proofs.Promises.{plan-follows}
 use Rattle.refusal.specs.Refusals.{next, refuse-when, first-refusal, outcome-by}
 use Rattle.refusal.specs.declared.Refusal.{Refusal}
 use Rattle.refusal.specs.declared.Checked.{Checked}
@@ -29,20 +28,12 @@ use Rattle.bound.specs.declared.BoundReport.{BoundReport}
 use Rattle.bound.specs.declared.BoundAnswer.{BoundAnswer}
 use Rattle.bound.specs.declared.BoundAnswer.the-variants as bounded
 use Rattle.bound.specs.Bound as bound
+use Rattle.bound.proofs.Holds.{bound-held, answered-behind, refused-behind}
 use Rattle.writer.specs.declared.WriteReport.{WriteReport}
 use Rattle.writer.specs.declared.WriteAnswer.{WriteAnswer}
 use Rattle.writer.specs.declared.WriteAnswer.the-variants as answer
-use Rattle.writer.specs.Write.{plan-check, write-report, write-answer-by, write-values, write-outcome, Filled, plan-verdict, Planned, block-plan, write-verdict, write-answer, write-said, array-after, PlanChosen, PlanWritten, BoundHolds}
+use Rattle.writer.specs.Write.{plan-check, write-report, write-answer-by, write-values, write-outcome, Filled, plan-verdict, Planned, block-plan, write-verdict, write-answer, write-said, array-after, PlanChosen, PlanWritten, BoundWritten}
 use Rattle.writer.proofs.Write.{none-long}
-
--- an answer of the bound call is its report, where no check refuses
-answered-by : (v : Checked) (b : BoundReport) {r : BoundReport} → bounded.Answered r ≡ bound.answer-by v b → (v ≡ Passed) × (r ≡ b)
-answered-by Passed b e = (refl, cc)
-answered-by (Refused x) b e = absurd (let z : _≡_ {A = ℕ} 0 1 = cc in omega arith)
-
-refused-by : (v : Checked) (b : BoundReport) {x : Refusal} → bounded.Refused x ≡ bound.answer-by v b → v ≡ Refused x
-refused-by Passed b e = absurd (let z : _≡_ {A = ℕ} 0 1 = cc in omega arith)
-refused-by (Refused y) b e = cc
 
 said-by : (v : Checked) (b : WriteReport) → write-outcome (write-answer-by v b) ≡ outcome-by v (write-values b)
 said-by Passed b = refl
@@ -88,18 +79,15 @@ module _ (s ws : List ℕ) (m : bound.Memory) (kinds operands : List ℕ) {v : C
     counted = ap (λ u. u .nodes) (reported w .1);
   }
 
-  bound-kept : BoundHolds s ws r
-  bound-kept b w =
-      let J = block-job s in
-      let weight = weight-in ws in
-      rw (reported w .1) (bound-exact J weight, none-above J weight, bound-ceiling J weight (accepted-in-range s ws (accepted w)))
+  bound-kept : BoundWritten s ws r
+  bound-kept b w = rw (reported w .1) (bound-held (block-job s) (weight-in ws) (accepted-in-range s ws (accepted w)))
 
 -- what the call promises, in the order of its contract
 abbrev pub Promised : List ℕ → List ℕ → (old new : bound.Memory) (kinds operands new-kinds new-operands : List ℕ) → WriteAnswer → Type 0
 Promised s ws old new kinds operands new-kinds new-operands r = (r ≡ write-answer s ws old kinds operands) × ((write-outcome r ≡ write-said s ws old kinds operands)
     × (bound.Leaves (bound.accept-verdict s ws) (block-job s) (weight-in ws) old new × ((new-kinds ≡ array-after s ws old kinds operands (kinds-of (block-plan s ws)) kinds)
     × ((new-operands ≡ array-after s ws old kinds operands (operands-of (block-plan s ws)) operands)
-    × (PlanChosen s ws × (PlanWritten s ws kinds operands new-kinds new-operands r × BoundHolds s ws r))))))
+    × (PlanChosen s ws × (PlanWritten s ws kinds operands new-kinds new-operands r × BoundWritten s ws r))))))
 
 module _ (s ws : List ℕ) {old new : bound.Memory} (left : bound.Leaves (bound.accept-verdict s ws) (block-job s) (weight-in ws) old new) (kinds operands : List ℕ) where
   -- the answer and the arrays give the rest
@@ -121,16 +109,16 @@ module _ (s ws : List ℕ) {old new : bound.Memory} (left : bound.Leaves (bound.
   -- the bound call refuses: so does this call, and the plan arrays are untouched
   pub bound-refused : {b : BoundAnswer} {x : Refusal} → b ≡ bound.bound-answer s ws old → b ≡ bounded.Refused x → Promised s ws old new kinds operands kinds operands (answer.Refused x)
   bound-refused {b} {x} e f =
-      let v = refused-by (bound.bound-verdict s ws old) (bound.report-of (block-job s) (weight-in ws)) (sym f ∙ e) in
+      let v = refused-behind (bound.bound-verdict s ws old) (bound.report-of (block-job s) (weight-in ws)) (sym f ∙ e) in
       promised (Refused x) (ap (λ u. next u (plan-verdict (block-job s) (weight-in ws) kinds operands)) v) refl refl refl
 
   module _ {b : BoundAnswer} {report : BoundReport} (e : b ≡ bound.bound-answer s ws old) (f : b ≡ bounded.Answered report) where
     passed : (bound.accept-verdict s ws ≡ Passed) × (first-refusal (bound.memory-checks (block-job s) (weight-in ws) old) ≡ Passed)
-    passed = passed-both (bound.accept-verdict s ws) (first-refusal (bound.memory-checks (block-job s) (weight-in ws) old)) (answered-by (bound.bound-verdict s ws old) (bound.report-of (block-job s) (weight-in ws)) (sym f ∙ e) .0)
+    passed = passed-both (bound.accept-verdict s ws) (first-refusal (bound.memory-checks (block-job s) (weight-in ws) old)) (answered-behind (bound.bound-verdict s ws old) (bound.report-of (block-job s) (weight-in ws)) (sym f ∙ e) .0)
 
     -- the report is the definition's
     pub report-is : report ≡ bound.report-of (block-job s) (weight-in ws)
-    report-is = answered-by (bound.bound-verdict s ws old) (bound.report-of (block-job s) (weight-in ws)) (sym f ∙ e) .1
+    report-is = answered-behind (bound.bound-verdict s ws old) (bound.report-of (block-job s) (weight-in ws)) (sym f ∙ e) .1
 
     -- lists and table are filled
     filled : Filled (block-job s) ws (new .lengths) (new .widths) (new .table)

@@ -11,14 +11,14 @@ use Rattle.cutting.specs.Tree.{Tree}
 use Rattle.cutting.specs.Preorder.{kinds-of, operands-of, node-count}
 use Rattle.cutting.specs.Lists.{over}
 use Rattle.cutting.specs.Job.{Job, InRange, capacity, bound-of, bound-plan}
-use Rattle.cutting.specs.Promises.{NoneAbove, EarnsWithin, MostWithin, PlanFollows}
+use Rattle.cutting.specs.Promises.{EarnsWithin, PlanFollows}
 use Rattle.refusal.specs.Refusals.{Check, Outcome, next, first-refusal, refused-as, outcome-by}
 use Rattle.refusal.specs.declared.Checked.{Checked}
 use Rattle.refusal.specs.declared.Checked.the-variants.{Passed, Refused}
 use Rattle.refusal.specs.declared.Refusal.the-variants.{PlanLong}
 use Rattle.job.specs.Weights.{block-job, weight-in, Accepted}
 use Rattle.table.specs.Table.{position-count, Listed, words-needed, Figures}
-use Rattle.bound.specs.Bound.{Memory, list-after, bound-verdict}
+use Rattle.bound.specs.Bound.{Memory, list-after, bound-verdict, BoundHolds}
 use Rattle.writer.specs.declared.WriteReport.{WriteReport}
 use Rattle.writer.specs.declared.WriteAnswer.{WriteAnswer}
 use Rattle.writer.specs.declared.WriteAnswer.the-variants as answer
@@ -115,8 +115,6 @@ abbrev pub PlanWritten : List ℕ → List ℕ → (kinds operands new-kinds new
 PlanWritten s ws kinds operands new-kinds new-operands r = (b : WriteReport) → r ≡ answer.Written b
     → TreeWritten (block-job s) (weight-in ws) (block-plan s ws) kinds operands new-kinds new-operands b
 
--- an answered bound is the most that a tree within the answered capacity earns, at least what any tree within the demands earns, and at
--- most 1,000,000,000,000
-abbrev pub BoundHolds : List ℕ → List ℕ → WriteAnswer → Type 0
-BoundHolds s ws r = (b : WriteReport) → r ≡ answer.Written b
-    → MostWithin (block-job s) (weight-in ws) (b .capacity) (b .bound) × NoneAbove (block-job s) (b .bound) × (b .bound ≤ 1000000000000)
+-- an answered bound holds at the answered capacity, as the bound call's does
+abbrev pub BoundWritten : List ℕ → List ℕ → WriteAnswer → Type 0
+BoundWritten s ws r = (b : WriteReport) → r ≡ answer.Written b → BoundHolds (block-job s) (weight-in ws) (b .capacity) (b .bound)

@@ -18,7 +18,7 @@ ghost use Rattle.cutting.specs.Preorder.{kinds-of, operands-of};
 ghost use Rattle.job.specs.Block.{job-of};
 ghost use Rattle.job.specs.Weights.{block-job, weight-in};
 ghost use Rattle.bound.specs.Bound.{report-of, lent, Leaves, accept-verdict};
-ghost use Rattle.writer.specs.Write.{Joined, Filled, Planned, block-plan, write-answer, write-outcome, write-said, array-after, PlanChosen, PlanWritten, BoundHolds};
+ghost use Rattle.writer.specs.Write.{Joined, Filled, Planned, block-plan, write-answer, write-outcome, write-said, array-after, PlanChosen, PlanWritten, BoundWritten};
 
 // What the writing call reports: what the bound call does, and the number of the plan's nodes.
 pub struct WriteReport {
@@ -126,7 +126,7 @@ pub fn write_plan(
         (operands-of (block-plan (now (block .entry)) (now (weights .entry)))) (now (operands .entry)) ⌝ }
     ensures choice { λ _. ⌜ PlanChosen (now (block .entry)) (now (weights .entry)) ⌝ }
     ensures plan { λ r. ⌜ PlanWritten (now (block .entry)) (now (weights .entry)) (now (kinds .entry)) (now (operands .entry)) (now (kinds .exit)) (now (operands .exit)) r ⌝ }
-    ensures bound { λ r. ⌜ BoundHolds (now (block .entry)) (now (weights .entry)) r ⌝ }
+    ensures bound { λ r. ⌜ BoundWritten (now (block .entry)) (now (weights .entry)) r ⌝ }
 {
     let bounded = bound(block, weights, lengths, widths, table);
     match bounded {
