@@ -1,11 +1,13 @@
-// Links the proved archive and the C baseline, which the script `run` builds.
+// Links the proved archive and the project's C, which the script `run` builds.
 use std::path::Path;
 
 fn main() {
     let here = std::env::var("CARGO_MANIFEST_DIR").expect("cargo names the project's folder");
     let here = Path::new(&here);
     link(&here.join("../target/staticlib"), "planner_c");
-    link(&here.join("target/baseline"), "baseline_c");
+    for name in ["baseline_c", "stack"] {
+        link(&here.join("target/c"), name);
+    }
 }
 
 fn link(folder: &Path, name: &str) {

@@ -10,4 +10,5 @@ mod lent;
 mod limits;
 mod readings;
 mod run;
+mod stack;
 mod wrapper;
