@@ -65,7 +65,7 @@ static void fill(const uint8_t *job, const uint8_t *weights, Plate *plate,
     if (capacity == 0)
         fill_one_share(plate, table);
     else
-        fill_shares(plate, table);
+        fill_states(plate, table);
     answer[0] = table[(size_t)p * r * (capacity + 1) - 1];
     answer[1] = (uint64_t)capacity;
     answer[2] = (uint64_t)p;

@@ -2,7 +2,7 @@
 // Jobs are taken as accepted and storage as large enough.
 mod one_share;
 mod plate;
-mod shares;
+mod state_fill;
 mod writer;
 
 use crate::answers::{Bound, PlanArrays, Storage, Written};
@@ -28,7 +28,7 @@ fn fill(plate: &Plate, storage: Storage) -> Bound {
     if plate.capacity == 0 {
         one_share::fill(plate, table);
     } else {
-        shares::fill(plate, table);
+        state_fill::fill(plate, table);
     }
     Bound {
         bound: table[table.len() - 1],
