@@ -14,6 +14,10 @@ extern "C" {
  * aligned for its element, also where the number is 0. A slice that a call writes must not overlap
  * any other slice of that call. The library keeps no pointer and allocates nothing.
  *
+ * Stack. Every function runs on a thread with a stack of 128 KiB, whatever it is given. The proof
+ * does not see the stack: this is an assumption, tested from outside on the deepest and longest
+ * inputs.
+ *
  * Job block. Plate length, plate width, number n of kinds; then n sizes (length, width); all of two
  * bytes, lowest byte first. Then n pairs of price (four bytes) and demand (two bytes). 6 + 10n bytes.
  *
@@ -25,6 +29,11 @@ extern "C" {
  *   2 cut of the length, operand the first part's length
  *   3 cut of the width, operand the first part's width
  * A plan block is the node count (two bytes), the kinds (a byte each), the operands (two bytes each).
+ *
+ * Tree. A guillotine tree on a rectangle is waste, a piece of a kind of the job that fits there, or
+ * a cut with a guillotine tree on each part. It may have any number of nodes. It earns the sum of
+ * its pieces' prices, weighs the sum of their weights, and keeps every demand when no kind has more
+ * copies in it than its demand.
  *
  * Storage. `lengths` needs plate length + 1 words, `widths` plate width + 1, `table` p * r *
  * (capacity + 1), where p and r are the numbers of normal lengths and widths. A call that fills them
@@ -77,7 +86,9 @@ enum {
     PLANNER_CERTIFICATE_WORDS = 3
 };
 
-/* Checks a plan (refusals 1 to 7 and 10 to 18).
+/* Checks a plan (refusals 1 to 7 and 10 to 18). For an accepted job and a long enough answer it
+ * returns 0 exactly if the arrays are the preorder of a guillotine tree on the plate that keeps
+ * every demand and has at most 4095 nodes; the answer is that tree's own.
  * answer[0] profit, the sum of the prices; answer[1] area of the pieces, answer[2] of the waste
  * nodes, answer[3] of the trim; answer[4 + i] copies of kind i, 0 past the job's kinds. */
 uint32_t planner_check_plan(
@@ -92,7 +103,9 @@ uint32_t planner_check_plan_block(
     const uint8_t *plan, size_t plan_len,
     uint64_t *answer, size_t answer_len);
 
-/* Computes the relaxed bound (refusals 1 to 9, 19, 20) and fills the storage.
+/* Computes the relaxed bound (refusals 1 to 9, 19, 20) and fills the storage. The bound is exactly
+ * the most that a guillotine tree on the plate of weight at most the capacity earns, and no tree
+ * that keeps every demand earns more.
  * answer[0] bound, answer[1] capacity, answer[2] p, answer[3] r. */
 uint32_t planner_bound(
     const uint8_t *job, size_t job_len,
@@ -102,8 +115,9 @@ uint32_t planner_bound(
     uint64_t *table, size_t table_len,
     uint64_t *answer, size_t answer_len);
 
-/* Writes the plan behind the bound (refusals 1 to 9, 19 to 21) and fills the storage. The plan may
- * exceed demands. Entries of the arrays past the plan keep what they held.
+/* Writes the plan behind the bound (refusals 1 to 9, 19 to 21) and fills the storage. The arrays
+ * hold the preorder of a guillotine tree on the plate of weight at most the capacity that earns the
+ * bound. It may exceed demands. Entries of the arrays past the plan keep what they held.
  * answer[0] bound, answer[1] capacity, answer[2] p, answer[3] r, answer[4] node count. */
 uint32_t planner_write_plan(
     const uint8_t *job, size_t job_len,
@@ -115,9 +129,10 @@ uint32_t planner_write_plan(
     uint16_t *operands, size_t operands_len,
     uint64_t *answer, size_t answer_len);
 
-/* Certifies a plan (refusals 1 to 20) and fills the storage.
- * answer[0] gap, bound less profit: 0 says that no plan within the demands earns more;
- * answer[1] bound, answer[2] profit. */
+/* Certifies a plan (refusals 1 to 20) and fills the storage. The gap is 0 exactly if the checked
+ * profit equals the bound, and then no guillotine tree on the plate that keeps every demand earns
+ * more; in any case none earns more than profit and gap together.
+ * answer[0] gap, bound less profit; answer[1] bound, answer[2] profit. */
 uint32_t planner_certify(
     const uint8_t *job, size_t job_len,
     const uint8_t *weights, size_t weights_len,
