@@ -10,7 +10,7 @@ use outside::reference::{capacity, normal_positions, Job, Kind};
 use std::collections::BTreeMap;
 
 /// How often each call gave each code, and how many certificates of a plan that earns something were
-/// "best" and "gap".
+/// "best" and "gap". Only what was compared is counted.
 #[derive(Default)]
 struct Tally {
     codes: BTreeMap<(Call, u32), usize>,
@@ -19,6 +19,20 @@ struct Tally {
 }
 
 impl Tally {
+    /// Compares one call on both implementations, and counts it.
+    fn compare(&mut self, call: Call, input: &Input, sizes: Sizes) -> (u32, Lent) {
+        let (code, lent) = compare(call, input, sizes);
+        assert!(codes(call).contains(&code), "{call:?} gave {code}");
+        self.count(call, code, &lent);
+        (code, lent)
+    }
+
+    /// All comparisons, and those of calls that were done and not refused.
+    fn compared(&self) -> (usize, usize) {
+        let done = self.codes.iter().filter(|((_, code), _)| *code == 0);
+        (self.codes.values().sum(), done.map(|(_, count)| count).sum())
+    }
+
     fn count(&mut self, call: Call, code: u32, lent: &Lent) {
         *self.codes.entry((call, code)).or_default() += 1;
         if (call, code) == (Call::Certify, 0) && lent.answer.words()[2] > 0 {
@@ -42,8 +56,7 @@ const LONG: Scale = Scale {
 
 #[test]
 fn small_inputs_agree() {
-    let mut tally = Tally::default();
-    agree(1, 30_000, SMALL, &mut tally);
+    let tally = agree(1, 30_000, SMALL);
     for call in ALL_CALLS {
         let seen = |code: &u32| tally.codes.get(&(call, *code)).copied().unwrap_or(0);
         for code in codes(call) {
@@ -55,26 +68,22 @@ fn small_inputs_agree() {
 
 #[test]
 fn medium_inputs_agree() {
-    let scale = Scale { plate: 18, kinds: 8, side: 9, price: 60, demand: 4, weight: 3, ..LONG };
-    agree(2, 2000, scale, &mut Tally::default());
+    agree(2, 4000, Scale { plate: 18, kinds: 8, side: 9, price: 60, demand: 4, weight: 3, ..LONG });
 }
 
 #[test]
 fn many_kinds_agree() {
-    let scale = Scale { plate: 9, side: 9, kinds: 64, demand: 2, weight: 1, ..LONG };
-    agree(3, 2000, scale, &mut Tally::default());
+    agree(3, 4000, Scale { plate: 9, side: 9, kinds: 64, demand: 2, weight: 1, ..LONG });
 }
 
 #[test]
 fn large_plates_agree() {
-    let scale = Scale { plate: 120, side: 60, kinds: 12, price: 5000, weight: 0, ..LONG };
-    agree(4, 200, scale, &mut Tally::default());
+    agree(4, 400, Scale { plate: 120, side: 60, kinds: 12, price: 5000, weight: 0, ..LONG });
 }
 
 #[test]
 fn large_capacities_agree() {
-    let scale = Scale { plate: 4, side: 3, kinds: 3, price: 50, demand: 12, weight: 60, ..LONG };
-    agree(5, 400, scale, &mut Tally::default());
+    agree(5, 800, Scale { plate: 4, side: 3, kinds: 3, price: 50, demand: 12, weight: 60, ..LONG });
 }
 
 /// The codes that a call can give.
@@ -88,23 +97,27 @@ fn codes(call: Call) -> Vec<u32> {
     (0..=7).chain(others.iter().copied()).chain([100]).collect()
 }
 
-fn agree(seed: u64, inputs: usize, scale: Scale, tally: &mut Tally) {
+/// Compares every call on so many inputs; at least a third of the calls must be done.
+fn agree(seed: u64, inputs: usize, scale: Scale) -> Tally {
     let random = &mut Random::new(seed);
+    let mut tally = Tally::default();
     for _ in 0..inputs {
         let input = draw_affordable(random, scale);
         for call in ALL_CALLS {
             let sizes = draw_sizes(random, call, &input);
-            let (code, lent) = compare(call, &input, sizes);
-            assert!(codes(call).contains(&code), "{call:?} gave {code}");
-            tally.count(call, code, &lent);
+            let (code, lent) = tally.compare(call, &input, sizes);
             if (call, code) == (Call::WritePlan, 0) {
                 let nodes = lent.answer.words()[4] as usize;
                 let kinds = lent.kinds.words()[..nodes].to_vec();
                 let operands = lent.operands.words()[..nodes].to_vec();
-                written_plan_agrees(random, &input, sizes, (kinds, operands), tally);
+                written_plan_agrees(random, &input, sizes, (kinds, operands), &mut tally);
             }
         }
     }
+    let (all, done) = tally.compared();
+    println!("{inputs} inputs, {all} calls compared, {done} of them done");
+    assert!(all >= 5 * inputs && 3 * done >= all);
+    tally
 }
 
 /// The written plan again, into arrays that just hold it or do not; and as input of the checks.
@@ -118,14 +131,12 @@ fn written_plan_agrees(
     let nodes = kinds.len();
     let short = random.pick(&[(0, 0), (0, 0), (1, 0), (0, 1), (nodes, nodes)]);
     let tight = Sizes { kinds: nodes - short.0, operands: nodes - short.1, ..sizes };
-    let (code, lent) = compare(Call::WritePlan, input, tight);
-    tally.count(Call::WritePlan, code, &lent);
+    tally.compare(Call::WritePlan, input, tight);
     if random.one_in(4) {
         let plan = plan_block(&kinds, &operands);
         let planned = Input { kinds, operands, plan, ..input.clone() };
         for call in [Call::CheckPlan, Call::CheckPlanBlock, Call::Certify] {
-            let (code, lent) = compare(call, &planned, Sizes { answer: 68, ..sizes });
-            tally.count(call, code, &lent);
+            tally.compare(call, &planned, Sizes { answer: 68, ..sizes });
         }
     }
 }
