@@ -17,12 +17,15 @@ use Rattle.job.specs.Weights.{block-job, weight-in}
 use Rattle.bound.specs.declared.BoundAnswer.{BoundAnswer}
 use Rattle.bound.specs.declared.BoundAnswer.the-variants as bound
 use Rattle.bound.specs.Bound.{bound-outcome, BoundHolds, BoundSaid}
+use Rattle.writer.specs.declared.WriteAnswer.{WriteAnswer}
+use Rattle.writer.specs.declared.WriteAnswer.the-variants as write
+use Rattle.writer.specs.Write.{write-outcome, block-plan, PlanWritten, BoundWritten}
 use Rattle.certificate.specs.declared.Certificate.{Certificate}
 use Rattle.certificate.specs.declared.Certificate.the-variants as certificate
 use Rattle.certificate.specs.Certificate.{certificate-outcome}
 use Rattle.certificate.specs.Promises.{BestSaid, GapSaid}
 use Rattle.plan.specs.Calls.{plan-values, plan-outcome}
-use Rattle.planner_c.specs.Exports.{Gives, word, BoundGiven, TreeChecked, Certified, CertificateGiven, returned, answered}
+use Rattle.planner_c.specs.Exports.{Gives, word, PlanGiven, BoundGiven, TreeChecked, Certified, CertificateGiven, returned, answered}
 use Rattle.planner_c.proofs.Exports.{short, enough}
 
 -- a bound
@@ -30,6 +33,16 @@ pub bound-given : (s ws : List ℕ) {n : ℕ} (old : List ℕ) {new : List ℕ} 
     → BoundGiven (block-job s) (weight-in ws) new n
 bound-given s ws old (bound.Answered b) said g e = subst (λ w. BoundHolds (block-job s) (weight-in ws) (word w 1) (word w 0)) (sym (g .1)) (said b refl)
 bound-given s ws old (bound.Refused r) said g e = absurd (omega (arith, number-some r, g .0, e))
+
+-- a written plan
+pub plan-given : (s ws : List ℕ) {n : ℕ} (kinds operands new-kinds new-operands old : List ℕ) {new : List ℕ} (a : WriteAnswer)
+    → PlanWritten s ws kinds operands new-kinds new-operands a → BoundWritten s ws a → Gives (write-outcome a) n old new
+    → n ≡ 0 → PlanGiven (block-job s) (weight-in ws) (kinds, operands) (new-kinds, new-operands) new
+plan-given s ws kinds operands new-kinds new-operands old (write.Written b) plan bound g e =
+    let p = plan b refl in
+    subst (λ w. PlanGiven (block-job s) (weight-in ws) (kinds, operands) (new-kinds, new-operands) w) (sym (g .1))
+    (record { bound = bound b refl; tree = (block-plan s ws, p .earns, p .kinds-hold, p .operands-hold, p .counted) })
+plan-given s ws kinds operands new-kinds new-operands old (write.Refused r) plan bound g e = absurd (omega (arith, number-some r, g .0, e))
 
 module _ (J : Job) (kinds operands : List ℕ) {n : ℕ} (old : List ℕ) {new : List ℕ} where
   -- a certificate

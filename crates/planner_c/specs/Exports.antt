@@ -8,8 +8,8 @@ use lib.ListN.{length, getD}
 use Rattle.cutting.specs.Lists.{over}
 use Rattle.cutting.specs.Tree.{Tree}
 use Rattle.cutting.specs.Job.{Job, bound-of}
-use Rattle.cutting.specs.Promises.{NoneAbove}
-use Rattle.cutting.specs.Preorder.{kinds-of, operands-of}
+use Rattle.cutting.specs.Promises.{NoneAbove, EarnsWithin}
+use Rattle.cutting.specs.Preorder.{kinds-of, operands-of, node-count}
 use Rattle.refusal.specs.Refusals.{Outcome}
 use Rattle.plan.specs.Calls.{plan-values}
 use Rattle.plan.specs.Trees.{PlanOf, tree-report}
@@ -83,3 +83,10 @@ CertificateGiven J weight kinds operands answer n = n ≡ 0 → Certified J weig
 -- a bound's words where 0 is returned: the bound, word 0, holds at the capacity, word 1
 abbrev pub BoundGiven : Job → (ℕ → ℕ) → (answer : List ℕ) → ℕ → Type 0
 BoundGiven J weight answer n = n ≡ 0 → BoundHolds J weight (word answer 1) (word answer 0)
+
+-- a written plan where 0 is returned: its bound, word 0, holds at its capacity, word 1; the arrays hold the preorder, over their old
+-- contents, of a tree that earns the bound within the capacity, with the nodes of word 4
+pub record PlanGiven (J : Job) (weight : ℕ → ℕ) (old new : List ℕ × List ℕ) (answer : List ℕ) : Type 0 where
+  pub bound : BoundHolds J weight (word answer 1) (word answer 0)
+  pub tree : (t : Tree ℕ) × EarnsWithin J weight (word answer 1) (word answer 0) t
+      × (new .0 ≡ over (kinds-of t) (old .0)) × (new .1 ≡ over (operands-of t) (old .1)) × (word answer 4 ≡ node-count t)

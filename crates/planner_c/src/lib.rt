@@ -9,7 +9,7 @@ ghost use Rattle.plan.specs.Calls.{arrays-said, block-said, plan-kinds, plan-op
 ghost use Rattle.bound.specs.Bound.{lent, Leaves, accept-verdict, bound-said};
 ghost use Rattle.writer.specs.Write.{write-said};
 ghost use Rattle.certificate.specs.Certificate.{plan-verdict, certificate-said};
-ghost use Rattle.planner_c.specs.Exports.{returned, answered, Left, PlanLeft, TreeChecked, BoundGiven, CertificateGiven};
+ghost use Rattle.planner_c.specs.Exports.{returned, answered, Left, PlanLeft, PlanGiven, TreeChecked, BoundGiven, CertificateGiven};
 
 // The check of a plan's arrays for a job block. The answer has 68 words: profit, the areas of pieces, waste nodes and trim, and the
 // copies of 64 kinds.
@@ -90,6 +90,7 @@ pub extern "C" fn planner_write_plan(
     ensures plan { λ _. ⌜ Left 5 (now (answer .entry))
         (PlanLeft (now (block .entry)) (now (weights .entry)) (lent (now (lengths .entry)) (now (widths .entry)) (now (table .entry))))
         (now (kinds .entry), now (operands .entry)) (now (kinds .exit), now (operands .exit)) ⌝ }
+    ensures trees { λ n. ⌜ (n ≡ 0 → PlanGiven (block-job (now (block .entry))) (weight-in (now (weights .entry))) (now (kinds .entry), now (operands .entry)) (now (kinds .exit), now (operands .exit)) (now (answer .exit))) ⌝ }
 {
     if answer.len() < 5 {
         return 100;
