@@ -83,9 +83,11 @@ loop-less : tie.Need-loop-less Inv-loop μ-loop
 loop-less c = search needs
 
 loop-again : tie.Need-loop-again Inv-loop μ-loop
-loop-again c = ⊎-elim
-    (λ w. rw (w .4, w .5) (omega arith, simp length-set (c .before .before .before .before .loop .inv .1), listing-more _ _ _ _ _ _ _ _ (omega (arith, c .before .before .before .before .loop .inv .1)) (omega arith) (w .1 .ensures .0) (w .3 .ensures .0) (c .before .before .before .before .loop .inv .2)))
-    (λ w. rw (w .1, w .2) (omega arith, c .before .before .before .before .loop .inv .1, listing-passed _ _ _ _ _ _ (omega arith) (omega (arith, w .0 .left, c .before .note .ensures .0)) (c .before .before .before .before .loop .inv .2)))
+loop-again c =
+    let inv = c .before .before .before .before .loop .inv in
+    ⊎-elim
+    (λ w. rw (w .4, w .5) (omega arith, simp length-set (inv .1), listing-more _ _ _ _ _ _ _ _ (omega (arith, inv .1)) (omega arith) (w .1 .ensures .0) (w .3 .ensures .0) (inv .2)))
+    (λ w. rw (w .1, w .2) (omega arith, inv .1, listing-passed _ _ _ _ _ _ (omega arith) (omega (arith, w .0 .left, c .before .note .ensures .0)) (inv .2)))
     (c .if1 .came)
 
 same-length : tie.Need-same-length Inv-loop μ-loop

@@ -37,43 +37,67 @@ same-length : tie.Need-same-length Inv-loop μ-loop
 same-length c = c .before .before .before .before .loop .inv .1
 
 returns : tie.Need-returns Inv-loop μ-loop
-returns c = (inherit-end _ _ _ _ (c .before .before .before .before .before .before .pre .1) (c .before .before .before .before .before .before .pre .2) _ _ _ (λ i u h e. past-end _ _ (c .before .before .before .before .before .before .args .words) _ _ _ (c .before .before .before .before .before .before .pre .4) h (sym (note-kept _ _ _ _ (c .before .before .before .before .loop .inv .2 .rest) (c .before .before .before .before .before .before .args .x) (c .before .before .before .before .loop .k) (omega (arith, c .before .before .before .before .before .before .pre .1))) ∙ (sym (c .before .note .ensures .0) ∙ c .if1 .taken)) e) (c .before .before .before .before .loop .inv .2), c .before .before .before .before .loop .inv .3)
+returns c =
+    let start = c .before .before .before .before .before .before in
+    let inv = c .before .before .before .before .loop .inv in
+    (inherit-end _ _ _ _ (start .pre .1) (start .pre .2) _ _ _ (λ i u h e. past-end _ _ (start .args .words) _ _ _ (start .pre .4) h (sym (note-kept _ _ _ _ (inv .2 .rest) (start .args .x) (c .before .before .before .before .loop .k) (omega (arith, start .pre .1))) ∙ (sym (c .before .note .ensures .0) ∙ c .if1 .taken)) e) (inv .2), inv .3)
 
 sub-t : tie.Need-sub-t Inv-loop μ-loop
 sub-t c = search needs
 
 add-figure : tie.Need-add-figure Inv-loop μ-loop
-add-figure c = omega (arith, c .before .before .before .before .before .before .pre .2, c .before .before .before .before .before .before .pre .3, ready-kept _ _ _ _ (c .before .before .before .before .loop .inv .2 .rest) (c .before .before .before .before .before .before .args .x) (c .before .before .before .before .before .before .args .words) (c .before .before .before .before .before .before .pre .1) (c .before .before .before .before .before .before .pre .4) .notes (c .before .before .before .before .loop .k) (omega arith), c .before .note .ensures .0)
+add-figure c =
+    let e = c .before .before .before .before .before .before in
+    let ready = ready-kept _ _ _ _ (c .before .before .before .before .loop .inv .2 .rest) (e .args .x) (e .args .words) (e .pre .1) (e .pre .4) in
+    omega (arith, e .pre .2, e .pre .3, ready .notes (c .before .before .before .before .loop .k) (omega arith), c .before .note .ensures .0)
 
 mul-figure : tie.Need-mul-figure Inv-loop μ-loop
 mul-figure c = search needs
 
 slice-read-figure : tie.Need-slice-read-figure Inv-loop μ-loop
-slice-read-figure c = omega (arith, c .before .before .before .before .before .loop .inv .1, c .before .before .before .before .before .before .before .pre .2, c .before .before .before .before .before .before .before .pre .3, ready-kept _ _ _ _ (c .before .before .before .before .before .loop .inv .2 .rest) (c .before .before .before .before .before .before .before .args .x) (c .before .before .before .before .before .before .before .args .words) (c .before .before .before .before .before .before .before .pre .1) (c .before .before .before .before .before .before .before .pre .4) .notes (c .before .before .before .before .before .loop .k) (omega arith), c .before .before .note .ensures .0)
+slice-read-figure c =
+    let e = c .before .before .before .before .before .before .before in
+    let inv = c .before .before .before .before .before .loop .inv in
+    let ready = ready-kept _ _ _ _ (inv .2 .rest) (e .args .x) (e .args .words) (e .pre .1) (e .pre .4) in
+    omega (arith, inv .1, e .pre .2, e .pre .3, ready .notes (c .before .before .before .before .before .loop .k) (omega arith), c .before .before .note .ensures .0)
 
 figure-requires : tie.Need-figure-requires Inv-loop μ-loop
 figure-requires c κs = search needs
 
 add-figure-2 : tie.Need-add-figure-2 Inv-loop μ-loop
-add-figure-2 c = omega (arith, c .before .before .before .before .before .before .before .before .pre .1, c .before .before .before .before .before .before .before .before .pre .3, ready-kept _ _ _ _ (c .before .before .before .before .before .before .loop .inv .2 .rest) (c .before .before .before .before .before .before .before .before .args .x) (c .before .before .before .before .before .before .before .before .args .words) (c .before .before .before .before .before .before .before .before .pre .1) (c .before .before .before .before .before .before .before .before .pre .4) .notes (c .before .before .before .before .before .before .loop .k) (omega arith), c .before .before .before .note .ensures .0)
+add-figure-2 c =
+    let e = c .before .before .before .before .before .before .before .before in
+    let ready = ready-kept _ _ _ _ (c .before .before .before .before .before .before .loop .inv .2 .rest) (e .args .x) (e .args .words) (e .pre .1) (e .pre .4) in
+    omega (arith, e .pre .1, e .pre .3, ready .notes (c .before .before .before .before .before .before .loop .k) (omega arith), c .before .before .before .note .ensures .0)
 
 mul-figure-2 : tie.Need-mul-figure-2 Inv-loop μ-loop
 mul-figure-2 c = search needs
 
 slice-read-figure-2 : tie.Need-slice-read-figure-2 Inv-loop μ-loop
-slice-read-figure-2 c = omega (arith, c .before .before .before .before .before .before .before .loop .inv .1, c .before .before .before .before .before .before .before .before .before .pre .1, c .before .before .before .before .before .before .before .before .before .pre .3, ready-kept _ _ _ _ (c .before .before .before .before .before .before .before .loop .inv .2 .rest) (c .before .before .before .before .before .before .before .before .before .args .x) (c .before .before .before .before .before .before .before .before .before .args .words) (c .before .before .before .before .before .before .before .before .before .pre .1) (c .before .before .before .before .before .before .before .before .before .pre .4) .notes (c .before .before .before .before .before .before .before .loop .k) (omega arith), c .before .before .before .before .note .ensures .0)
+slice-read-figure-2 c =
+    let e = c .before .before .before .before .before .before .before .before .before in
+    let inv = c .before .before .before .before .before .before .before .loop .inv in
+    let ready = ready-kept _ _ _ _ (inv .2 .rest) (e .args .x) (e .args .words) (e .pre .1) (e .pre .4) in
+    omega (arith, inv .1, e .pre .1, e .pre .3, ready .notes (c .before .before .before .before .before .before .before .loop .k) (omega arith), c .before .before .before .before .note .ensures .0)
 
 figure-requires-2 : tie.Need-figure-requires-2 Inv-loop μ-loop
 figure-requires-2 c κs = search needs
 
 add-figure-3 : tie.Need-add-figure-3 Inv-loop μ-loop
-add-figure-3 c = omega (arith, c .before .before .before .before .before .before .before .before .before .before .before .pre .3, ready-kept _ _ _ _ (c .before .before .before .before .before .before .before .before .before .loop .inv .2 .rest) (c .before .before .before .before .before .before .before .before .before .before .before .args .x) (c .before .before .before .before .before .before .before .before .before .before .before .args .words) (c .before .before .before .before .before .before .before .before .before .before .before .pre .1) (c .before .before .before .before .before .before .before .before .before .before .before .pre .4) .notes (c .before .before .before .before .before .before .before .before .before .loop .k) (omega arith), c .before .before .before .before .before .before .note .ensures .0)
+add-figure-3 c =
+    let e = c .before .before .before .before .before .before .before .before .before .before .before in
+    let ready = ready-kept _ _ _ _ (c .before .before .before .before .before .before .before .before .before .loop .inv .2 .rest) (e .args .x) (e .args .words) (e .pre .1) (e .pre .4) in
+    omega (arith, e .pre .3, ready .notes (c .before .before .before .before .before .before .before .before .before .loop .k) (omega arith), c .before .before .before .before .before .before .note .ensures .0)
 
 mul-figure-3 : tie.Need-mul-figure-3 Inv-loop μ-loop
 mul-figure-3 c = search needs
 
 slice-read-figure-3 : tie.Need-slice-read-figure-3 Inv-loop μ-loop
-slice-read-figure-3 c = omega (arith, c .before .before .before .before .before .before .before .before .before .before .loop .inv .1, c .before .before .before .before .before .before .before .before .before .before .before .before .pre .3, ready-kept _ _ _ _ (c .before .before .before .before .before .before .before .before .before .before .loop .inv .2 .rest) (c .before .before .before .before .before .before .before .before .before .before .before .before .args .x) (c .before .before .before .before .before .before .before .before .before .before .before .before .args .words) (c .before .before .before .before .before .before .before .before .before .before .before .before .pre .1) (c .before .before .before .before .before .before .before .before .before .before .before .before .pre .4) .notes (c .before .before .before .before .before .before .before .before .before .before .loop .k) (omega arith), c .before .before .before .before .before .before .before .note .ensures .0)
+slice-read-figure-3 c =
+    let e = c .before .before .before .before .before .before .before .before .before .before .before .before in
+    let inv = c .before .before .before .before .before .before .before .before .before .before .loop .inv in
+    let ready = ready-kept _ _ _ _ (inv .2 .rest) (e .args .x) (e .args .words) (e .pre .1) (e .pre .4) in
+    omega (arith, inv .1, e .pre .3, ready .notes (c .before .before .before .before .before .before .before .before .before .before .loop .k) (omega arith), c .before .before .before .before .before .before .before .note .ensures .0)
 
 figure-requires-3 : tie.Need-figure-requires-3 Inv-loop μ-loop
 figure-requires-3 c κs = search needs
@@ -88,10 +112,17 @@ mul-table : tie.Need-mul-table Inv-loop μ-loop
 mul-table c = search needs
 
 slice-write-table : tie.Need-slice-write-table Inv-loop μ-loop
-slice-write-table c = omega (arith, c .before .before .before .before .before .before .before .before .before .before .before .loop .inv .1, c .before .before .before .before .before .before .before .before .before .before .before .before .before .pre .3, ready-kept _ _ _ _ (c .before .before .before .before .before .before .before .before .before .before .before .loop .inv .2 .rest) (c .before .before .before .before .before .before .before .before .before .before .before .before .before .args .x) (c .before .before .before .before .before .before .before .before .before .before .before .before .before .args .words) (c .before .before .before .before .before .before .before .before .before .before .before .before .before .pre .1) (c .before .before .before .before .before .before .before .before .before .before .before .before .before .pre .4) .notes (c .before .before .before .before .before .before .before .before .before .before .before .loop .k) (omega arith), c .before .before .before .before .before .before .before .before .note .ensures .0)
+slice-write-table c =
+    let e = c .before .before .before .before .before .before .before .before .before .before .before .before .before in
+    let inv = c .before .before .before .before .before .before .before .before .before .before .before .loop .inv in
+    let ready = ready-kept _ _ _ _ (inv .2 .rest) (e .args .x) (e .args .words) (e .pre .1) (e .pre .4) in
+    omega (arith, inv .1, e .pre .3, ready .notes (c .before .before .before .before .before .before .before .before .before .before .before .loop .k) (omega arith), c .before .before .before .before .before .before .before .before .note .ensures .0)
 
 past-requires : tie.Need-past-requires Inv-loop μ-loop
-past-requires c κs = omega (arith, c .before .before .before .before .before .before .before .before .before .before .before .before .before .pre .0, ready-kept _ _ _ _ (c .before .before .before .before .before .before .before .before .before .before .before .loop .inv .2 .rest) (c .before .before .before .before .before .before .before .before .before .before .before .before .before .args .x) (c .before .before .before .before .before .before .before .before .before .before .before .before .before .args .words) (c .before .before .before .before .before .before .before .before .before .before .before .before .before .pre .1) (c .before .before .before .before .before .before .before .before .before .before .before .before .before .pre .4) .notes (c .before .before .before .before .before .before .before .before .before .before .before .loop .k) (omega arith), c .before .before .before .before .before .before .before .before .note .ensures .0)
+past-requires c κs =
+    let e = c .before .before .before .before .before .before .before .before .before .before .before .before .before in
+    let ready = ready-kept _ _ _ _ (c .before .before .before .before .before .before .before .before .before .before .before .loop .inv .2 .rest) (e .args .x) (e .args .words) (e .pre .1) (e .pre .4) in
+    omega (arith, e .pre .0, ready .notes (c .before .before .before .before .before .before .before .before .before .before .before .loop .k) (omega arith), c .before .before .before .before .before .before .before .before .note .ensures .0)
 
 add-k : tie.Need-add-k Inv-loop μ-loop
 add-k c = search needs
@@ -100,9 +131,13 @@ loop-less : tie.Need-loop-less Inv-loop μ-loop
 loop-less c = search needs
 
 loop-again : tie.Need-loop-again Inv-loop μ-loop
-loop-again c = ⊎-elim
-    (λ w. rw (w .4, w .5) (omega arith, simp length-set (c .before .before .before .before .before .before .before .before .before .loop .inv .1), inherit-more _ _ _ _ (c .before .before .before .before .before .before .before .before .before .before .before .pre .1) (c .before .before .before .before .before .before .before .before .before .before .before .pre .2) _ _ _ _ _ (omega (arith, c .before .before .before .before .before .before .before .before .before .loop .inv .1)) (omega arith) (omega (arith, ready-kept _ _ _ _ (c .before .before .before .before .before .before .before .before .before .loop .inv .2 .rest) (c .before .before .before .before .before .before .before .before .before .before .before .args .x) (c .before .before .before .before .before .before .before .before .before .before .before .args .words) (c .before .before .before .before .before .before .before .before .before .before .before .pre .1) (c .before .before .before .before .before .before .before .before .before .before .before .pre .4) .notes (c .before .before .before .before .before .before .before .before .before .loop .k) (omega arith), c .before .before .before .before .before .before .note .ensures .0)) (sym (c .before .before .before .before .before .before .note .ensures .0) ∙ omega arith) (w .2 .ensures .0) (c .before .before .before .before .before .before .before .before .before .loop .inv .2), topped-then _ _ _ _ _ _ _ _ (c .before .before .before .before .before .before .before .before .before .loop .inv .3) (topped-set _ _ _ _ _ _ _ (w .3 .ensures) (omega (arith, ready-kept _ _ _ _ (c .before .before .before .before .before .before .before .before .before .loop .inv .2 .rest) (c .before .before .before .before .before .before .before .before .before .before .before .args .x) (c .before .before .before .before .before .before .before .before .before .before .before .args .words) (c .before .before .before .before .before .before .before .before .before .before .before .pre .1) (c .before .before .before .before .before .before .before .before .before .before .before .pre .4) .notes (c .before .before .before .before .before .before .before .before .before .loop .k) (omega arith), c .before .before .before .before .before .before .note .ensures .0)))))
-    (λ w. rw (w .1, w .2) (omega arith, c .before .before .before .before .before .before .before .before .before .loop .inv .1, inherit-passed _ _ _ _ (c .before .before .before .before .before .before .before .before .before .before .before .pre .1) (c .before .before .before .before .before .before .before .before .before .before .before .pre .2) _ (c .before .before .before .before .before .before .note .result - 1) _ _ (omega arith) (omega (arith, ready-kept _ _ _ _ (c .before .before .before .before .before .before .before .before .before .loop .inv .2 .rest) (c .before .before .before .before .before .before .before .before .before .before .before .args .x) (c .before .before .before .before .before .before .before .before .before .before .before .args .words) (c .before .before .before .before .before .before .before .before .before .before .before .pre .1) (c .before .before .before .before .before .before .before .before .before .before .before .pre .4) .notes (c .before .before .before .before .before .before .before .before .before .loop .k) (omega arith), c .before .before .before .before .before .before .note .ensures .0)) (sym (c .before .before .before .before .before .before .note .ensures .0) ∙ omega arith) (omega (arith, w .0 .left, c .before .before .before .figure .ensures .0, c .before .figure2 .ensures .0)) (c .before .before .before .before .before .before .before .before .before .loop .inv .2), c .before .before .before .before .before .before .before .before .before .loop .inv .3))
+loop-again c =
+    let e = c .before .before .before .before .before .before .before .before .before .before .before in
+    let inv = c .before .before .before .before .before .before .before .before .before .loop .inv in
+    let ready = ready-kept _ _ _ _ (inv .2 .rest) (e .args .x) (e .args .words) (e .pre .1) (e .pre .4) in
+    ⊎-elim
+    (λ w. rw (w .4, w .5) (omega arith, simp length-set (inv .1), inherit-more _ _ _ _ (e .pre .1) (e .pre .2) _ _ _ _ _ (omega (arith, inv .1)) (omega arith) (omega (arith, ready .notes (c .before .before .before .before .before .before .before .before .before .loop .k) (omega arith), c .before .before .before .before .before .before .note .ensures .0)) (sym (c .before .before .before .before .before .before .note .ensures .0) ∙ omega arith) (w .2 .ensures .0) (inv .2), topped-then _ _ _ _ _ _ _ _ (inv .3) (topped-set _ _ _ _ _ _ _ (w .3 .ensures) (omega (arith, ready .notes (c .before .before .before .before .before .before .before .before .before .loop .k) (omega arith), c .before .before .before .before .before .before .note .ensures .0)))))
+    (λ w. rw (w .1, w .2) (omega arith, inv .1, inherit-passed _ _ _ _ (e .pre .1) (e .pre .2) _ (c .before .before .before .before .before .before .note .result - 1) _ _ (omega arith) (omega (arith, ready .notes (c .before .before .before .before .before .before .before .before .before .loop .k) (omega arith), c .before .before .before .before .before .before .note .ensures .0)) (sym (c .before .before .before .before .before .before .note .ensures .0) ∙ omega arith) (omega (arith, w .0 .left, c .before .before .before .figure .ensures .0, c .before .figure2 .ensures .0)) (inv .2), inv .3))
     (c .if2 .came)
 
 same-length-2 : tie.Need-same-length-2 Inv-loop μ-loop

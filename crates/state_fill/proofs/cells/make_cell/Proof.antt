@@ -14,13 +14,19 @@ sub-before : tie.Need-sub-before
 sub-before c = omega (arith, row-fits ((c .before .before .before .before .before .before .before .pre)), cell-fits ((c .before .before .before .before .before .before .before .pre)) .0)
 
 start-requires : tie.Need-start-requires
-start-requires c κs = (above-ready ((c .before .before .before .before .before .before .before .before .pre)) _ (outside-same _ _ _) .1, before-ready ((c .before .before .before .before .before .before .before .before .pre)) _ (outside-same _ _ _) .1, room ((c .before .before .before .before .before .before .before .before .pre)))
+start-requires c κs =
+    let e = c .before .before .before .before .before .before .before .before in
+    (above-ready ((e .pre)) _ (outside-same _ _ _) .1, before-ready ((e .pre)) _ (outside-same _ _ _) .1, room ((e .pre)))
 
 inherit-requires : tie.Need-inherit-requires
-inherit-requires c κs = (omega (arith, c .before .before .before .before .before .before .before .before .before .before .before .before .pre .lent .digits .most), before-ready ((c .before .before .before .before .before .before .before .before .before .before .before .before .pre)) _ (c .before .before .before .start .ensures .rest) .1, above-ready ((c .before .before .before .before .before .before .before .before .before .before .before .before .pre)) _ (c .before .before .before .start .ensures .rest) .1, omega (arith, room ((c .before .before .before .before .before .before .before .before .before .before .before .before .pre)), c .before .before .before .start .kept .0), before-ready ((c .before .before .before .before .before .before .before .before .before .before .before .before .pre)) _ (c .before .before .before .start .ensures .rest) .0)
+inherit-requires c κs =
+    let e = c .before .before .before .before .before .before .before .before .before .before .before .before in
+    (omega (arith, e .pre .lent .digits .most), before-ready ((e .pre)) _ (c .before .before .before .start .ensures .rest) .1, above-ready ((e .pre)) _ (c .before .before .before .start .ensures .rest) .1, omega (arith, room ((e .pre)), c .before .before .before .start .kept .0), before-ready ((e .pre)) _ (c .before .before .before .start .ensures .rest) .0)
 
 inherit-requires-2 : tie.Need-inherit-requires-2
-inherit-requires-2 c κs = (omega (arith, c .before .before .before .before .before .before .before .before .before .before .before .before .before .before .before .before .pre .lent .digits .most), above-ready ((c .before .before .before .before .before .before .before .before .before .before .before .before .before .before .before .before .pre)) _ (outside-chain _ _ _ _ _ (c .before .before .before .before .before .before .before .start .ensures .rest) (c .before .before .before .inherit .ensures .0 .rest)) .1, before-ready ((c .before .before .before .before .before .before .before .before .before .before .before .before .before .before .before .before .pre)) _ (outside-chain _ _ _ _ _ (c .before .before .before .before .before .before .before .start .ensures .rest) (c .before .before .before .inherit .ensures .0 .rest)) .1, omega (arith, room ((c .before .before .before .before .before .before .before .before .before .before .before .before .before .before .before .before .pre)), c .before .before .before .before .before .before .before .start .kept .0, c .before .before .before .inherit .kept .0), above-ready ((c .before .before .before .before .before .before .before .before .before .before .before .before .before .before .before .before .pre)) _ (outside-chain _ _ _ _ _ (c .before .before .before .before .before .before .before .start .ensures .rest) (c .before .before .before .inherit .ensures .0 .rest)) .0)
+inherit-requires-2 c κs =
+    let e = c .before .before .before .before .before .before .before .before .before .before .before .before .before .before .before .before in
+    (omega (arith, e .pre .lent .digits .most), above-ready ((e .pre)) _ (outside-chain _ _ _ _ _ (c .before .before .before .before .before .before .before .start .ensures .rest) (c .before .before .before .inherit .ensures .0 .rest)) .1, before-ready ((e .pre)) _ (outside-chain _ _ _ _ _ (c .before .before .before .before .before .before .before .start .ensures .rest) (c .before .before .before .inherit .ensures .0 .rest)) .1, omega (arith, room ((e .pre)), c .before .before .before .before .before .before .before .start .kept .0, c .before .before .before .inherit .kept .0), above-ready ((e .pre)) _ (outside-chain _ _ _ _ _ (c .before .before .before .before .before .before .before .start .ensures .rest) (c .before .before .before .inherit .ensures .0 .rest)) .0)
 
 mul-place-kinds : tie.Need-mul-place-kinds
 mul-place-kinds c = omega (arith, few ((c .before .before .before .before .before .before .before .before .before .before .before .before .before .before .before .before .before .before .before .before .pre)))
@@ -35,16 +41,22 @@ shared-slice-read-place-kinds-2 : tie.Need-shared-slice-read-place-kinds-2
 shared-slice-read-place-kinds-2 c = wide-cuts-are ((c .before .before .before .before .before .before .before .before .before .before .before .before .before .before .before .before .before .before .before .before .before .before .pre)) .listed
 
 place-kinds-requires : tie.Need-place-kinds-requires
-place-kinds-requires c κs = (c .before .before .before .before .before .before .before .before .before .before .before .before .before .before .before .before .before .before .before .before .before .before .pre .lent .digits, c .before .before .before .before .before .before .before .before .before .before .before .before .before .before .before .before .before .before .before .before .before .before .pre .lent .range .kinds .1, c .before .before .before .before .before .before .before .before .before .before .before .before .before .before .before .before .before .before .before .before .before .before .pre .lent .stated, omega (arith, room ((c .before .before .before .before .before .before .before .before .before .before .before .before .before .before .before .before .before .before .before .before .before .before .pre)), c .before .before .before .before .before .before .before .before .before .before .before .before .before .start .kept .0, c .before .before .before .before .before .before .before .before .before .inherit .kept .0, c .before .before .before .before .before .inherit2 .kept .0), (inherited-rises ((c .before .before .before .before .before .before .before .before .before .before .before .before .before .before .before .before .before .before .before .before .before .before .pre)) _ (c .before .before .before .before .before .before .before .before .before .before .before .before .before .start .ensures) _ _ (c .before .before .before .before .before .before .before .before .before .inherit .ensures .0) (c .before .before .before .before .before .inherit2 .ensures .0)))
+place-kinds-requires c κs =
+    let e = c .before .before .before .before .before .before .before .before .before .before .before .before .before .before .before .before .before .before .before .before .before .before in
+    (e .pre .lent .digits, e .pre .lent .range .kinds .1, e .pre .lent .stated, omega (arith, room ((e .pre)), c .before .before .before .before .before .before .before .before .before .before .before .before .before .start .kept .0, c .before .before .before .before .before .before .before .before .before .inherit .kept .0, c .before .before .before .before .before .inherit2 .kept .0), (inherited-rises ((e .pre)) _ (c .before .before .before .before .before .before .before .before .before .before .before .before .before .start .ensures) _ _ (c .before .before .before .before .before .before .before .before .before .inherit .ensures .0) (c .before .before .before .before .before .inherit2 .ensures .0)))
 
 cut-requires : tie.Need-cut-requires
-cut-requires c κs = (c .before .before .before .before .before .before .before .before .before .before .before .before .before .before .before .before .before .before .before .before .before .before .before .before .before .before .pre .lent .digits, long-cuts-are ((c .before .before .before .before .before .before .before .before .before .before .before .before .before .before .before .before .before .before .before .before .before .before .before .before .before .before .pre)), at-row ((c .before .before .before .before .before .before .before .before .before .before .before .before .before .before .before .before .before .before .before .before .before .before .before .before .before .before .pre)), cell-fits ((c .before .before .before .before .before .before .before .before .before .before .before .before .before .before .before .before .before .before .before .before .before .before .before .before .before .before .pre)) .0, omega (arith, room ((c .before .before .before .before .before .before .before .before .before .before .before .before .before .before .before .before .before .before .before .before .before .before .before .before .before .before .pre)), c .before .before .before .before .before .before .before .before .before .before .before .before .before .before .before .before .before .start .kept .0, c .before .before .before .before .before .before .before .before .before .before .before .before .before .inherit .kept .0, c .before .before .before .before .before .before .before .before .before .inherit2 .kept .0, c .before .before .before .place-kinds .kept .0), row-ready ((c .before .before .before .before .before .before .before .before .before .before .before .before .before .before .before .before .before .before .before .before .before .before .before .before .before .before .pre)) _ (outside-chain _ _ _ _ _ (inherited-rest ((c .before .before .before .before .before .before .before .before .before .before .before .before .before .before .before .before .before .before .before .before .before .before .before .before .before .before .pre)) _ (c .before .before .before .before .before .before .before .before .before .before .before .before .before .before .before .before .before .start .ensures) _ _ (c .before .before .before .before .before .before .before .before .before .before .before .before .before .inherit .ensures .0) (c .before .before .before .before .before .before .before .before .before .inherit2 .ensures .0)) (c .before .before .before .place-kinds .ensures .0 .grown .rest)), c .before .before .before .place-kinds .ensures .0 .grown .rises (inherited-rises ((c .before .before .before .before .before .before .before .before .before .before .before .before .before .before .before .before .before .before .before .before .before .before .before .before .before .before .pre)) _ (c .before .before .before .before .before .before .before .before .before .before .before .before .before .before .before .before .before .start .ensures) _ _ (c .before .before .before .before .before .before .before .before .before .before .before .before .before .inherit .ensures .0) (c .before .before .before .before .before .before .before .before .before .inherit2 .ensures .0)))
+cut-requires c κs =
+    let e = c .before .before .before .before .before .before .before .before .before .before .before .before .before .before .before .before .before .before .before .before .before .before .before .before .before .before in
+    (e .pre .lent .digits, long-cuts-are ((e .pre)), at-row ((e .pre)), cell-fits ((e .pre)) .0, omega (arith, room ((e .pre)), c .before .before .before .before .before .before .before .before .before .before .before .before .before .before .before .before .before .start .kept .0, c .before .before .before .before .before .before .before .before .before .before .before .before .before .inherit .kept .0, c .before .before .before .before .before .before .before .before .before .inherit2 .kept .0, c .before .before .before .place-kinds .kept .0), row-ready ((e .pre)) _ (outside-chain _ _ _ _ _ (inherited-rest ((e .pre)) _ (c .before .before .before .before .before .before .before .before .before .before .before .before .before .before .before .before .before .start .ensures) _ _ (c .before .before .before .before .before .before .before .before .before .before .before .before .before .inherit .ensures .0) (c .before .before .before .before .before .before .before .before .before .inherit2 .ensures .0)) (c .before .before .before .place-kinds .ensures .0 .grown .rest)), c .before .before .before .place-kinds .ensures .0 .grown .rises (inherited-rises ((e .pre)) _ (c .before .before .before .before .before .before .before .before .before .before .before .before .before .before .before .before .before .start .ensures) _ _ (c .before .before .before .before .before .before .before .before .before .before .before .before .before .inherit .ensures .0) (c .before .before .before .before .before .before .before .before .before .inherit2 .ensures .0)))
 
 sub-cut : tie.Need-sub-cut
 sub-cut c = cell-fits ((c .before .before .before .before .before .before .before .before .before .before .before .before .before .before .before .before .before .before .before .before .before .before .before .before .before .before .before .before .before .before .pre)) .1
 
 cut-requires-2 : tie.Need-cut-requires-2
-cut-requires-2 c κs = (c .before .before .before .before .before .before .before .before .before .before .before .before .before .before .before .before .before .before .before .before .before .before .before .before .before .before .before .before .before .before .pre .lent .digits, wide-cuts-are ((c .before .before .before .before .before .before .before .before .before .before .before .before .before .before .before .before .before .before .before .before .before .before .before .before .before .before .before .before .before .before .pre)), at-cell ((c .before .before .before .before .before .before .before .before .before .before .before .before .before .before .before .before .before .before .before .before .before .before .before .before .before .before .before .before .before .before .pre)), omega arith, omega (arith, room ((c .before .before .before .before .before .before .before .before .before .before .before .before .before .before .before .before .before .before .before .before .before .before .before .before .before .before .before .before .before .before .pre)), c .before .before .before .before .before .before .before .before .before .before .before .before .before .before .before .before .before .before .before .before .before .start .kept .0, c .before .before .before .before .before .before .before .before .before .before .before .before .before .before .before .before .before .inherit .kept .0, c .before .before .before .before .before .before .before .before .before .before .before .before .before .inherit2 .kept .0, c .before .before .before .before .before .before .before .place-kinds .kept .0, c .before .before .before .cut .kept .0), cell-ready ((c .before .before .before .before .before .before .before .before .before .before .before .before .before .before .before .before .before .before .before .before .before .before .before .before .before .before .before .before .before .before .pre)) _ (outside-chain _ _ _ _ _ (outside-chain _ _ _ _ _ (inherited-rest ((c .before .before .before .before .before .before .before .before .before .before .before .before .before .before .before .before .before .before .before .before .before .before .before .before .before .before .before .before .before .before .pre)) _ (c .before .before .before .before .before .before .before .before .before .before .before .before .before .before .before .before .before .before .before .before .before .start .ensures) _ _ (c .before .before .before .before .before .before .before .before .before .before .before .before .before .before .before .before .before .inherit .ensures .0) (c .before .before .before .before .before .before .before .before .before .before .before .before .before .inherit2 .ensures .0)) (c .before .before .before .before .before .before .before .place-kinds .ensures .0 .grown .rest)) (c .before .before .before .cut .ensures .0 .grown .rest)), c .before .before .before .cut .ensures .0 .grown .rises (c .before .before .before .before .before .before .before .place-kinds .ensures .0 .grown .rises (inherited-rises ((c .before .before .before .before .before .before .before .before .before .before .before .before .before .before .before .before .before .before .before .before .before .before .before .before .before .before .before .before .before .before .pre)) _ (c .before .before .before .before .before .before .before .before .before .before .before .before .before .before .before .before .before .before .before .before .before .start .ensures) _ _ (c .before .before .before .before .before .before .before .before .before .before .before .before .before .before .before .before .before .inherit .ensures .0) (c .before .before .before .before .before .before .before .before .before .before .before .before .before .inherit2 .ensures .0))))
+cut-requires-2 c κs =
+    let e = c .before .before .before .before .before .before .before .before .before .before .before .before .before .before .before .before .before .before .before .before .before .before .before .before .before .before .before .before .before .before in
+    (e .pre .lent .digits, wide-cuts-are ((e .pre)), at-cell ((e .pre)), omega arith, omega (arith, room ((e .pre)), c .before .before .before .before .before .before .before .before .before .before .before .before .before .before .before .before .before .before .before .before .before .start .kept .0, c .before .before .before .before .before .before .before .before .before .before .before .before .before .before .before .before .before .inherit .kept .0, c .before .before .before .before .before .before .before .before .before .before .before .before .before .inherit2 .kept .0, c .before .before .before .before .before .before .before .place-kinds .kept .0, c .before .before .before .cut .kept .0), cell-ready ((e .pre)) _ (outside-chain _ _ _ _ _ (outside-chain _ _ _ _ _ (inherited-rest ((e .pre)) _ (c .before .before .before .before .before .before .before .before .before .before .before .before .before .before .before .before .before .before .before .before .before .start .ensures) _ _ (c .before .before .before .before .before .before .before .before .before .before .before .before .before .before .before .before .before .inherit .ensures .0) (c .before .before .before .before .before .before .before .before .before .before .before .before .before .inherit2 .ensures .0)) (c .before .before .before .before .before .before .before .place-kinds .ensures .0 .grown .rest)) (c .before .before .before .cut .ensures .0 .grown .rest)), c .before .before .before .cut .ensures .0 .grown .rises (c .before .before .before .before .before .before .before .place-kinds .ensures .0 .grown .rises (inherited-rises ((e .pre)) _ (c .before .before .before .before .before .before .before .before .before .before .before .before .before .before .before .before .before .before .before .before .before .start .ensures) _ _ (c .before .before .before .before .before .before .before .before .before .before .before .before .before .before .before .before .before .inherit .ensures .0) (c .before .before .before .before .before .before .before .before .before .before .before .before .before .inherit2 .ensures .0))))
 
 finish-requires : tie.Need-finish-requires
 finish-requires c κs =

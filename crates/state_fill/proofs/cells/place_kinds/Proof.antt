@@ -47,7 +47,10 @@ element-copy-out-place : tie.Need-element-copy-out-place Inv-loop μ-loop
 element-copy-out-place c = search needs
 
 place-requires : tie.Need-place-requires Inv-loop μ-loop
-place-requires c κs = (c .before .before .before .before .before .before .before .before .before .before .before .before .pre .0, omega (arith, c .before .before .before .before .before .before .before .before .loop .inv .1, c .before .before .before .before .before .before .before .before .before .before .before .before .pre .3), c .before .before .before .before .before .before .before .before .loop .inv .2 .grown .rises (c .before .before .before .before .before .before .before .before .before .before .before .before .pre .4))
+place-requires c κs =
+    let e = c .before .before .before .before .before .before .before .before .before .before .before .before in
+    let inv = c .before .before .before .before .before .before .before .before .loop .inv in
+    (e .pre .0, omega (arith, inv .1, e .pre .3), inv .2 .grown .rises (e .pre .4))
 
 add-i : tie.Need-add-i Inv-loop μ-loop
 add-i c = search needs
@@ -56,11 +59,14 @@ loop-less : tie.Need-loop-less Inv-loop μ-loop
 loop-less c = search needs
 
 loop-again : tie.Need-loop-again Inv-loop μ-loop
-loop-again c = ⊎-elim
-    (λ w. rw (w .9, w .10) (omega arith, w .6 .kept .0 ∙ c .before .before .before .loop .inv .1, placed-more _ _ _ (λ i. getD (now (c .before .before .before .before .before .before .before .args .kind-lengths)) i 0) (λ i. getD (now (c .before .before .before .before .before .before .before .args .kind-widths)) i 0) (λ i. getD (now (c .before .before .before .before .before .before .before .args .states)) i 0) (λ i. getD (now (c .before .before .before .before .before .before .before .args .prices)) i 0) (c .before .before .before .before .before .before .before .args .l) (c .before .before .before .before .before .before .before .args .w) (c .before .before .before .loop .i) _ _ _ (order-of _ _ _ (c .before .before .before .before .before .before .before .pre .0) .same) (w .0 .taken) (w .2 .taken) (c .before .before .before .loop .inv .2) (w .6 .ensures .0), topped-then _ _ _ _ _ _ _ _ (c .before .before .before .loop .inv .3) (w .6 .ensures .1)))
+loop-again c =
+    let start = c .before .before .before .before .before .before .before in
+    let inv = c .before .before .before .loop .inv in
+    ⊎-elim
+    (λ w. rw (w .9, w .10) (omega arith, w .6 .kept .0 ∙ inv .1, placed-more _ _ _ (λ i. getD (now (start .args .kind-lengths)) i 0) (λ i. getD (now (start .args .kind-widths)) i 0) (λ i. getD (now (start .args .states)) i 0) (λ i. getD (now (start .args .prices)) i 0) (start .args .l) (start .args .w) (c .before .before .before .loop .i) _ _ _ (order-of _ _ _ (start .pre .0) .same) (w .0 .taken) (w .2 .taken) (inv .2) (w .6 .ensures .0), topped-then _ _ _ _ _ _ _ _ (inv .3) (w .6 .ensures .1)))
     (⊎-elim
-    (λ w. rw (w .3, w .4) (omega arith, c .before .before .before .loop .inv .1, placed-other _ _ _ (λ i. getD (now (c .before .before .before .before .before .before .before .args .kind-lengths)) i 0) (λ i. getD (now (c .before .before .before .before .before .before .before .args .kind-widths)) i 0) (λ i. getD (now (c .before .before .before .before .before .before .before .args .states)) i 0) (λ i. getD (now (c .before .before .before .before .before .before .before .args .prices)) i 0) (c .before .before .before .before .before .before .before .args .l) (c .before .before .before .before .before .before .before .args .w) (c .before .before .before .loop .i) _ _ (λ e f. w .2 .left f) (c .before .before .before .loop .inv .2), c .before .before .before .loop .inv .3))
-    (λ w. rw (w .1, w .2) (omega arith, c .before .before .before .loop .inv .1, placed-other _ _ _ (λ i. getD (now (c .before .before .before .before .before .before .before .args .kind-lengths)) i 0) (λ i. getD (now (c .before .before .before .before .before .before .before .args .kind-widths)) i 0) (λ i. getD (now (c .before .before .before .before .before .before .before .args .states)) i 0) (λ i. getD (now (c .before .before .before .before .before .before .before .args .prices)) i 0) (c .before .before .before .before .before .before .before .args .l) (c .before .before .before .before .before .before .before .args .w) (c .before .before .before .loop .i) _ _ (λ e f. w .0 .left e) (c .before .before .before .loop .inv .2), c .before .before .before .loop .inv .3)))
+    (λ w. rw (w .3, w .4) (omega arith, inv .1, placed-other _ _ _ (λ i. getD (now (start .args .kind-lengths)) i 0) (λ i. getD (now (start .args .kind-widths)) i 0) (λ i. getD (now (start .args .states)) i 0) (λ i. getD (now (start .args .prices)) i 0) (start .args .l) (start .args .w) (c .before .before .before .loop .i) _ _ (λ e f. w .2 .left f) (inv .2), inv .3))
+    (λ w. rw (w .1, w .2) (omega arith, inv .1, placed-other _ _ _ (λ i. getD (now (start .args .kind-lengths)) i 0) (λ i. getD (now (start .args .kind-widths)) i 0) (λ i. getD (now (start .args .states)) i 0) (λ i. getD (now (start .args .prices)) i 0) (start .args .l) (start .args .w) (c .before .before .before .loop .i) _ _ (λ e f. w .0 .left e) (inv .2), inv .3)))
     (c .if1 .came)
 
 same-length : tie.Need-same-length Inv-loop μ-loop

@@ -63,7 +63,10 @@ loop-less : tie.Need-loop-less Inv-loop μ-loop
 loop-less c = search needs
 
 loop-again : tie.Need-loop-again Inv-loop μ-loop
-loop-again c = (omega arith, simp length-set (c .before .before .before .before .before .before .loop .inv .1), run-more _ _ _ _ _ _ (omega (arith, c .before .before .before .before .before .before .loop .inv .1)) (c .greater .ensures ∙ ap₂ max (c .before .before .before .figure .ensures .0 ∙ run-held _ _ _ _ _ (c .before .before .before .before .before .before .before .before .args .above) (c .before .before .before .before .before .before .loop .s) (omega arith) (c .before .before .before .before .before .before .loop .inv .2)) (c .before .figure2 .ensures .0 ∙ run-held _ _ _ _ _ (c .before .before .before .before .before .before .before .before .args .before) (c .before .before .before .before .before .before .loop .s) (omega arith) (c .before .before .before .before .before .before .loop .inv .2))) (c .before .before .before .before .before .before .loop .inv .2))
+loop-again c =
+    let e = c .before .before .before .before .before .before .before .before in
+    let inv = c .before .before .before .before .before .before .loop .inv in
+    (omega arith, simp length-set (inv .1), run-more _ _ _ _ _ _ (omega (arith, inv .1)) (c .greater .ensures ∙ ap₂ max (c .before .before .before .figure .ensures .0 ∙ run-held _ _ _ _ _ (e .args .above) (c .before .before .before .before .before .before .loop .s) (omega arith) (inv .2)) (c .before .figure2 .ensures .0 ∙ run-held _ _ _ _ _ (e .args .before) (c .before .before .before .before .before .before .loop .s) (omega arith) (inv .2))) (inv .2))
 
 same-length : tie.Need-same-length Inv-loop μ-loop
 same-length c = c .before .loop .inv .1

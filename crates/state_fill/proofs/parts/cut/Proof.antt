@@ -21,7 +21,10 @@ loop-holds : tie.Need-loop-holds Inv-loop μ-loop
 loop-holds c = (omega arith, c .before .before .before .before .pre .1 .least, refl, cut-none _ _ _ _ _ _ _ _ 1 _, topped-none _ _ _ _)
 
 cut-at-requires : tie.Need-cut-at-requires Inv-loop μ-loop
-cut-at-requires c κs = (c .before .before .before .before .before .before .before .pre .0, cuts-fewer _ _ _ _ _ (omega arith) (omega arith) (c .before .before .before .before .before .before .before .pre .1), c .before .before .loop .inv .0, c .before .before .before .before .before .before .before .pre .2, c .before .before .before .before .before .before .before .pre .3, omega (arith, c .before .before .loop .inv .2, c .before .before .before .before .before .before .before .pre .4), λ j h. ready-kept _ _ _ _ (c .before .before .loop .inv .3 .grown .rest) _ _ (omega (arith, c .before .before .before .before .before .before .before .pre .3, entry-before (c .before .before .before .before .before .before .before .args .at) (c .before .before .before .before .before .before .before .args .base) (c .before .before .before .before .before .before .before .args .stride) (c .before .before .before .before .before .before .before .args .a) j h (c .before .before .before .before .before .before .before .pre .2))) (c .before .before .before .before .before .before .before .pre .5 j h), c .before .before .loop .inv .3 .grown .rises (c .before .before .before .before .before .before .before .pre .6))
+cut-at-requires c κs =
+    let e = c .before .before .before .before .before .before .before in
+    let inv = c .before .before .loop .inv in
+    (e .pre .0, cuts-fewer _ _ _ _ _ (omega arith) (omega arith) (e .pre .1), inv .0, e .pre .2, e .pre .3, omega (arith, inv .2, e .pre .4), λ j h. ready-kept _ _ _ _ (inv .3 .grown .rest) _ _ (omega (arith, e .pre .3, entry-before (e .args .at) (e .args .base) (e .args .stride) (e .args .a) j h (e .pre .2))) (e .pre .5 j h), inv .3 .grown .rises (e .pre .6))
 
 add-i : tie.Need-add-i Inv-loop μ-loop
 add-i c = search needs
@@ -30,7 +33,10 @@ loop-less : tie.Need-loop-less Inv-loop μ-loop
 loop-less c = search needs
 
 loop-again : tie.Need-loop-again Inv-loop μ-loop
-loop-again c = (omega arith, omega arith, c .before .before .cut-at .kept .0 ∙ c .before .before .before .before .before .loop .inv .2, cut-then _ _ _ _ _ _ _ _ 1 _ _ _ _ _ (λ j l m. ((let h : j < c .before .before .before .before .before .before .before .before .before .before .args .a = omega (arith, c .before .before .before .before .before .before .before .before .before .before .pre .1 .most) in omega (arith, c .before .before .before .before .before .before .before .before .before .before .pre .3, entry-before (c .before .before .before .before .before .before .before .before .before .before .args .at) (c .before .before .before .before .before .before .before .before .before .before .args .base) (c .before .before .before .before .before .before .before .before .before .before .args .stride) (c .before .before .before .before .before .before .before .before .before .before .args .a) j h (c .before .before .before .before .before .before .before .before .before .before .pre .2))), (let h = c .before .before .before .before .before .before .before .before .before .before .pre .1 .earlier j l (omega arith) in omega (arith, c .before .before .before .before .before .before .before .before .before .before .pre .3, entry-before (c .before .before .before .before .before .before .before .before .before .before .args .at) (c .before .before .before .before .before .before .before .before .before .before .args .base) (c .before .before .before .before .before .before .before .before .before .before .args .stride) (c .before .before .before .before .before .before .before .before .before .before .args .a) _ h (c .before .before .before .before .before .before .before .before .before .before .pre .2))))) (c .before .before .before .before .before .loop .inv .0) (omega arith) (c .before .before .before .before .before .loop .inv .3) (c .before .before .cut-at .ensures .0), topped-then _ _ _ _ _ _ _ _ (c .before .before .before .before .before .loop .inv .4) (c .before .before .cut-at .ensures .1))
+loop-again c =
+    let e = c .before .before .before .before .before .before .before .before .before .before in
+    let inv = c .before .before .before .before .before .loop .inv in
+    (omega arith, omega arith, c .before .before .cut-at .kept .0 ∙ inv .2, cut-then _ _ _ _ _ _ _ _ 1 _ _ _ _ _ (λ j l m. ((let h : j < e .args .a = omega (arith, e .pre .1 .most) in omega (arith, e .pre .3, entry-before (e .args .at) (e .args .base) (e .args .stride) (e .args .a) j h (e .pre .2))), (let h = e .pre .1 .earlier j l (omega arith) in omega (arith, e .pre .3, entry-before (e .args .at) (e .args .base) (e .args .stride) (e .args .a) _ h (e .pre .2))))) (inv .0) (omega arith) (inv .3) (c .before .before .cut-at .ensures .0), topped-then _ _ _ _ _ _ _ _ (inv .4) (c .before .before .cut-at .ensures .1))
 
 same-length : tie.Need-same-length Inv-loop μ-loop
 same-length c = c .before .loop .inv .2

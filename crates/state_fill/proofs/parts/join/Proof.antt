@@ -35,25 +35,39 @@ same-length : tie.Need-same-length Inv-loop μ-loop
 same-length c = c .before .before .before .before .loop .inv .1
 
 returns : tie.Need-returns Inv-loop μ-loop
-returns c = (join-end _ _ _ _ _ _ _ _ (λ i u h e. past-end _ _ (c .before .before .before .before .before .before .before .args .words) _ _ _ (c .before .before .before .before .before .before .before .pre .4) h (sym (note-kept _ _ _ _ (c .before .before .before .before .loop .inv .2 .grown .rest) (c .before .before .before .before .before .before .before .args .x) (c .before .before .before .before .loop .k) (omega (arith, c .before .before .before .before .before .before .before .pre .1))) ∙ (sym (c .before .note .ensures .0) ∙ c .if1 .taken)) e) (c .before .before .before .before .loop .inv .2), c .before .before .before .before .loop .inv .3)
+returns c =
+    let start = c .before .before .before .before .before .before .before in
+    let inv = c .before .before .before .before .loop .inv in
+    (join-end _ _ _ _ _ _ _ _ (λ i u h e. past-end _ _ (start .args .words) _ _ _ (start .pre .4) h (sym (note-kept _ _ _ _ (inv .2 .grown .rest) (start .args .x) (c .before .before .before .before .loop .k) (omega (arith, start .pre .1))) ∙ (sym (c .before .note .ensures .0) ∙ c .if1 .taken)) e) (inv .2), inv .3)
 
 sub-t : tie.Need-sub-t Inv-loop μ-loop
 sub-t c = search needs
 
 add-figure : tie.Need-add-figure Inv-loop μ-loop
-add-figure c = omega (arith, c .before .before .before .before .before .before .before .pre .1, c .before .before .before .before .before .before .before .pre .3, ready-kept _ _ _ _ (c .before .before .before .before .loop .inv .2 .grown .rest) (c .before .before .before .before .before .before .before .args .x) (c .before .before .before .before .before .before .before .args .words) (c .before .before .before .before .before .before .before .pre .1) (c .before .before .before .before .before .before .before .pre .4) .notes (c .before .before .before .before .loop .k) (omega arith), c .before .note .ensures .0)
+add-figure c =
+    let e = c .before .before .before .before .before .before .before in
+    let ready = ready-kept _ _ _ _ (c .before .before .before .before .loop .inv .2 .grown .rest) (e .args .x) (e .args .words) (e .pre .1) (e .pre .4) in
+    omega (arith, e .pre .1, e .pre .3, ready .notes (c .before .before .before .before .loop .k) (omega arith), c .before .note .ensures .0)
 
 mul-figure : tie.Need-mul-figure Inv-loop μ-loop
 mul-figure c = search needs
 
 slice-read-figure : tie.Need-slice-read-figure Inv-loop μ-loop
-slice-read-figure c = omega (arith, c .before .before .before .before .before .loop .inv .1, c .before .before .before .before .before .before .before .before .pre .1, c .before .before .before .before .before .before .before .before .pre .3, ready-kept _ _ _ _ (c .before .before .before .before .before .loop .inv .2 .grown .rest) (c .before .before .before .before .before .before .before .before .args .x) (c .before .before .before .before .before .before .before .before .args .words) (c .before .before .before .before .before .before .before .before .pre .1) (c .before .before .before .before .before .before .before .before .pre .4) .notes (c .before .before .before .before .before .loop .k) (omega arith), c .before .before .note .ensures .0)
+slice-read-figure c =
+    let e = c .before .before .before .before .before .before .before .before in
+    let inv = c .before .before .before .before .before .loop .inv in
+    let ready = ready-kept _ _ _ _ (inv .2 .grown .rest) (e .args .x) (e .args .words) (e .pre .1) (e .pre .4) in
+    omega (arith, inv .1, e .pre .1, e .pre .3, ready .notes (c .before .before .before .before .before .loop .k) (omega arith), c .before .before .note .ensures .0)
 
 figure-requires : tie.Need-figure-requires Inv-loop μ-loop
 figure-requires c κs = search needs
 
 join-with-requires : tie.Need-join-with-requires Inv-loop μ-loop
-join-with-requires c κs = (c .before .before .before .before .before .before .before .before .before .before .pre .0, c .before .before .before .before .before .before .before .before .before .before .pre .2, omega (arith, c .before .before .before .before .before .before .before .loop .inv .1, c .before .before .before .before .before .before .before .before .before .before .pre .3), omega (arith, ready-kept _ _ _ _ (c .before .before .before .before .before .before .before .loop .inv .2 .grown .rest) (c .before .before .before .before .before .before .before .before .before .before .args .x) (c .before .before .before .before .before .before .before .before .before .before .args .words) (c .before .before .before .before .before .before .before .before .before .before .pre .1) (c .before .before .before .before .before .before .before .before .before .before .pre .4) .notes (c .before .before .before .before .before .before .before .loop .k) (omega arith), c .before .before .before .before .note .ensures .0), omega (arith, c .before .figure .ensures .0, ready-kept _ _ _ _ (c .before .before .before .before .before .before .before .loop .inv .2 .grown .rest) (c .before .before .before .before .before .before .before .before .before .before .args .x) (c .before .before .before .before .before .before .before .before .before .before .args .words) (c .before .before .before .before .before .before .before .before .before .before .pre .1) (c .before .before .before .before .before .before .before .before .before .before .pre .4) .small (c .before .before .before .before .note .result - 1) (omega (arith, ready-kept _ _ _ _ (c .before .before .before .before .before .before .before .loop .inv .2 .grown .rest) (c .before .before .before .before .before .before .before .before .before .before .args .x) (c .before .before .before .before .before .before .before .before .before .before .args .words) (c .before .before .before .before .before .before .before .before .before .before .pre .1) (c .before .before .before .before .before .before .before .before .before .before .pre .4) .notes (c .before .before .before .before .before .before .before .loop .k) (omega arith), c .before .before .before .before .note .ensures .0))), ready-kept _ _ _ _ (c .before .before .before .before .before .before .before .loop .inv .2 .grown .rest) (c .before .before .before .before .before .before .before .before .before .before .args .y) (c .before .before .before .before .before .before .before .before .before .before .args .words) (c .before .before .before .before .before .before .before .before .before .before .pre .2) (c .before .before .before .before .before .before .before .before .before .before .pre .5), c .before .before .before .before .before .before .before .loop .inv .2 .grown .rises (c .before .before .before .before .before .before .before .before .before .before .pre .6))
+join-with-requires c κs =
+    let e = c .before .before .before .before .before .before .before .before .before .before in
+    let inv = c .before .before .before .before .before .before .before .loop .inv in
+    let ready = ready-kept _ _ _ _ (inv .2 .grown .rest) (e .args .x) (e .args .words) (e .pre .1) (e .pre .4) in
+    (e .pre .0, e .pre .2, omega (arith, inv .1, e .pre .3), omega (arith, ready .notes (c .before .before .before .before .before .before .before .loop .k) (omega arith), c .before .before .before .before .note .ensures .0), omega (arith, c .before .figure .ensures .0, ready .small (c .before .before .before .before .note .result - 1) (omega (arith, ready .notes (c .before .before .before .before .before .before .before .loop .k) (omega arith), c .before .before .before .before .note .ensures .0))), ready-kept _ _ _ _ (inv .2 .grown .rest) (e .args .y) (e .args .words) (e .pre .2) (e .pre .5), inv .2 .grown .rises (e .pre .6))
 
 add-k : tie.Need-add-k Inv-loop μ-loop
 add-k c = search needs
@@ -62,7 +76,11 @@ loop-less : tie.Need-loop-less Inv-loop μ-loop
 loop-less c = search needs
 
 loop-again : tie.Need-loop-again Inv-loop μ-loop
-loop-again c = (omega arith, c .before .before .join-with .kept .0 ∙ c .before .before .before .before .before .before .before .before .before .before .loop .inv .1, join-more _ _ _ _ _ _ _ _ _ _ _ (c .before .before .before .before .before .before .before .before .before .before .before .before .before .pre .1) (c .before .before .before .before .before .before .before .before .before .before .before .before .before .pre .2) (omega arith) (omega (arith, ready-kept _ _ _ _ (c .before .before .before .before .before .before .before .before .before .before .loop .inv .2 .grown .rest) (c .before .before .before .before .before .before .before .before .before .before .before .before .before .args .x) (c .before .before .before .before .before .before .before .before .before .before .before .before .before .args .words) (c .before .before .before .before .before .before .before .before .before .before .before .before .before .pre .1) (c .before .before .before .before .before .before .before .before .before .before .before .before .before .pre .4) .notes (c .before .before .before .before .before .before .before .before .before .before .loop .k) (omega arith), c .before .before .before .before .before .before .before .note .ensures .0)) (sym (c .before .before .before .before .before .before .before .note .ensures .0) ∙ omega arith) (c .before .before .before .before .figure .ensures .0) (c .before .before .before .before .before .before .before .before .before .before .loop .inv .2) (c .before .before .join-with .ensures .0), topped-then _ _ _ _ _ _ _ _ (c .before .before .before .before .before .before .before .before .before .before .loop .inv .3) (c .before .before .join-with .ensures .1))
+loop-again c =
+    let e = c .before .before .before .before .before .before .before .before .before .before .before .before .before in
+    let inv = c .before .before .before .before .before .before .before .before .before .before .loop .inv in
+    let ready = ready-kept _ _ _ _ (inv .2 .grown .rest) (e .args .x) (e .args .words) (e .pre .1) (e .pre .4) in
+    (omega arith, c .before .before .join-with .kept .0 ∙ inv .1, join-more _ _ _ _ _ _ _ _ _ _ _ (e .pre .1) (e .pre .2) (omega arith) (omega (arith, ready .notes (c .before .before .before .before .before .before .before .before .before .before .loop .k) (omega arith), c .before .before .before .before .before .before .before .note .ensures .0)) (sym (c .before .before .before .before .before .before .before .note .ensures .0) ∙ omega arith) (c .before .before .before .before .figure .ensures .0) (inv .2) (c .before .before .join-with .ensures .0), topped-then _ _ _ _ _ _ _ _ (inv .3) (c .before .before .join-with .ensures .1))
 
 same-length-2 : tie.Need-same-length-2 Inv-loop μ-loop
 same-length-2 c = c .before .loop .inv .1

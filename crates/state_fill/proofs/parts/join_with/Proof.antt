@@ -35,7 +35,10 @@ same-length : tie.Need-same-length Inv-loop μ-loop
 same-length c = c .before .before .before .before .loop .inv .1
 
 returns : tie.Need-returns Inv-loop μ-loop
-returns c = (with-end _ _ _ _ _ _ _ _ _ (λ i u h e. past-end _ _ (c .before .before .before .before .before .before .before .args .words) _ _ _ (c .before .before .before .before .before .before .before .pre .5) h (sym (note-kept _ _ _ _ (c .before .before .before .before .loop .inv .2 .grown .rest) (c .before .before .before .before .before .before .before .args .y) (c .before .before .before .before .loop .k) (omega (arith, c .before .before .before .before .before .before .before .pre .1))) ∙ (sym (c .before .note .ensures .0) ∙ c .if1 .taken)) e) (c .before .before .before .before .loop .inv .2), c .before .before .before .before .loop .inv .3)
+returns c =
+    let start = c .before .before .before .before .before .before .before in
+    let inv = c .before .before .before .before .loop .inv in
+    (with-end _ _ _ _ _ _ _ _ _ (λ i u h e. past-end _ _ (start .args .words) _ _ _ (start .pre .5) h (sym (note-kept _ _ _ _ (inv .2 .grown .rest) (start .args .y) (c .before .before .before .before .loop .k) (omega (arith, start .pre .1))) ∙ (sym (c .before .note .ensures .0) ∙ c .if1 .taken)) e) (inv .2), inv .3)
 
 sub-u : tie.Need-sub-u Inv-loop μ-loop
 sub-u c = search needs
@@ -47,7 +50,11 @@ mul-figure : tie.Need-mul-figure Inv-loop μ-loop
 mul-figure c = search needs
 
 slice-read-figure : tie.Need-slice-read-figure Inv-loop μ-loop
-slice-read-figure c = omega (arith, c .before .before .before .before .before .loop .inv .1, c .before .before .before .before .before .before .before .before .pre .1, c .before .before .before .before .before .before .before .before .pre .2, ready-kept _ _ _ _ (c .before .before .before .before .before .loop .inv .2 .grown .rest) (c .before .before .before .before .before .before .before .before .args .y) (c .before .before .before .before .before .before .before .before .args .words) (c .before .before .before .before .before .before .before .before .pre .1) (c .before .before .before .before .before .before .before .before .pre .5) .notes (c .before .before .before .before .before .loop .k) (omega arith), c .before .before .note .ensures .0)
+slice-read-figure c =
+    let e = c .before .before .before .before .before .before .before .before in
+    let inv = c .before .before .before .before .before .loop .inv in
+    let ready = ready-kept _ _ _ _ (inv .2 .grown .rest) (e .args .y) (e .args .words) (e .pre .1) (e .pre .5) in
+    omega (arith, inv .1, e .pre .1, e .pre .2, ready .notes (c .before .before .before .before .before .loop .k) (omega arith), c .before .before .note .ensures .0)
 
 figure-requires : tie.Need-figure-requires Inv-loop μ-loop
 figure-requires c κs = search needs
@@ -56,7 +63,11 @@ add-sum : tie.Need-add-sum Inv-loop μ-loop
 add-sum c = omega (arith, c .figure .ensures .1, c .before .before .before .before .before .before .before .before .before .pre .4)
 
 take-requires : tie.Need-take-requires Inv-loop μ-loop
-take-requires c κs = (c .before .before .before .before .before .before .before .before .before .before .pre .0, omega (arith, c .before .before .before .before .before .before .before .loop .inv .1, c .before .before .before .before .before .before .before .before .before .before .pre .2), omega (arith, c .before .before .before .before .before .before .before .before .before .before .pre .0 .most, c .before .before .before .before .before .before .before .before .before .before .pre .3), omega (arith, c .before .before .before .before .before .before .before .before .before .before .pre .0 .most, ready-kept _ _ _ _ (c .before .before .before .before .before .before .before .loop .inv .2 .grown .rest) (c .before .before .before .before .before .before .before .before .before .before .args .y) (c .before .before .before .before .before .before .before .before .before .before .args .words) (c .before .before .before .before .before .before .before .before .before .before .pre .1) (c .before .before .before .before .before .before .before .before .before .before .pre .5) .notes (c .before .before .before .before .before .before .before .loop .k) (omega arith), c .before .before .before .before .note .ensures .0), omega (arith, c .before .before .before .before .before .before .before .before .before .before .pre .4, c .before .figure .ensures .0, ready-kept _ _ _ _ (c .before .before .before .before .before .before .before .loop .inv .2 .grown .rest) (c .before .before .before .before .before .before .before .before .before .before .args .y) (c .before .before .before .before .before .before .before .before .before .before .args .words) (c .before .before .before .before .before .before .before .before .before .before .pre .1) (c .before .before .before .before .before .before .before .before .before .before .pre .5) .small (c .before .before .before .before .note .result - 1) (omega (arith, ready-kept _ _ _ _ (c .before .before .before .before .before .before .before .loop .inv .2 .grown .rest) (c .before .before .before .before .before .before .before .before .before .before .args .y) (c .before .before .before .before .before .before .before .before .before .before .args .words) (c .before .before .before .before .before .before .before .before .before .before .pre .1) (c .before .before .before .before .before .before .before .before .before .before .pre .5) .notes (c .before .before .before .before .before .before .before .loop .k) (omega arith), c .before .before .before .before .note .ensures .0))), c .before .before .before .before .before .before .before .loop .inv .2 .grown .rises (c .before .before .before .before .before .before .before .before .before .before .pre .6))
+take-requires c κs =
+    let e = c .before .before .before .before .before .before .before .before .before .before in
+    let inv = c .before .before .before .before .before .before .before .loop .inv in
+    let ready = ready-kept _ _ _ _ (inv .2 .grown .rest) (e .args .y) (e .args .words) (e .pre .1) (e .pre .5) in
+    (e .pre .0, omega (arith, inv .1, e .pre .2), omega (arith, e .pre .0 .most, e .pre .3), omega (arith, e .pre .0 .most, ready .notes (c .before .before .before .before .before .before .before .loop .k) (omega arith), c .before .before .before .before .note .ensures .0), omega (arith, e .pre .4, c .before .figure .ensures .0, ready .small (c .before .before .before .before .note .result - 1) (omega (arith, ready .notes (c .before .before .before .before .before .before .before .loop .k) (omega arith), c .before .before .before .before .note .ensures .0))), inv .2 .grown .rises (e .pre .6))
 
 add-k : tie.Need-add-k Inv-loop μ-loop
 add-k c = search needs
@@ -65,7 +76,11 @@ loop-less : tie.Need-loop-less Inv-loop μ-loop
 loop-less c = search needs
 
 loop-again : tie.Need-loop-again Inv-loop μ-loop
-loop-again c = (omega arith, c .before .before .take .kept .0 ∙ c .before .before .before .before .before .before .before .before .before .before .loop .inv .1, with-more _ _ _ _ _ _ _ _ _ _ _ _ (c .before .before .before .before .before .before .before .before .before .before .before .before .before .pre .1) (omega arith) (omega (arith, ready-kept _ _ _ _ (c .before .before .before .before .before .before .before .before .before .before .loop .inv .2 .grown .rest) (c .before .before .before .before .before .before .before .before .before .before .before .before .before .args .y) (c .before .before .before .before .before .before .before .before .before .before .before .before .before .args .words) (c .before .before .before .before .before .before .before .before .before .before .before .before .before .pre .1) (c .before .before .before .before .before .before .before .before .before .before .before .before .before .pre .5) .notes (c .before .before .before .before .before .before .before .before .before .before .loop .k) (omega arith), c .before .before .before .before .before .before .before .note .ensures .0)) (sym (c .before .before .before .before .before .before .before .note .ensures .0) ∙ omega arith) (omega (arith, c .before .before .before .before .figure .ensures .0)) (c .before .before .before .before .before .before .before .before .before .before .loop .inv .2) (c .before .before .take .ensures .0), topped-then _ _ _ _ _ _ _ _ (c .before .before .before .before .before .before .before .before .before .before .loop .inv .3) (c .before .before .take .ensures .1))
+loop-again c =
+    let e = c .before .before .before .before .before .before .before .before .before .before .before .before .before in
+    let inv = c .before .before .before .before .before .before .before .before .before .before .loop .inv in
+    let ready = ready-kept _ _ _ _ (inv .2 .grown .rest) (e .args .y) (e .args .words) (e .pre .1) (e .pre .5) in
+    (omega arith, c .before .before .take .kept .0 ∙ inv .1, with-more _ _ _ _ _ _ _ _ _ _ _ _ (e .pre .1) (omega arith) (omega (arith, ready .notes (c .before .before .before .before .before .before .before .before .before .before .loop .k) (omega arith), c .before .before .before .before .before .before .before .note .ensures .0)) (sym (c .before .before .before .before .before .before .before .note .ensures .0) ∙ omega arith) (omega (arith, c .before .before .before .before .figure .ensures .0)) (inv .2) (c .before .before .take .ensures .0), topped-then _ _ _ _ _ _ _ _ (inv .3) (c .before .before .take .ensures .1))
 
 same-length-2 : tie.Need-same-length-2 Inv-loop μ-loop
 same-length-2 c = c .before .loop .inv .1

@@ -50,7 +50,9 @@ loop-again : tie.Need-loop-again Inv-loop μ-loop
 loop-again c = (omega arith, c .before .before .before .loop .inv .1 ∙ below-digit (now (c .before .before .before .before .before .args .blocks)) _ _ _ _ (omega arith) (c .before .block .ensures .0) (omega arith))
 
 returns-2 : tie.Need-returns-2 Inv-loop μ-loop
-returns-2 c = let e : c .before .loop .e ≡ 0 = omega arith in sym (c .before .loop .inv .1 ∙ (ap (λ e. under (now (c .before .before .before .args .blocks)) e (c .before .loop .low) (c .before .loop .high)) e ∙ below-zero (now (c .before .before .before .args .blocks)) (c .before .loop .low) (c .before .loop .high)))
+returns-2 c =
+    let start = c .before .before .before in
+    let e : c .before .loop .e ≡ 0 = omega arith in sym (c .before .loop .inv .1 ∙ (ap (λ e. under (now (start .args .blocks)) e (c .before .loop .low) (c .before .loop .high)) e ∙ below-zero (now (start .args .blocks)) (c .before .loop .low) (c .before .loop .high)))
 
 pub below-spec : {M : Type 1} → statement M
 below-spec =

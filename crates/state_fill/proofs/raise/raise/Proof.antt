@@ -6,7 +6,9 @@ use Rattle.state_fill.proofs.raise.raise.Statement.{statement}
 use Rattle.state_fill.proofs.raise.raise.Tie as tie
 
 up-requires : tie.Need-up-requires
-up-requires c κs = (c .before .before .before .pre .0 .digits, c .before .before .before .pre .0 .listed, omega (arith, c .before .before .before .pre .0 .states, c .before .before .before .pre .1), rises-states _ _ _ (c .before .before .before .pre .0) _ (c .before .before .before .pre .4))
+up-requires c κs =
+    let e = c .before .before .before in
+    (e .pre .0 .digits, e .pre .0 .listed, omega (arith, e .pre .0 .states, e .pre .1), rises-states _ _ _ (e .pre .0) _ (e .pre .4))
 
 add-table : tie.Need-add-table
 add-table c = search needs
@@ -24,7 +26,9 @@ same-length : tie.Need-same-length
 same-length c = search needs
 
 returns : tie.Need-returns
-returns c = raised-flag _ _ _ _ _ _ _ (omega (arith, c .before .before .up .kept .0, c .before .before .before .before .before .before .pre .1)) (c .before .before .before .before .before .before .pre .2) (lifted-states _ _ _ (c .before .before .before .before .before .before .pre .0) _ _ _ _ _ (c .before .before .up .ensures))
+returns c =
+    let e = c .before .before .before .before .before .before in
+    raised-flag _ _ _ _ _ _ _ (omega (arith, c .before .before .up .kept .0, e .pre .1)) (e .pre .2) (lifted-states _ _ _ (e .pre .0) _ _ _ _ _ (c .before .before .up .ensures))
 
 pub raise-spec : {M : Type 1} → statement M
 raise-spec =

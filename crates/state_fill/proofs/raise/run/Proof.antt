@@ -52,7 +52,9 @@ loop-less : tie.Need-loop-less Inv-loop μ-loop
 loop-less c = search needs
 
 loop-again : tie.Need-loop-again Inv-loop μ-loop
-loop-again c = (omega arith, simp length-set (c .before .before .before .before .loop .inv .1), partly-word _ _ _ _ _ _ _ (omega (arith, c .before .before .before .before .loop .inv .1)) (c .before .before .before .before .loop .inv .0) (omega arith) (omega (arith, c .before .figure .ensures .0)) (c .before .before .before .before .loop .inv .2))
+loop-again c =
+    let inv = c .before .before .before .before .loop .inv in
+    (omega arith, simp length-set (inv .1), partly-word _ _ _ _ _ _ _ (omega (arith, inv .1)) (inv .0) (omega arith) (omega (arith, c .before .figure .ensures .0)) (inv .2))
 
 same-length-2 : tie.Need-same-length-2 Inv-loop μ-loop
 same-length-2 c = c .before .loop .inv .1

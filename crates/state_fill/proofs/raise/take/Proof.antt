@@ -25,7 +25,9 @@ below-requires : tie.Need-below-requires
 below-requires c κs = (c .before .before .before .before .before .before .pre .0 .digits, c .before .before .before .before .before .before .pre .0 .listed)
 
 raise-requires : tie.Need-raise-requires
-raise-requires c κs = (c .before .before .before .before .before .before .before .before .before .pre .0, omega (arith, c .before .before .before .before .before .before .before .before .before .pre .1), omega arith, c .before .before .before .before .before .before .before .before .before .pre .4, c .before .before .before .before .before .before .before .before .before .pre .5)
+raise-requires c κs =
+    let e = c .before .before .before .before .before .before .before .before .before in
+    (e .pre .0, omega (arith, e .pre .1), omega arith, e .pre .4, e .pre .5)
 
 past-requires : tie.Need-past-requires
 past-requires c κs = omega (arith, c .before .before .before .before .before .before .before .before .before .before .before .before .pre .0 .most)
@@ -34,7 +36,9 @@ same-length : tie.Need-same-length
 same-length c = search needs
 
 returns : tie.Need-returns
-returns c = (taken-raised _ _ _ _ _ _ _ _ (order-of _ _ _ (c .before .before .before .before .before .before .before .before .before .before .before .before .before .pre .0)) (omega arith) (c .before .before .before .before .before .before .before .before .before .before .before .before .before .pre .4) (omega (arith, c .before .before .before .before .before .before .before .before .figure .ensures .0)) (test-true _ _ (c .before .before .before .before .before .before .below .ensures) (c .before .before .before .before .before .if3 .taken)) (c .before .before .before .raise .ensures), topped-raised _ _ _ _ _ _ _ _ _ (c .past .ensures) (omega arith) (c .before .before .before .before .before .before .before .before .before .before .before .before .before .pre .4) (c .before .before .before .raise .ensures))
+returns c =
+    let e = c .before .before .before .before .before .before .before .before .before .before .before .before .before in
+    (taken-raised _ _ _ _ _ _ _ _ (order-of _ _ _ (e .pre .0)) (omega arith) (e .pre .4) (omega (arith, c .before .before .before .before .before .before .before .before .figure .ensures .0)) (test-true _ _ (c .before .before .before .before .before .before .below .ensures) (c .before .before .before .before .before .if3 .taken)) (c .before .before .before .raise .ensures), topped-raised _ _ _ _ _ _ _ _ _ (c .past .ensures) (omega arith) (e .pre .4) (c .before .before .before .raise .ensures))
 
 returns-2 : tie.Need-returns-2
 returns-2 c = (taken-none _ _ _ _ _ _ _ (λ h b. absurd (test-false _ _ (c .before .below .ensures) (c .if3 .left) b)), topped-none _ _ _ _)

@@ -21,22 +21,41 @@ table-fits : (s : tie.Start Inv-loop μ-loop) → length (now (s .args .table)) 
 table-fits s = omega arith
 
 mul-row : tie.Need-mul-row Inv-loop μ-loop
-mul-row c = omega (arith, table-room (lent-of {states = now (c .before .before .before .before .before .before .before .args .states)} {t0 = now (c .before .before .before .before .before .before .before .args .table)} (c .before .before .before .before .before .before .before .pre .0) (c .before .before .before .before .before .before .before .pre .1) (c .before .before .before .before .before .before .before .pre .2) (c .before .before .before .before .before .before .before .pre .3) (c .before .before .before .before .before .before .before .pre .4) (c .before .before .before .before .before .before .before .pre .5)) (c .before .before .before .before .before .before .before .pre .3 .counted) (c .before .before .before .before .before .before .before .pre .4 .counted) 0 (table-some (lent-of {states = now (c .before .before .before .before .before .before .before .args .states)} {t0 = now (c .before .before .before .before .before .before .before .args .table)} (c .before .before .before .before .before .before .before .pre .0) (c .before .before .before .before .before .before .before .pre .1) (c .before .before .before .before .before .before .before .pre .2) (c .before .before .before .before .before .before .before .pre .3) (c .before .before .before .before .before .before .before .pre .4) (c .before .before .before .before .before .before .before .pre .5)) (c .before .before .before .before .before .before .before .pre .3 .counted) (c .before .before .before .before .before .before .before .pre .4 .counted)))
+mul-row c =
+    let e = c .before .before .before .before .before .before .before in
+    let lent = lent-of {states = now (e .args .states)} {t0 = now (e .args .table)} (e .pre .0) (e .pre .1) (e .pre .2) (e .pre .3) (e .pre .4) (e .pre .5) in
+    omega (arith, table-fits e, table-room lent (e .pre .3 .counted) (e .pre .4 .counted) 0 (table-some lent (e .pre .3 .counted) (e .pre .4 .counted)))
 
 clear-requires : tie.Need-clear-requires Inv-loop μ-loop
-clear-requires c κs = omega (arith, table-room (lent-of {states = now (c .before .before .before .before .before .before .before .before .args .states)} {t0 = now (c .before .before .before .before .before .before .before .before .args .table)} (c .before .before .before .before .before .before .before .before .pre .0) (c .before .before .before .before .before .before .before .before .pre .1) (c .before .before .before .before .before .before .before .before .pre .2) (c .before .before .before .before .before .before .before .before .pre .3) (c .before .before .before .before .before .before .before .before .pre .4) (c .before .before .before .before .before .before .before .before .pre .5)) (c .before .before .before .before .before .before .before .before .pre .3 .counted) (c .before .before .before .before .before .before .before .before .pre .4 .counted) 0 (table-some (lent-of {states = now (c .before .before .before .before .before .before .before .before .args .states)} {t0 = now (c .before .before .before .before .before .before .before .before .args .table)} (c .before .before .before .before .before .before .before .before .pre .0) (c .before .before .before .before .before .before .before .before .pre .1) (c .before .before .before .before .before .before .before .before .pre .2) (c .before .before .before .before .before .before .before .before .pre .3) (c .before .before .before .before .before .before .before .before .pre .4) (c .before .before .before .before .before .before .before .before .pre .5)) (c .before .before .before .before .before .before .before .before .pre .3 .counted) (c .before .before .before .before .before .before .before .before .pre .4 .counted)))
+clear-requires c κs =
+    let e = c .before .before .before .before .before .before .before .before in
+    let lent = lent-of {states = now (e .args .states)} {t0 = now (e .args .table)} (e .pre .0) (e .pre .1) (e .pre .2) (e .pre .3) (e .pre .4) (e .pre .5) in
+    omega (arith, table-room lent (e .pre .3 .counted) (e .pre .4 .counted) 0 (table-some lent (e .pre .3 .counted) (e .pre .4 .counted)))
 
 loop-holds : tie.Need-loop-holds Inv-loop μ-loop
-loop-holds c = table-start (lent-of {states = now (c .before .before .before .before .before .before .before .before .before .before .before .args .states)} {t0 = now (c .before .before .before .before .before .before .before .before .before .before .before .args .table)} (c .before .before .before .before .before .before .before .before .before .before .before .pre .0) (c .before .before .before .before .before .before .before .before .before .before .before .pre .1) (c .before .before .before .before .before .before .before .before .before .before .before .pre .2) (c .before .before .before .before .before .before .before .before .before .before .before .pre .3) (c .before .before .before .before .before .before .before .before .before .before .before .pre .4) (c .before .before .before .before .before .before .before .before .before .before .before .pre .5)) (c .before .before .before .before .before .before .before .before .before .before .before .pre .3 .counted) (c .before .before .before .before .before .before .before .before .before .before .before .pre .4 .counted) _ (c .before .before .clear .ensures)
+loop-holds c =
+    let e = c .before .before .before .before .before .before .before .before .before .before .before in
+    let lent = lent-of {states = now (e .args .states)} {t0 = now (e .args .table)} (e .pre .0) (e .pre .1) (e .pre .2) (e .pre .3) (e .pre .4) (e .pre .5) in
+    table-start lent (e .pre .3 .counted) (e .pre .4 .counted) _ (c .before .before .clear .ensures)
 
 half-requires : tie.Need-half-requires Inv-loop μ-loop
-half-requires c κs = table-half (lent-of {states = now (c .before .before .before .before .before .before .before .before .before .before .before .before .before .args .states)} {t0 = now (c .before .before .before .before .before .before .before .before .before .before .before .before .before .args .table)} (c .before .before .before .before .before .before .before .before .before .before .before .before .before .pre .0) (c .before .before .before .before .before .before .before .before .before .before .before .before .before .pre .1) (c .before .before .before .before .before .before .before .before .before .before .before .before .before .pre .2) (c .before .before .before .before .before .before .before .before .before .before .before .before .before .pre .3) (c .before .before .before .before .before .before .before .before .before .before .before .before .before .pre .4) (c .before .before .before .before .before .before .before .before .before .before .before .before .before .pre .5)) (c .before .before .before .before .before .before .before .before .before .before .before .before .before .pre .3 .counted) (c .before .before .before .before .before .before .before .before .before .before .before .before .before .pre .4 .counted) (c .before .before .before .before .clear .kept .0) (omega arith) (c .before .loop .inv)
+half-requires c κs =
+    let e = c .before .before .before .before .before .before .before .before .before .before .before .before .before in
+    let lent = lent-of {states = now (e .args .states)} {t0 = now (e .args .table)} (e .pre .0) (e .pre .1) (e .pre .2) (e .pre .3) (e .pre .4) (e .pre .5) in
+    table-half lent (e .pre .3 .counted) (e .pre .4 .counted) (c .before .before .before .before .clear .kept .0) (omega arith) (c .before .loop .inv)
 
 fill-row-requires : tie.Need-fill-row-requires Inv-loop μ-loop
-fill-row-requires c κs = (lent-kept (c .before .before .before .loop .inv .same ∙ c .before .before .before .before .before .before .clear .kept .0) (lent-of {states = now (c .before .before .before .before .before .before .before .before .before .before .before .before .before .before .before .args .states)} {t0 = now (c .before .before .before .before .before .before .before .before .before .before .before .before .before .before .before .args .table)} (c .before .before .before .before .before .before .before .before .before .before .before .before .before .before .before .pre .0) (c .before .before .before .before .before .before .before .before .before .before .before .before .before .before .before .pre .1) (c .before .before .before .before .before .before .before .before .before .before .before .before .before .before .before .pre .2) (c .before .before .before .before .before .before .before .before .before .before .before .before .before .before .before .pre .3) (c .before .before .before .before .before .before .before .before .before .before .before .before .before .before .before .pre .4) (c .before .before .before .before .before .before .before .before .before .before .before .before .before .before .before .pre .5)), c .before .before .before .before .before .before .before .before .before .before .before .before .before .before .before .pre .4 .counted, c .before .before .before .loop .inv .inside .0, omega (arith, c .before .before .before .before .before .before .before .before .before .before .before .before .before .before .before .pre .3 .counted), c .before .half .ensures, table-row (lent-of {states = now (c .before .before .before .before .before .before .before .before .before .before .before .before .before .before .before .args .states)} {t0 = now (c .before .before .before .before .before .before .before .before .before .before .before .before .before .before .before .args .table)} (c .before .before .before .before .before .before .before .before .before .before .before .before .before .before .before .pre .0) (c .before .before .before .before .before .before .before .before .before .before .before .before .before .before .before .pre .1) (c .before .before .before .before .before .before .before .before .before .before .before .before .before .before .before .pre .2) (c .before .before .before .before .before .before .before .before .before .before .before .before .before .before .before .pre .3) (c .before .before .before .before .before .before .before .before .before .before .before .before .before .before .before .pre .4) (c .before .before .before .before .before .before .before .before .before .before .before .before .before .before .before .pre .5)) (c .before .before .before .before .before .before .before .before .before .before .before .before .before .before .before .pre .3 .counted) (c .before .before .before .before .before .before .before .before .before .before .before .before .before .before .before .pre .4 .counted) (c .before .before .before .before .before .before .clear .kept .0) (omega arith) (c .before .before .before .loop .inv), c .before .before .before .loop .inv .rows)
+fill-row-requires c κs =
+    let e = c .before .before .before .before .before .before .before .before .before .before .before .before .before .before .before in
+    let inv = c .before .before .before .loop .inv in
+    let lent = lent-of {states = now (e .args .states)} {t0 = now (e .args .table)} (e .pre .0) (e .pre .1) (e .pre .2) (e .pre .3) (e .pre .4) (e .pre .5) in
+    (lent-kept (inv .same ∙ c .before .before .before .before .before .before .clear .kept .0) lent, e .pre .4 .counted, inv .inside .0, omega (arith, e .pre .3 .counted), c .before .half .ensures, table-row lent (e .pre .3 .counted) (e .pre .4 .counted) (c .before .before .before .before .before .before .clear .kept .0) (omega arith) (inv), inv .rows)
 
 add-at : tie.Need-add-at Inv-loop μ-loop
-add-at c = omega (arith, table-fits (c .before .before .before .before .before .before .before .before .before .before .before .before .before .before .before .before .before .before), c .before .before .before .before .before .before .loop .inv .at-is, table-room (lent-of {states = now (c .before .before .before .before .before .before .before .before .before .before .before .before .before .before .before .before .before .before .args .states)} {t0 = now (c .before .before .before .before .before .before .before .before .before .before .before .before .before .before .before .before .before .before .args .table)} (c .before .before .before .before .before .before .before .before .before .before .before .before .before .before .before .before .before .before .pre .0) (c .before .before .before .before .before .before .before .before .before .before .before .before .before .before .before .before .before .before .pre .1) (c .before .before .before .before .before .before .before .before .before .before .before .before .before .before .before .before .before .before .pre .2) (c .before .before .before .before .before .before .before .before .before .before .before .before .before .before .before .before .before .before .pre .3) (c .before .before .before .before .before .before .before .before .before .before .before .before .before .before .before .before .before .before .pre .4) (c .before .before .before .before .before .before .before .before .before .before .before .before .before .before .before .before .before .before .pre .5)) (c .before .before .before .before .before .before .before .before .before .before .before .before .before .before .before .before .before .before .pre .3 .counted) (c .before .before .before .before .before .before .before .before .before .before .before .before .before .before .before .before .before .before .pre .4 .counted) (c .before .before .before .before .before .before .loop .a) (omega arith))
+add-at c =
+    let e = c .before .before .before .before .before .before .before .before .before .before .before .before .before .before .before .before .before .before in
+    let lent = lent-of {states = now (e .args .states)} {t0 = now (e .args .table)} (e .pre .0) (e .pre .1) (e .pre .2) (e .pre .3) (e .pre .4) (e .pre .5) in
+    omega (arith, table-fits (c .before .before .before .before .before .before .before .before .before .before .before .before .before .before .before .before .before .before), c .before .before .before .before .before .before .loop .inv .at-is, table-room lent (e .pre .3 .counted) (e .pre .4 .counted) (c .before .before .before .before .before .before .loop .a) (omega arith))
 
 add-a : tie.Need-add-a Inv-loop μ-loop
 add-a c = search needs
@@ -45,19 +64,31 @@ loop-less : tie.Need-loop-less Inv-loop μ-loop
 loop-less c = search needs
 
 loop-again : tie.Need-loop-again Inv-loop μ-loop
-loop-again c = table-more (lent-of {states = now (c .before .before .before .before .before .before .before .before .before .before .before .before .before .before .before .before .before .before .args .states)} {t0 = now (c .before .before .before .before .before .before .before .before .before .before .before .before .before .before .before .before .before .before .args .table)} (c .before .before .before .before .before .before .before .before .before .before .before .before .before .before .before .before .before .before .pre .0) (c .before .before .before .before .before .before .before .before .before .before .before .before .before .before .before .before .before .before .pre .1) (c .before .before .before .before .before .before .before .before .before .before .before .before .before .before .before .before .before .before .pre .2) (c .before .before .before .before .before .before .before .before .before .before .before .before .before .before .before .before .before .before .pre .3) (c .before .before .before .before .before .before .before .before .before .before .before .before .before .before .before .before .before .before .pre .4) (c .before .before .before .before .before .before .before .before .before .before .before .before .before .before .before .before .before .before .pre .5)) (c .before .before .before .before .before .before .before .before .before .before .before .before .before .before .before .before .before .before .pre .3 .counted) (c .before .before .before .before .before .before .before .before .before .before .before .before .before .before .before .before .before .before .pre .4 .counted) (c .before .before .before .before .before .before .before .before .before .clear .kept .0) (omega arith) (c .before .before .before .before .before .before .loop .inv) _ _ (c .before .before .fill-row .kept .0) (c .before .before .before .before .half .ensures) (c .before .before .fill-row .ensures .0) (c .before .before .fill-row .ensures .1)
+loop-again c =
+    let e = c .before .before .before .before .before .before .before .before .before .before .before .before .before .before .before .before .before .before in
+    let lent = lent-of {states = now (e .args .states)} {t0 = now (e .args .table)} (e .pre .0) (e .pre .1) (e .pre .2) (e .pre .3) (e .pre .4) (e .pre .5) in
+    table-more lent (e .pre .3 .counted) (e .pre .4 .counted) (c .before .before .before .before .before .before .before .before .before .clear .kept .0) (omega arith) (c .before .before .before .before .before .before .loop .inv) _ _ (c .before .before .fill-row .kept .0) (c .before .before .before .before .half .ensures) (c .before .before .fill-row .ensures .0) (c .before .before .fill-row .ensures .1)
 
 mul-strip-all : tie.Need-mul-strip-all Inv-loop μ-loop
-mul-strip-all c = omega (arith, table-words (lent-of {states = now (c .before .before .before .before .before .before .before .before .before .before .before .before .before .before .args .states)} {t0 = now (c .before .before .before .before .before .before .before .before .before .before .before .before .before .before .args .table)} (c .before .before .before .before .before .before .before .before .before .before .before .before .before .before .pre .0) (c .before .before .before .before .before .before .before .before .before .before .before .before .before .before .pre .1) (c .before .before .before .before .before .before .before .before .before .before .before .before .before .before .pre .2) (c .before .before .before .before .before .before .before .before .before .before .before .before .before .before .pre .3) (c .before .before .before .before .before .before .before .before .before .before .before .before .before .before .pre .4) (c .before .before .before .before .before .before .before .before .before .before .before .before .before .before .pre .5)) (c .before .before .before .before .before .before .before .before .before .before .before .before .before .before .pre .3 .counted) (c .before .before .before .before .before .before .before .before .before .before .before .before .before .before .pre .4 .counted), c .before .before .before .before .before .before .before .before .before .before .before .before .before .before .pre .5, mul-le-mul-right {m = 1} {n = c .before .before .before .before .before .before .before .before .before .before .before .before .before .before .args .words} (c .before .before .before .before .before .before .before .before .before .before .before .before .before .before .args .length-count * c .before .before .before .before .before .before .before .before .before .before .before .before .before .before .args .columns) (some-state (c .before .before .before .before .before .before .before .before .before .before .before .before .before .before .pre .2)))
+mul-strip-all c =
+    let e = c .before .before .before .before .before .before .before .before .before .before .before .before .before .before in
+    let lent = lent-of {states = now (e .args .states)} {t0 = now (e .args .table)} (e .pre .0) (e .pre .1) (e .pre .2) (e .pre .3) (e .pre .4) (e .pre .5) in
+    omega (arith, table-fits e, table-words lent (e .pre .3 .counted) (e .pre .4 .counted), e .pre .5, mul-le-mul-right {m = 1} {n = e .args .words} (e .args .length-count * e .args .columns) (some-state (e .pre .2)))
 
 strip-all-requires : tie.Need-strip-all-requires Inv-loop μ-loop
-strip-all-requires c κs = table-bare (lent-of {states = now (c .before .before .before .before .before .before .before .before .before .before .before .before .before .before .args .states)} {t0 = now (c .before .before .before .before .before .before .before .before .before .before .before .before .before .before .args .table)} (c .before .before .before .before .before .before .before .before .before .before .before .before .before .before .pre .0) (c .before .before .before .before .before .before .before .before .before .before .before .before .before .before .pre .1) (c .before .before .before .before .before .before .before .before .before .before .before .before .before .before .pre .2) (c .before .before .before .before .before .before .before .before .before .before .before .before .before .before .pre .3) (c .before .before .before .before .before .before .before .before .before .before .before .before .before .before .pre .4) (c .before .before .before .before .before .before .before .before .before .before .before .before .before .before .pre .5)) (c .before .before .before .before .before .before .before .before .before .before .before .before .before .before .pre .3 .counted) (c .before .before .before .before .before .before .before .before .before .before .before .before .before .before .pre .4 .counted) (c .before .before .before .before .before .clear .ensures) (c .before .before .before .before .before .clear .kept .0) (omega arith) (c .before .before .loop .inv)
+strip-all-requires c κs =
+    let e = c .before .before .before .before .before .before .before .before .before .before .before .before .before .before in
+    let lent = lent-of {states = now (e .args .states)} {t0 = now (e .args .table)} (e .pre .0) (e .pre .1) (e .pre .2) (e .pre .3) (e .pre .4) (e .pre .5) in
+    table-bare lent (e .pre .3 .counted) (e .pre .4 .counted) (c .before .before .before .before .before .clear .ensures) (c .before .before .before .before .before .clear .kept .0) (omega arith) (c .before .before .loop .inv)
 
 same-length : tie.Need-same-length Inv-loop μ-loop
 same-length c = c .before .before .strip-all .kept .0 ∙ (c .before .before .before .before .before .loop .inv .same ∙ c .before .before .before .before .before .before .before .before .clear .kept .0)
 
 returns : tie.Need-returns Inv-loop μ-loop
-returns c = table-end (lent-of {states = now (c .before .before .before .before .before .before .before .before .before .before .before .before .before .before .before .before .before .args .states)} {t0 = now (c .before .before .before .before .before .before .before .before .before .before .before .before .before .before .before .before .before .args .table)} (c .before .before .before .before .before .before .before .before .before .before .before .before .before .before .before .before .before .pre .0) (c .before .before .before .before .before .before .before .before .before .before .before .before .before .before .before .before .before .pre .1) (c .before .before .before .before .before .before .before .before .before .before .before .before .before .before .before .before .before .pre .2) (c .before .before .before .before .before .before .before .before .before .before .before .before .before .before .before .before .before .pre .3) (c .before .before .before .before .before .before .before .before .before .before .before .before .before .before .before .before .before .pre .4) (c .before .before .before .before .before .before .before .before .before .before .before .before .before .before .before .before .before .pre .5)) (c .before .before .before .before .before .before .before .before .before .before .before .before .before .before .before .before .before .pre .3 .counted) (c .before .before .before .before .before .before .before .before .before .before .before .before .before .before .before .before .before .pre .4 .counted) (c .before .before .before .before .before .before .before .before .clear .ensures) (c .before .before .before .before .before .before .before .before .clear .kept .0) (omega arith) (c .before .before .before .before .before .loop .inv) _ (c .before .before .strip-all .kept .0) (c .before .before .strip-all .ensures)
+returns c =
+    let e = c .before .before .before .before .before .before .before .before .before .before .before .before .before .before .before .before .before in
+    let lent = lent-of {states = now (e .args .states)} {t0 = now (e .args .table)} (e .pre .0) (e .pre .1) (e .pre .2) (e .pre .3) (e .pre .4) (e .pre .5) in
+    table-end lent (e .pre .3 .counted) (e .pre .4 .counted) (c .before .before .before .before .before .before .before .before .clear .ensures) (c .before .before .before .before .before .before .before .before .clear .kept .0) (omega arith) (c .before .before .before .before .before .loop .inv) _ (c .before .before .strip-all .kept .0) (c .before .before .strip-all .ensures)
 
 pub fill-spec : {M : Type 1} → statement M
 fill-spec =

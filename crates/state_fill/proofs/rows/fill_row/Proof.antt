@@ -16,25 +16,39 @@ abbrev μ-loop : tie.MeasureT-loop
 μ-loop table₀ l w lengths widths prices states count long longmap wide widemap blocks d n r a ka at row kb₀ column₀ b₀ table kb column b = r - b
 
 mul-row : tie.Need-mul-row Inv-loop μ-loop
-mul-row c = omega (arith, row-words (c .before .before .before .before .before .before .before .pre .0) (c .before .before .before .before .before .before .before .pre .1) (c .before .before .before .before .before .before .before .pre .2) (c .before .before .before .before .before .before .before .pre .3) (c .before .before .before .before .before .before .before .pre .4) (c .before .before .before .before .before .before .before .pre .5) (c .before .before .before .before .before .before .before .pre .6))
+mul-row c =
+    let e = c .before .before .before .before .before .before .before in
+    omega (arith, row-words (e .pre .0) (e .pre .1) (e .pre .2) (e .pre .3) (e .pre .4) (e .pre .5) (e .pre .6))
 
 clear-requires : tie.Need-clear-requires Inv-loop μ-loop
-clear-requires c κs = omega (arith, row-room (c .before .before .before .before .before .before .before .before .pre .0) (c .before .before .before .before .before .before .before .before .pre .1) (c .before .before .before .before .before .before .before .before .pre .2) (c .before .before .before .before .before .before .before .before .pre .3) (c .before .before .before .before .before .before .before .before .pre .4) (c .before .before .before .before .before .before .before .before .pre .5) (c .before .before .before .before .before .before .before .before .pre .6) 0 (row-some (c .before .before .before .before .before .before .before .before .pre .0) (c .before .before .before .before .before .before .before .before .pre .1) (c .before .before .before .before .before .before .before .before .pre .2) (c .before .before .before .before .before .before .before .before .pre .3) (c .before .before .before .before .before .before .before .before .pre .4) (c .before .before .before .before .before .before .before .before .pre .5) (c .before .before .before .before .before .before .before .before .pre .6)) .0)
+clear-requires c κs =
+    let e = c .before .before .before .before .before .before .before .before in
+    omega (arith, row-room (e .pre .0) (e .pre .1) (e .pre .2) (e .pre .3) (e .pre .4) (e .pre .5) (e .pre .6) 0 (row-some (e .pre .0) (e .pre .1) (e .pre .2) (e .pre .3) (e .pre .4) (e .pre .5) (e .pre .6)) .0)
 
 loop-holds : tie.Need-loop-holds Inv-loop μ-loop
-loop-holds c = row-start (c .before .before .before .before .before .before .before .before .before .before .before .pre .0) (c .before .before .before .before .before .before .before .before .before .before .before .pre .1) (c .before .before .before .before .before .before .before .before .before .before .before .pre .2) (c .before .before .before .before .before .before .before .before .before .before .before .pre .3) (c .before .before .before .before .before .before .before .before .before .before .before .pre .4) (c .before .before .before .before .before .before .before .before .before .before .before .pre .5) (c .before .before .before .before .before .before .before .before .before .before .before .pre .6) _ (c .before .before .clear .ensures)
+loop-holds c =
+    let e = c .before .before .before .before .before .before .before .before .before .before .before in
+    row-start (e .pre .0) (e .pre .1) (e .pre .2) (e .pre .3) (e .pre .4) (e .pre .5) (e .pre .6) _ (c .before .before .clear .ensures)
 
 half-requires : tie.Need-half-requires Inv-loop μ-loop
-half-requires c κs = row-half (c .before .before .before .before .before .before .before .before .before .before .before .before .before .pre .0) (c .before .before .before .before .before .before .before .before .before .before .before .before .before .pre .1) (c .before .before .before .before .before .before .before .before .before .before .before .before .before .pre .2) (c .before .before .before .before .before .before .before .before .before .before .before .before .before .pre .3) (c .before .before .before .before .before .before .before .before .before .before .before .before .before .pre .4) (c .before .before .before .before .before .before .before .before .before .before .before .before .before .pre .5) (c .before .before .before .before .before .before .before .before .before .before .before .before .before .pre .6) (c .before .before .before .before .clear .kept .0) (omega arith) (c .before .loop .inv)
+half-requires c κs =
+    let e = c .before .before .before .before .before .before .before .before .before .before .before .before .before in
+    row-half (e .pre .0) (e .pre .1) (e .pre .2) (e .pre .3) (e .pre .4) (e .pre .5) (e .pre .6) (c .before .before .before .before .clear .kept .0) (omega arith) (c .before .loop .inv)
 
 add-make-cell : tie.Need-add-make-cell Inv-loop μ-loop
-add-make-cell c = omega (arith, row-fits (c .before .before .before .before .before .before .before .before .before .before .before .before .before .before .before .pre .0) (c .before .before .before .before .before .before .before .before .before .before .before .before .before .before .before .pre .1) (c .before .before .before .before .before .before .before .before .before .before .before .before .before .before .before .pre .2) (c .before .before .before .before .before .before .before .before .before .before .before .before .before .before .before .pre .3) (c .before .before .before .before .before .before .before .before .before .before .before .before .before .before .before .pre .4) (c .before .before .before .before .before .before .before .before .before .before .before .before .before .before .before .pre .5) (c .before .before .before .before .before .before .before .before .before .before .before .before .before .before .before .pre .6) (c .before .before .before .before .before .before .clear .kept .0) (omega arith) (c .before .before .before .loop .inv))
+add-make-cell c =
+    let e = c .before .before .before .before .before .before .before .before .before .before .before .before .before .before .before in
+    omega (arith, row-fits (e .pre .0) (e .pre .1) (e .pre .2) (e .pre .3) (e .pre .4) (e .pre .5) (e .pre .6) (c .before .before .before .before .before .before .clear .kept .0) (omega arith) (c .before .before .before .loop .inv))
 
 make-cell-requires : tie.Need-make-cell-requires Inv-loop μ-loop
-make-cell-requires c κs = row-spot (c .before .before .before .before .before .before .before .before .before .before .before .before .before .before .before .pre .0) (c .before .before .before .before .before .before .before .before .before .before .before .before .before .before .before .pre .1) (c .before .before .before .before .before .before .before .before .before .before .before .before .before .before .before .pre .2) (c .before .before .before .before .before .before .before .before .before .before .before .before .before .before .before .pre .3) (c .before .before .before .before .before .before .before .before .before .before .before .before .before .before .before .pre .4) (c .before .before .before .before .before .before .before .before .before .before .before .before .before .before .before .pre .5) (c .before .before .before .before .before .before .before .before .before .before .before .before .before .before .before .pre .6) (c .before .before .before .before .before .before .clear .kept .0) (omega arith) (c .before .before .before .loop .inv) _ _ (c .before .half .ensures) refl
+make-cell-requires c κs =
+    let e = c .before .before .before .before .before .before .before .before .before .before .before .before .before .before .before in
+    row-spot (e .pre .0) (e .pre .1) (e .pre .2) (e .pre .3) (e .pre .4) (e .pre .5) (e .pre .6) (c .before .before .before .before .before .before .clear .kept .0) (omega arith) (c .before .before .before .loop .inv) _ _ (c .before .half .ensures) refl
 
 add-column : tie.Need-add-column Inv-loop μ-loop
-add-column c = omega (arith, row-fits (c .before .before .before .before .before .before .before .before .before .before .before .before .before .before .before .before .before .before .pre .0) (c .before .before .before .before .before .before .before .before .before .before .before .before .before .before .before .before .before .before .pre .1) (c .before .before .before .before .before .before .before .before .before .before .before .before .before .before .before .before .before .before .pre .2) (c .before .before .before .before .before .before .before .before .before .before .before .before .before .before .before .before .before .before .pre .3) (c .before .before .before .before .before .before .before .before .before .before .before .before .before .before .before .before .before .before .pre .4) (c .before .before .before .before .before .before .before .before .before .before .before .before .before .before .before .before .before .before .pre .5) (c .before .before .before .before .before .before .before .before .before .before .before .before .before .before .before .before .before .before .pre .6) (c .before .before .before .before .before .before .before .before .before .clear .kept .0) (omega arith) (c .before .before .before .before .before .before .loop .inv))
+add-column c =
+    let e = c .before .before .before .before .before .before .before .before .before .before .before .before .before .before .before .before .before .before in
+    omega (arith, row-fits (e .pre .0) (e .pre .1) (e .pre .2) (e .pre .3) (e .pre .4) (e .pre .5) (e .pre .6) (c .before .before .before .before .before .before .before .before .before .clear .kept .0) (omega arith) (c .before .before .before .before .before .before .loop .inv))
 
 add-b : tie.Need-add-b Inv-loop μ-loop
 add-b c = search needs
@@ -43,13 +57,17 @@ loop-less : tie.Need-loop-less Inv-loop μ-loop
 loop-less c = search needs
 
 loop-again : tie.Need-loop-again Inv-loop μ-loop
-loop-again c = row-more (c .before .before .before .before .before .before .before .before .before .before .before .before .before .before .before .before .before .before .pre .0) (c .before .before .before .before .before .before .before .before .before .before .before .before .before .before .before .before .before .before .pre .1) (c .before .before .before .before .before .before .before .before .before .before .before .before .before .before .before .before .before .before .pre .2) (c .before .before .before .before .before .before .before .before .before .before .before .before .before .before .before .before .before .before .pre .3) (c .before .before .before .before .before .before .before .before .before .before .before .before .before .before .before .before .before .before .pre .4) (c .before .before .before .before .before .before .before .before .before .before .before .before .before .before .before .before .before .before .pre .5) (c .before .before .before .before .before .before .before .before .before .before .before .before .before .before .before .before .before .before .pre .6) (c .before .before .before .before .before .before .before .before .before .clear .kept .0) (omega arith) (c .before .before .before .before .before .before .loop .inv) _ _ (c .before .before .make-cell .kept .0) (c .before .before .before .before .half .ensures) (c .before .before .make-cell .ensures .0) (c .before .before .make-cell .ensures .1)
+loop-again c =
+    let e = c .before .before .before .before .before .before .before .before .before .before .before .before .before .before .before .before .before .before in
+    row-more (e .pre .0) (e .pre .1) (e .pre .2) (e .pre .3) (e .pre .4) (e .pre .5) (e .pre .6) (c .before .before .before .before .before .before .before .before .before .clear .kept .0) (omega arith) (c .before .before .before .before .before .before .loop .inv) _ _ (c .before .before .make-cell .kept .0) (c .before .before .before .before .half .ensures) (c .before .before .make-cell .ensures .0) (c .before .before .make-cell .ensures .1)
 
 same-length : tie.Need-same-length Inv-loop μ-loop
 same-length c = c .before .loop .inv .same ∙ c .before .before .before .before .clear .kept .0
 
 returns : tie.Need-returns Inv-loop μ-loop
-returns c = row-end (c .before .before .before .before .before .before .before .before .before .before .before .before .before .pre .0) (c .before .before .before .before .before .before .before .before .before .before .before .before .before .pre .1) (c .before .before .before .before .before .before .before .before .before .before .before .before .before .pre .2) (c .before .before .before .before .before .before .before .before .before .before .before .before .before .pre .3) (c .before .before .before .before .before .before .before .before .before .before .before .before .before .pre .4) (c .before .before .before .before .before .before .before .before .before .before .before .before .before .pre .5) (c .before .before .before .before .before .before .before .before .before .before .before .before .before .pre .6) (c .before .before .before .before .clear .ensures) (omega arith) (c .before .loop .inv)
+returns c =
+    let e = c .before .before .before .before .before .before .before .before .before .before .before .before .before in
+    row-end (e .pre .0) (e .pre .1) (e .pre .2) (e .pre .3) (e .pre .4) (e .pre .5) (e .pre .6) (c .before .before .before .before .clear .ensures) (omega arith) (c .before .loop .inv)
 
 pub fill-row-spec : {M : Type 1} → statement M
 fill-row-spec =

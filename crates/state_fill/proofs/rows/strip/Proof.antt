@@ -66,7 +66,9 @@ loop-less : tie.Need-loop-less Inv-loop μ-loop
 loop-less c = search needs
 
 loop-again : tie.Need-loop-again Inv-loop μ-loop
-loop-again c = (omega arith, simp length-set (c .before .before .before .before .before .before .loop .inv .1), run-more _ _ _ _ _ _ (omega (arith, c .before .before .before .before .before .before .loop .inv .1)) (c .figure .ensures .0 ∙ ap figure-in (c .before .before .before .before .before .before .loop .inv .2 .rest .after (c .before .before .before .before .before .before .before .before .args .x + c .before .before .before .before .before .before .loop .k) (omega arith))) (c .before .before .before .before .before .before .loop .inv .2))
+loop-again c =
+    let inv = c .before .before .before .before .before .before .loop .inv in
+    (omega arith, simp length-set (inv .1), run-more _ _ _ _ _ _ (omega (arith, inv .1)) (c .figure .ensures .0 ∙ ap figure-in (inv .2 .rest .after (c .before .before .before .before .before .before .before .before .args .x + c .before .before .before .before .before .before .loop .k) (omega arith))) (inv .2))
 
 same-length-2 : tie.Need-same-length-2 Inv-loop μ-loop
 same-length-2 c = c .before .loop .inv .1

@@ -20,10 +20,16 @@ loop-holds : tie.Need-loop-holds Inv-loop μ-loop
 loop-holds c = (omega arith, omega arith, refl, plain-none _ _)
 
 strip-requires : tie.Need-strip-requires Inv-loop μ-loop
-strip-requires c κs = (omega (arith, c .before .before .loop .inv .1, c .before .before .loop .inv .2, c .before .before .before .before .pre .0, cell-before (c .before .before .loop .i) (c .before .before .before .before .args .s) (c .before .before .before .before .args .words) (omega arith)), bare-left _ _ _ _ _ _ (c .before .before .loop .inv .1) (omega arith) (c .before .before .before .before .pre .1) (c .before .before .loop .inv .3))
+strip-requires c κs =
+    let e = c .before .before .before .before in
+    let inv = c .before .before .loop .inv in
+    (omega (arith, inv .1, inv .2, e .pre .0, cell-before (c .before .before .loop .i) (e .args .s) (e .args .words) (omega arith)), bare-left _ _ _ _ _ _ (inv .1) (omega arith) (e .pre .1) (inv .3))
 
 add-x : tie.Need-add-x Inv-loop μ-loop
-add-x c = omega (arith, c .before .before .before .before .before .loop .inv .1, c .before .before .before .before .before .loop .inv .2, c .before .before .before .before .before .before .before .pre .0, cell-before (c .before .before .before .before .before .loop .i) (c .before .before .before .before .before .before .before .args .s) (c .before .before .before .before .before .before .before .args .words) (omega arith))
+add-x c =
+    let e = c .before .before .before .before .before .before .before in
+    let inv = c .before .before .before .before .before .loop .inv in
+    omega (arith, inv .1, inv .2, e .pre .0, cell-before (c .before .before .before .before .before .loop .i) (e .args .s) (e .args .words) (omega arith))
 
 add-i : tie.Need-add-i Inv-loop μ-loop
 add-i c = search needs
@@ -32,7 +38,9 @@ loop-less : tie.Need-loop-less Inv-loop μ-loop
 loop-less c = search needs
 
 loop-again : tie.Need-loop-again Inv-loop μ-loop
-loop-again c = (omega arith, omega (arith, c .before .before .before .before .before .loop .inv .1), c .before .before .strip .kept .0 ∙ c .before .before .before .before .before .loop .inv .2, plain-more _ _ _ _ _ _ (c .before .before .before .before .before .loop .inv .1) (c .before .before .strip .ensures) (c .before .before .before .before .before .loop .inv .3))
+loop-again c =
+    let inv = c .before .before .before .before .before .loop .inv in
+    (omega arith, omega (arith, inv .1), c .before .before .strip .kept .0 ∙ inv .2, plain-more _ _ _ _ _ _ (inv .1) (c .before .before .strip .ensures) (inv .3))
 
 same-length : tie.Need-same-length Inv-loop μ-loop
 same-length c = c .before .loop .inv .2
