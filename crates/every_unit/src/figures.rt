@@ -1,123 +1,152 @@
 // The figures of every rectangle and share, by the definition: 0; the price of any kind that fits and weighs at most the share; every
-// length cut with every division of the share; every width cut likewise. Rectangles by rising length, then width.
-use crate::jobs::capacity;
-use crate::jobs::kind_count;
-use crate::jobs::kind_number;
-use crate::jobs::kind_side;
-use crate::jobs::plate_side;
-use crate::words::larger;
-use crate::words::minus;
-use crate::words::plus;
-use crate::words::put;
-use crate::words::times;
-use crate::words::word;
-
-// How many lengths, widths and shares there are, each counted from 0.
-pub struct Grid {
-    pub lengths: usize,
-    pub widths: usize,
-    pub shares: usize,
-}
-
-pub fn grid_of(job: &[u64]) -> Grid {
-    Grid {
-        lengths: plus(plate_side(job, 0), 1),
-        widths: plus(plate_side(job, 1), 1),
-        shares: plus(capacity(job), 1),
-    }
-}
+// length cut with every division of the share; every width cut likewise. By rising length, then width, then share.
+use crate::job::FIGURES;
+use crate::job::LENGTH_COUNT;
+use crate::job::NORMAL_LENGTHS;
+use crate::job::NORMAL_WIDTHS;
+use crate::job::PRICE;
+use crate::job::WEIGHT;
+use crate::job::WIDTH_COUNT;
+use crate::job::count_shares;
+use crate::job::kind_count;
+use crate::job::kind_side;
+use crate::job::plate_side;
+use crate::job::shares;
+use crate::job::widths;
+use test_tools::Words;
+use test_tools::larger;
+use test_tools::minus;
+use test_tools::plus;
+use test_tools::put;
+use test_tools::quotient;
+use test_tools::rest;
+use test_tools::times;
+use test_tools::word;
 
 // Where the shares of a rectangle begin.
-fn cell(g: Grid, l: usize, w: usize) -> usize {
-    times(plus(times(l, g.widths), w), g.shares)
-}
-
-pub fn figure_at(figures: &[u64], g: Grid, l: usize, w: usize, c: usize) -> u64 {
-    word(figures, plus(cell(g, l, w), c))
+fn cell(t: &Words, l: usize, w: usize) -> usize {
+    plus(FIGURES, times(plus(times(l, widths(t)), w), shares(t)))
 }
 
 // The price of a kind where it fits and weighs at most the share, and else 0.
-fn price_within(job: &[u64], i: usize, l: usize, w: usize, c: usize) -> u64 {
-    if l < kind_side(job, i, 0) {
+fn price_within(t: &Words, i: usize, l: usize, w: usize, c: usize) -> usize {
+    if l < kind_side(t, 0, i) {
         return 0;
     }
-    if w < kind_side(job, i, 1) {
+    if w < kind_side(t, 1, i) {
         return 0;
     }
-    if (c as u64) < kind_number(job, i, 4) {
+    if c < word(t, WEIGHT, i) {
         return 0;
     }
-    kind_number(job, i, 2)
+    word(t, PRICE, i)
 }
 
-fn best_kind(job: &[u64], l: usize, w: usize, c: usize) -> u64 {
-    let mut best: u64 = 0;
-    for i in 0..kind_count(job) {
-        best = larger(best, price_within(job, i, l, w, c));
+fn best_kind(t: &Words, l: usize, w: usize, c: usize) -> usize {
+    let mut best: usize = 0;
+    for i in 0..kind_count(t) {
+        best = larger(best, price_within(t, i, l, w, c));
     }
     best
 }
 
 // The most that the cells of two parts earn together, over every division of the share.
-fn best_division(figures: &[u64], first: usize, second: usize, c: usize) -> u64 {
-    let mut best: u64 = 0;
+fn best_division(t: &Words, first: usize, second: usize, c: usize) -> usize {
+    let mut best: usize = 0;
     for s in 0..plus(c, 1) {
-        let x = word(figures, plus(first, s));
-        let y = word(figures, plus(second, minus(c, s)));
-        best = larger(best, std::num::wrapping_add_u64(x, y));
+        best = larger(best, plus(word(t, first, s), word(t, second, minus(c, s))));
     }
     best
 }
 
-fn best_length_cut(figures: &[u64], g: Grid, l: usize, w: usize, c: usize) -> u64 {
-    let mut best: u64 = 0;
-    for i in 0..minus(l, 1) {
+// The most that a cut of a side earns. The cell of a part of size x begins x strides after the first place.
+fn best_cut(t: &Words, first: usize, stride: usize, side: usize, c: usize) -> usize {
+    let mut best: usize = 0;
+    for i in 0..minus(side, 1) {
         let x = plus(i, 1);
-        best = larger(
-            best,
-            best_division(figures, cell(g, x, w), cell(g, minus(l, x), w), c),
-        );
+        let one = plus(first, times(stride, x));
+        let other = plus(first, times(stride, minus(side, x)));
+        best = larger(best, best_division(t, one, other, c));
     }
     best
 }
 
-fn best_width_cut(figures: &[u64], g: Grid, l: usize, w: usize, c: usize) -> u64 {
-    let mut best: u64 = 0;
-    for i in 0..minus(w, 1) {
-        let x = plus(i, 1);
-        best = larger(
-            best,
-            best_division(figures, cell(g, l, x), cell(g, l, minus(w, x)), c),
-        );
-    }
-    best
+fn best_length_cut(t: &Words, l: usize, w: usize, c: usize) -> usize {
+    best_cut(t, cell(t, 0, w), minus(cell(t, 1, 0), FIGURES), l, c)
 }
 
-fn figure(figures: &[u64], job: &[u64], g: Grid, l: usize, w: usize, c: usize) -> u64 {
-    let kind = best_kind(job, l, w, c);
-    let cut = larger(
-        best_length_cut(figures, g, l, w, c),
-        best_width_cut(figures, g, l, w, c),
-    );
-    larger(kind, cut)
+fn best_width_cut(t: &Words, l: usize, w: usize, c: usize) -> usize {
+    best_cut(t, cell(t, l, 0), shares(t), w, c)
 }
 
-fn fill_cell(figures: &mut [u64], job: &[u64], g: Grid, l: usize, w: usize) {
-    for c in 0..g.shares {
-        let x = figure(&figures[..], job, g, l, w, c);
-        put(figures, plus(cell(g, l, w), c), x);
+fn figure(t: &Words, l: usize, w: usize, c: usize) -> usize {
+    let cut = larger(best_length_cut(t, l, w, c), best_width_cut(t, l, w, c));
+    larger(best_kind(t, l, w, c), cut)
+}
+
+fn fill_cell(t: &mut Words, l: usize, w: usize) {
+    for c in 0..shares(t) {
+        let x = figure(t, l, w, c);
+        put(t, cell(t, l, w), c, x);
     }
 }
 
-fn fill_length(figures: &mut [u64], job: &[u64], g: Grid, l: usize) {
-    for w in 0..g.widths {
-        fill_cell(figures, job, g, l, w);
+fn fill_length(t: &mut Words, l: usize) {
+    for w in 0..widths(t) {
+        fill_cell(t, l, w);
     }
 }
 
 // Fills in every figure of a job.
-pub fn fill_figures(figures: &mut [u64], job: &[u64], g: Grid) {
-    for l in 0..g.lengths {
-        fill_length(figures, job, g, l);
+pub fn fill_figures(t: &mut Words) {
+    count_shares(t);
+    for l in 0..plus(plate_side(t, 0), 1) {
+        fill_length(t, l);
     }
+}
+
+// The figure of the plate and the whole capacity.
+pub fn bound_at_every_unit(t: &Words) -> usize {
+    word(
+        t,
+        cell(t, plate_side(t, 0), plate_side(t, 1)),
+        minus(shares(t), 1),
+    )
+}
+
+// Where the figures of the n-th normal length and width begin, the widths running fastest.
+fn normal_cell(t: &Words, n: usize) -> usize {
+    let r = word(t, WIDTH_COUNT, 0);
+    cell(
+        t,
+        word(t, NORMAL_LENGTHS, quotient(n, r)),
+        word(t, NORMAL_WIDTHS, rest(n, r)),
+    )
+}
+
+fn normal_figure(t: &Words, k: usize) -> usize {
+    word(
+        t,
+        normal_cell(t, quotient(k, shares(t))),
+        rest(k, shares(t)),
+    )
+}
+
+// How many figures the planner's table has.
+fn normal_figures(t: &Words) -> usize {
+    times(
+        times(word(t, LENGTH_COUNT, 0), word(t, WIDTH_COUNT, 0)),
+        shares(t),
+    )
+}
+
+// Moves the figures of the planner's table to the front, in its order, and answers how many there are. No figure is overwritten before
+// it is moved, because an entry of a list is not less than its number.
+pub fn keep_normal(t: &mut Words) -> usize {
+    let n = normal_figures(t);
+    for k in 0..n {
+        let x = normal_figure(t, k);
+        put(t, FIGURES, k, x);
+    }
+    n
 }

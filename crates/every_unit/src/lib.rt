@@ -1,27 +1,28 @@
-// A second computation of document 01's figures and normal positions, straight from the definitions and at every whole unit, and
-// generated jobs to compare it on. It shares no code with the planner: a job is an array of plain numbers (jobs.rt).
+// A second computation of the scope's figures and normal positions, straight from the definitions and at every whole unit, and
+// generated jobs to compare it on. It shares no code with the planner. All numbers are words of one array (job.rt says where).
 // Programs compare what it computes; its contracts say only that it is safe and ends.
+mod block;
 mod figures;
-mod jobs;
+mod job;
 mod shapes;
 mod units;
-mod words;
 
-pub use figures::Grid;
-pub use figures::figure_at;
+pub use block::BLOCK;
+pub use block::write_block;
+pub use figures::bound_at_every_unit;
 pub use figures::fill_figures;
-pub use figures::grid_of;
-pub use jobs::kind_at;
-pub use jobs::kind_count;
-pub use jobs::plate_side;
-pub use jobs::write_block;
-pub use jobs::write_weights;
-pub use shapes::make_job;
+pub use figures::keep_normal;
+pub use job::FIGURES;
+pub use job::KIND_LENGTH;
+pub use job::LENGTH_COUNT;
+pub use job::NORMAL_LENGTHS;
+pub use job::NORMAL_WIDTHS;
+pub use job::PLATE;
+pub use job::PRICE;
+pub use job::WEIGHTS;
+pub use job::WIDTH_COUNT;
+pub use job::plate_side;
+pub use job::shares;
+pub use shapes::draw_job;
+pub use shapes::start_random;
 pub use units::list_positions;
-pub use words::larger;
-pub use words::minus;
-pub use words::plus;
-pub use words::put;
-pub use words::smaller;
-pub use words::times;
-pub use words::word;

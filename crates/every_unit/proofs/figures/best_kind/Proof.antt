@@ -1,21 +1,15 @@
--- `every_unit::figures::best_kind` is safe and ends; the loop counts up to its end. Assumes nothing.
+-- `every_unit::figures::best_kind` is safe and ends; the loop counts up to its end.
 use Prim.Native.Nat.{_-_, _≤_}
 use borrow.Author.Needs.{needs}
 use Rattle.every_unit.proofs.figures.best_kind.Statement.{statement}
 use Rattle.every_unit.proofs.figures.best_kind.Tie as tie
 
-abbrev Inv-loop : tie.InvT-loop
-Inv-loop job l w c best₀ i₀ i-end best i = i ≤ i-end
-
-abbrev μ-loop : tie.MeasureT-loop
-μ-loop job l w c best₀ i₀ i-end best i = i-end - i
-
 pub best-kind-spec : {M : Type 1} → statement M
 best-kind-spec =
     tie.close
     (tie.spec
-    Inv-loop
-    μ-loop
+    (λ t l w c best₀ i₀ i-end best i. i ≤ i-end)
+    (λ t l w c best₀ i₀ i-end best i. i-end - i)
     (search needs)
     (search needs)
     (search needs)

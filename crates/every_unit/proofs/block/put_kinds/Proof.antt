@@ -1,0 +1,20 @@
+-- `every_unit::block::put_kinds` is safe and ends; the loop counts up to its end.
+use Prim.Native.Nat.{_-_, _≤_}
+use borrow.Author.Needs.{needs}
+use Rattle.every_unit.proofs.block.put_kinds.Statement.{statement}
+use Rattle.every_unit.proofs.block.put_kinds.Tie as tie
+
+pub put-kinds-spec : {M : Type 1} → statement M
+put-kinds-spec =
+    tie.close
+    (tie.spec
+    (λ t₀ i₀ i-end t i. i ≤ i-end)
+    (λ t₀ i₀ i-end t i. i-end - i)
+    (search needs)
+    (search needs)
+    (search needs)
+    (search needs)
+    (search needs)
+    (search needs)
+    (search needs)
+    (search needs))

@@ -1,0 +1,26 @@
+-- `every_unit::figures::best_cut` is safe and ends; the loop counts up to its end.
+use Prim.Native.Nat.{_-_, _≤_}
+use borrow.Author.Needs.{needs}
+use Rattle.every_unit.proofs.figures.best_cut.Statement.{statement}
+use Rattle.every_unit.proofs.figures.best_cut.Tie as tie
+
+pub best-cut-spec : {M : Type 1} → statement M
+best-cut-spec =
+    tie.close
+    (tie.spec
+    (λ t first stride side c best₀ i₀ i-end best i. i ≤ i-end)
+    (λ t first stride side c best₀ i₀ i-end best i. i-end - i)
+    (search needs)
+    (search needs)
+    (search needs)
+    (search needs)
+    (search needs)
+    (search needs)
+    (search needs)
+    (search needs)
+    (search needs)
+    (search needs)
+    (search needs)
+    (search needs)
+    (search needs)
+    (search needs))

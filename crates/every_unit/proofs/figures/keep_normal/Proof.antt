@@ -1,0 +1,20 @@
+-- `every_unit::figures::keep_normal` is safe and ends; the loop counts up to its end.
+use Prim.Native.Nat.{_-_, _≤_}
+use borrow.Author.Needs.{needs}
+use Rattle.every_unit.proofs.figures.keep_normal.Statement.{statement}
+use Rattle.every_unit.proofs.figures.keep_normal.Tie as tie
+
+pub keep-normal-spec : {M : Type 1} → statement M
+keep-normal-spec =
+    tie.close
+    (tie.spec
+    (λ t₀ n k₀ t k. k ≤ n)
+    (λ t₀ n k₀ t k. n - k)
+    (search needs)
+    (search needs)
+    (search needs)
+    (search needs)
+    (search needs)
+    (search needs)
+    (search needs)
+    (search needs))

@@ -1,0 +1,22 @@
+-- `every_unit::job::capacity` is safe and ends; the loop counts up to its end.
+use Prim.Native.Nat.{_-_, _≤_}
+use borrow.Author.Needs.{needs}
+use Rattle.every_unit.proofs.job.capacity.Statement.{statement}
+use Rattle.every_unit.proofs.job.capacity.Tie as tie
+
+pub capacity-spec : {M : Type 1} → statement M
+capacity-spec =
+    tie.close
+    (tie.spec
+    (λ t sum₀ i₀ i-end sum i. i ≤ i-end)
+    (λ t sum₀ i₀ i-end sum i. i-end - i)
+    (search needs)
+    (search needs)
+    (search needs)
+    (search needs)
+    (search needs)
+    (search needs)
+    (search needs)
+    (search needs)
+    (search needs)
+    (search needs))

@@ -1,0 +1,84 @@
+// Where the words of a job and of its computation stand.
+use test_tools::Words;
+use test_tools::plus;
+use test_tools::put;
+use test_tools::times;
+use test_tools::word;
+
+// Plate length, plate width, number of kinds.
+pub const PLATE: usize = 9000;
+
+// How many shares there are, counted from 0.
+const SHARES: usize = 9004;
+
+// What is left of the capacity while a job is drawn, and the state of the random numbers.
+pub const LEFT: usize = 9005;
+
+pub const STATE: usize = 9006;
+
+// A number of each kind.
+pub const KIND_LENGTH: usize = 9010;
+
+pub const KIND_WIDTH: usize = 9080;
+
+pub const PRICE: usize = 9150;
+
+pub const DEMAND: usize = 9220;
+
+pub const WEIGHT: usize = 9290;
+
+// How many weights there are; then the weights.
+pub const WEIGHTS: usize = 9289;
+
+// How many normal lengths and widths there are, and the two lists.
+pub const LENGTH_COUNT: usize = 9400;
+
+pub const WIDTH_COUNT: usize = 9401;
+
+pub const NORMAL_LENGTHS: usize = 10000;
+
+pub const NORMAL_WIDTHS: usize = 12000;
+
+// Which positions are normal, on the side at hand.
+pub const MARKS: usize = 14000;
+
+// The figures of every length, width and share.
+pub const FIGURES: usize = 16000;
+
+// A side of the plate: 0 the length, 1 the width.
+pub fn plate_side(t: &Words, side: usize) -> usize {
+    word(t, PLATE, side)
+}
+
+pub fn kind_count(t: &Words) -> usize {
+    word(t, PLATE, 2)
+}
+
+// A side of a kind: 0 the length, 1 the width.
+pub fn kind_side(t: &Words, side: usize, i: usize) -> usize {
+    word(t, plus(KIND_LENGTH, times(70, side)), i)
+}
+
+// How many widths there are, counted from 0.
+pub fn widths(t: &Words) -> usize {
+    plus(plate_side(t, 1), 1)
+}
+
+// The capacity: the sum over the kinds of demand times weight.
+fn capacity(t: &Words) -> usize {
+    let mut sum: usize = 0;
+    for i in 0..kind_count(t) {
+        sum = plus(sum, times(word(t, DEMAND, i), word(t, WEIGHT, i)));
+    }
+    sum
+}
+
+pub fn count_shares(t: &mut Words) {
+    let n = capacity(t);
+    put(t, SHARES, 0, plus(n, 1));
+}
+
+// How many shares there are, counted from 0.
+pub fn shares(t: &Words) -> usize {
+    word(t, SHARES, 0)
+}

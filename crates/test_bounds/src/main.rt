@@ -1,0 +1,45 @@
+// Runs the bound call on the jobs of a script (its standard input).
+// A command `Shape` compares it with a second computation that cuts at every whole unit and shares no code with it (crate every_unit), on
+// 140 generated jobs of a shape: the bound, the capacity, the numbers of normal lengths and widths, both lists and every word of the
+// table; all later words of lists and table must keep what they held before the call. It prints how many jobs agreed, the table words
+// compared, the sum of the expected bounds and the greatest capacity. `Total` sums up, and names the first job that does not agree.
+// A command `Limit` runs one job and prints the answer, or the refusal's number and place, and then how many entries of the two lists
+// and how many words of the table the call changed.
+mod call;
+mod compare;
+mod limits;
+
+use compare::compare_shape;
+use compare::print_total;
+use every_unit::start_random;
+use limits::run_limit;
+use test_tools::Words;
+use test_tools::next_command;
+
+const COMMANDS: usize = 100;
+
+fn run(t: &mut Words, letter: u8) {
+    match letter {
+        b'S' => compare_shape(t),
+        b'T' => print_total(t),
+        b'L' => run_limit(t),
+        _ => {}
+    }
+}
+
+fn run_next(t: &mut Words) {
+    let letter = next_command(t);
+    run(t, letter);
+}
+
+fn run_commands(t: &mut Words, n: usize) {
+    for i in 0..n {
+        run_next(t);
+    }
+}
+
+fn main() {
+    let mut t = [0usize; 65536];
+    start_random(&mut t);
+    run_commands(&mut t, COMMANDS);
+}

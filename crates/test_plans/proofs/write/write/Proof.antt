@@ -1,0 +1,35 @@
+-- `test_plans::write::write` is safe and ends: each part ends within its array.
+use lib.ListN.{length-take}
+use native.Mathlib.Omega.{arith}
+use borrow.Author.Needs.{needs}
+use Rattle.test_plans.proofs.write.write.Statement.{statement}
+use Rattle.test_plans.proofs.write.write.Tie as tie
+
+pub write-spec : {M : Type 1} → statement M
+write-spec =
+    tie.close
+    (tie.spec
+    (search needs)
+    (search needs)
+    (search needs)
+    (search needs)
+    (search needs)
+    (search needs)
+    (search needs)
+    (search needs)
+    (search needs)
+    (search needs)
+    (search needs)
+    (λ c. simp length-take (omega arith))
+    (search needs)
+    (λ c. simp length-take (omega arith))
+    (search needs)
+    (λ c. simp length-take (omega arith))
+    (search needs)
+    (λ c. simp length-take (omega arith))
+    (search needs)
+    (λ c. simp length-take (omega arith))
+    (search needs)
+    (search needs)
+    (search needs)
+    (search needs))

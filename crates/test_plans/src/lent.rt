@@ -1,0 +1,31 @@
+// Where the words stand that a call runs on: how many there are, and then each. How a refusal is printed.
+use refusal::Refusal;
+use test_tools::Words;
+use test_tools::labelled;
+use test_tools::word;
+
+pub const JOB: usize = 9000;
+
+pub const WEIGHTS: usize = 10000;
+
+pub const PLAN: usize = 11000;
+
+// Entries of the two lists and words of the table.
+pub const LENT: usize = 12000;
+
+pub const KINDS: usize = 20000;
+
+pub const OPERANDS: usize = 30000;
+
+pub fn count(t: &Words, from: usize) -> usize {
+    word(t, from, 0)
+}
+
+pub fn widen(n: u16) -> u64 {
+    n as u64
+}
+
+pub fn print_refusal(r: Refusal) {
+    labelled(b" ", widen(refusal::number(r)));
+    labelled(b" at ", refusal::place(r));
+}

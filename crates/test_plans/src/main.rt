@@ -1,0 +1,68 @@
+// Runs the calls on plans by a script (its standard input): the check of plans, the writing of plans, certificates.
+// `job`, `weights`, `kinds`, `operands` and `plan` set the bytes of the job block, the weights, the plan's two arrays and the plan block;
+// `lend` sets how many entries of the two lists and words of the table are lent. Then a call runs on what is set:
+// `Arrays` checks the two arrays, `Block` the plan block, `Jobs` and `Plans` every truncation of the job block and of the plan block;
+// `Write` writes a plan into the arrays and prints arrays of seven entries as kind.operand; `Certify` certifies the arrays and prints how
+// many entries of the lists and words of the table it changed. An answer is printed as its values, a refusal as number and place.
+mod certify;
+mod check;
+mod lent;
+mod write;
+
+use certify::run_certify;
+use check::run_arrays;
+use check::run_block;
+use check::run_jobs;
+use check::run_plans;
+use lent::JOB;
+use lent::KINDS;
+use lent::LENT;
+use lent::OPERANDS;
+use lent::PLAN;
+use lent::WEIGHTS;
+use test_tools::Words;
+use test_tools::next_command;
+use test_tools::row_to;
+use write::run_write;
+
+const COMMANDS: usize = 1000;
+
+fn set(t: &mut Words, letter: u8) {
+    match letter {
+        b'j' => row_to(t, JOB),
+        b'w' => row_to(t, WEIGHTS),
+        b'k' => row_to(t, KINDS),
+        b'o' => row_to(t, OPERANDS),
+        b'p' => row_to(t, PLAN),
+        b'l' => row_to(t, LENT),
+        _ => {}
+    }
+}
+
+fn run(t: &mut Words, letter: u8) {
+    match letter {
+        b'A' => run_arrays(t),
+        b'B' => run_block(t),
+        b'J' => run_jobs(t),
+        b'P' => run_plans(t),
+        b'W' => run_write(t),
+        b'C' => run_certify(t),
+        _ => set(t, letter),
+    }
+}
+
+fn run_next(t: &mut Words) {
+    let letter = next_command(t);
+    run(t, letter);
+}
+
+fn run_commands(t: &mut Words, n: usize) {
+    for i in 0..n {
+        run_next(t);
+    }
+}
+
+fn main() {
+    let mut t = [0usize; 65536];
+    run_commands(&mut t, COMMANDS);
+}

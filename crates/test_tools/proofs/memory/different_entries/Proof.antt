@@ -1,0 +1,23 @@
+-- `test_tools::memory::different_entries` is safe and ends; the loop counts up to its end.
+use Prim.Native.Nat.{_-_, _≤_}
+use borrow.Author.Needs.{needs}
+use Rattle.test_tools.proofs.memory.different_entries.Statement.{statement}
+use Rattle.test_tools.proofs.memory.different_entries.Tie as tie
+
+pub different-entries-spec : {M : Type 1} → statement M
+different-entries-spec =
+    tie.close
+    (tie.spec
+    (λ list t from n sum₀ i₀ i-end sum i. i ≤ i-end)
+    (λ list t from n sum₀ i₀ i-end sum i. i-end - i)
+    (search needs)
+    (search needs)
+    (search needs)
+    (search needs)
+    (search needs)
+    (search needs)
+    (search needs)
+    (search needs)
+    (search needs)
+    (search needs)
+    (search needs))

@@ -1,0 +1,22 @@
+-- `test_tools::memory::different_words` is safe and ends; the loop counts up to its end.
+use Prim.Native.Nat.{_-_, _≤_}
+use borrow.Author.Needs.{needs}
+use Rattle.test_tools.proofs.memory.different_words.Statement.{statement}
+use Rattle.test_tools.proofs.memory.different_words.Tie as tie
+
+pub different-words-spec : {M : Type 1} → statement M
+different-words-spec =
+    tie.close
+    (tie.spec
+    (λ table t from n sum₀ i₀ i-end sum i. i ≤ i-end)
+    (λ table t from n sum₀ i₀ i-end sum i. i-end - i)
+    (search needs)
+    (search needs)
+    (search needs)
+    (search needs)
+    (search needs)
+    (search needs)
+    (search needs)
+    (search needs)
+    (search needs)
+    (search needs))

@@ -1,0 +1,74 @@
+// Memory that is lent to a call: what it holds before, and what of it has changed after.
+use crate::arrays::put_number;
+use crate::words::Words;
+use crate::words::plus;
+use crate::words::word;
+
+// What an entry of a list holds before the call: no position is so large.
+fn old_entry(i: usize) -> usize {
+    65535 - i % 1024
+}
+
+// What a word of the table holds before the call: no figure is so large.
+fn old_word(i: usize) -> u64 {
+    std::num::wrapping_add_u64(9223372036854775808, i as u64)
+}
+
+pub fn fill_list(list: &mut [u16]) {
+    for i in 0..list.len() {
+        put_number(list, i, old_entry(i));
+    }
+}
+
+fn put_figure(table: &mut [u64], i: usize, x: u64) {
+    if i < table.len() {
+        table[i] = x;
+    }
+}
+
+pub fn fill_table(table: &mut [u64]) {
+    for i in 0..table.len() {
+        put_figure(table, i, old_word(i));
+    }
+}
+
+fn widen(x: u16) -> usize {
+    x as usize
+}
+
+fn expected_entry(t: &Words, from: usize, n: usize, i: usize) -> usize {
+    if i < n {
+        word(t, from, i)
+    } else {
+        old_entry(i)
+    }
+}
+
+// How many entries of a list differ from n words, and after these from what the list held before: with n = 0, how many have changed.
+pub fn different_entries(list: &[u16], t: &Words, from: usize, n: usize) -> usize {
+    let mut sum: usize = 0;
+    for i in 0..list.len() {
+        sum = plus(
+            sum,
+            (widen(list[i]) != expected_entry(t, from, n, i)) as usize,
+        );
+    }
+    sum
+}
+
+fn expected_word(t: &Words, from: usize, n: usize, i: usize) -> u64 {
+    if i < n {
+        word(t, from, i) as u64
+    } else {
+        old_word(i)
+    }
+}
+
+// The same of a table.
+pub fn different_words(table: &[u64], t: &Words, from: usize, n: usize) -> usize {
+    let mut sum: usize = 0;
+    for i in 0..table.len() {
+        sum = plus(sum, (table[i] != expected_word(t, from, n, i)) as usize);
+    }
+    sum
+}
