@@ -5,19 +5,19 @@ use Rattle.cutting.specs.Lists.{range, first}
 use Rattle.job.specs.Block.{job-of}
 use Rattle.job.specs.Weights.{weight-in}
 use borrow.Author.Needs.{needs}
-use Prim.Native.Nat.{_-_, _≤_}
+use Prim.Native.Nat.{_-_}
 use mathlib.Core.Path.{_≡_, refl, _∙_, sym, ap}
 use Rattle.choice.proofs.find_kind.Statement.{statement}
 use Rattle.choice.proofs.find_kind.Tie as tie
 
 abbrev Inv-loop : tie.InvT-loop
-Inv-loop weights cell value job i₀ i-end i = (i ≤ i-end) × (i-end ≡ job .count) × (first (kind-test (job-of job) (weight-in weights) cell value) (range 0 i-end) ≡ left (kind-test (job-of job) (weight-in weights) cell value) i-end i)
+Inv-loop weights cell value job i₀ i-end i = (i-end ≡ job .count) × (first (kind-test (job-of job) (weight-in weights) cell value) (range 0 i-end) ≡ left (kind-test (job-of job) (weight-in weights) cell value) i-end i)
 
 abbrev μ-loop : tie.MeasureT-loop
 μ-loop weights cell value job i₀ i-end i = i-end - i
 
 loop-holds : tie.Need-loop-holds Inv-loop μ-loop
-loop-holds c = (search needs, refl, left-start _ _)
+loop-holds c = (refl, left-start _ _)
 
 cast-k : tie.Need-cast-k Inv-loop μ-loop
 cast-k c = search needs
@@ -47,7 +47,7 @@ kind-earns-requires : tie.Need-kind-earns-requires Inv-loop μ-loop
 kind-earns-requires c κs = search needs
 
 returns : tie.Need-returns Inv-loop μ-loop
-returns c = sym (ap kind-found (c .before .before .before .before .before .before .before .loop .inv .2 ∙ left-passes _ _ _ (search needs) (sym (c .before .kind-earns .ensures) ∙ c .if1 .taken)))
+returns c = sym (ap kind-found (c .before .before .before .before .before .before .before .loop .inv .1 ∙ left-passes _ _ _ (search needs) (sym (c .before .kind-earns .ensures) ∙ c .if1 .taken)))
 
 add-i : tie.Need-add-i Inv-loop μ-loop
 add-i c = search needs
@@ -56,10 +56,10 @@ loop-less : tie.Need-loop-less Inv-loop μ-loop
 loop-less c = search needs
 
 loop-again : tie.Need-loop-again Inv-loop μ-loop
-loop-again c = (search needs, c .before .before .before .before .before .before .before .loop .inv .1, c .before .before .before .before .before .before .before .loop .inv .2 ∙ left-fails _ _ _ (search needs) (sym (c .before .kind-earns .ensures) ∙ c .if1 .left))
+loop-again c = (c .before .before .before .before .before .before .before .loop .inv .0, c .before .before .before .before .before .before .before .loop .inv .1 ∙ left-fails _ _ _ (search needs) (sym (c .before .kind-earns .ensures) ∙ c .if1 .left))
 
 returns-2 : tie.Need-returns-2 Inv-loop μ-loop
-returns-2 c = sym (ap kind-found (c .before .loop .inv .2 ∙ left-end _ _ _ (search needs)))
+returns-2 c = sym (ap kind-found (c .before .loop .inv .1 ∙ left-end _ _ _ (search needs)))
 
 pub find-kind-spec : {M : Type 1} → statement M
 find-kind-spec =
