@@ -1,5 +1,5 @@
--- Laws of the lists of specs/Lists: who is a member of a range, of a filtered or mapped list and of a list of pairs, and their lengths.
--- Assumes nothing.
+-- Laws of the lists of specs/Lists: who is a member of a range, of a filtered or mapped list and of a list of pairs, and their lengths;
+-- and a list after its first entries were written.
 use mathlib.Core.Path.{_≡_, refl, sym, _∙_, ap, ap₂, subst}
 use mathlib.Core.Logic.{_⊎_, inl, inr}
 use mathlib.Core.Bool.{Bool, true, false, _||_}
@@ -10,7 +10,8 @@ use native.Mathlib.Decide.{ℕ-discrete}
 use native.Mathlib.Omega.{arith}
 use lib.Dec.{T}
 use lib.ListN.{length, getD}
-use Rattle.cutting.specs.Lists.{range, keep, filter, any, first, pairs}
+use lib.Seq.{sets, sets-eq}
+use Rattle.cutting.specs.Lists.{range, keep, filter, any, first, pairs, over}
 
 pub range-mem : (a n x : ℕ) → a ≤ x → x < a + n → List·Memᴰ x (range a n)
 unfolding range
@@ -128,3 +129,7 @@ module _ {A B : Type 0} where
           → List·Memᴰ (u .0) (x ∷ xs) × List·Memᴰ (u .1) ys
       go (inl k) h = let t = mem-map (λ y. (x, y)) u ys k in (List·Memᴰ·head (ap (λ v. v .0) (t .2)), Memᴰ·cast (ap (λ v. v .1) (t .2)) (t .1))
       go (inr k) h = let t = h k in (List·Memᴰ·tail (t .0), t .1)
+
+-- entries written from the first on stand over the old contents
+pub over-sets : {A : Type 0} (values old : List A) → length values ≤ length old → sets old 0 values ≡ over values old
+over-sets values old h = let e : 0 + length values ≡ length values = omega arith in rw e at (sets-eq values old 0 (omega arith))

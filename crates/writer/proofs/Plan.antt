@@ -11,7 +11,6 @@ use Rattle.cutting.specs.declared.Direction.{Direction}
 use Rattle.cutting.specs.declared.Direction.the-variants.{Length, Width}
 use Rattle.cutting.specs.declared.Node.{Node}
 use Rattle.cutting.specs.declared.Node.the-variants.{Waste, Piece, Cut}
-use Rattle.cutting.specs.declared.Sides.{Sides}
 use Rattle.cutting.specs.Lists.{range, filter, first, pairs}
 use Rattle.cutting.specs.Tree.{Rect, side, part, Tree, waste, piece, cut}
 use Rattle.cutting.specs.Sides.{rect-of, sides-of}

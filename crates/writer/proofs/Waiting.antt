@@ -7,7 +7,7 @@ use native.Mathlib.Numerals.{add-one}
 use native.Mathlib.Decide.{ℕ-discrete}
 use native.Mathlib.Omega.{arith}
 use lib.ListN.{length, getD, set, length-set, length-map}
-use lib.Seq.{getD-set-same, getD-set-other, sets, sets-eq}
+use lib.Seq.{getD-set-same, getD-set-other, sets}
 use Rattle.cutting.specs.declared.Direction.{Direction}
 use Rattle.cutting.specs.declared.Node.{Node}
 use Rattle.cutting.specs.declared.Node.the-variants.{Cut}
@@ -17,6 +17,7 @@ use Rattle.cutting.specs.Tree.{side, Tree}
 use Rattle.cutting.specs.Sides.{rect-of}
 use Rattle.cutting.specs.Preorder.{preorder, kind-of, operand-of, kinds-of, operands-of, node-count}
 use Rattle.cutting.specs.Job.{Job, InRange, capacity, plan-of, bound-plan}
+use Rattle.cutting.proofs.Lists.{over-sets}
 use Rattle.choice.specs.declared.Cell.{Cell}
 use Rattle.choice.specs.declared.Chosen.{Chosen}
 use Rattle.choice.specs.declared.Dimensions.{Dimensions}
@@ -206,10 +207,6 @@ module _ (f : Node → ℕ) where
   -- none are left
   pub all-written : {nodes : List Node} {goal : List ℕ} (old : List ℕ) (at : ℕ) → nodes ≡ [] → sets old at (map f nodes) ≡ goal → old ≡ goal
   all-written old at e q = sym (ap (λ ns. sets old at (map f ns)) e) ∙ q
-
--- entries written from the first on
-over-sets : (vs old : List ℕ) → length vs ≤ length old → sets old 0 vs ≡ over vs old
-over-sets vs old h = let e : 0 + length vs ≡ length vs = omega arith in rw e at (sets-eq vs old 0 (omega arith))
 
 -- all of a tree is still to be written
 module _ (t : Tree ℕ) {nodes : List Node} (e : nodes ≡ preorder t) (old : List ℕ) (h : node-count t ≤ length old) where

@@ -1,6 +1,7 @@
 // The nodes of the plan from the plate downward: their number, and their preorder into two lent arrays. Both walk the plan by a list of
-// waiting cells, the next on top: a node's cell makes way for the second part of its cut with the first part above it. Every waiting cell
-// is smaller than those below it, so the half perimeter bounds the list, and the stack that the walk needs is that of three arrays.
+// waiting cells, the next on top: a node's cell makes way for the second part of its cut with the first part above it. The half perimeter
+// of a waiting cell and its place are at most the plate's half perimeter, so at most 1,999 cells wait, and one array of 6,000 entries
+// holds them.
 use choice::Cell;
 use choice::Dimensions;
 use choice::choose;
@@ -146,11 +147,8 @@ pub fn count_nodes(
     ensures { λ r. ⌜ r ≡ node-count (bound-plan (job-of job) (weight-in (now (weights .entry)))) ⌝ }
 {
     let mut waiting = [0u16; 6000];
-    put_cell(
-        &mut waiting,
-        0,
-        plate_cell(job.length, job.width, g.capacity),
-    );
+    let plate = plate_cell(job.length, job.width, g.capacity);
+    put_cell(&mut waiting, 0, plate);
     let mut depth: usize = 1;
     let mut nodes: u64 = 0;
     while 0 < depth {
@@ -190,11 +188,8 @@ pub fn write_nodes(
         × (now (operands .exit) ≡ over (operands-of (bound-plan (job-of job) (weight-in (now (weights .entry))))) (now (operands .entry))) ⌝ }
 {
     let mut waiting = [0u16; 6000];
-    put_cell(
-        &mut waiting,
-        0,
-        plate_cell(job.length, job.width, g.capacity),
-    );
+    let plate = plate_cell(job.length, job.width, g.capacity);
+    put_cell(&mut waiting, 0, plate);
     let mut depth: usize = 1;
     let mut at: usize = 0;
     while 0 < depth {

@@ -29,7 +29,7 @@ put-cell-requires c κs = (omega arith, refl)
 
 loop-holds : tie.Need-loop-holds Inv-loop μ-loop
 loop-holds c =
-    let p = c .put-cell .ensures ∙ ap (λ cell. with-cell (replicate 6000 0) 0 cell) (c .before .plate-cell .ensures) in
+    let p = c .put-cell .ensures ∙ ap (λ cell. with-cell (replicate 6000 0) 0 cell) (c .before .before .plate-cell .ensures) in
     (plate-waits (weight-in (now (c .before .before .before .before .before .before .before .before .args .weights))) (c .before .before .before .before .before .before .before .before .pre .0 .tabled .in-range) (c .before .before .before .before .before .before .before .before .args .g) (c .before .before .before .before .before .before .before .before .pre .1) (replicate 6000 0) refl p, omega (arith, count-left (weight-in (now (c .before .before .before .before .before .before .before .before .args .weights))) (c .before .before .before .before .before .before .before .before .pre .0 .tabled .in-range) (c .before .before .before .before .before .before .before .before .args .g) (c .before .before .before .before .before .before .before .before .pre .1) (replicate 6000 0) refl p))
 
 next-node-requires : tie.Need-next-node-requires Inv-loop μ-loop

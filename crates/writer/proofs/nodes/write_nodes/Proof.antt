@@ -35,7 +35,7 @@ put-cell-requires c κs = (omega arith, refl)
 
 loop-holds : tie.Need-loop-holds Inv-loop μ-loop
 loop-holds c =
-    let p = c .put-cell .ensures ∙ ap (λ cell. with-cell (replicate 6000 0) 0 cell) (c .before .plate-cell .ensures) in
+    let p = c .put-cell .ensures ∙ ap (λ cell. with-cell (replicate 6000 0) 0 cell) (c .before .before .plate-cell .ensures) in
     let l = plan-left (weight-in (now (c .before .before .before .before .before .before .before .before .before .before .args .weights))) (c .before .before .before .before .before .before .before .before .before .before .pre .0 .tabled .in-range) (c .before .before .before .before .before .before .before .before .before .before .args .g) (c .before .before .before .before .before .before .before .before .before .before .pre .1) (replicate 6000 0) refl p in
     let t = bound-plan (job-of (c .before .before .before .before .before .before .before .before .before .before .args .job)) (weight-in (now (c .before .before .before .before .before .before .before .before .before .before .args .weights))) in
     (plate-waits (weight-in (now (c .before .before .before .before .before .before .before .before .before .before .args .weights))) (c .before .before .before .before .before .before .before .before .before .before .pre .0 .tabled .in-range) (c .before .before .before .before .before .before .before .before .before .before .args .g) (c .before .before .before .before .before .before .before .before .before .before .pre .1) (replicate 6000 0) refl p, omega (arith, count-left (weight-in (now (c .before .before .before .before .before .before .before .before .before .before .args .weights))) (c .before .before .before .before .before .before .before .before .before .before .pre .0 .tabled .in-range) (c .before .before .before .before .before .before .before .before .before .before .args .g) (c .before .before .before .before .before .before .before .before .before .before .pre .1) (replicate 6000 0) refl p), refl, refl, kinds-begin t l (now (c .before .before .before .before .before .before .before .before .before .before .args .kinds)) (c .before .before .before .before .before .before .before .before .before .before .pre .2), operands-begin t l (now (c .before .before .before .before .before .before .before .before .before .before .args .operands)) (c .before .before .before .before .before .before .before .before .before .before .pre .3))
