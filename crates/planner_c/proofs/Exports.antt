@@ -1,5 +1,4 @@
 -- Values at the front of the answer words, and the two cases of every exported function: too few words, and enough.
--- Assumes nothing.
 use mathlib.Core.Path.{_≡_, refl, sym, _∙_, ap, ap₂, subst}
 use mathlib.Core.List.{List, [], _∷_, _++_}
 use Prim.Native.Nat.{ℕ, _+_, _≤_, _<_}
@@ -9,13 +8,10 @@ use lib.ListN.{length, getD, set, take, drop}
 use lib.Seq.{sets, length-sets, sets-eq, paste, paste-suc, take-length}
 use borrow.Author.Tests.{lt-ltb, le-ltb}
 use Rattle.cutting.specs.Lists.{over}
+use Rattle.cutting.proofs.Lists.{over-sets}
 use Rattle.refusal.specs.Refusals.{Outcome, number-of, place-of, refused-as}
 use Rattle.refusal.specs.declared.Refusal.{Refusal}
 use Rattle.planner_c.specs.Exports.{returned-by, returned, answered-by, answered, Left-by, Left, Gives}
-
--- a run of stores from word 0 on puts the values at the front
-pub front : (values old : List ℕ) → length values ≤ length old → sets old 0 values ≡ over values old
-front values old h = let e : 0 + length values ≡ length values = omega arith in rw e at (sets-eq values old 0 (omega arith))
 
 -- a run of stores keeps the length
 pub still : (n : ℕ) (values old : List ℕ) {new : List ℕ} → new ≡ sets old 0 values → n ≤ length old → n ≤ length new
@@ -38,12 +34,12 @@ pub given : {A : Type 0} (f : A → Outcome) {a b : A} {number : ℕ} (old : Lis
 given f {a} {b} {number} old {new} e g = subst (λ x. Gives (f x) number old new) (sym e) g
 
 pub refusal-given : (r : Refusal) (old : List ℕ) {number place : ℕ} → 0 < length old → number ≡ number-of r → place ≡ place-of r → Gives (refused-as r) number old (set old 0 place)
-refusal-given r old h e p = (e, ap (λ x. set old 0 x) p ∙ front (place-of r ∷ []) old h)
+refusal-given r old h e p = (e, ap (λ x. set old 0 x) p ∙ over-sets (place-of r ∷ []) old h)
 
 -- values stored from word 0 on are given under the number 0
 pub values-given : {A : Type 0} (f : A → Outcome) {a b : A} (values old : List ℕ) {new : List ℕ} → a ≡ b → f b ≡ (0, values) → length values ≤ length old
     → new ≡ sets old 0 values → Gives (f a) 0 old new
-values-given f values old e o h p = given f old e (given (λ x. x) old o (refl, p ∙ front values old h))
+values-given f values old e o h p = given f old e (given (λ x. x) old o (refl, p ∙ over-sets values old h))
 
 module _ (n : ℕ) (o : Outcome) (old : List ℕ) where
   -- what an exported function answers
