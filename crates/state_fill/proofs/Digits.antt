@@ -1,7 +1,7 @@
 -- Numbers of several digits are such an order: digit by digit.
 use mathlib.Core.Path.{_≡_, _∙_, ap}
 use Prim.Native.Nat.{ℕ, zero, suc, _+_, _-_, _*_, _/_, _%_, _≤_, _<_}
-use native.Mathlib.Nat.{mod-lt, div-add-mod', mul-add-div-right, mul-add-mod-self-right, div-eq-of-lt, mod-eq-of-lt, mul-le-mul-right}
+use native.Mathlib.Nat.{mod-lt, div-add-mod', mul-add-div-right, mul-add-mod-self-right, div-eq-of-lt, mod-eq-of-lt, mul-le-mul-right, div-lt-iff-lt-mul}
 use native.Mathlib.Omega.{arith}
 use lib.Dec.{T, leb, leb→le, le→leb}
 use Rattle.cutting.proofs.Tests.{and-T, T-and}
@@ -27,6 +27,10 @@ no-carry b t u p h l =
     let m : (t + u) / b * b ≡ t / b * b + ((t + u) / b - t / b) * b = ap (λ x. x * b) k ∙ omega arith in
     let e : u ≡ ((t + u) / b - t / b) * b + ((t + u) % b - t % b) = omega (arith, div-add-mod' t b, div-add-mod' (t + u) b) in
     omega (arith, rest u b _ _ e (omega (arith, mod-lt (t + u) {m = b} (omega arith))), mod-lt (t + u) {m = b} (omega arith))
+
+-- the digits before the last
+pub lower-blocks : (B : ℕ → ℕ) (d : ℕ) → Blocks B (suc d) → Blocks B d
+lower-blocks B d blocks = record { some = λ i h. blocks .some i (omega arith); whole = λ i h. blocks .whole i (omega arith) }
 
 module _ (B : ℕ → ℕ) where
   -- the two parts of a comparison: that of the last digit, and that of the others
@@ -90,6 +94,21 @@ module _ (B : ℕ → ℕ) where
         parts-below d t (t + u) (omega (arith, b .0)) (rw (b .1) (r .0)),
         parts-below d (t + u) (s + u) (omega (arith, a .0, b .0)) (rw (a .1, b .1) (r .1)),
       )
+
+  -- no digit is above that of the last state
+  pub below-last : (d s : ℕ) → Blocks B d → s < B d → T (below B d s (B d - 1))
+  unfolding below
+  below-last zero s blocks h = le→leb s (B 0 - 1) (omega arith)
+  below-last (suc d) s blocks h =
+      let o = blocks .whole d (omega arith) in
+      let z : d + 1 ≡ suc d = omega arith in
+      let b : B (suc d) ≡ o .0 * B d = rw z at (o .1) in
+      let some = blocks .some d (omega arith) in
+      let k : s / B d < o .0 = div-lt-iff-lt-mul {k = B d} {x = s} {y = o .0} some .1 (omega arith) in
+      let m : o .0 * B d ≡ (o .0 - 1) * B d + B d = (let y : o .0 ≡ o .0 - 1 + 1 = omega arith in ap (λ x. x * B d) y ∙ omega arith) in
+      let e : B (suc d) - 1 ≡ (o .0 - 1) * B d + (B d - 1) = omega arith in
+      parts-below d s (B (suc d) - 1) (omega (arith, quotient (B (suc d) - 1) (B d) (o .0 - 1) (B d - 1) e (omega arith)))
+      (rw (rest (B (suc d) - 1) (B d) (o .0 - 1) (B d - 1) e (omega arith)) (below-last d (s % B d) (lower-blocks B d blocks) (mod-lt s {m = B d} some)))
 
   -- so numbers of several digits are an order of states
   pub digits-order : (d : ℕ) → Blocks B d → Order (below B d)

@@ -4,7 +4,7 @@ use mathlib.Core.Path.{_≡_, refl, sym, _∙_, ap, subst}
 use mathlib.Core.Logic.{_⊎_, inl, inr}
 use mathlib.Core.Bool.{Bool, true, false}
 use mathlib.Core.List.{List}
-use Prim.Native.Nat.{ℕ, _+_, _≤_, _<_}
+use Prim.Native.Nat.{ℕ, _+_, _-_, _≤_, _<_}
 use native.Mathlib.Decide.{ℕ-discrete}
 use native.Mathlib.Omega.{arith}
 use lib.Dec.{T}
@@ -13,7 +13,7 @@ use lib.Seq.{getD-set-same, getD-set-other}
 use Rattle.table.specs.Words.{Outside}
 use Rattle.table.specs.States.{Order, Covers}
 use Rattle.state_fill.specs.Cells.{figure-in, note-in, held, under, Digits, Rises, Lift, Lifted, Raised, Flagged, Low, Grown, Taken}
-use Rattle.state_fill.proofs.Digits.{digits-order}
+use Rattle.state_fill.proofs.Digits.{below-last, digits-order}
 use Rattle.state_fill.proofs.Noted.{figure-plain, figure-flagged, note-flagged}
 
 pub outside-chain : (at end : ℕ) (old mid new : List ℕ) → Outside at end old mid → Outside at end mid new → Outside at end old new
@@ -25,6 +25,10 @@ outside-same at end xs = record { before = λ i h. refl; after = λ i h. refl }
 -- the order of a list of numbers of states
 pub order-of : (blocks : List ℕ) (d n : ℕ) → Digits blocks d n → Order (under blocks d)
 order-of blocks d n given = digits-order (λ i. getD blocks i 0) d (given .digits)
+
+-- every state is below the last one
+pub last-state : (blocks : List ℕ) (d n : ℕ) → Digits blocks d n → (s : ℕ) → s < n → T (under blocks d s (n - 1))
+last-state blocks d n given s h = rw (given .states) (below-last (λ i. getD blocks i 0) d s (given .digits) (omega (arith, given .states)))
 
 module _ (le : ℕ → ℕ → Bool) (at n : ℕ) where
   pub grown-none : (xs : List ℕ) → Grown le at n xs xs

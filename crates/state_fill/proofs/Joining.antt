@@ -3,7 +3,7 @@
 use mathlib.Core.Path.{_≡_, sym, _∙_, ap}
 use mathlib.Core.Bool.{Bool}
 use mathlib.Core.List.{List}
-use Prim.Native.Nat.{ℕ, _+_, _*_, _≤_, _<_}
+use Prim.Native.Nat.{ℕ, _+_, _-_, _*_, _≤_, _<_}
 use native.Mathlib.Decide.{ℕ-discrete, decLe}
 use native.Mathlib.Omega.{arith}
 use lib.Dec.{T}
@@ -25,6 +25,7 @@ module _ (at end : ℕ) (old new : List ℕ) (kept : Outside at end old new) whe
   pub ready-kept : (x n : ℕ) → x + n ≤ at → Ready old x n → Ready new x n
   ready-kept x n h r = record {
     small = λ s l. omega (arith, held-kept x s (omega arith), r .small s l);
+    most = λ s l. omega (arith, held-kept x s (omega arith), held-kept x (n - 1) (omega arith), r .most s l);
     notes = λ k l. omega (arith, note-kept x k (omega arith), r .notes k l);
     ended = λ j k l m z. note-kept x k (omega arith) ∙ r .ended j k l m (sym (note-kept x j (omega arith)) ∙ z);
   }
@@ -83,6 +84,14 @@ module _ (le : ℕ → ℕ → Bool) (at n : ℕ) where
     grown = p .grown;
     sums = λ u l h b. p .sums (l .0) u (done (l .0) u (l .1) (l .2)) (l .2) h b;
     low = p .low;
+  }
+
+  -- nothing can be gained: with its greatest figure, the cell from y on gives no more than state t has
+  pub with-skip : (t v y : ℕ) (xs : List ℕ) → Ready xs y n → Rises le n (held xs at) → v + held xs y (n - 1) ≤ held xs at t → JoinedWith le at n t v y xs xs
+  with-skip t v y xs ready rises h = record {
+    grown = grown-none le at n xs;
+    sums = λ u l k b. omega (arith, ready .most u (omega arith), rises t (t + u) k b);
+    low = λ f r s l. l;
   }
 
   -- the first k entries of the list of the cell from x on are joined

@@ -24,7 +24,7 @@ use Rattle.state_fill.specs.Tables.{tabled, cell, owns, Made, Spot}
 use Rattle.state_fill.proofs.Noted.{figure-small, figure-plain, note-plain}
 use Rattle.table.proofs.Across.{across, across-above, state-above, state-low, more-side, kind-most}
 use Rattle.table.proofs.Complete.{along, side-covered, complete}
-use Rattle.state_fill.proofs.Growing.{outside-chain, grown-then, order-of}
+use Rattle.state_fill.proofs.Growing.{outside-chain, grown-then, order-of, last-state}
 use Rattle.state_fill.proofs.Joining.{held-kept, note-kept, listed-kept}
 
 -- what some states cover, more states cover
@@ -179,8 +179,16 @@ module _ {J : Job} {states long longmap wide widemap blocks : List ℕ} {d n row
     positions-axis J Width (position-count J Width) wide widemap fit (spot .lent .widths) .side j m .0,
   )
 
+  rising : (i j : ℕ) → Rises (under blocks d) n (F i j)
+  rising i j t s h l = state-above J (under blocks d) (owns states) order fit (getD long i 0) (getD wide j 0) t s l
+
   ready : (i j : ℕ) (xs : List ℕ) → i < position-count J Length → j < position-count J Width → Made J (under blocks d) (owns states) long wide n i j xs → Ready xs (cell J n i j) n
-  ready i j xs h l w = record { small = λ s m. omega (arith, w .figures s m, low i j s h l); notes = w .notes; ended = w .ended }
+  ready i j xs h l w = record {
+    small = λ s m. omega (arith, w .figures s m, low i j s h l);
+    most = λ s m. omega (arith, w .figures s m, w .figures (n - 1) (omega arith), rising i j s (n - 1) (omega arith) (last-state blocks d n (spot .lent .digits) s m));
+    notes = w .notes;
+    ended = w .ended;
+  }
 
   -- cells of the column and of the row, in a table where words from here on were written
   pub row-ready : (xs : List ℕ) → Outside at (at + n) t0 xs → (i : ℕ) → i < a → Ready xs (column + i * row) n
@@ -210,9 +218,6 @@ module _ {J : Job} {states long longmap wide widemap blocks : List ℕ} {d n row
       rise : (i k : ℕ) → i ≤ k → k < position-count J Width → Dec (k ≤ i) → getD wide i 0 ≤ getD wide k 0
       rise i k h l (yes m) = let e : i ≡ k = omega arith in omega (arith, ap (λ i. getD wide i 0) e)
       rise i k h l (no m) = omega (arith, positions-axis J Width (position-count J Width) wide widemap fit (spot .lent .widths) .rise i k (omega arith) l)
-
-  rising : (i j : ℕ) → Rises (under blocks d) n (F i j)
-  rising i j t s h l = state-above J (under blocks d) (owns states) order fit (getD long i 0) (getD wide j 0) t s l
 
   -- the start
   module _ (t1 : List ℕ) (run : Run (λ s. max (held t0 (at - row) s) (held t0 (at - n) s)) at n t0 t1) where

@@ -25,12 +25,9 @@ use Rattle.table.specs.Table.{position, Figures as Shared}
 use Rattle.table.specs.States.{below, Blocks, by-state, Order, figure-at, digit, own-state}
 use Rattle.state_fill.specs.Cells.{under, Digits}
 use Rattle.state_fill.specs.Tables.{owns, Figures}
-use Rattle.state_fill.proofs.Digits.{quotient, rest, below-parts, parts-below, below-less, below-adds, digits-order}
+use Rattle.state_fill.proofs.Digits.{quotient, rest, lower-blocks, below-parts, parts-below, below-less, below-adds, digits-order}
 use Rattle.table.proofs.Shares.{split-state, state-split}
 use Rattle.table.proofs.Weighed.{one-within, within-one, figure-within, figure-one}
-
-lower-blocks : (B : ℕ → ℕ) (d : ℕ) → Blocks B (suc d) → Blocks B d
-lower-blocks B d blocks = record { some = λ i h. blocks .some i (omega arith); whole = λ i h. blocks .whole i (omega arith) }
 
 -- the last digit, and those before
 digit-last : (B : ℕ → ℕ) (d s : ℕ) → digit B (suc d) (suc d) s ≡ s / B d

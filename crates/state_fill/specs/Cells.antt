@@ -4,7 +4,7 @@ use mathlib.Core.Path.{_≡_}
 use mathlib.Core.Logic.{_⊎_}
 use mathlib.Core.Bool.{Bool}
 use mathlib.Core.List.{List}
-use Prim.Native.Nat.{ℕ, _+_, _*_, _/_, _%_, _≤_, _<_}
+use Prim.Native.Nat.{ℕ, _+_, _-_, _*_, _/_, _%_, _≤_, _<_}
 use lib.Dec.{T}
 use lib.ListN.{length, getD}
 use Rattle.table.specs.Words.{Outside, beyond}
@@ -84,9 +84,11 @@ pub record Taken (le : ℕ → ℕ → Bool) (at n t u v : ℕ) (old new : List 
   pub taken : t + u < n → T (le t (t + u)) → v ≤ held new at (t + u)
   pub low : (f : ℕ → ℕ) → Rises le n f → (t + u < n → T (le t (t + u)) → v ≤ f (t + u)) → Low f at n old → Low f at n new
 
--- a finished cell that can be read: two figures can be added, the list has states only, and nothing is noted past its end
+-- a finished cell that can be read: two figures can be added, the last state has the greatest one, the list has states only, and nothing
+-- is noted past its end
 pub record Ready (xs : List ℕ) (x n : ℕ) : Type 0 where
   pub small : (s : ℕ) → s < n → held xs x s ≤ 1000000000000
+  pub most : (s : ℕ) → s < n → held xs x s ≤ held xs x (n - 1)
   pub notes : (k : ℕ) → k < n → note xs x k ≤ n
   pub ended : (j k : ℕ) → j ≤ k → k < n → note xs x j ≡ 0 → note xs x k ≡ 0
 

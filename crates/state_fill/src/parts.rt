@@ -9,7 +9,8 @@ ghost use lib.ListN.{length};
 ghost use Rattle.table.specs.Words.{Cuts};
 ghost use Rattle.state_fill.specs.Cells.{held, under, Digits, Rises, Ready, JoinedWith, Joined, CutAt, Topped};
 
-// The cell takes v at state t together with the figure of each state that the cell from y on lists.
+// The cell takes v at state t together with the figure of each state that the cell from y on lists. Nothing is to be taken where even the
+// greatest figure of that cell, at its last state, gives no more than state t has.
 fn join_with(
     table: &mut [u64],
     blocks: &[u32],
@@ -25,6 +26,10 @@ fn join_with(
         × Ready (now table) y words × Rises (under (now blocks) d) words (held (now table) at) ⌝ }
     ensures { λ r. ⌜ JoinedWith (under (now (blocks .entry)) d) at words t v y (now (table .entry)) (now (table .exit)) × Topped at words top r (now (table .entry)) (now (table .exit)) ⌝ }
 {
+    let most = v + figure(table[y + (words - 1)]);
+    if most <= figure(table[at + t]) {
+        return top;
+    }
     let mut high = top;
     for k in 0..words {
         let listed = note(table[y + k]);

@@ -5,16 +5,51 @@ use mathlib.Core.Path.{_≡_, refl, sym, _∙_}
 use Prim.Native.Nat.{_-_, _≤_}
 use lib.ListN.{length}
 use Rattle.state_fill.specs.Cells.{under, note, Topped}
-use Rattle.state_fill.proofs.Joining.{note-kept, ready-kept, past-end, With, with-none, with-more, with-end}
+use Rattle.state_fill.proofs.Joining.{note-kept, ready-kept, past-end, With, with-none, with-more, with-end, with-skip}
 use Rattle.state_fill.proofs.Topping.{topped-none, topped-then}
 use Rattle.state_fill.proofs.parts.join_with.Statement.{statement}
 use Rattle.state_fill.proofs.parts.join_with.Tie as tie
 
 abbrev Inv-loop : tie.InvT-loop
-Inv-loop table₀ blocks d n at y t v top high₀ k₀ table high k = (k ≤ n) × (length table ≡ length table₀) × With (under blocks d) at n t v y k table₀ table × Topped at n top high table₀ table
+Inv-loop table₀ blocks d n at y t v top most high₀ k₀ table high k = (k ≤ n) × (length table ≡ length table₀) × With (under blocks d) at n t v y k table₀ table × Topped at n top high table₀ table
 
 abbrev μ-loop : tie.MeasureT-loop
-μ-loop table₀ blocks d n at y t v top high₀ k₀ table high k = n - k
+μ-loop table₀ blocks d n at y t v top most high₀ k₀ table high k = n - k
+
+sub-figure : tie.Need-sub-figure Inv-loop μ-loop
+sub-figure c = search needs
+
+add-figure : tie.Need-add-figure Inv-loop μ-loop
+add-figure c = search needs
+
+mul-figure : tie.Need-mul-figure Inv-loop μ-loop
+mul-figure c = search needs
+
+slice-read-figure : tie.Need-slice-read-figure Inv-loop μ-loop
+slice-read-figure c = search needs
+
+figure-requires : tie.Need-figure-requires Inv-loop μ-loop
+figure-requires c κs = search needs
+
+add-most : tie.Need-add-most Inv-loop μ-loop
+add-most c = search needs
+
+add-figure-2 : tie.Need-add-figure-2 Inv-loop μ-loop
+add-figure-2 c = search needs
+
+mul-figure-2 : tie.Need-mul-figure-2 Inv-loop μ-loop
+mul-figure-2 c = search needs
+
+slice-read-figure-2 : tie.Need-slice-read-figure-2 Inv-loop μ-loop
+slice-read-figure-2 c = search needs
+
+figure-requires-2 : tie.Need-figure-requires-2 Inv-loop μ-loop
+figure-requires-2 c κs = search needs
+
+returns : tie.Need-returns Inv-loop μ-loop
+returns c =
+    let start = c .before .before .before .before .before .before .before in
+    (with-skip _ _ _ _ _ _ _ (start .pre .5) (start .pre .6) (omega (arith, c .before .figure2 .ensures .0, c .before .before .before .figure .ensures .0)), topped-none _ _ _ _)
 
 loop-holds : tie.Need-loop-holds Inv-loop μ-loop
 loop-holds c = (omega arith, refl, with-none _ _ _ _ _ _ _, topped-none _ _ _ _)
@@ -26,7 +61,7 @@ mul-note : tie.Need-mul-note Inv-loop μ-loop
 mul-note c = search needs
 
 slice-read-note : tie.Need-slice-read-note Inv-loop μ-loop
-slice-read-note c = omega (arith, c .before .before .loop .inv .1, c .before .before .before .before .before .pre .1, c .before .before .before .before .before .pre .2)
+slice-read-note c = omega (arith, c .before .before .loop .inv .1, c .before .before .before .before .before .before .before .before .before .before .pre .1, c .before .before .before .before .before .before .before .before .before .before .pre .2)
 
 note-requires : tie.Need-note-requires Inv-loop μ-loop
 note-requires c κs = search needs
@@ -34,40 +69,40 @@ note-requires c κs = search needs
 same-length : tie.Need-same-length Inv-loop μ-loop
 same-length c = c .before .before .before .before .loop .inv .1
 
-returns : tie.Need-returns Inv-loop μ-loop
-returns c =
-    let start = c .before .before .before .before .before .before .before in
+returns-2 : tie.Need-returns-2 Inv-loop μ-loop
+returns-2 c =
+    let start = c .before .before .before .before .before .before .before .before .before .before .before .before in
     let inv = c .before .before .before .before .loop .inv in
-    (with-end _ _ _ _ _ _ _ _ _ (λ i u h e. past-end _ _ (start .args .words) _ _ _ (start .pre .5) h (sym (note-kept _ _ _ _ (inv .2 .grown .rest) (start .args .y) (c .before .before .before .before .loop .k) (omega (arith, start .pre .1))) ∙ (sym (c .before .note .ensures .0) ∙ c .if1 .taken)) e) (inv .2), inv .3)
+    (with-end _ _ _ _ _ _ _ _ _ (λ i u h e. past-end _ _ (start .args .words) _ _ _ (start .pre .5) h (sym (note-kept _ _ _ _ (inv .2 .grown .rest) (start .args .y) (c .before .before .before .before .loop .k) (omega (arith, start .pre .1))) ∙ (sym (c .before .note .ensures .0) ∙ c .if2 .taken)) e) (inv .2), inv .3)
 
 sub-u : tie.Need-sub-u Inv-loop μ-loop
 sub-u c = search needs
 
-add-figure : tie.Need-add-figure Inv-loop μ-loop
-add-figure c = search needs
+add-figure-3 : tie.Need-add-figure-3 Inv-loop μ-loop
+add-figure-3 c = search needs
 
-mul-figure : tie.Need-mul-figure Inv-loop μ-loop
-mul-figure c = search needs
+mul-figure-3 : tie.Need-mul-figure-3 Inv-loop μ-loop
+mul-figure-3 c = search needs
 
-slice-read-figure : tie.Need-slice-read-figure Inv-loop μ-loop
-slice-read-figure c =
-    let e = c .before .before .before .before .before .before .before .before in
+slice-read-figure-3 : tie.Need-slice-read-figure-3 Inv-loop μ-loop
+slice-read-figure-3 c =
+    let e = c .before .before .before .before .before .before .before .before .before .before .before .before .before in
     let inv = c .before .before .before .before .before .loop .inv in
     let ready = ready-kept _ _ _ _ (inv .2 .grown .rest) (e .args .y) (e .args .words) (e .pre .1) (e .pre .5) in
     omega (arith, inv .1, e .pre .1, e .pre .2, ready .notes (c .before .before .before .before .before .loop .k) (omega arith), c .before .before .note .ensures .0)
 
-figure-requires : tie.Need-figure-requires Inv-loop μ-loop
-figure-requires c κs = search needs
+figure-requires-3 : tie.Need-figure-requires-3 Inv-loop μ-loop
+figure-requires-3 c κs = search needs
 
 add-sum : tie.Need-add-sum Inv-loop μ-loop
-add-sum c = omega (arith, c .figure .ensures .1, c .before .before .before .before .before .before .before .before .before .pre .4)
+add-sum c = omega (arith, c .figure3 .ensures .1, c .before .before .before .before .before .before .before .before .before .before .before .before .before .before .pre .4)
 
 take-requires : tie.Need-take-requires Inv-loop μ-loop
 take-requires c κs =
-    let e = c .before .before .before .before .before .before .before .before .before .before in
+    let e = c .before .before .before .before .before .before .before .before .before .before .before .before .before .before .before in
     let inv = c .before .before .before .before .before .before .before .loop .inv in
     let ready = ready-kept _ _ _ _ (inv .2 .grown .rest) (e .args .y) (e .args .words) (e .pre .1) (e .pre .5) in
-    (e .pre .0, omega (arith, inv .1, e .pre .2), omega (arith, e .pre .0 .most, e .pre .3), omega (arith, e .pre .0 .most, ready .notes (c .before .before .before .before .before .before .before .loop .k) (omega arith), c .before .before .before .before .note .ensures .0), omega (arith, e .pre .4, c .before .figure .ensures .0, ready .small (c .before .before .before .before .note .result - 1) (omega (arith, ready .notes (c .before .before .before .before .before .before .before .loop .k) (omega arith), c .before .before .before .before .note .ensures .0))), inv .2 .grown .rises (e .pre .6))
+    (e .pre .0, omega (arith, inv .1, e .pre .2), omega (arith, e .pre .0 .most, e .pre .3), omega (arith, e .pre .0 .most, ready .notes (c .before .before .before .before .before .before .before .loop .k) (omega arith), c .before .before .before .before .note .ensures .0), omega (arith, e .pre .4, c .before .figure3 .ensures .0, ready .small (c .before .before .before .before .note .result - 1) (omega (arith, ready .notes (c .before .before .before .before .before .before .before .loop .k) (omega arith), c .before .before .before .before .note .ensures .0))), inv .2 .grown .rises (e .pre .6))
 
 add-k : tie.Need-add-k Inv-loop μ-loop
 add-k c = search needs
@@ -77,16 +112,16 @@ loop-less c = search needs
 
 loop-again : tie.Need-loop-again Inv-loop μ-loop
 loop-again c =
-    let e = c .before .before .before .before .before .before .before .before .before .before .before .before .before in
+    let e = c .before .before .before .before .before .before .before .before .before .before .before .before .before .before .before .before .before .before in
     let inv = c .before .before .before .before .before .before .before .before .before .before .loop .inv in
     let ready = ready-kept _ _ _ _ (inv .2 .grown .rest) (e .args .y) (e .args .words) (e .pre .1) (e .pre .5) in
-    (omega arith, c .before .before .take .kept .0 ∙ inv .1, with-more _ _ _ _ _ _ _ _ _ _ _ _ (e .pre .1) (omega arith) (omega (arith, ready .notes (c .before .before .before .before .before .before .before .before .before .before .loop .k) (omega arith), c .before .before .before .before .before .before .before .note .ensures .0)) (sym (c .before .before .before .before .before .before .before .note .ensures .0) ∙ omega arith) (omega (arith, c .before .before .before .before .figure .ensures .0)) (inv .2) (c .before .before .take .ensures .0), topped-then _ _ _ _ _ _ _ _ (inv .3) (c .before .before .take .ensures .1))
+    (omega arith, c .before .before .take .kept .0 ∙ inv .1, with-more _ _ _ _ _ _ _ _ _ _ _ _ (e .pre .1) (omega arith) (omega (arith, ready .notes (c .before .before .before .before .before .before .before .before .before .before .loop .k) (omega arith), c .before .before .before .before .before .before .before .note .ensures .0)) (sym (c .before .before .before .before .before .before .before .note .ensures .0) ∙ omega arith) (omega (arith, c .before .before .before .before .figure3 .ensures .0)) (inv .2) (c .before .before .take .ensures .0), topped-then _ _ _ _ _ _ _ _ (inv .3) (c .before .before .take .ensures .1))
 
 same-length-2 : tie.Need-same-length-2 Inv-loop μ-loop
 same-length-2 c = c .before .loop .inv .1
 
-returns-2 : tie.Need-returns-2 Inv-loop μ-loop
-returns-2 c = (with-end _ _ _ _ _ _ _ _ _ (λ i u h e. omega arith) (c .before .loop .inv .2), c .before .loop .inv .3)
+returns-3 : tie.Need-returns-3 Inv-loop μ-loop
+returns-3 c = (with-end _ _ _ _ _ _ _ _ _ (λ i u h e. omega arith) (c .before .loop .inv .2), c .before .loop .inv .3)
 
 pub join-with-spec : {M : Type 1} → statement M
 join-with-spec =
@@ -94,22 +129,33 @@ join-with-spec =
     (tie.spec
     Inv-loop
     μ-loop
+    sub-figure
+    add-figure
+    mul-figure
+    slice-read-figure
+    figure-requires
+    add-most
+    add-figure-2
+    mul-figure-2
+    slice-read-figure-2
+    figure-requires-2
+    returns
     loop-holds
     add-note
     mul-note
     slice-read-note
     note-requires
     same-length
-    returns
+    returns-2
     sub-u
-    add-figure
-    mul-figure
-    slice-read-figure
-    figure-requires
+    add-figure-3
+    mul-figure-3
+    slice-read-figure-3
+    figure-requires-3
     add-sum
     take-requires
     add-k
     loop-less
     loop-again
     same-length-2
-    returns-2)
+    returns-3)
