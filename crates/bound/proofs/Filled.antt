@@ -1,5 +1,4 @@
 -- The table's fill reads sizes and prices alone: what it requires and leaves, said of the whole job.
--- Assumes nothing.
 use mathlib.Core.Path.{_≡_, _∙_, ap}
 use mathlib.Core.List.{List}
 use Prim.Native.Nat.{ℕ, _+_, _≤_, _<_}
@@ -11,7 +10,7 @@ use Rattle.cutting.specs.Tree.{side}
 use Rattle.cutting.specs.Job.{Job, InRange, pieces, figure-of, normal-positions}
 use Rattle.job.specs.declared.JobRecord.{JobRecord}
 use Rattle.job.specs.Block.{job-of}
-use Rattle.positions.specs.Positions.{Rising, Floors}
+use Rattle.positions.specs.Contracts.{Rising, Floors}
 use Rattle.positions.proofs.Positions.{positions-rising, floors-found}
 use Rattle.table.specs.Table.{position-count, words-needed, Figures, Kept, kinds-job, Positions}
 use Rattle.bound.specs.Bound.{Begins}

@@ -1,5 +1,4 @@
 -- The bound is the table's last word: the figure of the last normal length and width at the whole capacity is that of the plate.
--- Assumes nothing.
 use mathlib.Core.Path.{_≡_, sym, _∙_, ap, ap₂}
 use mathlib.Core.List.{List}
 use Prim.Native.Nat.{ℕ, _+_, _-_, _*_, _≤_, _<_}

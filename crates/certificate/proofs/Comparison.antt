@@ -1,5 +1,4 @@
 -- What a certificate says of the checks, the profit and the bound behind it.
--- Assumes nothing.
 use mathlib.Core.Path.{_≡_, refl, sym, _∙_}
 use mathlib.Core.Bool.{Bool, true, false}
 use Prim.Native.Nat.{ℕ, _-_}

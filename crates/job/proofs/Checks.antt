@@ -1,5 +1,4 @@
 -- Laws of the list of checks: how the first refusal goes down a list, through an append, and through the kinds of a loop.
--- Assumes nothing.
 use mathlib.Core.Path.{_≡_, refl, sym, _∙_, ap}
 use mathlib.Core.Bool.{Bool, true, false}
 use mathlib.Core.List.{List, [], _∷_, _++_}

@@ -1,5 +1,4 @@
 -- Laws of the record's arrays: their length, their entries, and one entry more by a store. One set of laws for all arrays.
--- Assumes nothing.
 use mathlib.Core.Path.{_≡_, refl, sym, _∙_, ap}
 use mathlib.Core.List.{List, map}
 use Prim.Native.Nat.{ℕ, zero, suc, _+_, _≤_, _<_}

@@ -1,5 +1,4 @@
--- The sides of the kinds that fit: how the list grows, and that it is the job's list of document 01, for lengths and for widths.
--- Assumes nothing.
+-- The sides of the kinds that fit: how the list grows, and that it is the list of the scope, for lengths and for widths.
 use mathlib.Core.Path.{_≡_, refl, ap, ap₂}
 use mathlib.Core.Bool.{Bool, true, false, and-comm}
 use mathlib.Core.List.{List, [], _∷_, _++_, map, List·Memᴰ, List·Memᴰ·head, List·Memᴰ·tail}
@@ -16,7 +15,7 @@ use Rattle.cutting.specs.Normal.{normals, sides}
 use Rattle.cutting.specs.Job.{Job, normal-positions}
 use Rattle.cutting.proofs.Lists.{mem-range, mem-filter, mem-map}
 use Rattle.cutting.proofs.Positions.{getD-mem}
-use Rattle.positions.specs.Positions.{Holds, Positive, kind-fits, fitting, positions-of}
+use Rattle.positions.specs.Contracts.{Holds, Positive, kind-fits, fitting, positions-of}
 use Rattle.positions.proofs.Lists.{filter-taken, filter-left, filter-count, holds-more}
 
 map-snoc : (f : ℕ → ℕ) (xs : List ℕ) (x : ℕ) → map f (xs ++ (x ∷ [])) ≡ map f xs ++ (f x ∷ [])

@@ -1,5 +1,4 @@
 -- Laws of lists written at the front of an array, entry after entry: what one turn of a loop adds.
--- Assumes nothing.
 use mathlib.Core.Path.{_≡_, refl, sym, _∙_, ap}
 use mathlib.Core.Bool.{Bool, true, false}
 use mathlib.Core.List.{List, [], _∷_, _++_, append-nil}
@@ -11,7 +10,7 @@ use lib.ListN.{length, getD, set, take, drop, length-append}
 use lib.Seq.{drop-cons, take-append-seam, getD-set-same, getD-set-other, set-append-seam, append-snoc}
 use Rattle.cutting.specs.Lists.{range, keep, filter}
 use Rattle.cutting.proofs.Lists.{range-length, filter-length}
-use Rattle.positions.specs.Positions.{Holds}
+use Rattle.positions.specs.Contracts.{Holds}
 
 keep-front : (b : Bool) (x : ℕ) (xs ys : List ℕ) → keep b x (xs ++ ys) ≡ keep b x xs ++ ys
 keep-front true x xs ys = refl

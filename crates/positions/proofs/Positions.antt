@@ -1,6 +1,5 @@
 -- The map of remainders: the last entry not above a length is that of the length before, or the next one; in the list of normal
 -- positions, read back from an array, it is the largest normal position not above the length.
--- Assumes nothing.
 use mathlib.Core.Path.{_≡_, sym, _∙_, ap}
 use mathlib.Core.List.{List}
 use Prim.Native.Nat.{ℕ, suc, _+_, _≤_, _<_}
@@ -12,7 +11,7 @@ use Rattle.cutting.specs.declared.Direction.{Direction}
 use Rattle.cutting.specs.Tree.{side}
 use Rattle.cutting.specs.Job.{Job, normal-positions, normal-floor}
 use Rattle.cutting.proofs.Table.{positions-first, positions-rise, positions-some, positions-floor}
-use Rattle.positions.specs.Positions.{Rising, LastUpTo, Floors}
+use Rattle.positions.specs.Contracts.{Rising, LastUpTo, Floors}
 
 -- the next entry is x itself
 pub last-next : (list : List ℕ) (n x i : ℕ) → Rising list n → i + 1 < n → getD list (i + 1) 0 ≤ x → x ≤ getD list (i + 1) 0 → LastUpTo list n x (i + 1)

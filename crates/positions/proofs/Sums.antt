@@ -1,5 +1,4 @@
 -- Sums of sides, side after side: what the scan of the kinds at one position finds.
--- Assumes nothing.
 use mathlib.Core.Path.{_≡_, refl, sym, _∙_, ap, subst}
 use mathlib.Core.Bool.{Bool, true, false}
 use mathlib.Core.List.{List, List·Memᴰ}
@@ -12,7 +11,7 @@ use lib.Seq.{getD-take, length-take-le}
 use Rattle.cutting.specs.Normal.{Sum, none, more, normal?}
 use Rattle.cutting.proofs.Normal.{normal-sum}
 use Rattle.cutting.proofs.Positions.{getD-mem, mem-getD}
-use Rattle.positions.specs.Positions.{Positive, Marked}
+use Rattle.positions.specs.Contracts.{Positive, Marked}
 
 is-true : (b : Bool) → T b → b ≡ true
 is-true true t = refl

@@ -6,7 +6,7 @@ ghost use Prim.Native.Nat.{ℕ, _+_, _≤_, _<_};
 ghost use lib.Dec.{leb};
 ghost use lib.ListN.{length, take};
 ghost use Rattle.cutting.specs.Normal.{normal?, normals};
-ghost use Rattle.positions.specs.Positions.{Holds, Positive, fitting, positions-of, Marked, Rising, Floors};
+ghost use Rattle.positions.specs.Contracts.{Holds, fitting, positions-of, Scannable, Listable, Mappable, Floors};
 
 // Whether a kind fits: neither side is greater than the plate's.
 fn fits(s: u16, o: u16, side: u16, other: u16) -> bool
@@ -43,7 +43,7 @@ fn fitting_sides(
 
 // Whether x is 0, or a side leads to it from a marked position.
 fn is_normal(marks: &[bool; 1001], fit: &[u16; 64], count: u16, x: u16) -> bool
-    requires { ⌜ (count ≤ 64) × (x ≤ 1000) × Positive (now fit) count × Marked (take count (now fit)) x (now marks) ⌝ }
+    requires { ⌜ Scannable (now fit) count x (now marks) ⌝ }
     ensures { λ r. ⌜ r ≡ normal? (take count (now (fit .entry))) x ⌝ }
 {
     if x == 0 {
@@ -62,7 +62,7 @@ fn is_normal(marks: &[bool; 1001], fit: &[u16; 64], count: u16, x: u16) -> bool
 
 // Marks the sums up to `side` and lists them: position after position, each from the marks before it.
 fn list_sums(fit: &[u16; 64], count: u16, side: u16, out: &mut [u16]) -> u16
-    requires { ⌜ (count ≤ 64) × (side ≤ 1000) × (side < length (now out)) × Positive (now fit) count ⌝ }
+    requires { ⌜ Listable (now fit) count side (length (now out)) ⌝ }
     ensures { λ r. ⌜ Holds (normals (take count (now (fit .entry))) side) r (now (out .entry)) (now (out .exit)) ⌝ }
 {
     let mut marks = [false; 1001];
@@ -88,7 +88,7 @@ pub fn normal_positions(
     other: u16,
     out: &mut [u16],
 ) -> u16
-    requires { ⌜ (count ≤ 64) × (side ≤ 1000) × (side < length (now out)) × Positive (now sides) count ⌝ }
+    requires { ⌜ Listable (now sides) count side (length (now out)) ⌝ }
     ensures { λ r. ⌜ Holds (positions-of (now (sides .entry)) (now (others .entry)) count side other) r (now (out .entry)) (now (out .exit)) ⌝ }
 {
     let mut fit = [0u16; 64];
@@ -96,12 +96,11 @@ pub fn normal_positions(
     list_sums(&fit, n, side, out)
 }
 
-// For each length up to `side` the index of the last position not above it, found in one pass.
-pub fn floor_map(list: &[u16], count: u16, side: u16) -> [u16; 1001]
-    requires { ⌜ (1 ≤ count) × (count ≤ length (now list)) × (side ≤ 1000) × Rising (now list) count ⌝ }
-    ensures { λ r. ⌜ (length r ≡ 1001) × Floors (now (list .entry)) count (side + 1) r ⌝ }
+// For each length up to `side` the index of the last position not above it, found in one pass; nothing is cleared first.
+pub fn map_floors(list: &[u16], count: u16, side: u16, floors: &mut [u16])
+    requires { ⌜ Mappable (now list) count side (length (now floors)) ⌝ }
+    ensures { λ _. ⌜ (length (now (floors .exit)) ≡ length (now (floors .entry))) × Floors (now (list .entry)) count (side + 1) (now (floors .exit)) ⌝ }
 {
-    let mut floors = [0u16; 1001];
     let mut i: u16 = 0;
     for x in 0..side + 1 {
         let next = i + 1;
@@ -112,5 +111,4 @@ pub fn floor_map(list: &[u16], count: u16, side: u16) -> [u16; 1001]
         }
         floors[x as usize] = i;
     }
-    floors
 }

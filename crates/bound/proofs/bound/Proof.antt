@@ -1,4 +1,4 @@
--- `bound::bound` meets its contract. Assumes nothing.
+-- `bound::bound` meets its contract.
 use mathlib.Core.Path.{sym, _∙_}
 use denote.Ref.{now}
 use Rattle.job.specs.Block.{job-of}

@@ -1,4 +1,4 @@
--- `bound::bound_of_job` meets its contract. Assumes nothing.
+-- `bound::bound_of_job` meets its contract.
 use mathlib.Core.Path.{refl, _∙_, ap}
 use Prim.Native.Nat.{_-_}
 use lib.ListN.{getD}

@@ -1,4 +1,4 @@
--- `bound::fill_table` meets its contract: both fills require the same and leave the same. Assumes nothing.
+-- `bound::fill_table` meets its contract: both fills require the same and leave the same.
 use mathlib.Core.Path.{ap, subst, sym}
 use Prim.Native.Nat.{_≤_}
 use denote.Ref.{now}

@@ -1,4 +1,4 @@
--- `bound::list_positions` meets its contract. Assumes nothing.
+-- `bound::list_positions` meets its contract.
 use mathlib.Core.Path.{refl, _∙_, ap}
 use lib.ListN.{length}
 use denote.Ref.{now}

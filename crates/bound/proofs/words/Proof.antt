@@ -1,4 +1,4 @@
--- `bound::words` meets its contract: a count below 2 to the 32nd. Assumes nothing.
+-- `bound::words` meets its contract: a count below 2 to the 32nd.
 use Prim.Native.Nat.{_+_, _≤_}
 use native.Mathlib.Nat.{mul-le-mul}
 use native.Mathlib.Omega.{arith}

@@ -1,4 +1,4 @@
--- `certificate::bound_refused` meets its contract. Assumes nothing.
+-- `certificate::bound_refused` meets its contract.
 use borrow.Author.Needs.{needs}
 use Rattle.certificate.proofs.bound_refused.Statement.{statement}
 use Rattle.certificate.proofs.bound_refused.Tie as tie

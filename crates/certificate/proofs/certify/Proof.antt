@@ -1,4 +1,4 @@
--- `certificate::certify` meets its contract. Assumes nothing.
+-- `certificate::certify` meets its contract.
 use mathlib.Core.Path.{sym, _∙_, ap}
 use native.Mathlib.Omega.{arith}
 use denote.Ref.{now}

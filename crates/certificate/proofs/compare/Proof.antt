@@ -1,4 +1,4 @@
--- `certificate::compare` meets its contract. Assumes nothing.
+-- `certificate::compare` meets its contract.
 use borrow.Author.Tests.{eq-eqb, ne-eqb}
 use borrow.Author.Needs.{needs}
 use Rattle.certificate.proofs.compare.Statement.{statement}

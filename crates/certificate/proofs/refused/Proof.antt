@@ -1,4 +1,4 @@
--- `certificate::refused` meets its contract. Assumes nothing.
+-- `certificate::refused` meets its contract.
 use borrow.Author.Needs.{needs}
 use Rattle.certificate.proofs.refused.Statement.{statement}
 use Rattle.certificate.proofs.refused.Tie as tie

@@ -1,4 +1,4 @@
--- `certificate::weights_refused` meets its contract. Assumes nothing.
+-- `certificate::weights_refused` meets its contract.
 use borrow.Author.Needs.{needs}
 use Rattle.certificate.proofs.weights_refused.Statement.{statement}
 use Rattle.certificate.proofs.weights_refused.Tie as tie

@@ -1,4 +1,4 @@
--- `job::check_header` meets its contract. Assumes nothing.
+-- `job::check_header` meets its contract.
 use mathlib.Core.Path.{_∙_, ap}
 use mathlib.Core.Bool.{not}
 use Prim.Native.Nat.{_+_, _*_, _≤_}

@@ -1,4 +1,4 @@
--- `job::check_job` meets its contract. Assumes nothing.
+-- `job::check_job` meets its contract.
 use mathlib.Core.Path.{sym, _∙_, ap}
 use mathlib.Core.List.{[], _∷_}
 use native.Mathlib.Omega.{arith}

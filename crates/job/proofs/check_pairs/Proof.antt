@@ -1,4 +1,4 @@
--- `job::check_pairs` meets its contract. Assumes nothing.
+-- `job::check_pairs` meets its contract.
 use Prim.Native.Nat.{_-_, _≤_}
 use borrow.Author.Needs.{needs}
 use denote.Ref.{now}

@@ -1,4 +1,4 @@
--- `job::check_size` meets its contract. Assumes nothing.
+-- `job::check_size` meets its contract.
 use mathlib.Core.Path.{_≡_, _∙_, ap}
 use mathlib.Core.Bool.{_||_}
 use Prim.Native.Nat.{_+_, _*_}

@@ -1,4 +1,4 @@
--- `job::check_sizes` meets its contract. Assumes nothing.
+-- `job::check_sizes` meets its contract.
 use mathlib.Core.List.{[], _∷_}
 use Prim.Native.Nat.{_-_, _≤_}
 use borrow.Author.Needs.{needs}

@@ -1,4 +1,4 @@
--- `job::check_weights` meets its contract. Assumes nothing.
+-- `job::check_weights` meets its contract.
 use borrow.Author.Needs.{needs}
 use denote.Ref.{now}
 use Rattle.job.specs.Block.{job-of}

@@ -1,4 +1,4 @@
--- `job::empty_record` meets its contract. Assumes nothing.
+-- `job::empty_record` meets its contract.
 use Rattle.job.proofs.Entries.{entries-none}
 use Rattle.job.proofs.empty_record.Statement.{statement}
 use Rattle.job.proofs.empty_record.Tie as tie

@@ -1,4 +1,4 @@
--- `job::read_fields` meets its contract. Assumes nothing.
+-- `job::read_fields` meets its contract.
 use mathlib.Core.Path.{_≡_, _∙_, ap}
 use Prim.Native.Nat.{_+_, _*_, _-_, _≤_}
 use native.Mathlib.Omega.{arith}

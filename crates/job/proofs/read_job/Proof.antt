@@ -1,4 +1,4 @@
--- `job::read_job` meets its contract. Assumes nothing.
+-- `job::read_job` meets its contract.
 use mathlib.Core.Path.{refl, sym, _∙_, ap}
 use borrow.Author.Needs.{needs}
 use denote.Ref.{now}

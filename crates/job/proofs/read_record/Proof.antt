@@ -1,4 +1,4 @@
--- `job::read_record` meets its contract. Assumes nothing.
+-- `job::read_record` meets its contract.
 use borrow.Author.Needs.{needs}
 use Rattle.job.specs.Block.{record-of}
 use Rattle.job.proofs.read_record.Statement.{statement}

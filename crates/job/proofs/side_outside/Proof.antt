@@ -1,4 +1,4 @@
--- `job::side_outside` meets its contract. Assumes nothing.
+-- `job::side_outside` meets its contract.
 use borrow.Author.Needs.{needs}
 use Rattle.job.proofs.side_outside.Statement.{statement}
 use Rattle.job.proofs.side_outside.Tie as tie

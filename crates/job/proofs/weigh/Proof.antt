@@ -1,4 +1,4 @@
--- `job::weigh` meets its contract. Assumes nothing.
+-- `job::weigh` meets its contract.
 use mathlib.Core.Path.{ap}
 use Prim.Native.Nat.{_*_}
 use native.Mathlib.Omega.{arith}

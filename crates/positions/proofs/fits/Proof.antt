@@ -1,4 +1,4 @@
--- `positions::fits` meets its contract. Assumes nothing.
+-- `positions::fits` meets its contract.
 use borrow.Author.Tests.{le-leb, lt-leb}
 use Rattle.positions.proofs.fits.Statement.{statement}
 use Rattle.positions.proofs.fits.Tie as tie

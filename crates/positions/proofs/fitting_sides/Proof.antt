@@ -1,11 +1,10 @@
 -- `positions::fitting_sides` meets its contract. The invariant: the sides of those of the first i kinds that fit are at the front of `fit`.
--- Assumes nothing.
 use mathlib.Core.Logic.{⊎-elim}
 use Prim.Native.Nat.{_-_, _≤_}
 use mathlib.Core.Path.{_≡_, _∙_, sym}
 use native.Mathlib.Omega.{arith}
 use borrow.Author.Needs.{needs}
-use Rattle.positions.specs.Positions.{Holds, fitting}
+use Rattle.positions.specs.Contracts.{Holds, fitting}
 use Rattle.positions.proofs.Fitting.{fitting-none, fitting-taken, fitting-left}
 use Rattle.positions.proofs.fitting_sides.Statement.{statement}
 use Rattle.positions.proofs.fitting_sides.Tie as tie

@@ -1,4 +1,4 @@
--- `positions::is_normal` meets its contract. The invariant: none of the first i sides leads to x from a marked position. Assumes nothing.
+-- `positions::is_normal` meets its contract. The invariant: none of the first i sides leads to x from a marked position.
 use mathlib.Core.Logic.{⊎-elim}
 use Prim.Native.Nat.{ℕ, _-_, _≤_, _<_}
 use mathlib.Core.Path.{_≡_, sym}
@@ -42,7 +42,7 @@ element-copy-out-if3 c = search needs
 returns-2 : tie.Need-returns-2 Inv-loop μ-loop
 returns-2 c =
     let start = c .before .before .before .before .before .before .before in
-    sym (sum-found _ _ _ (now (start .args .marks)) (start .pre .2) (start .pre .3) (c .before .before .before .before .before .loop .i) (omega arith) (omega arith) (c .if3 .taken))
+    sym (sum-found _ _ _ (now (start .args .marks)) (start .pre .positive) (start .pre .marked) (c .before .before .before .before .before .loop .i) (omega arith) (omega arith) (c .if3 .taken))
 
 add-i : tie.Need-add-i Inv-loop μ-loop
 add-i c = search needs
@@ -56,7 +56,7 @@ loop-again c = (search needs, below-more _ _ (c .before .before .before .loop .i
 returns-3 : tie.Need-returns-3 Inv-loop μ-loop
 returns-3 c =
     let start = c .before .before .before in
-    sym (sum-missing _ _ _ (now (start .args .marks)) (start .pre .2) (start .pre .3) (omega arith) (λ i l. c .before .loop .inv .1 i (omega arith)))
+    sym (sum-missing _ _ _ (now (start .args .marks)) (start .pre .positive) (start .pre .marked) (omega arith) (λ i l. c .before .loop .inv .1 i (omega arith)))
 
 pub is-normal-spec : {M : Type 1} → statement M
 is-normal-spec =

@@ -1,4 +1,4 @@
--- `positions::list_sums` meets its contract. The invariant: the marks below x are right, and the sums below x are listed. Assumes nothing.
+-- `positions::list_sums` meets its contract. The invariant: the marks below x are right, and the sums below x are listed.
 use mathlib.Core.Logic.{⊎-elim}
 use Prim.Native.Nat.{suc, _+_, _-_, _≤_}
 use mathlib.Core.Path.{_≡_, _∙_, sym, refl, ap}
@@ -9,7 +9,7 @@ use lib.ListN.{length, take, length-set}
 use denote.Ref.{now}
 use Rattle.cutting.specs.Lists.{range, filter}
 use Rattle.cutting.specs.Normal.{normal?, normals}
-use Rattle.positions.specs.Positions.{Holds, Marked}
+use Rattle.positions.specs.Contracts.{Holds, Marked}
 use Rattle.positions.proofs.Lists.{entries-more, filter-taken, filter-left, holds-more}
 use Rattle.positions.proofs.list_sums.Statement.{statement}
 use Rattle.positions.proofs.list_sums.Tie as tie
@@ -28,7 +28,9 @@ unfolding range filter
 loop-holds c = (search needs, refl, search needs, refl, refl, λ y l. absurd (let z : ⊥ = omega arith in z), record { number = refl; contents = refl })
 
 is-normal-requires : tie.Need-is-normal-requires Inv-loop μ-loop
-is-normal-requires c κs = (omega arith, omega arith, c .before .before .before .before .pre .3, c .before .before .loop .inv .5)
+is-normal-requires c κs =
+    let given = c .before .before .before .before .pre in
+    record { kinds = given .kinds; most = omega (arith, given .most); positive = given .positive; marked = c .before .before .loop .inv .5 }
 
 cast-marks : tie.Need-cast-marks Inv-loop μ-loop
 cast-marks c = search needs

@@ -1,4 +1,4 @@
--- `positions::normal_positions` meets its contract. Assumes nothing.
+-- `positions::normal_positions` meets its contract.
 use native.Mathlib.Omega.{arith}
 use borrow.Author.Needs.{needs}
 use denote.Ref.{now}
@@ -14,7 +14,13 @@ list-sums-requires : tie.Need-list-sums-requires
 list-sums-requires c κs =
     let start = c .before .before .before .before .before in
     let fit = c .before .before .fitting-sides .ensures in
-    (omega (arith, fit .number, fitting-count (now (start .args .sides)) (now (start .args .others)) (start .args .side) (start .args .other) (start .args .count)), start .pre .1, start .pre .2, fitting-positive _ _ _ _ _ _ _ _ (start .pre .3) fit)
+    let given = start .pre in
+    record {
+      kinds = omega (arith, fit .number, given .kinds, fitting-count (now (start .args .sides)) (now (start .args .others)) (start .args .side) (start .args .other) (start .args .count));
+      most = given .most;
+      room-there = given .room-there;
+      positive = fitting-positive _ _ _ _ _ _ _ _ (given .positive) fit;
+    }
 
 same-length : tie.Need-same-length
 same-length c = search needs

@@ -1,5 +1,4 @@
--- `positions::floor_map` meets its contract. The invariant: the map is right below x, entry i is not above x, and the next is not below it.
--- Assumes nothing.
+-- `positions::map_floors` meets its contract. The invariant: the map is right below x, entry i is not above x, and the next is not below it.
 use mathlib.Core.Logic.{⊎-elim}
 use Prim.Native.Nat.{_+_, _-_, _≤_, _<_}
 use mathlib.Core.Path.{_≡_, refl}
@@ -7,14 +6,14 @@ use native.Mathlib.Omega.{arith}
 use borrow.Author.Needs.{needs}
 use lib.ListN.{length, getD, length-set}
 use denote.Ref.{now}
-use Rattle.positions.specs.Positions.{LastUpTo, Floors}
+use Rattle.positions.specs.Contracts.{LastUpTo, Floors}
 use Rattle.positions.proofs.Lists.{entries-more}
 use Rattle.positions.proofs.Positions.{last-next}
-use Rattle.positions.proofs.floor_map.Statement.{statement}
-use Rattle.positions.proofs.floor_map.Tie as tie
+use Rattle.positions.proofs.map_floors.Statement.{statement}
+use Rattle.positions.proofs.map_floors.Tie as tie
 
 abbrev Inv-loop : tie.InvT-loop
-Inv-loop list count side floors₀ i₀ x₀ x-end floors i x = (x ≤ x-end) × (x-end ≡ side + 1) × (length floors ≡ 1001) × (i < count) × (getD list i 0 ≤ x) × (i + 1 < count → x ≤ getD list (i + 1) 0) × Floors list count x floors
+Inv-loop list count side floors₀ i₀ x₀ x-end floors i x = (x ≤ x-end) × (x-end ≡ side + 1) × (length floors ≡ length floors₀) × (i < count) × (getD list i 0 ≤ x) × (i + 1 < count → x ≤ getD list (i + 1) 0) × Floors list count x floors
 
 abbrev μ-loop : tie.MeasureT-loop
 μ-loop list count side floors₀ i₀ x₀ x-end floors i x = x-end - x
@@ -43,8 +42,8 @@ cast-floors c = search needs
 mul-floors : tie.Need-mul-floors Inv-loop μ-loop
 mul-floors c = search needs
 
-array-write-floors : tie.Need-array-write-floors Inv-loop μ-loop
-array-write-floors c = search needs
+slice-write-floors : tie.Need-slice-write-floors Inv-loop μ-loop
+slice-write-floors c = search needs
 
 add-x : tie.Need-add-x Inv-loop μ-loop
 add-x c = search needs
@@ -60,7 +59,7 @@ loop-again c =
     λ f. record { within = omega arith; not-above = omega arith; next-above = f } in
     let last : LastUpTo (now (start .args .list)) (start .args .count) (turn .x) (c .if1 .i) =
     ⊎-elim
-    (λ w. rw (w .3) (last-next _ _ _ _ (start .pre .3) (omega arith) (w .2 .taken) (turn .inv .5 (omega arith))))
+    (λ w. rw (w .3) (last-next _ _ _ _ (start .pre .rising) (omega arith) (w .2 .taken) (turn .inv .5 (omega arith))))
     (⊎-elim (λ w. rw (w .3) (stays (λ k. omega arith))) (λ w. rw (w .1) (stays (λ k. omega arith))))
     (c .if1 .came) in (
       omega arith,
@@ -72,11 +71,14 @@ loop-again c =
       entries-more (LastUpTo (now (start .args .list)) (start .args .count)) (turn .floors) (turn .x) (c .if1 .i) 0 (omega arith) (turn .inv .6) last,
     )
 
+same-length : tie.Need-same-length Inv-loop μ-loop
+same-length c = c .before .loop .inv .2
+
 returns : tie.Need-returns Inv-loop μ-loop
 returns c = (c .before .loop .inv .2, λ x l. c .before .loop .inv .6 x (omega arith))
 
-pub floor-map-spec : {M : Type 1} → statement M
-floor-map-spec =
+pub map-floors-spec : {M : Type 1} → statement M
+map-floors-spec =
     tie.close
     (tie.spec
     Inv-loop
@@ -89,8 +91,9 @@ floor-map-spec =
     shared-slice-read-if2
     cast-floors
     mul-floors
-    array-write-floors
+    slice-write-floors
     add-x
     loop-less
     loop-again
+    same-length
     returns)

@@ -1,11 +1,10 @@
 -- Normal positions as the planner finds them, from lent arrays of sides, and the map from a length to the last position not above it.
--- Assumes nothing.
 use mathlib.Core.Path.{_≡_}
 use mathlib.Core.Bool.{Bool, false, _&&_}
 use mathlib.Core.List.{List, map}
 use Prim.Native.Nat.{ℕ, _+_, _≤_, _<_}
 use lib.Dec.{leb}
-use lib.ListN.{length, getD}
+use lib.ListN.{length, getD, take}
 use Rattle.cutting.specs.Lists.{range, filter, over}
 use Rattle.cutting.specs.Normal.{normal?, normals}
 
@@ -34,6 +33,20 @@ positions-of sides others n side other = normals (fitting sides others n side ot
 abbrev pub Marked : List ℕ → ℕ → List Bool → Type 0
 Marked zs x marks = (y : ℕ) → y < x → getD marks y false ≡ normal? zs y
 
+-- what the scan for x asks: marks of the sums below x of up to 64 sides, none of them 0
+pub record Scannable (sides : List ℕ) (n x : ℕ) (marks : List Bool) : Type 0 where
+  pub kinds : n ≤ 64
+  pub most : x ≤ 1000
+  pub positive : Positive sides n
+  pub marked : Marked (take n sides) x marks
+
+-- what listing the positions up to a side asks: up to 64 sides, none of them 0, and room for every number up to the side
+pub record Listable (sides : List ℕ) (n side room : ℕ) : Type 0 where
+  pub kinds : n ≤ 64
+  pub most : side ≤ 1000
+  pub room-there : side < room
+  pub positive : Positive sides n
+
 -- the first n entries of a list begin with 0 and rise
 abbrev pub Rising : List ℕ → ℕ → Type 0
 Rising list n = (getD list 0 0 ≡ 0) × ((i : ℕ) → i + 1 < n → getD list i 0 < getD list (i + 1) 0)
@@ -47,3 +60,11 @@ pub record LastUpTo (list : List ℕ) (n x i : ℕ) : Type 0 where
 -- a map that has, at each x below m, the last entry not above x
 abbrev pub Floors : List ℕ → ℕ → ℕ → List ℕ → Type 0
 Floors list n m floors = (x : ℕ) → x < m → LastUpTo list n x (getD floors x 0)
+
+-- what the map of a side asks: an entry at least, rising entries, and room for every length up to the side
+pub record Mappable (list : List ℕ) (n side room : ℕ) : Type 0 where
+  pub some : 1 ≤ n
+  pub listed : n ≤ length list
+  pub rising : Rising list n
+  pub most : side ≤ 1000
+  pub room-there : side < room
