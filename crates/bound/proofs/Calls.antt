@@ -17,7 +17,8 @@ use Rattle.job.specs.Weights.{block-job, weight-in, weight-checks, weights-answ
 use Rattle.job.proofs.Checks.{first-append, passed-both}
 use Rattle.job.proofs.Read.{read-in-range, answered}
 use Rattle.job.proofs.Weights.{capacity-answered, weights-passed, accepted-in-range}
-use Rattle.bound.specs.Bound.{Memory, Leaves, Weighed, Bounded, answer-by, memory-checks, report-of, report-values, accept-verdict, bound-verdict, bound-answer, bound-outcome, bound-said, BoundSaid}
+use Rattle.bound.specs.Bound.{Memory, Leaves, answer-by, memory-checks, report-of, report-values, accept-verdict, bound-verdict, bound-answer, bound-outcome, bound-said, BoundSaid}
+use Rattle.bound.specs.Contracts.{Weighed, Bounded}
 use Rattle.bound.specs.declared.BoundReport.{BoundReport}
 use Rattle.bound.specs.declared.BoundAnswer.{BoundAnswer}
 use Rattle.bound.specs.declared.BoundAnswer.the-variants as answer
@@ -80,7 +81,7 @@ module _ (s ws : List ℕ) (old : Memory) where
     weights-refused r e = early r (accept-by s ws good e)
 
     -- both are accepted
-    pub accepted : {new : Memory} (r : BoundAnswer) → first-refusal (weight-checks (block-job s) ws) ≡ Passed → Bounded (block-job s) (weight-in ws) old new r → Promised s ws old new r
+    pub accepted : {new : Memory} {floors : List ℕ} (r : BoundAnswer) → first-refusal (weight-checks (block-job s) ws) ≡ Passed → Bounded (block-job s) (weight-in ws) old new floors r → Promised s ws old new r
     accepted r e b =
         let v : accept-verdict s ws ≡ Passed = accept-by s ws good e in
         promised r (b .answer ∙ sym (ap (λ v. answer-by (next v (first-refusal (memory-checks (block-job s) (weight-in ws) old))) (report-of (block-job s) (weight-in ws))) v)) (rw v (b .memory))

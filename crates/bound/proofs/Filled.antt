@@ -1,71 +1,108 @@
--- The table's fill reads sizes and prices alone: what it requires and leaves, said of the whole job.
-use mathlib.Core.Path.{_≡_, _∙_, ap}
+-- A job's lists, floors and table: what each step of the bound asks and leaves, from what the step before left. The fill reads sizes and
+-- prices alone; what it does is said of the whole job.
+use mathlib.Core.Path.{_≡_, refl, subst}
 use mathlib.Core.List.{List}
 use Prim.Native.Nat.{ℕ, _+_, _≤_, _<_}
 use native.Mathlib.Omega.{arith}
-use lib.ListN.{length, take, length-take}
+use lib.ListN.{length, drop, length-drop}
 use Rattle.cutting.specs.declared.Direction.{Direction}
 use Rattle.cutting.specs.declared.Direction.the-variants.{Length, Width}
 use Rattle.cutting.specs.Tree.{side}
 use Rattle.cutting.specs.Job.{Job, InRange, pieces, figure-of, normal-positions}
 use Rattle.job.specs.declared.JobRecord.{JobRecord}
 use Rattle.job.specs.Block.{job-of}
-use Rattle.positions.specs.Contracts.{Rising, Floors}
+use Rattle.positions.specs.Contracts.{Holds, Listable, positions-of, Mappable, Floors}
+use Rattle.positions.proofs.Lists.{holds-take, holds-length}
+use Rattle.positions.proofs.Fitting.{lengths-found, widths-found}
 use Rattle.positions.proofs.Positions.{positions-rising, floors-found}
-use Rattle.table.specs.Table.{position-count, words-needed, Figures, Kept, kinds-job, Positions}
-use Rattle.bound.specs.Bound.{Begins}
-
--- a list that begins with the normal positions has room for them, and they rise from 0
-pub begins-length : (J : Job) (d : Direction) (xs : List ℕ) → Begins J d xs → position-count J d ≤ length xs
-begins-length J d xs e = omega (arith, ap length e, length-take (position-count J d) xs)
-
-pub begins-rising : (J : Job) (d : Direction) (xs : List ℕ) → Begins J d xs → (1 ≤ position-count J d) × Rising xs (position-count J d)
-begins-rising J d xs e = positions-rising J d xs (position-count J d) (begins-length J d xs e) e
+use Rattle.table.specs.Table.{words-needed, kinds-job, Mapped, Positions}
+use Rattle.bound.specs.declared.TableSize.{TableSize}
+use Rattle.bound.specs.Contracts.{SidesMapped, BothMapped, Fillable, FilledBy, Weighed}
 
 side-most : (J : Job) → InRange J → (d : Direction) → side d (J .plate) ≤ 1000
 side-most J h Length = h .plate-length .1
 side-most J h Width = h .plate-width .1
 
--- what the map of remainders requires
-pub floor-ready : (J : Job) → InRange J → (d : Direction) {n : ℕ} (xs : List ℕ) → n ≡ position-count J d → Begins J d xs
-    → (1 ≤ n) × (n ≤ length xs) × (side d (J .plate) ≤ 1000) × Rising xs n
-floor-ready J h d xs e b = let r = begins-rising J d xs b in rw e (r .0, begins-length J d xs b, side-most J h d, r .1)
+module _ (J : Job) (d : Direction) {n : ℕ} {old list : List ℕ} (h : Holds (normal-positions J d) n old list) where
+  -- a list of normal positions can be mapped
+  pub map-ready : InRange J → Mappable list n (side d (J .plate)) 1001
+  map-ready g =
+      let r = positions-rising J d list n (holds-length h) (holds-take h) in
+      let m = side-most J g d in
+      record { some = r .0; listed = holds-length h; rising = r .1; most = m; room-there = omega (arith, m) }
 
--- the job without its demands
-abbrev pub bare-job : JobRecord → Job
-bare-job j = kinds-job (j .length) (j .width) (j .count) (j .lengths) (j .widths) (j .prices)
+  -- its map is the job's
+  mapped : (floors : List ℕ) → Floors list n (side d (J .plate) + 1) floors → Mapped J d floors
+  mapped floors f = floors-found J d list n (holds-length h) (holds-take h) floors f
 
-pub bare-in-range : (j : JobRecord) → InRange (job-of j) → InRange (bare-job j)
-bare-in-range j h = record {
-  plate-length = h .plate-length;
-  plate-width = h .plate-width;
-  kinds = h .kinds;
-  lengths = h .lengths;
-  widths = h .widths;
-  prices = h .prices;
-  demands = λ i l. omega arith;
-}
+module _ (j : JobRecord) where
+  module _ (h : InRange (job-of j)) {room : ℕ} where
+    -- what listing a side's positions asks
+    pub lengths-ready : j .length < room → Listable (j .lengths) (j .count) (j .length) room
+    lengths-ready l = record { kinds = h .kinds .1; most = h .plate-length .1; room-there = l; positive = λ i k. h .lengths i k .0 }
 
--- what the fill requires of a list and its map
-pub positions-are : (j : JobRecord) (d : Direction) (n : ℕ) (xs floors : List ℕ) → n ≡ position-count (job-of j) d → Begins (job-of j) d xs
-    → InRange (job-of j) → length floors ≡ 1001 → Floors xs n (side d (job-of j .plate) + 1) floors → Positions (bare-job j) d n xs floors
-unfolding normal-positions
-positions-are j d n xs floors e b h l f = record {
-  counted = e;
-  listed = ap (λ k. take k xs) e ∙ b;
-  mapped = omega (arith, l, side-most (job-of j) h d);
-  floored = floors-found (job-of j) d xs (position-count (job-of j) d) (begins-length (job-of j) d xs b) b floors (rw e at f);
-}
+    pub widths-ready : j .width < room → Listable (j .widths) (j .count) (j .width) room
+    widths-ready l = record { kinds = h .kinds .1; most = h .plate-width .1; room-there = l; positive = λ i k. h .widths i k .0 }
 
--- what it needs and leaves
-pub bare-room : (j : JobRecord) (q : ℕ) {n : ℕ} → words-needed (job-of j) q ≤ n → words-needed (bare-job j) q ≤ n
-unfolding normal-positions
-bare-room j q h = h
+  module _ {n : ℕ} {old list : List ℕ} where
+    -- what is then listed are the job's normal positions
+    pub lengths-listed : Holds (positions-of (j .lengths) (j .widths) (j .count) (j .length) (j .width)) n old list → Holds (normal-positions (job-of j) Length) n old list
+    lengths-listed h = subst (λ xs. Holds xs n old list) (lengths-found (job-of j) (j .lengths) (j .widths) (λ i l. refl)) h
 
-pub whole-figures : (j : JobRecord) (weight : ℕ → ℕ) (q : ℕ) (xs : List ℕ) → Figures (bare-job j) weight q xs → Figures (job-of j) weight q xs
-unfolding normal-positions figure-of pieces
-whole-figures j weight q xs f = f
+    pub widths-listed : Holds (positions-of (j .widths) (j .lengths) (j .count) (j .width) (j .length)) n old list → Holds (normal-positions (job-of j) Width) n old list
+    widths-listed h = subst (λ xs. Holds xs n old list) (widths-found (job-of j) (j .lengths) (j .widths) (λ i l. refl)) h
 
-pub whole-kept : (j : JobRecord) (q : ℕ) (old new : List ℕ) → Kept (words-needed (bare-job j) q) old new → Kept (words-needed (job-of j) q) old new
-unfolding normal-positions
-whole-kept j q old new k = k
+  -- the job without its demands
+  abbrev bare : Job
+  bare = kinds-job (j .length) (j .width) (j .count) (j .lengths) (j .widths) (j .prices)
+
+  bare-in-range : InRange (job-of j) → InRange bare
+  bare-in-range h = record {
+    plate-length = h .plate-length;
+    plate-width = h .plate-width;
+    kinds = h .kinds;
+    lengths = h .lengths;
+    widths = h .widths;
+    prices = h .prices;
+    demands = λ i l. omega arith;
+  }
+
+  module _ (d : Direction) {n : ℕ} {old list : List ℕ} (h : Holds (normal-positions (job-of j) d) n old list) where
+    -- what the fill asks of a list and its floors
+    bare-positions : (floors : List ℕ) → side d (job-of j .plate) < length floors → Mapped (job-of j) d floors → Positions bare d n list floors
+    unfolding normal-positions
+    bare-positions floors l m = record { counted = h .number; listed = holds-take h; mapped = l; floored = m }
+
+  module _ {p r : ℕ} {lengths₀ widths₀ lengths widths : List ℕ} (a : Holds (normal-positions (job-of j) Length) p lengths₀ lengths) (b : Holds (normal-positions (job-of j) Width) r widths₀ widths)
+      {ws : List ℕ} {q : ℕ} (given : Weighed (job-of j) ws q) where
+    abbrev size : TableSize
+    size = record { length = j .length; width = j .width; count = j .count; rows = p; columns = r; capacity = q }
+
+    -- the floors of both sides are the job's
+    pub both-mapped : {floors : List ℕ} → SidesMapped size lengths widths floors → BothMapped (job-of j) floors
+    both-mapped {floors} m = record {
+      entries = m .entries;
+      lengths = mapped (job-of j) Length a floors (m .lengths-mapped);
+      widths = mapped (job-of j) Width b (drop 1001 floors) (m .widths-mapped);
+    }
+
+    -- what the fill asks
+    pub fillable : {floors table : List ℕ} → SidesMapped size lengths widths floors → words-needed (job-of j) q ≤ length table → Fillable bare ws size lengths widths floors table
+    unfolding normal-positions
+    fillable {floors} m room =
+        let both = both-mapped m in
+        let most = given .in-range in
+        record {
+          in-range = bare-in-range (given .in-range);
+          weights = given .weights;
+          most = given .most;
+          floors-there = m .entries;
+          lengths-are = bare-positions Length a floors (omega (arith, most .plate-length .1, m .entries)) (both .lengths);
+          widths-are = bare-positions Width b (drop 1001 floors) (omega (arith, most .plate-width .1, m .entries, length-drop 1001 floors)) (both .widths);
+          room = room;
+        }
+
+  -- what it leaves
+  pub whole-filled : (weight : ℕ → ℕ) {q k : ℕ} → q ≡ k → (old new : List ℕ) → FilledBy bare weight q old new → FilledBy (job-of j) weight k old new
+  unfolding normal-positions figure-of pieces
+  whole-filled weight e old new f = subst (λ q. FilledBy (job-of j) weight q old new) e f

@@ -4,17 +4,13 @@ use mathlib.Core.List.{List}
 use Prim.Native.Nat.{ℕ, _+_, _-_, _*_, _≤_, _<_}
 use native.Mathlib.Nat.{mul-le-mul}
 use native.Mathlib.Omega.{arith}
-use lib.ListN.{getD, take, drop}
-use lib.Seq.{take-append-seam}
+use lib.ListN.{getD}
 use Rattle.cutting.specs.declared.Direction.{Direction}
 use Rattle.cutting.specs.declared.Direction.the-variants.{Length, Width}
-use Rattle.cutting.specs.Lists.{over}
 use Rattle.cutting.specs.Tree.{side}
 use Rattle.cutting.specs.Job.{Job, InRange, figure-of, bound-of, capacity, normal-positions, normal-floor}
 use Rattle.cutting.proofs.Table.{positions-some, positions-length, positions-normal, positions-floor, figure-floor}
 use Rattle.table.specs.Table.{position-count, position, words-needed, Figures}
-use Rattle.bound.specs.declared.Counts.{Counts}
-use Rattle.bound.specs.Bound.{counts-of, Begins}
 
 -- p and r are at most 1,001
 pub count-most : (J : Job) → InRange J → (d : Direction) → position-count J d ≤ 1001
@@ -22,12 +18,8 @@ count-most J h Length = omega (arith, positions-length J Length, h .plate-length
 count-most J h Width = omega (arith, positions-length J Width, h .plate-width .1)
 
 -- the words counted are the words needed
-pub words-are : (J : Job) {c : Counts} {n q k : ℕ} → c ≡ counts-of J → n ≡ c .lengths * c .widths * (q + 1) → q ≡ k → n ≡ words-needed J k
-words-are J {q = q} e f g = f ∙ ap (λ (x : Counts). x .lengths * x .widths * (q + 1)) e ∙ ap (λ k. words-needed J k) g
-
--- a list that was written over begins with what was written
-pub begins : (J : Job) (d : Direction) (old : List ℕ) {xs : List ℕ} → xs ≡ over (normal-positions J d) old → Begins J d xs
-begins J d old e = ap (λ l. take (position-count J d) l) e ∙ take-append-seam (normal-positions J d) (drop (position-count J d) old)
+pub words-are : (J : Job) {n p r q k : ℕ} → n ≡ p * r * (q + 1) → p ≡ position-count J Length → r ≡ position-count J Width → q ≡ k → n ≡ words-needed J k
+words-are J f p r q = rw (f, p, r, q)
 
 -- a table needs a word, and fewer than 2 to the 32nd
 pub words-some : (J : Job) (q : ℕ) → 1 ≤ words-needed J q

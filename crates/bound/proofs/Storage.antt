@@ -1,37 +1,46 @@
 -- What the storage checks decide: a short list, a short table, or neither, and what lent memory then holds.
 use mathlib.Core.Path.{_≡_, refl, sym, _∙_, ap}
 use mathlib.Core.Bool.{Bool, true, false, _||_}
-use mathlib.Core.List.{[], _∷_}
+use mathlib.Core.List.{List, [], _∷_}
 use Prim.Native.Nat.{ℕ, _+_, _≤_, _<_}
 use lib.Dec.{ltb}
 use lib.ListN.{length}
 use native.Mathlib.Omega.{arith}
-use borrow.Author.Tests.{lt-ltb, le-ltb}
+use borrow.Author.Tests.{lt-ltb, le-ltb, ltb-false}
 use Rattle.cutting.specs.declared.Direction.the-variants.{Length, Width}
 use Rattle.cutting.specs.Lists.{over}
 use Rattle.cutting.specs.Job.{Job, capacity, normal-positions}
 use Rattle.refusal.specs.Refusals.{next, refuse-when, first-refusal}
 use Rattle.refusal.specs.declared.Checked.the-variants.{Passed, Refused}
+use Rattle.refusal.specs.declared.Refusal.{Refusal}
 use Rattle.refusal.specs.declared.Refusal.the-variants.{ListShort, TableShort}
-use Rattle.table.specs.Table.{words-needed, Figures, Kept}
-use Rattle.bound.specs.Bound.{Memory, Leaves, list-check, list-after, TableAfter, memory-checks, answer-by, report-of, Bounded}
+use Rattle.table.specs.Table.{words-needed}
+use Rattle.bound.specs.Bound.{Memory, Leaves, list-check, list-after, TableAfter, memory-checks, answer-by, report-of}
 use Rattle.bound.specs.declared.BoundAnswer.the-variants as answer
 use Rattle.bound.specs.declared.BoundReport.{BoundReport}
-use Rattle.bound.specs.declared.Counts.{Counts}
+use Rattle.bound.specs.Contracts.{BothMapped, FilledBy, Bounded}
 
--- one of two tests that passes
-or-true : (a : Bool) {b : Bool} → b ≡ true → (a || b) ≡ true
-or-true true e = refl
-or-true false e = e
+-- none of two tests passes
+or-false : (a b : Bool) → (a || b) ≡ false → (a ≡ false) × (b ≡ false)
+or-false true b e = (e, cc)
+or-false false b e = (refl, e)
 
 -- a report of the four figures
 pub report-is : {b b′ q q′ p p′ r r′ : ℕ} → b ≡ b′ → q ≡ q′ → p ≡ p′ → r ≡ r′
     → _≡_ {A = BoundReport} (record { bound = b; capacity = q; lengths = p; widths = r }) (record { bound = b′; capacity = q′; lengths = p′; widths = r′ })
 report-is a b c d = cc
 
--- two counts are p and r
-pub counts-are : {a b p r : ℕ} → a ≡ p → b ≡ r → _≡_ {A = Counts} (record { lengths = a; widths = b }) (record { lengths = p; widths = r })
-counts-are e f = cc
+-- lists that are long enough
+pub lists-long : (m n l w : ℕ) → (ltb m (l + 1) || ltb n (w + 1)) ≡ false → (l < m) × (w < n)
+lists-long m n l w e =
+    let f = or-false (ltb m (l + 1)) (ltb n (w + 1)) e in
+    let a = ltb-false m (l + 1) (f .0) in
+    let b = ltb-false n (w + 1) (f .1) in
+    (omega arith, omega arith)
+
+-- a refusal is no report
+unreported : {A : Type 0} {r : Refusal} {b : BoundReport} → answer.Refused r ≡ answer.Answered b → A
+unreported e = absurd (let z : _≡_ {A = ℕ} 0 1 = cc in omega arith)
 
 module _ (J : Job) (weight : ℕ → ℕ) (old : Memory) where
   -- whether a list is short
@@ -53,7 +62,7 @@ module _ (J : Job) (weight : ℕ → ℕ) (old : Memory) where
       ∙ ap (λ x. next (refuse-when b ListShort) (next (refuse-when x (TableShort (words-needed J (capacity J weight)))) Passed)) f
 
   -- a list is short: refusal 19, and nothing is changed
-  lists-short : short ≡ true → Bounded J weight old old (answer.Refused ListShort)
+  pub lists-short : {floors : List ℕ} → short ≡ true → Bounded J weight old old floors (answer.Refused ListShort)
   lists-short e = record {
     answer = sym (ap (λ v. answer-by v (report-of J weight)) (storage-by true small e refl));
     memory = record {
@@ -61,19 +70,11 @@ module _ (J : Job) (weight : ℕ → ℕ) (old : Memory) where
       widths = sym (ap (λ v. list-after v (normal-positions J Width) (old .widths)) (lists-by true e));
       table = rw (storage-by true small e refl) refl;
     };
+    mapped = λ b e. unreported e;
   }
 
-  pub lengths-short : length (old .lengths) ≤ J .plate .0 → Bounded J weight old old (answer.Refused ListShort)
-  lengths-short h = lists-short (simp (lt-ltb (length (old .lengths)) (J .plate .0 + 1) (omega arith)))
-
-  pub widths-short : length (old .widths) ≤ J .plate .1 → Bounded J weight old old (answer.Refused ListShort)
-  widths-short h = lists-short (or-true (ltb (length (old .lengths)) (J .plate .0 + 1)) (lt-ltb (length (old .widths)) (J .plate .1 + 1) (omega arith)))
-
-  module _ (new : Memory) (long : J .plate .0 < length (old .lengths)) (wide : J .plate .1 < length (old .widths))
+  module _ (new : Memory) (none-short : short ≡ false)
       (lengths : new .lengths ≡ over (normal-positions J Length) (old .lengths)) (widths : new .widths ≡ over (normal-positions J Width) (old .widths)) where
-    none-short : short ≡ false
-    none-short = simp (le-ltb (length (old .lengths)) (J .plate .0 + 1) (omega arith), le-ltb (length (old .widths)) (J .plate .1 + 1) (omega arith))
-
     -- the lists are filled in both cases
     leaves : (b : Bool) → small ≡ b → TableAfter (next (refuse-when b (TableShort (words-needed J (capacity J weight)))) Passed) J weight (old .table) (new .table) → Leaves Passed J weight old new
     leaves b f t = record {
@@ -83,20 +84,22 @@ module _ (J : Job) (weight : ℕ → ℕ) (old : Memory) where
     }
 
     -- the table is short: refusal 20 with the words needed, and the table is untouched
-    pub table-short : (n : ℕ) → n ≡ words-needed J (capacity J weight) → length (old .table) < n → new .table ≡ old .table → Bounded J weight old new (answer.Refused (TableShort n))
-    table-short n e h t =
+    pub table-short : (n : ℕ) → n ≡ words-needed J (capacity J weight) → length (old .table) < n → new .table ≡ old .table → {floors : List ℕ} → Bounded J weight old new floors (answer.Refused (TableShort n))
+    table-short n e h t {floors} =
         let f : small ≡ true = lt-ltb (length (old .table)) (words-needed J (capacity J weight)) (omega arith) in
         record {
           answer = ap (λ k. answer.Refused (TableShort k)) e ∙ sym (ap (λ v. answer-by v (report-of J weight)) (storage-by false true none-short f));
           memory = leaves true f t;
+          mapped = λ b e. unreported e;
         }
 
     -- there is room: the report and the figures
-    pub reported : (r : BoundReport) → r ≡ report-of J weight → words-needed J (capacity J weight) ≤ length (old .table) → Figures J weight (capacity J weight) (new .table)
-        → Kept (words-needed J (capacity J weight)) (old .table) (new .table) → Bounded J weight old new (answer.Answered r)
-    reported r e h g k =
+    pub reported : (r : BoundReport) → r ≡ report-of J weight → words-needed J (capacity J weight) ≤ length (old .table) → FilledBy J weight (capacity J weight) (old .table) (new .table)
+        → {floors : List ℕ} → BothMapped J floors → Bounded J weight old new floors (answer.Answered r)
+    reported r e h g {floors} m =
         let f : small ≡ false = le-ltb (length (old .table)) (words-needed J (capacity J weight)) h in
         record {
           answer = ap (λ x. answer.Answered x) e ∙ sym (ap (λ v. answer-by v (report-of J weight)) (storage-by false false none-short f));
-          memory = leaves false f (g, k);
+          memory = leaves false f g;
+          mapped = λ b e. m;
         }

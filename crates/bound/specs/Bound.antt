@@ -18,14 +18,9 @@ use Rattle.refusal.specs.declared.Refusal.the-variants.{ListShort, TableShort}
 use Rattle.job.specs.Block.{job-checks}
 use Rattle.job.specs.Weights.{block-job, weight-in, weight-checks}
 use Rattle.table.specs.Table.{position-count, words-needed, Figures, Kept}
-use Rattle.bound.specs.declared.Counts.{Counts}
 use Rattle.bound.specs.declared.BoundReport.{BoundReport}
 use Rattle.bound.specs.declared.BoundAnswer.{BoundAnswer}
 use Rattle.bound.specs.declared.BoundAnswer.the-variants as answer
-
--- a list begins with the normal positions of a side
-abbrev pub Begins : Job → Direction → List ℕ → Type 0
-Begins J d xs = take (position-count J d) xs ≡ normal-positions J d
 
 -- check 19: a list shorter than L + 1 or W + 1
 abbrev pub list-check : Job → ℕ → ℕ → Check
@@ -38,10 +33,6 @@ table-check J q n = (ltb n (words-needed J q), TableShort (words-needed J q))
 -- the storage checks, over the lengths of the two lists and of the table
 abbrev pub storage-checks : Job → ℕ → ℕ → ℕ → ℕ → List Check
 storage-checks J q m n k = list-check J m n ∷ table-check J q k ∷ []
-
--- p and r of a job
-abbrev pub counts-of : Job → Counts
-counts-of J = record { lengths = position-count J Length; widths = position-count J Width }
 
 -- what the bound call reports of a job and weights: the bound, Q, p and r
 abbrev pub report-of : Job → (ℕ → ℕ) → BoundReport
@@ -78,18 +69,6 @@ pub record Leaves (before : Checked) (J : Job) (weight : ℕ → ℕ) (old new :
   pub lengths : new .lengths ≡ list-after (next before (first-refusal (list-check J (length (old .lengths)) (length (old .widths)) ∷ []))) (normal-positions J Length) (old .lengths)
   pub widths : new .widths ≡ list-after (next before (first-refusal (list-check J (length (old .lengths)) (length (old .widths)) ∷ []))) (normal-positions J Width) (old .widths)
   pub table : TableAfter (next before (first-refusal (memory-checks J weight old))) J weight (old .table) (new .table)
-
--- a job that was read, and weights that were accepted for it with the capacity q
-pub record Weighed (J : Job) (ws : List ℕ) (q : ℕ) : Type 0 where
-  pub in-range : InRange J
-  pub weights : J .count ≤ length ws
-  pub total : q ≡ capacity J (weight-in ws)
-  pub most : q ≤ 4095
-
--- the answer of a job and weights that were accepted, and what it leaves in lent memory
-pub record Bounded (J : Job) (weight : ℕ → ℕ) (old new : Memory) (r : BoundAnswer) : Type 0 where
-  pub answer : r ≡ answer-by (first-refusal (memory-checks J weight old)) (report-of J weight)
-  pub memory : Leaves Passed J weight old new
 
 -- the verdict of the checks that stand before the storage's, 1 to 9
 abbrev pub accept-verdict : List ℕ → List ℕ → Checked

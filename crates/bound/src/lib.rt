@@ -2,19 +2,21 @@
 // figures into the lent table, and the table's last word is the bound. Refusals 1 to 9, 19 and 20.
 use job::JobRecord;
 use job::WeightsAnswer;
+use positions::map_floors;
+use positions::normal_positions;
 use refusal::Checked;
 use refusal::Refusal;
 ghost use mathlib.Core.Path.{_≡_};
-ghost use Prim.Native.Nat.{_+_, _*_, _≤_, _<_};
+ghost use mathlib.Core.Bool.{_||_};
+ghost use Prim.Native.Nat.{_+_, _*_, _≤_};
+ghost use lib.Dec.{ltb};
 ghost use lib.ListN.{length};
-ghost use Rattle.cutting.specs.declared.Direction.the-variants.{Length, Width};
-ghost use Rattle.cutting.specs.Lists.{over};
-ghost use Rattle.cutting.specs.Job.{InRange, normal-positions};
 ghost use Rattle.cutting.specs.Promises.{Recursion, NormalSums, FloorFigures};
 ghost use Rattle.job.specs.Block.{job-of};
 ghost use Rattle.job.specs.Weights.{block-job, weight-in, Accepted};
-ghost use Rattle.table.specs.Table.{words-needed, Figures, Kept};
-ghost use Rattle.bound.specs.Bound.{counts-of, Begins, lent, Weighed, Bounded, Leaves, accept-verdict, bound-answer, bound-outcome, bound-said, BoundSaid};
+ghost use Rattle.bound.specs.Bound.{lent, Leaves, accept-verdict, bound-answer, bound-outcome, bound-said, BoundSaid};
+ghost use Rattle.positions.specs.Contracts.{Mappable};
+ghost use Rattle.bound.specs.Contracts.{SidesMapped, size-job, Fillable, FilledBy, Weighed, Bounded};
 
 // What the bound call reports: the bound, the capacity Q, and the numbers p and r of normal lengths and widths.
 pub struct BoundReport {
@@ -30,10 +32,14 @@ pub enum BoundAnswer {
     Refused(Refusal),
 }
 
-// The numbers of normal lengths and widths.
-pub struct Counts {
-    pub lengths: u16,
-    pub widths: u16,
+// What a table is made for: the plate's sides, the number of kinds, p rows and r columns of cells, and the capacity Q.
+pub struct TableSize {
+    pub length: u16,
+    pub width: u16,
+    pub count: u16,
+    pub rows: u16,
+    pub columns: u16,
+    pub capacity: u16,
 }
 
 // The words that a table needs.
@@ -44,113 +50,127 @@ fn words(p: u16, r: u16, q: u16) -> u64
     (p as u64) * (r as u64) * ((q as u64) + 1)
 }
 
-// The normal positions of both sides, into lists that are long enough.
-fn list_positions(job: JobRecord, lengths: &mut [u16], widths: &mut [u16]) -> Counts
-    requires { ⌜ InRange (job-of job) × (job .length < length (now lengths)) × (job .width < length (now widths)) ⌝ }
-    ensures { λ r. ⌜ (r ≡ counts-of (job-of job)) × (now (lengths .exit) ≡ over (normal-positions (job-of job) Length) (now (lengths .entry)))
-        × (now (widths .exit) ≡ over (normal-positions (job-of job) Width) (now (widths .entry))) ⌝ }
+// Whether lists of m and of n entries are too short for the plate.
+fn lists_short(m: usize, n: usize, length: u16, width: u16) -> bool
+    ensures { λ r. ⌜ r ≡ (ltb m (length + 1) || ltb n (width + 1)) ⌝ }
 {
-    let along = job.lengths;
-    let across = job.widths;
-    let p = positions::normal_positions(&along, &across, job.count, job.length, job.width, lengths);
-    let r = positions::normal_positions(&across, &along, job.count, job.width, job.length, widths);
-    Counts {
-        lengths: p,
-        widths: r,
+    if m < (length as usize) + 1 {
+        return true;
     }
+    n < (width as usize) + 1
 }
 
-// The figures of a job, into a table that is long enough: the maps of remainders first, then the fill for one share or for many.
-fn fill_table(
-    job: JobRecord,
+// The floors of both sides into one array: those of the lengths first, those of the widths from entry 1,001 on.
+fn map_sides(size: TableSize, lengths: &[u16], widths: &[u16], floors: &mut [u16])
+    requires { ⌜ Mappable (now lengths) (size .rows) (size .length) 1001 × Mappable (now widths) (size .columns) (size .width) 1001 × (length (now floors) ≡ 2002) ⌝ }
+    ensures { λ _. ⌜ SidesMapped size (now (lengths .entry)) (now (widths .entry)) (now (floors .exit)) ⌝ }
+{
+    map_floors(lengths, size.rows, size.length, &mut floors[..1001]);
+    map_floors(widths, size.columns, size.width, &mut floors[1001..]);
+}
+
+// The figures of a job, into a table that is long enough: the fill for one share or for many.
+fn fill_table<'a>(
+    size: TableSize,
+    kind_lengths: &'a [u16; 64],
+    kind_widths: &'a [u16; 64],
+    prices: &'a [u32; 64],
     weights: &[u8],
-    q: u16,
     lengths: &[u16],
     widths: &[u16],
-    counts: Counts,
+    floors: &[u16],
     table: &mut [u64],
 )
-    requires { ⌜ InRange (job-of job) × (job .count ≤ length (now weights)) × (q ≤ 4095) × (counts ≡ counts-of (job-of job))
-        × Begins (job-of job) Length (now lengths) × Begins (job-of job) Width (now widths) × (words-needed (job-of job) q ≤ length (now table)) ⌝ }
-    ensures { λ _. ⌜ Figures (job-of job) (weight-in (now (weights .entry))) q (now (table .exit)) × Kept (words-needed (job-of job) q) (now (table .entry)) (now (table .exit)) ⌝ }
+    requires { ⌜ Fillable (size-job size (now «kind_lengths») (now «kind_widths») (now prices)) (now weights) size (now lengths) (now widths) (now floors) (now table) ⌝ }
+    ensures { λ _. ⌜ FilledBy (size-job size (now («kind_lengths» .entry)) (now («kind_widths» .entry)) (now (prices .entry))) (weight-in (now (weights .entry))) (size .capacity) (now (table .entry)) (now (table .exit)) ⌝ }
 {
-    let p = counts.lengths;
-    let r = counts.widths;
-    let length = job.length;
-    let width = job.width;
-    let lengthmap = positions::floor_map(lengths, p, length);
-    let widthmap = positions::floor_map(widths, r, width);
-    let along = job.lengths;
-    let across = job.widths;
-    let prices = job.prices;
-    if q == 0 {
+    let width_floors = &floors[1001..];
+    if size.capacity == 0 {
         one_share::fill(
-            length,
-            width,
-            &along,
-            &across,
-            &prices,
+            size.length,
+            size.width,
+            kind_lengths,
+            kind_widths,
+            prices,
             weights,
-            job.count,
+            size.count,
             lengths,
-            &lengthmap,
-            p,
+            floors,
+            size.rows,
             widths,
-            &widthmap,
-            r,
+            width_floors,
+            size.columns,
             table,
         );
         return;
     }
     state_fill::fill_weighed(
-        length,
-        width,
-        &along,
-        &across,
-        &prices,
+        size.length,
+        size.width,
+        kind_lengths,
+        kind_widths,
+        prices,
         weights,
-        job.count,
+        size.count,
         lengths,
-        &lengthmap,
-        p,
+        floors,
+        size.rows,
         widths,
-        &widthmap,
-        r,
-        q,
+        width_floors,
+        size.columns,
+        size.capacity,
         table,
     );
 }
 
-// The bound of a job that was read and weights that were accepted: refusals 19 and 20, then the lists, the table and the report.
+// The bound of a job that was read and weights that were accepted: refusals 19 and 20, then the lists, the floors of both sides, the
+// table and the report.
 pub fn bound_of_job(
     job: JobRecord,
     weights: &[u8],
     q: u16,
     lengths: &mut [u16],
     widths: &mut [u16],
+    floors: &mut [u16],
     table: &mut [u64],
 ) -> BoundAnswer
-    requires { ⌜ Weighed (job-of job) (now weights) q ⌝ }
+    requires { ⌜ Weighed (job-of job) (now weights) q × (length (now floors) ≡ 2002) ⌝ }
     ensures { λ r. ⌜ Bounded (job-of job) (weight-in (now (weights .entry)))
         (lent (now (lengths .entry)) (now (widths .entry)) (now (table .entry)))
-        (lent (now (lengths .exit)) (now (widths .exit)) (now (table .exit))) r ⌝ }
+        (lent (now (lengths .exit)) (now (widths .exit)) (now (table .exit))) (now (floors .exit)) r ⌝ }
 {
     let length = job.length;
     let width = job.width;
-    if lengths.len() <= length as usize {
+    let count = job.count;
+    if lists_short(lengths.len(), widths.len(), length, width) {
         return BoundAnswer::Refused(Refusal::ListShort);
     }
-    if widths.len() <= width as usize {
-        return BoundAnswer::Refused(Refusal::ListShort);
-    }
-    let counts = list_positions(job, lengths, widths);
-    let p = counts.lengths;
-    let r = counts.widths;
+    let p = normal_positions(&job.lengths, &job.widths, count, length, width, lengths);
+    let r = normal_positions(&job.widths, &job.lengths, count, width, length, widths);
     let needed = words(p, r, q);
     if (table.len() as u64) < needed {
         return BoundAnswer::Refused(Refusal::TableShort(needed));
     }
-    fill_table(job, weights, q, &lengths[..], &widths[..], counts, table);
+    let size = TableSize {
+        length: length,
+        width: width,
+        count: count,
+        rows: p,
+        columns: r,
+        capacity: q,
+    };
+    map_sides(size, &lengths[..], &widths[..], floors);
+    fill_table(
+        size,
+        &job.lengths,
+        &job.widths,
+        &job.prices,
+        weights,
+        &lengths[..],
+        &widths[..],
+        &floors[..],
+        table,
+    );
     let last = needed as usize - 1;
     BoundAnswer::Answered(BoundReport {
         bound: table[last],
@@ -189,6 +209,9 @@ pub fn bound(
     let accepted = job::check_weights(record, weights);
     match accepted {
         WeightsAnswer::Refused(r) => BoundAnswer::Refused(r),
-        WeightsAnswer::Capacity(q) => bound_of_job(record, weights, q, lengths, widths, table),
+        WeightsAnswer::Capacity(q) => {
+            let mut floors = [0u16; 2002];
+            bound_of_job(record, weights, q, lengths, widths, &mut floors[..], table)
+        }
     }
 }

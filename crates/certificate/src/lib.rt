@@ -93,7 +93,8 @@ pub fn certify(
         return refused(walked);
     };
     let report = drawn.report;
-    let found = bound::bound_of_job(record, weights, q, lengths, widths, table);
+    let mut floors = [0u16; 2002];
+    let found = bound::bound_of_job(record, weights, q, lengths, widths, &mut floors[..], table);
     let BoundAnswer::Answered(b) = found else {
         return bound_refused(found);
     };

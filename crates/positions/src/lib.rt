@@ -80,9 +80,9 @@ fn list_sums(fit: &[u16; 64], count: u16, side: u16, out: &mut [u16]) -> u16
 }
 
 // The normal positions up to `side`, rising, at the front of `out`; answers how many.
-pub fn normal_positions(
-    sides: &[u16; 64],
-    others: &[u16; 64],
+pub fn normal_positions<'a>(
+    sides: &'a [u16; 64],
+    others: &'a [u16; 64],
     count: u16,
     side: u16,
     other: u16,

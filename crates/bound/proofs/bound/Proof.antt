@@ -1,5 +1,5 @@
 -- `bound::bound` meets its contract.
-use mathlib.Core.Path.{sym, _∙_}
+use mathlib.Core.Path.{refl, sym, _∙_}
 use denote.Ref.{now}
 use Rattle.job.specs.Block.{job-of}
 use Rattle.job.proofs.Read.{read-in-range, answered, refused}
@@ -33,8 +33,11 @@ enum-known-accepted c = search needs
 enum-known-accepted-2 : tie.Need-enum-known-accepted-2
 enum-known-accepted-2 c = search needs
 
+slice-aggregate-bound-of-job : tie.Need-slice-aggregate-bound-of-job
+slice-aggregate-bound-of-job c = search needs
+
 bound-of-job-requires : tie.Need-bound-of-job-requires
-bound-of-job-requires c κs = weighed (now (c .before .before .before .before .before .before .before .before .before .before .before .before .before .before .before .before .args .block)) (now (c .before .before .before .before .before .before .before .before .before .before .before .before .before .before .before .before .args .weights)) (c .before .before .before .before .before .before .before .before .before .before .read-job .ensures .0) (c .before .before .before .before .before .before .before .before .enum-told .given .1) (sym (c .before .before .before .before .before .before .check-weights .ensures .0) ∙ c .before .before .before .before .accepted2 .given .1)
+bound-of-job-requires c κs = (weighed (now (c .before .before .before .before .before .before .before .before .before .before .before .before .before .before .before .before .before .args .block)) (now (c .before .before .before .before .before .before .before .before .before .before .before .before .before .before .before .before .before .args .weights)) (c .before .before .before .before .before .before .before .before .before .before .before .read-job .ensures .0) (c .before .before .before .before .before .before .before .before .before .enum-told .given .1) (sym (c .before .before .before .before .before .before .before .check-weights .ensures .0) ∙ c .before .before .before .before .before .accepted2 .given .1), refl)
 
 returns-2 : tie.Need-returns-2
 returns-2 c =
@@ -54,9 +57,9 @@ same-length-3 c = search needs
 
 returns-3 : tie.Need-returns-3
 returns-3 c =
-    let a = answered (now (c .before .before .before .before .before .before .before .before .before .before .before .before .before .before .before .before .before .before .before .before .before .before .before .args .block)) (c .before .before .before .before .before .before .before .before .before .before .before .before .before .before .before .before .before .read-job .ensures .0) (c .before .before .before .before .before .before .before .before .before .before .before .before .before .before .before .enum-told .given .1) in
-    let k = capacity-answered (job-of (c .before .before .before .before .before .before .before .before .before .before .before .before .before .before .before .before .before .read-job .result .job)) (now (c .before .before .before .before .before .before .before .before .before .before .before .before .before .before .before .before .before .before .before .before .before .before .before .args .weights)) _ (sym (c .before .before .before .before .before .before .before .before .before .before .before .before .before .check-weights .ensures .0) ∙ c .before .before .before .before .before .before .before .before .before .before .before .accepted2 .given .1) in
-    accepted (now (c .before .before .before .before .before .before .before .before .before .before .before .before .before .before .before .before .before .before .before .before .before .before .before .args .block)) (now (c .before .before .before .before .before .before .before .before .before .before .before .before .before .before .before .before .before .before .before .before .before .before .before .args .weights)) _ (a .0) _ (rw (a .1) at (k .0)) (rw (a .1) at (c .before .before .before .before .before .before .bound-of-job .ensures))
+    let a = answered (now (c .before .before .before .before .before .before .before .before .before .before .before .before .before .before .before .before .before .before .before .before .before .before .before .before .before .args .block)) (c .before .before .before .before .before .before .before .before .before .before .before .before .before .before .before .before .before .before .before .read-job .ensures .0) (c .before .before .before .before .before .before .before .before .before .before .before .before .before .before .before .before .before .enum-told .given .1) in
+    let k = capacity-answered (job-of (c .before .before .before .before .before .before .before .before .before .before .before .before .before .before .before .before .before .before .before .read-job .result .job)) (now (c .before .before .before .before .before .before .before .before .before .before .before .before .before .before .before .before .before .before .before .before .before .before .before .before .before .args .weights)) _ (sym (c .before .before .before .before .before .before .before .before .before .before .before .before .before .before .before .check-weights .ensures .0) ∙ c .before .before .before .before .before .before .before .before .before .before .before .before .before .accepted2 .given .1) in
+    accepted (now (c .before .before .before .before .before .before .before .before .before .before .before .before .before .before .before .before .before .before .before .before .before .before .before .before .before .args .block)) (now (c .before .before .before .before .before .before .before .before .before .before .before .before .before .before .before .before .before .before .before .before .before .before .before .before .before .args .weights)) _ (a .0) _ (rw (a .1) at (k .0)) (rw (a .1) at (c .before .before .before .before .before .before .before .bound-of-job .ensures))
 
 pub bound-spec : {M : Type 1} → statement M
 bound-spec =
@@ -69,6 +72,7 @@ bound-spec =
     check-weights-requires
     enum-known-accepted
     enum-known-accepted-2
+    slice-aggregate-bound-of-job
     bound-of-job-requires
     returns-2
     same-length

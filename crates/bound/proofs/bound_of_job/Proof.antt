@@ -1,39 +1,62 @@
--- `bound::bound_of_job` meets its contract.
-use mathlib.Core.Path.{refl, _∙_, ap}
+-- `bound::bound_of_job` meets its contract. What is known once both lists are written is said once, of the context at that point.
+use mathlib.Core.Path.{_≡_, refl, sym, _∙_, ap}
 use Prim.Native.Nat.{_-_}
-use lib.ListN.{getD}
 use native.Mathlib.Omega.{arith}
+use lib.ListN.{length, getD}
 use denote.Ref.{now}
 use Rattle.cutting.specs.declared.Direction.the-variants.{Length, Width}
+use Rattle.cutting.specs.Job.{Job, normal-positions}
 use Rattle.job.specs.Block.{job-of}
-use Rattle.bound.specs.declared.Counts.{Counts}
-use Rattle.bound.proofs.Storage.{lengths-short, widths-short, table-short, reported, report-is}
-use Rattle.bound.proofs.Last.{count-most, words-are, begins, words-some, words-most, bound-last}
+use Rattle.job.specs.Weights.{weight-in}
+use Rattle.positions.specs.Contracts.{Holds}
+use Rattle.table.specs.Table.{words-needed}
+use Rattle.bound.proofs.Storage.{lists-long, lists-short, table-short, reported, report-is}
+use Rattle.bound.proofs.Last.{count-most, words-are, words-some, words-most, bound-last}
+use Rattle.bound.proofs.Filled.{lengths-ready, widths-ready, lengths-listed, widths-listed, map-ready, both-mapped, fillable, whole-filled}
 use borrow.Author.Needs.{needs}
 use Rattle.bound.proofs.bound_of_job.Statement.{statement}
 use Rattle.bound.proofs.bound_of_job.Tie as tie
 
-cast-if1 : tie.Need-cast-if1
-cast-if1 c = search needs
+-- where the call began, and its job
+abbrev start : tie.After-slice-known6 → tie.Start
+start k = k .before .before .before .before .before .before .before .before .before .before .before .before .before .before .before .before .before .before .before .before .before
+
+abbrev J : tie.After-slice-known6 → Job
+J k = job-of (start k .args .t1)
+
+-- both lists hold their normal positions
+lengths-hold : (k : tie.After-slice-known6) → Holds (normal-positions (J k) Length) (k .before .before .before .before .before .before .before .before .before .normal-positions .result) (now (start k .args .lengths)) (k .before .before .before .before .before .before .before .before .before .normal-positions .last .1 .1 .1 .1 .1 .0)
+lengths-hold k = lengths-listed (start k .args .t1) (k .before .before .before .before .before .before .before .before .before .normal-positions .ensures)
+
+widths-hold : (k : tie.After-slice-known6) → Holds (normal-positions (J k) Width) (k .before .before .normal-positions2 .result) (now (start k .args .widths)) (k .before .before .normal-positions2 .last .1 .1 .1 .1 .1 .0)
+widths-hold k = widths-listed (start k .args .t1) (k .before .before .normal-positions2 .ensures)
+
+-- the words counted are those needed
+counted : (w : tie.After-words) → w .words .result ≡ words-needed (J (w .before)) (start (w .before) .args .q)
+counted w = words-are (J (w .before)) (w .words .ensures) (lengths-hold (w .before) .number) (widths-hold (w .before) .number) refl
+
+lists-short-requires : tie.Need-lists-short-requires
+lists-short-requires c κs = search needs
 
 returns : tie.Need-returns
-returns c = lengths-short _ _ _ (c .if1 .taken)
+returns c = lists-short _ _ _ (sym (c .before .lists-short .ensures) ∙ c .if1 .taken)
 
-cast-if2 : tie.Need-cast-if2
-cast-if2 c = search needs
+normal-positions-requires : tie.Need-normal-positions-requires
+normal-positions-requires c κs =
+    let e = c .before .before .before .before .before .before .before .before .before .before .before in
+    let room = lists-long (length (now (e .args .lengths))) (length (now (e .args .widths))) (e .args .t1 .length) (e .args .t1 .width) (sym (c .before .before .before .before .before .lists-short .ensures) ∙ c .before .before .before .before .if1 .left) in
+    lengths-ready (e .args .t1) (e .pre .0 .in-range) (room .0)
 
-returns-2 : tie.Need-returns-2
-returns-2 c = widths-short _ _ _ (c .if2 .taken)
-
-list-positions-requires : tie.Need-list-positions-requires
-list-positions-requires c κs = search needs
+normal-positions-requires-2 : tie.Need-normal-positions-requires-2
+normal-positions-requires-2 c κs =
+    let e = c .before .before .before .before .before .before .before .before .before .before .before .before .before .before .before .before .before .before in
+    let room = lists-long (length (now (e .args .lengths))) (length (now (e .args .widths))) (e .args .t1 .length) (e .args .t1 .width) (sym (c .before .before .before .before .before .before .before .before .before .before .before .before .lists-short .ensures) ∙ c .before .before .before .before .before .before .before .before .before .before .before .if1 .left) in
+    widths-ready (e .args .t1) (e .pre .0 .in-range) (room .1)
 
 words-requires : tie.Need-words-requires
 words-requires c κs =
-    let h = c .before .before .before .before .before .before .before .before .before .before .before .before .before .pre in
-    let J = job-of (c .before .before .before .before .before .before .before .before .before .before .before .before .before .args .job) in
-    let n = c .before .before .before .before .list-positions .ensures .0 in
-    (omega (arith, ap (λ (x : Counts). x .lengths) n, count-most J (h .in-range) Length), omega (arith, ap (λ (x : Counts). x .widths) n, count-most J (h .in-range) Width), omega (arith, h .most))
+    let given = start c .pre .0 in
+    (omega (arith, lengths-hold c .number, count-most (J c) (given .in-range) Length), omega (arith, widths-hold c .number, count-most (J c) (given .in-range) Width), given .most)
 
 same-length : tie.Need-same-length
 same-length c = search needs
@@ -41,36 +64,37 @@ same-length c = search needs
 same-length-2 : tie.Need-same-length-2
 same-length-2 c = search needs
 
-returns-3 : tie.Need-returns-3
-returns-3 c =
-    let h = c .before .before .before .before .before .before .before .before .before .before .before .before .before .before .before .pre in
-    let s = c .before .before .before .before .before .before .list-positions .ensures in
-    let n = c .before .words .ensures in
-    table-short _ _ _ _ (c .before .before .before .before .before .before .before .before .before .before .if1 .left) (c .before .before .before .before .before .before .before .before .before .if2 .left) (s .1) (s .2) _ (words-are (job-of (c .before .before .before .before .before .before .before .before .before .before .before .before .before .before .before .args .job)) (s .0) n (h .total)) (c .if3 .taken) refl
+returns-2 : tie.Need-returns-2
+returns-2 c =
+    let k = c .before .before in
+    let given = start k .pre .0 in
+    table-short _ _ _ _ (sym (k .before .before .before .before .before .before .before .before .before .before .before .before .before .before .before .lists-short .ensures) ∙ k .before .before .before .before .before .before .before .before .before .before .before .before .before .before .if1 .left) (lengths-hold k .contents) (widths-hold k .contents) _
+    (counted (c .before) ∙ ap (λ q. words-needed (J k) q) (given .total)) (c .if2 .taken) refl
+
+map-sides-requires : tie.Need-map-sides-requires
+map-sides-requires c κs =
+    let k = c .before .before .before .before .before in
+    let given = start k .pre in
+    (map-ready (J k) Length (lengths-hold k) (given .0 .in-range), map-ready (J k) Width (widths-hold k) (given .0 .in-range), given .1)
 
 fill-table-requires : tie.Need-fill-table-requires
 fill-table-requires c κs =
-    let h = c .before .before .before .before .before .before .before .before .before .before .before .before .before .before .before .before .before .before .pre in
-    let s = c .before .before .before .before .before .before .before .before .before .list-positions .ensures in
-    let J = job-of (c .before .before .before .before .before .before .before .before .before .before .before .before .before .before .before .before .before .before .args .job) in
-    let n = words-are J (s .0) (c .before .before .before .before .words .ensures) refl in
-    (h .in-range, h .weights, h .most, s .0, begins J Length (now (c .before .before .before .before .before .before .before .before .before .before .before .before .before .before .before .before .before .before .args .lengths)) (s .1), begins J Width (now (c .before .before .before .before .before .before .before .before .before .before .before .before .before .before .before .before .before .before .args .widths)) (s .2), omega (arith, n, c .before .before .before .if3 .left))
+    let k = c .before .before .before .before .before .before .before .before .before .before .before .before .before .before .before .before in
+    fillable (start k .args .t1) (lengths-hold k) (widths-hold k) (start k .pre .0) (c .before .before .before .before .before .before .before .before .before .before .map-sides .ensures) (omega (arith, counted (c .before .before .before .before .before .before .before .before .before .before .before .before .before .before .before), c .before .before .before .before .before .before .before .before .before .before .before .before .before .before .if2 .left))
 
 sub-last : tie.Need-sub-last
-sub-last c =
-    let J = job-of (c .before .before .before .before .before .before .before .before .before .before .before .before .before .before .before .before .before .before .before .before .before .args .job) in
-    omega (arith, words-are J (c .before .before .before .before .before .before .before .before .before .before .before .before .list-positions .ensures .0) (c .before .before .before .before .before .before .before .words .ensures) refl, words-some J (c .before .before .before .before .before .before .before .before .before .before .before .before .before .before .before .before .before .before .before .before .before .args .q))
+sub-last c = let w = c .before .before .before .before .before .before .before .before .before .before .before .before .before .before .before .before .before .before in omega (arith, counted w, words-some (J (w .before)) (start (w .before) .args .q))
 
-mul-t14 : tie.Need-mul-t14
-mul-t14 c =
-    let J = job-of (c .before .before .before .before .before .before .before .before .before .before .before .before .before .before .before .before .before .before .before .before .before .args .job) in
-    record { fits = omega (arith, words-are J (c .before .before .before .before .before .before .before .before .before .before .before .before .list-positions .ensures .0) (c .before .before .before .before .before .before .before .words .ensures) refl, words-most J (c .before .before .before .before .before .before .before .before .before .before .before .before .before .before .before .before .before .before .before .before .before .pre .in-range) (c .before .before .before .before .before .before .before .before .before .before .before .before .before .before .before .before .before .before .before .before .before .args .q) (c .before .before .before .before .before .before .before .before .before .before .before .before .before .before .before .before .before .before .before .before .before .pre .most)) }
+mul-t18 : tie.Need-mul-t18
+mul-t18 c =
+    let w = c .before .before .before .before .before .before .before .before .before .before .before .before .before .before .before .before .before .before in
+    let given = start (w .before) .pre .0 in
+    record { fits = omega (arith, counted w, words-most (J (w .before)) (given .in-range) (start (w .before) .args .q) (given .most)) }
 
-slice-read-t23 : tie.Need-slice-read-t23
-slice-read-t23 c =
-    let J = job-of (c .before .before .before .before .before .before .before .before .before .before .before .before .before .before .before .before .before .before .before .before .before .before .args .job) in
-    let k = c .before .before .before .fill-table .ensures .1 .0 in
-    omega (arith, k, c .before .before .before .before .before .before .before .if3 .left, words-are J (c .before .before .before .before .before .before .before .before .before .before .before .before .before .list-positions .ensures .0) (c .before .before .before .before .before .before .before .before .words .ensures) refl, words-some J (c .before .before .before .before .before .before .before .before .before .before .before .before .before .before .before .before .before .before .before .before .before .before .args .q))
+slice-read-t29 : tie.Need-slice-read-t29
+slice-read-t29 c =
+    let w = c .before .before .before .before .before .before .before .before .before .before .before .before .before .before .before .before .before .before .before in
+    omega (arith, c .before .before .before .fill-table .ensures .1 .0, c .before .before .before .before .before .before .before .before .before .before .before .before .before .before .before .before .before .before .if2 .left, counted w, words-some (J (w .before)) (start (w .before) .args .q))
 
 same-length-3 : tie.Need-same-length-3
 same-length-3 c = search needs
@@ -81,36 +105,42 @@ same-length-4 c = search needs
 same-length-5 : tie.Need-same-length-5
 same-length-5 c = search needs
 
-returns-4 : tie.Need-returns-4
-returns-4 c =
-    let J = job-of (c .before .before .before .before .before .before .before .before .before .before .before .before .before .before .before .before .before .before .before .before .before .before .args .job) in
-    let h = c .before .before .before .before .before .before .before .before .before .before .before .before .before .before .before .before .before .before .before .before .before .before .pre in
-    let s = c .before .before .before .before .before .before .before .before .before .before .before .before .before .list-positions .ensures in
-    let n = words-are J (s .0) (c .before .before .before .before .before .before .before .before .words .ensures) (h .total) in
-    let f = c .before .before .before .fill-table .ensures in
-    let g = rw (h .total) at (f .0) in
-    reported _ _ _ _ (c .before .before .before .before .before .before .before .before .before .before .before .before .before .before .before .before .before .if1 .left) (c .before .before .before .before .before .before .before .before .before .before .before .before .before .before .before .before .if2 .left) (s .1) (s .2) _
-    (report-is (ap (λ k. getD (c .before .before .before .fill-table .last .1 .1 .1 .1 .1 .1 .0) (k - 1) 0) n ∙ bound-last J _ (h .in-range) (c .before .before .before .fill-table .last .1 .1 .1 .1 .1 .1 .0) g) (h .total) (ap (λ (x : Counts). x .lengths) (s .0)) (ap (λ (x : Counts). x .widths) (s .0)))
-    (omega (arith, n, c .before .before .before .before .before .before .before .if3 .left)) g (rw (h .total) at (f .1))
+same-length-6 : tie.Need-same-length-6
+same-length-6 c = search needs
+
+returns-3 : tie.Need-returns-3
+returns-3 c =
+    let w = c .before .before .before .before .before .before .before .before .before .before .before .before .before .before .before .before .before .before .before in
+    let k = w .before in
+    let e = start k in
+    let given = e .pre .0 in
+    let table = c .before .before .before .fill-table .last .1 .1 .1 .1 .1 .1 .1 .1 .0 in
+    let n = counted w ∙ ap (λ q. words-needed (J k) q) (given .total) in
+    let weight = weight-in (now (e .args .weights)) in
+    let f = whole-filled (e .args .t1) weight (given .total) (now (e .args .table)) table (c .before .before .before .fill-table .ensures) in
+    reported _ _ _ _ (sym (k .before .before .before .before .before .before .before .before .before .before .before .before .before .before .before .lists-short .ensures) ∙ k .before .before .before .before .before .before .before .before .before .before .before .before .before .before .if1 .left) (lengths-hold k .contents) (widths-hold k .contents) _
+    (report-is (ap (λ k. getD table (k - 1) 0) n ∙ bound-last (J k) weight (given .in-range) table (f .0)) (given .total) (lengths-hold k .number) (widths-hold k .number))
+    (omega (arith, n, c .before .before .before .before .before .before .before .before .before .before .before .before .before .before .before .before .before .before .if2 .left)) f (both-mapped (e .args .t1) (lengths-hold k) (widths-hold k) given (c .before .before .before .before .before .before .before .before .before .before .before .before .before .before .map-sides .ensures))
 
 pub bound-of-job-spec : {M : Type 1} → statement M
 bound-of-job-spec =
     tie.close
     (tie.spec
-    cast-if1
+    lists-short-requires
     returns
-    cast-if2
-    returns-2
-    list-positions-requires
+    normal-positions-requires
+    normal-positions-requires-2
     words-requires
     same-length
     same-length-2
-    returns-3
+    returns-2
+    map-sides-requires
     fill-table-requires
     sub-last
-    mul-t14
-    slice-read-t23
+    mul-t18
+    slice-read-t29
     same-length-3
     same-length-4
     same-length-5
-    returns-4)
+    same-length-6
+    returns-3)

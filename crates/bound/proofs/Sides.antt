@@ -1,0 +1,55 @@
+-- One array with the floors of both sides: its two parts, and what it holds after each was written.
+use mathlib.Core.Path.{_≡_, sym, _∙_, ap}
+use mathlib.Core.List.{List, _++_}
+use Prim.Native.Nat.{ℕ, _+_, _-_, _≤_, _<_}
+use native.Mathlib.Omega.{arith}
+use lib.ListN.{length, take, drop, length-drop, length-append, List·getD-append}
+use lib.Seq.{length-take-le, take-all, take-append-seam, drop-append-seam}
+use Rattle.positions.specs.Contracts.{Floors}
+use Rattle.bound.specs.declared.TableSize.{TableSize}
+use Rattle.bound.specs.Contracts.{SidesMapped}
+
+-- the second part goes to the array's end
+pub to-end : (xs : List ℕ) → take (length xs - 1001) (drop 1001 xs) ≡ drop 1001 xs
+to-end xs = take-all (length xs - 1001) (drop 1001 xs) (omega (arith, length-drop 1001 xs))
+
+module _ (xs : List ℕ) (e : length xs ≡ 2002) where
+  -- either part has 1,001 entries
+  pub first-part : length (take 1001 xs) ≡ 1001
+  first-part = length-take-le 1001 xs (omega (arith, e))
+
+  pub second-part : length (take (length xs - 1001) (drop 1001 xs)) ≡ 1001
+  second-part = ap length (to-end xs) ∙ omega (arith, e, length-drop 1001 xs)
+
+floors-front : (list : List ℕ) (n m : ℕ) (xs ys : List ℕ) → m ≤ length xs → Floors list n m xs → Floors list n m (xs ++ ys)
+floors-front list n m xs ys h f x l = rw (List·getD-append xs ys 0 x (omega arith)) (f x l)
+
+-- the array after the first part was written, and after the second was
+abbrev pub half-written : List ℕ → List ℕ → List ℕ
+half-written old first = first ++ drop 1001 old
+
+abbrev pub written : List ℕ → List ℕ → List ℕ
+written whole second = take 1001 whole ++ (second ++ drop (length whole - 1001) (drop 1001 whole))
+
+module _ (old first : List ℕ) (e : length old ≡ 2002) (a : length first ≡ length (take 1001 old)) where
+  pub half-length : length (half-written old first) ≡ 2002
+  half-length = length-append first (drop 1001 old) ∙ omega (arith, e, a, first-part old e, length-drop 1001 old)
+
+  -- the floors of the lengths were written to the first part, then those of the widths to the second
+  pub sides-mapped : (g : TableSize) (lengths widths second : List ℕ)
+      → length second ≡ length (take (length (half-written old first) - 1001) (drop 1001 (half-written old first)))
+      → length (written (half-written old first) second) ≡ length (half-written old first) → g .length < 1001 → g .width < 1001
+      → Floors lengths (g .rows) (g .length + 1) first → Floors widths (g .columns) (g .width + 1) second
+      → SidesMapped g lengths widths (written (half-written old first) second)
+  sides-mapped g lengths widths second b s l w f h =
+      let whole = half-written old first in
+      let rest = second ++ drop (length whole - 1001) (drop 1001 whole) in
+      let n : length first ≡ 1001 = a ∙ first-part old e in
+      let m : length second ≡ 1001 = b ∙ second-part whole half-length in
+      let front : take 1001 whole ≡ first = ap (λ k. take k whole) (sym n) ∙ take-append-seam first (drop 1001 old) in
+      let back : drop 1001 (first ++ rest) ≡ rest = ap (λ k. drop k (first ++ rest)) (sym n) ∙ drop-append-seam first rest in
+      record {
+        entries = s ∙ half-length;
+        lengths-mapped = rw front (floors-front lengths (g .rows) (g .length + 1) first rest (omega arith) f);
+        widths-mapped = rw (front, back) (floors-front widths (g .columns) (g .width + 1) second (drop (length whole - 1001) (drop 1001 whole)) (omega arith) h);
+      }

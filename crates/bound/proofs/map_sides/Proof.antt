@@ -1,0 +1,64 @@
+-- `bound::map_sides` meets its contract.
+use mathlib.Core.Path.{sym}
+use native.Mathlib.Omega.{arith}
+use denote.Ref.{now}
+use Rattle.bound.proofs.Sides.{first-part, second-part, half-written, half-length, sides-mapped}
+use borrow.Author.Needs.{needs}
+use Rattle.bound.proofs.map_sides.Statement.{statement}
+use Rattle.bound.proofs.map_sides.Tie as tie
+
+slice-relend-prefix-map-floors : tie.Need-slice-relend-prefix-map-floors
+slice-relend-prefix-map-floors c = search needs
+
+slice-aggregate-map-floors : tie.Need-slice-aggregate-map-floors
+slice-aggregate-map-floors c = let e = c .before .before .before .before in sym (first-part (now (e .args .floors)) (e .pre .2))
+
+map-floors-requires : tie.Need-map-floors-requires
+map-floors-requires c κs =
+    let e = c .before .before .before .before in
+    let given = e .pre .0 in
+    record { some = given .some; listed = given .listed; rising = given .rising; most = given .most; room-there = omega (arith, given .room-there, first-part (now (e .args .floors)) (e .pre .2)) }
+
+sub-map-floors : tie.Need-sub-map-floors
+sub-map-floors c = search needs
+
+part-map-floors-start : tie.Need-part-map-floors-start
+part-map-floors-start c = search needs
+
+part-map-floors-end : tie.Need-part-map-floors-end
+part-map-floors-end c = search needs
+
+map-floors-requires-2 : tie.Need-map-floors-requires-2
+map-floors-requires-2 c κs =
+    let e = c .before .before .before .before .before .before .before .before in
+    let given = e .pre .1 in
+    let old = now (e .args .floors) in
+    let first = c .before .before .before .map-floors in
+    let n = half-length old (first .last .1 .1 .1 .0) (e .pre .2) (first .ensures .0) in
+    record { some = given .some; listed = given .listed; rising = given .rising; most = given .most; room-there = omega (arith, given .room-there, second-part (half-written old (first .last .1 .1 .1 .0)) n) }
+
+same-length : tie.Need-same-length
+same-length c = search needs
+
+returns : tie.Need-returns
+returns c =
+    let e = c .before .before .before .before .before .before .before .before .before .before .before in
+    let given = e .pre in
+    let first = c .before .before .before .before .before .before .map-floors in
+    let second = c .before .before .map-floors2 in
+    sides-mapped (now (e .args .floors)) (first .last .1 .1 .1 .0) (given .2) (first .ensures .0) (e .args .size) (now (e .args .lengths)) (now (e .args .widths))
+    (second .last .1 .1 .1 .0) (second .ensures .0) (c .before .floors2 .given .1) (given .0 .room-there) (given .1 .room-there) (first .ensures .1) (second .ensures .1)
+
+pub map-sides-spec : {M : Type 1} → statement M
+map-sides-spec =
+    tie.close
+    (tie.spec
+    slice-relend-prefix-map-floors
+    slice-aggregate-map-floors
+    map-floors-requires
+    sub-map-floors
+    part-map-floors-start
+    part-map-floors-end
+    map-floors-requires-2
+    same-length
+    returns)
