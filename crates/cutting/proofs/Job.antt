@@ -1,6 +1,5 @@
--- What document 01 asks of a job, its weights and its trees, from the general theory: the recursion, exactness, the bound over the trees
+-- What the scope asks of a job, its weights and its trees, from the general theory: the recursion, exactness, the bound over the trees
 -- that keep every demand, the ceiling, and the three areas.
--- Assumes nothing.
 use mathlib.Core.Path.{_≡_, _∙_}
 use mathlib.Core.Bool.{_&&_}
 use Prim.Native.Nat.{ℕ, suc, _+_, _-_, _*_, _≤_, max}
@@ -8,6 +7,7 @@ use native.Mathlib.Nat.{sub-zero, mul-le-mul}
 use native.Mathlib.Omega.{arith}
 use lib.Dec.{leb}
 use Rattle.cutting.specs.declared.Direction.the-variants.{Length, Width}
+use Rattle.cutting.specs.Limits.{most-figure}
 use Rattle.cutting.specs.Lists.{range, only, greatest}
 use Rattle.cutting.specs.Tree.{Rect, Tree, waste, piece, cut, Guillotine}
 use Rattle.cutting.specs.Figure.{leaf, best, step}
@@ -50,7 +50,7 @@ module _ (J : Job) where
       (saw-cut 0 Width (r .1) x (g .0) (omega arith), plain-guillotine a (r .0, x) (g .2), plain-guillotine b (r .0, r .1 - x - 0) (rw sub-zero (g .3)))
 
 module _ (J : Job) (weight : ℕ → ℕ) where
-  -- the recursion, as document 01 has it
+  -- the recursion, as the scope has it
   pub figure-recursion : (l w c : ℕ) → figure-of J weight l w c ≡
       max (greatest (λ i. only (fits-in (J .size i) (l, w) && leb (weight i) c) (J .price i)) (range 0 (J .count)))
       (max (greatest (λ x. greatest (λ a. figure-of J weight x w a + figure-of J weight (l - x) w (c - a)) (range 0 (suc c))) (range 1 (l - 1)))
@@ -100,7 +100,7 @@ module _ (J : Job) (weight : ℕ → ℕ) (h : InRange J) where
       (λ i m. (let l = mem-range 0 (J .count) i m in h .prices i (omega arith))) (l, w) c
 
   -- so the bound is at most 1,000,000,000,000
-  pub bound-ceiling : bound-of J weight ≤ 1000000000000
+  pub bound-ceiling : bound-of J weight ≤ most-figure
   bound-ceiling = omega (arith, figure-ceiling (J .plate .0) (J .plate .1) (capacity J weight), mul-le-mul (h .plate-length .1) (h .plate-width .1))
 
   -- a rectangle without length or without width has figure 0

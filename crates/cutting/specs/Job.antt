@@ -1,6 +1,5 @@
--- Document 01 in its own words: a job, its guillotine trees and what they earn, the figure and the bound, the normal positions and
+-- The scope as definitions: a job, its guillotine trees and what they earn, the figure and the bound, the normal positions and
 -- the plan behind the bound. The general definitions stand in the other modules; proofs/Job has what is proved of these.
--- Assumes nothing.
 use mathlib.Core.Bool.{Bool, _&&_}
 use mathlib.Core.Option.{Option}
 use mathlib.Core.List.{List, map}
@@ -8,6 +7,7 @@ use Prim.Native.Nat.{ℕ, suc, _+_, _-_, _*_, _≤_, _<_}
 use lib.Dec.{leb, eqb}
 use Rattle.cutting.specs.declared.Direction.{Direction}
 use Rattle.cutting.specs.declared.Direction.the-variants.{Length, Width}
+use Rattle.cutting.specs.Limits.{most-side, most-kinds, most-price, most-demand}
 use Rattle.cutting.specs.Lists.{range, sum, filter, first, pairs}
 use Rattle.cutting.specs.Tree.{Rect, side, Tree, waste, piece, cut, Pieces, total, copies}
 use Rattle.cutting.specs.Figure.{figure}
@@ -127,12 +127,12 @@ waste-area-of l w t = waste-area (saw 0) (l, w) t
 abbrev pub trim-area-of : Job → ℕ → ℕ → Tree ℕ → ℕ
 trim-area-of J l w t = trim-area (J .size) (saw 0) (l, w) t
 
--- a job whose numbers are in document 01's ranges
+-- a job whose numbers are in the scope's ranges
 pub record InRange (J : Job) : Type 0 where
-  pub plate-length : (1 ≤ J .plate .0) × (J .plate .0 ≤ 1000)
-  pub plate-width : (1 ≤ J .plate .1) × (J .plate .1 ≤ 1000)
-  pub kinds : (1 ≤ J .count) × (J .count ≤ 64)
-  pub lengths : (i : ℕ) → i < J .count → (1 ≤ J .size i .0) × (J .size i .0 ≤ 1000)
-  pub widths : (i : ℕ) → i < J .count → (1 ≤ J .size i .1) × (J .size i .1 ≤ 1000)
-  pub prices : (i : ℕ) → i < J .count → J .price i ≤ 1000000
-  pub demands : (i : ℕ) → i < J .count → J .demand i ≤ 255
+  pub plate-length : (1 ≤ J .plate .0) × (J .plate .0 ≤ most-side)
+  pub plate-width : (1 ≤ J .plate .1) × (J .plate .1 ≤ most-side)
+  pub kinds : (1 ≤ J .count) × (J .count ≤ most-kinds)
+  pub lengths : (i : ℕ) → i < J .count → (1 ≤ J .size i .0) × (J .size i .0 ≤ most-side)
+  pub widths : (i : ℕ) → i < J .count → (1 ≤ J .size i .1) × (J .size i .1 ≤ most-side)
+  pub prices : (i : ℕ) → i < J .count → J .price i ≤ most-price
+  pub demands : (i : ℕ) → i < J .count → J .demand i ≤ most-demand

@@ -1,0 +1,30 @@
+-- The limits of the scope, each under its name.
+use Prim.Native.Nat.{ℕ}
+
+-- the greatest side of a plate or a piece
+abbrev pub most-side : ℕ
+most-side = 1000
+
+-- the most kinds of a job
+abbrev pub most-kinds : ℕ
+most-kinds = 64
+
+-- the greatest price
+abbrev pub most-price : ℕ
+most-price = 1000000
+
+-- the greatest demand
+abbrev pub most-demand : ℕ
+most-demand = 255
+
+-- the greatest capacity
+abbrev pub most-capacity : ℕ
+most-capacity = 4095
+
+-- the most nodes of a plan
+abbrev pub most-nodes : ℕ
+most-nodes = 4095
+
+-- no figure is greater: the greatest plate times the greatest price
+abbrev pub most-figure : ℕ
+most-figure = 1000000000000
