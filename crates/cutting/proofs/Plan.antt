@@ -1,6 +1,5 @@
 -- The plan behind the bound in plain words: it is a guillotine tree within the share that earns the figure, and its recursion reads
 -- figures of the job alone.
--- Assumes nothing.
 use mathlib.Core.Path.{_≡_, refl, sym, _∙_, ap, ap₂}
 use mathlib.Core.Bool.{_&&_}
 use Prim.Native.Nat.{ℕ, _+_, _-_, _≤_, _<_}

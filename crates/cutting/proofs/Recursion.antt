@@ -1,5 +1,4 @@
 -- The recursion is well defined: its equation, by induction over the half perimeter.
--- Assumes nothing.
 use mathlib.Core.Path.{_≡_, ap₂}
 use mathlib.Core.List.{List·Memᴰ}
 use Prim.Native.Nat.{ℕ, zero, suc, _+_, _<_, max}

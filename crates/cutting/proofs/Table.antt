@@ -1,6 +1,5 @@
 -- The table in plain words: its cells stand at the normal lengths and widths, each cell has the figure of every rectangle that falls to
 -- it, and its loops find the figure from cuts at normal positions up to half of a side.
--- Assumes nothing.
 use mathlib.Core.Path.{_≡_, _∙_}
 use mathlib.Core.Logic.{_↔_}
 use mathlib.Core.Bool.{_&&_}

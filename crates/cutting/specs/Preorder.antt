@@ -1,5 +1,4 @@
 -- A plan's arrays: a tree in preorder (node, first part, second part), each node as a kind and an operand.
--- Assumes nothing.
 use mathlib.Core.List.{List, [], _∷_, _++_, map}
 use Prim.Native.Nat.{ℕ}
 use lib.ListN.{length}

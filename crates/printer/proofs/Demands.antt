@@ -1,5 +1,4 @@
 -- What the verdict of a plan's check says about the demands.
--- Assumes nothing.
 use mathlib.Core.Path.{_≡_, refl}
 use mathlib.Core.Bool.{Bool, true, false}
 use mathlib.Core.List.{List}

@@ -1,5 +1,4 @@
 -- What the bound printer decides: where the job ends in the input, and whether a plan keeps every demand.
--- Assumes nothing.
 use mathlib.Core.Path.{_≡_}
 use mathlib.Core.Bool.{Bool, true}
 use mathlib.Core.List.{List}

@@ -1,4 +1,4 @@
--- `printer::print_answer` meets its contract: the arrays hold the nodes that were written. Assumes nothing.
+-- `printer::print_answer` meets its contract: the arrays hold the nodes that were written.
 use mathlib.Core.Path.{sym, _∙_}
 use native.Mathlib.Omega.{arith}
 use denote.Ref.{now}

@@ -1,4 +1,4 @@
--- `printer::print_nodes` meets its contract. The index stays within the loop's end. Assumes nothing.
+-- `printer::print_nodes` meets its contract. The index stays within the loop's end.
 use Prim.Native.Nat.{_-_, _≤_}
 use mathlib.Core.Path.{_≡_}
 use lib.ListN.{length}

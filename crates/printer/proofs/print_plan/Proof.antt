@@ -1,4 +1,4 @@
--- `printer::print_plan` meets its contract: the job ends within the input. Assumes nothing.
+-- `printer::print_plan` meets its contract: the job ends within the input.
 use borrow.Author.Needs.{needs}
 use mathlib.Core.Path.{sym}
 use denote.Ref.{now}

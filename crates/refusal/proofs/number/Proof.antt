@@ -1,4 +1,4 @@
--- `refusal::number` meets its contract. Assumes nothing.
+-- `refusal::number` meets its contract.
 use borrow.Author.Needs.{needs}
 use Rattle.refusal.proofs.number.Statement.{statement}
 use Rattle.refusal.proofs.number.Tie as tie

@@ -1,4 +1,4 @@
--- `refusal::place` meets its contract. Assumes nothing.
+-- `refusal::place` meets its contract.
 use borrow.Author.Needs.{needs}
 use Rattle.refusal.proofs.place.Statement.{statement}
 use Rattle.refusal.proofs.place.Tie as tie

@@ -1,4 +1,4 @@
--- `planner_c::words::put_bound` meets its contract, for either answer. Assumes nothing.
+-- `planner_c::words::put_bound` meets its contract, for either answer.
 use mathlib.Core.Path.{refl}
 use denote.Ref.{now}
 use Rattle.bound.specs.Bound.{report-values, bound-outcome}

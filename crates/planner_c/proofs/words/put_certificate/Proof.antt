@@ -1,4 +1,4 @@
--- `planner_c::words::put_certificate` meets its contract, for each answer. Assumes nothing.
+-- `planner_c::words::put_certificate` meets its contract, for each answer.
 use mathlib.Core.Path.{refl}
 use mathlib.Core.List.{[], _∷_}
 use Prim.Native.Nat.{_+_}

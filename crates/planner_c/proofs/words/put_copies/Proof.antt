@@ -1,4 +1,4 @@
--- `planner_c::words::put_copies` meets its contract: after i turns the first i copies stand from word 4 on. Assumes nothing.
+-- `planner_c::words::put_copies` meets its contract: after i turns the first i copies stand from word 4 on.
 use mathlib.Core.Path.{_≡_, _∙_, refl, ap}
 use Prim.Native.Nat.{_≤_, _-_}
 use native.Mathlib.Omega.{arith}

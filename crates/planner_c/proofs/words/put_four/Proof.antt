@@ -1,4 +1,4 @@
--- `planner_c::words::put_four` meets its contract: three stores and one more. Assumes nothing.
+-- `planner_c::words::put_four` meets its contract: three stores and one more.
 use mathlib.Core.Path.{ap}
 use mathlib.Core.List.{[], _∷_}
 use denote.Ref.{now}

@@ -1,4 +1,4 @@
--- `planner_c::words::put_plan` meets its contract, for either verdict. Assumes nothing.
+-- `planner_c::words::put_plan` meets its contract, for either verdict.
 use mathlib.Core.Path.{refl}
 use denote.Ref.{now}
 use Rattle.refusal.specs.Refusals.{outcome-by}

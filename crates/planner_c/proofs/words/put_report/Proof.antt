@@ -1,4 +1,4 @@
--- `planner_c::words::put_report` meets its contract: four stores and the copies. Assumes nothing.
+-- `planner_c::words::put_report` meets its contract: four stores and the copies.
 use mathlib.Core.Path.{_∙_, ap}
 use native.Mathlib.Omega.{arith}
 use denote.Ref.{now}

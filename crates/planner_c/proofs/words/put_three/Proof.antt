@@ -1,4 +1,4 @@
--- `planner_c::words::put_three` meets its contract: stores from word 0 on. Assumes nothing.
+-- `planner_c::words::put_three` meets its contract: stores from word 0 on.
 use mathlib.Core.List.{[], _∷_}
 use native.Mathlib.Omega.{arith}
 use denote.Ref.{now}

@@ -1,4 +1,4 @@
--- `planner_c::words::put_written` meets its contract: four stores and one more. Assumes nothing.
+-- `planner_c::words::put_written` meets its contract: four stores and one more.
 use mathlib.Core.Path.{ap}
 use lib.ListN.{set}
 use borrow.Author.Needs.{needs}

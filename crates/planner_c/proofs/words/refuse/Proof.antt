@@ -1,4 +1,4 @@
--- `planner_c::words::refuse` meets its contract: the place in word 0, the number returned. Assumes nothing.
+-- `planner_c::words::refuse` meets its contract: the place in word 0, the number returned.
 use denote.Ref.{now}
 use Rattle.planner_c.proofs.Exports.{refusal-given}
 use borrow.Author.Needs.{needs}
