@@ -1,7 +1,6 @@
 // The bound call: a job block and weights are accepted or refused, the normal positions of both sides go into the lent lists, the
 // figures into the lent table, and the table's last word is the bound. Refusals 1 to 9, 19 and 20.
 use job::JobRecord;
-use job::WeightsAnswer;
 use positions::map_floors;
 use positions::normal_positions;
 use refusal::Checked;
@@ -200,18 +199,13 @@ pub fn bound(
     ensures normal { λ _. ⌜ NormalSums (block-job (now (block .entry))) ⌝ }
     ensures floor { λ _. ⌜ (Accepted (now (block .entry)) (now (weights .entry)) → FloorFigures (block-job (now (block .entry))) (weight-in (now (weights .entry)))) ⌝ }
 {
-    let answer = job::read_job(block);
-    let read = answer.verdict;
-    if let Checked::Refused(r) = read {
+    let accepted = job::accept(block, weights);
+    let verdict = accepted.verdict;
+    if let Checked::Refused(r) = verdict {
         return BoundAnswer::Refused(r);
     }
-    let record = answer.job;
-    let accepted = job::check_weights(record, weights);
-    match accepted {
-        WeightsAnswer::Refused(r) => BoundAnswer::Refused(r),
-        WeightsAnswer::Capacity(q) => {
-            let mut floors = [0u16; 2002];
-            bound_of_job(record, weights, q, lengths, widths, &mut floors[..], table)
-        }
-    }
+    let record = accepted.job;
+    let q = accepted.capacity;
+    let mut floors = [0u16; 2002];
+    bound_of_job(record, weights, q, lengths, widths, &mut floors[..], table)
 }

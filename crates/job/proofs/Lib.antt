@@ -2,3 +2,4 @@ pub mod Checks
 pub mod Entries
 pub mod Read
 pub mod Weights
+pub mod Taken

@@ -12,7 +12,8 @@ use Rattle.refusal.specs.Refusals.{next, first-refusal, by-check, outcome-by}
 use Rattle.refusal.specs.declared.Checked.{Checked}
 use Rattle.refusal.specs.declared.Checked.the-variants.{Passed, Refused}
 use Rattle.refusal.specs.declared.Refusal.{Refusal}
-use Rattle.job.specs.Block.{plate-length-at, plate-width-at, count-at, length-at, width-at, price-at, demand-at, HoldsKinds, outside, header-checks, size-check, pair-checks, each-kind, job-checks, record-of, empty-record, read-of, job-values, job-outcome, job-said, job-of}
+use Rattle.job.specs.Block.{plate-length-at, plate-width-at, count-at, length-at, width-at, price-at, demand-at, outside, header-checks, size-check, pair-checks, each-kind, job-checks, record-of, empty-record, read-of, job-values, job-outcome, job-said, job-of}
+use Rattle.job.specs.Contracts.{HoldsKinds}
 use Rattle.job.specs.declared.JobAnswer.{JobAnswer}
 use Rattle.job.specs.declared.JobRecord.{JobRecord}
 use Rattle.job.proofs.Checks.{passed-both, first-append, cons-passed, each-passed}

@@ -35,32 +35,28 @@ pub sum-none : (f : ℕ → ℕ) → 0 ≡ sum 0 f
 unfolding sum
 sum-none f = refl
 
--- both clauses of an answer
-abbrev Answers : Job → List ℕ → WeightsAnswer → Type 0
-Answers J ws r = (r ≡ weights-answer J ws) × (weights-outcome r ≡ weights-said J ws)
-
 -- an answer's number and values are those of its verdict
-said : (J : Job) (ws : List ℕ) {r : WeightsAnswer} → r ≡ weights-answer J ws → Answers J ws r
-said J ws e = (e, ap (λ r. weights-outcome r) e ∙ go (first-refusal (weight-checks J ws)))
+pub weights-told : (J : Job) (ws : List ℕ) {r : WeightsAnswer} → r ≡ weights-answer J ws → (r ≡ weights-answer J ws) × (weights-outcome r ≡ weights-said J ws)
+weights-told J ws e = (e, ap (λ r. weights-outcome r) e ∙ go (first-refusal (weight-checks J ws)))
   where
     go : (v : Checked) → weights-outcome (by-check v (answer.Capacity (capacity J (weight-in ws))) answer.Refused) ≡ outcome-by v (capacity J (weight-in ws) ∷ [])
     go Passed = refl
     go (Refused r) = refl
 
 -- the answer where the number of weights is not the number of kinds
-pub answer-count : (J : Job) (ws : List ℕ) → (length ws ≡ J .count → ⊥) → Answers J ws (answer.Refused refusal.WeightCount)
+pub answer-count : (J : Job) (ws : List ℕ) → (length ws ≡ J .count → ⊥) → answer.Refused refusal.WeightCount ≡ weights-answer J ws
 unfolding first-refusal
-answer-count J ws h = said J ws (simp (ne-eqb (length ws) (J .count) h))
+answer-count J ws h = simp (ne-eqb (length ws) (J .count) h)
 
 -- the answer where the capacity is too large
-pub answer-capacity : (J : Job) (ws : List ℕ) {q : ℕ} → length ws ≡ J .count → q ≡ capacity J (weight-in ws) → 4095 < q → Answers J ws (answer.Refused refusal.Capacity)
+pub answer-capacity : (J : Job) (ws : List ℕ) {q : ℕ} → length ws ≡ J .count → q ≡ capacity J (weight-in ws) → 4095 < q → answer.Refused refusal.Capacity ≡ weights-answer J ws
 unfolding first-refusal
-answer-capacity J ws {q} h e l = said J ws (simp (eq-eqb (length ws) (J .count) h, sym e, lt-ltb 4095 q l))
+answer-capacity J ws {q} h e l = simp (eq-eqb (length ws) (J .count) h, sym e, lt-ltb 4095 q l)
 
 -- the answer where both checks pass
-pub answer-passed : (J : Job) (ws : List ℕ) {q : ℕ} → length ws ≡ J .count → q ≡ capacity J (weight-in ws) → q ≤ 4095 → Answers J ws (answer.Capacity q)
+pub answer-passed : (J : Job) (ws : List ℕ) {q : ℕ} → length ws ≡ J .count → q ≡ capacity J (weight-in ws) → q ≤ 4095 → answer.Capacity q ≡ weights-answer J ws
 unfolding first-refusal
-answer-passed J ws {q} h e l = said J ws (simp (eq-eqb (length ws) (J .count) h, sym e, le-ltb 4095 q l))
+answer-passed J ws {q} h e l = simp (eq-eqb (length ws) (J .count) h, sym e, le-ltb 4095 q l)
 
 -- weights that passed: as many as kinds, and a capacity of at most 4,095
 pub weights-passed : (J : Job) (ws : List ℕ) → first-refusal (weight-checks J ws) ≡ Passed → (length ws ≡ J .count) × (capacity J (weight-in ws) ≤ 4095)

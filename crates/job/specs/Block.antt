@@ -1,9 +1,8 @@
 -- The job block: where each field stands, when a block is refused, the record that a good one gives with its job, and the number and
 -- values of what reading it answers.
-use mathlib.Core.Path.{_≡_}
 use mathlib.Core.Bool.{Bool, _||_, not}
 use mathlib.Core.List.{List, [], _∷_, _++_, map}
-use Prim.Native.Nat.{ℕ, zero, suc, _+_, _*_, _≤_}
+use Prim.Native.Nat.{ℕ, zero, suc, _+_, _*_}
 use lib.Dec.{ltb, eqb}
 use lib.ListN.{length, getD}
 use Rattle.cutting.specs.Lists.{range, only}
@@ -45,10 +44,6 @@ price-at s i = u32-at s (6 + 4 * count-at s + 6 * i)
 
 abbrev pub demand-at : List ℕ → ℕ → ℕ
 demand-at s i = u16-at s (10 + 4 * count-at s + 6 * i)
-
--- a block that has all the bytes of its n kinds
-abbrev pub HoldsKinds : List ℕ → ℕ → Type 0
-HoldsKinds s n = (n ≡ count-at s) × (n ≤ 64) × (6 + 10 * n ≤ length s)
 
 -- x lies outside lo to hi
 abbrev pub outside : ℕ → ℕ → ℕ → Bool

@@ -8,9 +8,10 @@ use lib.Dec.{ltb, eqb}
 use lib.ListN.{length, getD}
 use Rattle.cutting.specs.Job.{Job, capacity}
 use Rattle.refusal.specs.Refusals.{Check, Outcome, first-refusal, by-check, refused-as, outcome-by}
-use Rattle.refusal.specs.declared.Checked.the-variants.{Passed}
+use Rattle.refusal.specs.declared.Checked.the-variants.{Passed, Refused}
 use Rattle.refusal.specs.declared.Refusal.the-variants as refusal
-use Rattle.job.specs.Block.{job-checks, record-of, job-of}
+use Rattle.job.specs.Block.{job-checks, record-of, empty-record, job-values, job-of}
+use Rattle.job.specs.declared.Acceptance.{Acceptance}
 use Rattle.job.specs.declared.WeightsAnswer.{WeightsAnswer}
 use Rattle.job.specs.declared.WeightsAnswer.the-variants as answer
 
@@ -42,3 +43,17 @@ block-job s = job-of (record-of s)
 -- a job block and weights that no check before the plan's refuses
 abbrev pub Accepted : List ℕ → List ℕ → Type 0
 Accepted s ws = first-refusal (job-checks s ++ weight-checks (block-job s) ws) ≡ Passed
+
+-- what a job block and weights answer: the record and the capacity, or the first refusal
+abbrev pub acceptance-of : List ℕ → List ℕ → Acceptance
+acceptance-of s ws =
+    by-check (first-refusal (job-checks s ++ weight-checks (block-job s) ws)) (record { verdict = Passed; job = record-of s; capacity = capacity (block-job s) (weight-in ws) })
+    (λ r. record { verdict = Refused r; job = empty-record; capacity = 0 })
+
+-- an answer's number and values: the record's, then the capacity
+abbrev pub acceptance-outcome : Acceptance → Outcome
+acceptance-outcome a = outcome-by (a .verdict) (job-values (a .job) ++ (a .capacity ∷ []))
+
+-- the number and values that a job block and weights answer
+abbrev pub acceptance-said : List ℕ → List ℕ → Outcome
+acceptance-said s ws = outcome-by (first-refusal (job-checks s ++ weight-checks (block-job s) ws)) (job-values (record-of s) ++ (capacity (block-job s) (weight-in ws) ∷ []))

@@ -10,8 +10,9 @@ ghost use Prim.Native.Nat.{ℕ, _+_, _*_, _≤_, _<_};
 ghost use lib.ListN.{length};
 ghost use Rattle.refusal.specs.Refusals.{first-refusal};
 ghost use Rattle.cutting.specs.Job.{InRange, capacity};
-ghost use Rattle.job.specs.Block.{u16-at, u32-at, count-at, price-at, outside, HoldsKinds, header-checks, size-check, pair-checks, each-kind, job-checks, entries, record-of, empty-record, read-of, job-outcome, job-said, job-of};
-ghost use Rattle.job.specs.Weights.{weight-in, weights-answer, weights-outcome, weights-said};
+ghost use Rattle.job.specs.Block.{u16-at, u32-at, count-at, price-at, outside, header-checks, size-check, pair-checks, each-kind, job-checks, entries, record-of, empty-record, read-of, job-outcome, job-said, job-of};
+ghost use Rattle.job.specs.Weights.{weight-in, weights-answer, weights-outcome, weights-said, acceptance-of, acceptance-outcome, acceptance-said};
+ghost use Rattle.job.specs.Contracts.{HoldsKinds, Weighable, demands-job};
 
 // The job record: the plate's sides, the number of kinds, and for each kind its sides, price and demand; 0 past the last kind.
 pub struct JobRecord {
@@ -34,6 +35,13 @@ pub struct JobAnswer {
 pub enum WeightsAnswer {
     Capacity(u16),
     Refused(Refusal),
+}
+
+// What a job block and weights answer: the record and the capacity; where they are refused, an empty record and 0.
+pub struct Acceptance {
+    pub verdict: Checked,
+    pub job: JobRecord,
+    pub capacity: u16,
 }
 
 // A byte as a number of 16 bits.
@@ -273,17 +281,33 @@ fn weigh(demand: u16, weight: u8) -> u32
     (demand as u32) * wider(weight)
 }
 
-// The capacity of as many weights as the job has kinds: at most 64 times 65,025.
-fn sum_capacity(job: JobRecord, weights: &[u8]) -> u32
-    requires { ⌜ InRange (job-of job) × (length (now weights) ≡ job .count) ⌝ }
-    ensures { λ r. ⌜ r ≡ capacity (job-of job) (weight-in (now (weights .entry))) ⌝ }
+// The capacity of as many weights as demands: at most 64 times 65,025.
+fn sum_capacity(demands: &[u16; 64], count: u16, weights: &[u8]) -> u32
+    requires { ⌜ Weighable (now demands) count × (length (now weights) ≡ count) ⌝ }
+    ensures { λ r. ⌜ r ≡ capacity (demands-job (now (demands .entry)) count) (weight-in (now (weights .entry))) ⌝ }
 {
     let mut q = 0u32;
-    for i in 0..job.count {
+    for i in 0..count {
         let k = i as usize;
-        q = q + weigh(job.demands[k], weights[k]);
+        q = q + weigh(demands[k], weights[k]);
     }
     q
+}
+
+// The weights for these demands: the capacity, or refusal 8 or 9.
+fn weigh_demands(demands: &[u16; 64], count: u16, weights: &[u8]) -> WeightsAnswer
+    requires { ⌜ Weighable (now demands) count ⌝ }
+    ensures { λ r. ⌜ r ≡ weights-answer (demands-job (now (demands .entry)) count) (now (weights .entry)) ⌝ }
+{
+    if weights.len() != (count as usize) {
+        return WeightsAnswer::Refused(Refusal::WeightCount);
+    }
+    let q = sum_capacity(demands, count, weights);
+    if 4095 < q {
+        return WeightsAnswer::Refused(Refusal::Capacity);
+    }
+    let capacity = q as u16;
+    WeightsAnswer::Capacity(capacity)
 }
 
 // The weights of a job that was read: the capacity, or refusal 8 or 9.
@@ -292,13 +316,39 @@ pub fn check_weights(job: JobRecord, weights: &[u8]) -> WeightsAnswer
     ensures answers { λ r. ⌜ r ≡ weights-answer (job-of job) (now (weights .entry)) ⌝ }
     ensures outcome { λ r. ⌜ weights-outcome r ≡ weights-said (job-of job) (now (weights .entry)) ⌝ }
 {
-    if weights.len() != (job.count as usize) {
-        return WeightsAnswer::Refused(Refusal::WeightCount);
+    let count = job.count;
+    weigh_demands(&job.demands, count, weights)
+}
+
+// A refusal of the job or of its weights, without record and capacity.
+fn unaccepted(verdict: Checked) -> Acceptance
+    ensures { λ r. ⌜ r ≡ record { verdict = verdict; job = empty-record; capacity = 0 } ⌝ }
+{
+    Acceptance {
+        verdict: verdict,
+        job: empty_record(),
+        capacity: 0,
     }
-    let q = sum_capacity(job, weights);
-    if 4095 < q {
-        return WeightsAnswer::Refused(Refusal::Capacity);
+}
+
+// A job block and weights, accepted or refused: one reading of the block for all calls that need its weights.
+pub fn accept(block: &[u8], weights: &[u8]) -> Acceptance
+    ensures answers { λ r. ⌜ r ≡ acceptance-of (now (block .entry)) (now (weights .entry)) ⌝ }
+    ensures outcome { λ r. ⌜ acceptance-outcome r ≡ acceptance-said (now (block .entry)) (now (weights .entry)) ⌝ }
+{
+    let read = check_job(block);
+    let Checked::Passed = read else {
+        return unaccepted(read);
+    };
+    let job = read_record(block);
+    let count = job.count;
+    let weighed = weigh_demands(&job.demands, count, weights);
+    match weighed {
+        WeightsAnswer::Refused(r) => unaccepted(Checked::Refused(r)),
+        WeightsAnswer::Capacity(q) => Acceptance {
+            verdict: Checked::Passed,
+            job: job,
+            capacity: q,
+        },
     }
-    let capacity = q as u16;
-    WeightsAnswer::Capacity(capacity)
 }

@@ -1,0 +1,92 @@
+-- What a job block and weights answer together, from the verdicts of the two, and what a caller then knows.
+use mathlib.Core.Path.{_≡_, refl, sym, _∙_, ap, ap₂}
+use mathlib.Core.List.{List, [], _∷_, _++_}
+use Prim.Native.Nat.{ℕ}
+use Rattle.cutting.specs.Job.{capacity}
+use Rattle.refusal.specs.Refusals.{next, first-refusal, by-check, outcome-by}
+use Rattle.refusal.specs.declared.Checked.{Checked}
+use Rattle.refusal.specs.declared.Checked.the-variants.{Passed, Refused}
+use Rattle.refusal.specs.declared.Refusal.{Refusal}
+use Rattle.job.specs.Block.{job-checks, record-of, empty-record, read-of, job-values, job-of}
+use Rattle.job.specs.Weights.{weight-in, weight-checks, weights-answer, block-job, Accepted, acceptance-of, acceptance-outcome, acceptance-said}
+use Rattle.job.specs.declared.JobRecord.{JobRecord}
+use Rattle.job.specs.declared.JobAnswer.{JobAnswer}
+use Rattle.job.specs.declared.Acceptance.{Acceptance}
+use Rattle.job.specs.declared.WeightsAnswer.{WeightsAnswer}
+use Rattle.job.specs.declared.WeightsAnswer.the-variants as answer
+use Rattle.job.proofs.Checks.{first-append}
+use Rattle.job.proofs.Read.{answered}
+use Rattle.job.proofs.Weights.{capacity-answered, refusal-answered, both-accepted}
+
+-- a job and a capacity that were taken from a block and weights which are accepted
+pub record Taken (s ws : List ℕ) (j : JobRecord) (q : ℕ) : Type 0 where
+  pub accepted : Accepted s ws
+  pub record-is : j ≡ record-of s
+  pub capacity-is : q ≡ capacity (block-job s) (weight-in ws)
+
+module _ (s ws : List ℕ) where
+  -- the verdict of both: the job's, and where it passes the weights'
+  pub both-by : {v w : Checked} → first-refusal (job-checks s) ≡ v → first-refusal (weight-checks (block-job s) ws) ≡ w
+      → first-refusal (job-checks s ++ weight-checks (block-job s) ws) ≡ next v w
+  both-by e f = first-append (job-checks s) (weight-checks (block-job s) ws) ∙ ap₂ next e f
+
+  -- the answer of a verdict
+  abbrev answer-by : Checked → Acceptance
+  answer-by v =
+      by-check v (record { verdict = Passed; job = record-of s; capacity = capacity (block-job s) (weight-in ws) }) (λ r. record { verdict = Refused r; job = empty-record; capacity = 0 })
+
+  -- both clauses of an answer
+  abbrev Told : Acceptance → Type 0
+  Told r = (r ≡ acceptance-of s ws) × (acceptance-outcome r ≡ acceptance-said s ws)
+
+  -- its number and values are those of its verdict
+  told : {r : Acceptance} {v : Checked} → first-refusal (job-checks s ++ weight-checks (block-job s) ws) ≡ v → r ≡ answer-by v → Told r
+  told v e = let f = e ∙ sym (ap (λ v. answer-by v) v) in (f, ap (λ a. acceptance-outcome a) f ∙ go (first-refusal (job-checks s ++ weight-checks (block-job s) ws)))
+    where
+      go : (v : Checked) → acceptance-outcome (answer-by v) ≡ outcome-by v (job-values (record-of s) ++ (capacity (block-job s) (weight-in ws) ∷ []))
+      go Passed = refl
+      go (Refused r) = refl
+
+  -- the job is refused
+  pub job-refused : {v : Checked} {x : Refusal} {r : Acceptance} → v ≡ first-refusal (job-checks s) → v ≡ Refused x → r ≡ record { verdict = v; job = empty-record; capacity = 0 } → Told r
+  job-refused {v} {x} e p f = told (both-by (sym e ∙ p) refl) (f ∙ ap (λ v. record { verdict = v; job = empty-record; capacity = 0 }) p)
+
+  module _ {v : Checked} {j : JobRecord} {w : WeightsAnswer} (e : v ≡ first-refusal (job-checks s)) (p : v ≡ Passed) (i : j ≡ record-of s) (f : w ≡ weights-answer (job-of j) ws) where
+    weighed : w ≡ weights-answer (block-job s) ws
+    weighed = f ∙ ap (λ j. weights-answer (job-of j) ws) i
+
+    -- the weights are refused
+    pub weights-refused : (x : Refusal) {r : Acceptance} → w ≡ answer.Refused x → r ≡ record { verdict = Refused x; job = empty-record; capacity = 0 } → Told r
+    weights-refused x g h = told (both-by (sym e ∙ p) (refusal-answered (block-job s) ws x (sym weighed ∙ g))) h
+
+    -- both are accepted
+    pub both-taken : (q : ℕ) → w ≡ answer.Capacity q → Told (record { verdict = Passed; job = j; capacity = q })
+    both-taken q g =
+        let k = capacity-answered (block-job s) ws q (sym weighed ∙ g) in
+        told (both-by (sym e ∙ p) (k .0)) (ap₂ (λ j q. record { verdict = Passed; job = j; capacity = q }) i (k .1))
+
+  -- the answer's verdict is the first refusal
+  verdict-is : {a : Acceptance} → a ≡ acceptance-of s ws → first-refusal (job-checks s ++ weight-checks (block-job s) ws) ≡ a .verdict
+  verdict-is e = sym (ap (λ a. a .verdict) e ∙ go (first-refusal (job-checks s ++ weight-checks (block-job s) ws)))
+    where
+      go : (v : Checked) → answer-by v .verdict ≡ v
+      go Passed = refl
+      go (Refused r) = refl
+
+  -- what a caller knows from a refusal
+  pub refused-both : {a : Acceptance} {x : Refusal} → a ≡ acceptance-of s ws → a .verdict ≡ Refused x → first-refusal (job-checks s ++ weight-checks (block-job s) ws) ≡ Refused x
+  refused-both e p = verdict-is e ∙ p
+
+  -- and from an answer that both passed
+  pub taken : {a : Acceptance} → a ≡ acceptance-of s ws → a .verdict ≡ Passed → Taken s ws (a .job) (a .capacity)
+  taken e p =
+      let v = verdict-is e ∙ p in
+      let f = e ∙ ap (λ v. answer-by v) v in
+      record { accepted = v; record-is = ap (λ a. a .job) f; capacity-is = ap (λ a. a .capacity) f }
+
+  -- and from the two answers, taken apart one after the other
+  pub taken-apart : {a : JobAnswer} {w : WeightsAnswer} (q : ℕ) → a ≡ read-of s → a .verdict ≡ Passed → w ≡ weights-answer (job-of (a .job)) ws → w ≡ answer.Capacity q → Taken s ws (a .job) q
+  taken-apart q e p f g =
+      let j = answered s e p in
+      let k = capacity-answered (block-job s) ws q (sym (f ∙ ap (λ j. weights-answer (job-of j) ws) (j .1)) ∙ g) in
+      record { accepted = both-accepted s ws (j .0) (k .0); record-is = j .1; capacity-is = k .1 }

@@ -1,0 +1,73 @@
+-- `job::accept` meets its contract.
+use mathlib.Core.Path.{refl, sym, _∙_}
+use borrow.Author.Needs.{needs}
+use denote.Ref.{now}
+use Rattle.job.proofs.Read.{job-passed, header-holds, read-in-range}
+use Rattle.job.proofs.Taken.{job-refused, weights-refused, both-taken}
+use Rattle.job.proofs.accept.Statement.{statement}
+use Rattle.job.proofs.accept.Tie as tie
+
+check-job-requires : tie.Need-check-job-requires
+check-job-requires c κs = search needs
+
+enum-told : tie.Need-enum-told
+enum-told c = search needs
+
+enum-told-2 : tie.Need-enum-told-2
+enum-told-2 c = search needs
+
+unaccepted-requires : tie.Need-unaccepted-requires
+unaccepted-requires c κs = search needs
+
+returns : tie.Need-returns
+returns c =
+    let e = c .before .before .before .before .before .before .args in
+    job-refused (now (e .block)) (now (e .weights)) (c .before .before .before .check-job .ensures) (c .before .enum-told2 .given .1) (c .unaccepted .ensures)
+
+read-record-requires : tie.Need-read-record-requires
+read-record-requires c κs =
+    let s = now (c .before .before .before .before .before .args .block) in
+    header-holds s _ refl (job-passed s (sym (c .before .before .check-job .ensures) ∙ c .enum-told .given .1) .0)
+
+weigh-demands-requires : tie.Need-weigh-demands-requires
+weigh-demands-requires c κs =
+    let h = read-in-range (now (c .before .before .before .before .before .before .before .before .args .block)) (sym (c .before .before .before .before .before .check-job .ensures) ∙ c .before .before .before .enum-told .given .1) in
+    rw (c .before .before .read-record .ensures) (h .kinds .1, h .demands)
+
+enum-known-weighed : tie.Need-enum-known-weighed
+enum-known-weighed c = search needs
+
+unaccepted-requires-2 : tie.Need-unaccepted-requires-2
+unaccepted-requires-2 c κs = search needs
+
+enum-known-weighed-2 : tie.Need-enum-known-weighed-2
+enum-known-weighed-2 c = search needs
+
+returns-2 : tie.Need-returns-2
+returns-2 c =
+    let e = c .before .before .before .before .before .before .before .before .before .before .before .before .before .args in
+    weights-refused (now (e .block)) (now (e .weights)) (c .before .before .before .before .before .before .before .before .before .before .check-job .ensures) (c .before .before .before .before .before .before .before .before .enum-told .given .1) (c .before .before .before .before .before .before .before .read-record .ensures) (c .before .before .before .before .weigh-demands .ensures)
+    _ (c .before .before .weighed .given .1) (c .unaccepted2 .ensures)
+
+returns-3 : tie.Need-returns-3
+returns-3 c =
+    let e = c .before .before .before .before .before .before .before .before .before .before .before .before .args in
+    both-taken (now (e .block)) (now (e .weights)) (c .before .before .before .before .before .before .before .before .before .check-job .ensures) (c .before .before .before .before .before .before .before .enum-told .given .1) (c .before .before .before .before .before .before .read-record .ensures) (c .before .before .before .weigh-demands .ensures)
+    _ (c .before .weighed2 .given .1)
+
+pub accept-spec : {M : Type 1} → statement M
+accept-spec =
+    tie.close
+    (tie.spec
+    check-job-requires
+    enum-told
+    enum-told-2
+    unaccepted-requires
+    returns
+    read-record-requires
+    weigh-demands-requires
+    enum-known-weighed
+    unaccepted-requires-2
+    enum-known-weighed-2
+    returns-2
+    returns-3)
