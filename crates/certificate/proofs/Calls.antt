@@ -1,5 +1,5 @@
 -- What certify promises, from the verdicts of the job, the weights and the plan and from the bound of an accepted job.
-use mathlib.Core.Path.{_≡_, refl, sym, _∙_, ap, ap₂}
+use mathlib.Core.Path.{_≡_, refl, sym, _∙_, ap, ap₂, subst}
 use mathlib.Core.Bool.{Bool, true, false}
 use mathlib.Core.List.{List, [], _∷_}
 use Prim.Native.Nat.{ℕ, _+_, _-_, _≤_}
@@ -11,16 +11,26 @@ use Rattle.refusal.specs.Refusals.{next, first-refusal, outcome-by}
 use Rattle.refusal.specs.declared.Refusal.{Refusal}
 use Rattle.refusal.specs.declared.Checked.{Checked}
 use Rattle.refusal.specs.declared.Checked.the-variants.{Passed, Refused}
-use Rattle.job.specs.Block.{job-checks}
-use Rattle.job.specs.Weights.{block-job, weight-in, weight-checks}
+use Rattle.job.specs.declared.JobRecord.{JobRecord}
+use Rattle.job.specs.declared.JobAnswer.{JobAnswer}
+use Rattle.job.specs.declared.WeightsAnswer.{WeightsAnswer}
+use Rattle.job.specs.declared.WeightsAnswer.the-variants as weights
+use Rattle.job.specs.Block.{read-of, job-of}
+use Rattle.job.specs.Weights.{block-job, weight-in, weights-answer}
+use Rattle.job.proofs.Read.{answered, refused}
+use Rattle.job.proofs.Weights.{refusal-answered, accepted-both}
+use Rattle.job.proofs.Taken.{Taken, both-by}
+use Rattle.plan.specs.declared.PlanAnswer.{PlanAnswer}
 use Rattle.plan.specs.Plan.{plan-answer}
-use Rattle.bound.specs.Bound.{Memory, Leaves, Bounded, memory-checks, report-of, accept-verdict}
+use Rattle.bound.specs.Bound.{Memory, Leaves, memory-checks, report-of, accept-verdict}
+use Rattle.bound.specs.Contracts.{Bounded}
 use Rattle.bound.proofs.Holds.{answered-behind, refused-behind}
-use Rattle.bound.proofs.Calls.{refused-before, accept-by}
+use Rattle.bound.proofs.Calls.{refused-before}
 use Rattle.bound.specs.declared.BoundReport.{BoundReport}
 use Rattle.bound.specs.declared.BoundAnswer.{BoundAnswer}
 use Rattle.bound.specs.declared.BoundAnswer.the-variants as bound
 use Rattle.certificate.specs.Certificate.{plan-verdict, certify-verdict, certificate-of, compared, compared-by, handed-on, certificate-values, certificate-outcome, certificate-said}
+use Rattle.certificate.specs.Contracts.{weights-verdict, storage-verdict}
 use Rattle.certificate.specs.Promises.{BestSaid, GapSaid}
 use Rattle.certificate.specs.declared.Certificate.{Certificate}
 use Rattle.certificate.specs.declared.Certificate.the-variants as certificate
@@ -61,46 +71,62 @@ module _ (s ws kinds operands : List ℕ) (old : Memory) where
       let gap : GapSaid (block-job s) (weight-in ws) kinds operands r = λ n g f. hold .1 n g (sym e ∙ f) in
       (e, (outcome, (l, (best, gap))))
 
-  -- a refusal before the storage checks
-  early : (r : Refusal) → plan-verdict s ws kinds operands ≡ Refused r → Promised s ws kinds operands old old (certificate.Refused r)
-  early r v = let p = refused-before (block-job s) (weight-in ws) old unrefused certificate.Refused v in promised (certificate.Refused r) (p .0) (p .1)
+  -- a refusal before the storage checks, handed on
+  early : {v : Checked} (r : Refusal) {c : Certificate} → plan-verdict s ws kinds operands ≡ Refused r → v ≡ Refused r → c ≡ handed-on v (compared 0 0) → Promised s ws kinds operands old old c
+  early r {c} e v h = let p = refused-before (block-job s) (weight-in ws) old unrefused certificate.Refused e in promised c (h ∙ ap (λ v. handed-on v (compared 0 0)) v ∙ p .0) (p .1)
 
   -- the plan's verdict after that of job and weights
   after : {v : Checked} → accept-verdict s ws ≡ v → plan-verdict s ws kinds operands ≡ next v (plan-answer (block-job s) kinds operands .verdict)
   after e = ap (λ v. next v (plan-answer (block-job s) kinds operands .verdict)) e
 
-  pub job-refused : (r : Refusal) → first-refusal (job-checks s) ≡ Refused r → Promised s ws kinds operands old old (certificate.Refused r)
-  job-refused r e = early r (after (accept-by s ws e refl))
+  module _ {a : JobAnswer} (read : a ≡ read-of s) where
+    pub job-refused : (r : Refusal) {c : Certificate} → a .verdict ≡ Refused r → c ≡ handed-on (a .verdict) (compared 0 0) → Promised s ws kinds operands old old c
+    job-refused r p h = early r (after (both-by s ws (refused s read p) refl)) p h
 
-  module _ (good : first-refusal (job-checks s) ≡ Passed) where
-    pub weights-refused : (r : Refusal) → first-refusal (weight-checks (block-job s) ws) ≡ Refused r → Promised s ws kinds operands old old (certificate.Refused r)
-    weights-refused r e = early r (after (accept-by s ws good e))
+    pub weights-refused : {w : WeightsAnswer} {v : Checked} (r : Refusal) {c : Certificate} → a .verdict ≡ Passed → w ≡ weights-answer (job-of (a .job)) ws → w ≡ weights.Refused r → v ≡ weights-verdict w
+        → c ≡ handed-on v (compared 0 0) → Promised s ws kinds operands old old c
+    weights-refused r p f g u h =
+        let j = answered s read p in
+        let k = refusal-answered (block-job s) ws r (sym (f ∙ ap (λ j. weights-answer (job-of j) ws) (j .1)) ∙ g) in
+        early r (after (both-by s ws (j .0) k)) (u ∙ ap (λ w. weights-verdict w) g) h
 
-    module _ (weighed : first-refusal (weight-checks (block-job s) ws) ≡ Passed) where
-      walked : plan-verdict s ws kinds operands ≡ plan-answer (block-job s) kinds operands .verdict
-      walked = after (accept-by s ws good weighed)
+  module _ {j : JobRecord} {q : ℕ} (t : Taken s ws j q) {a : PlanAnswer} (drawn : a ≡ plan-answer (job-of j) kinds operands) where
+    drawn-is : a ≡ plan-answer (block-job s) kinds operands
+    drawn-is = drawn ∙ ap (λ j. plan-answer (job-of j) kinds operands) (t .record-is)
 
-      pub plan-refused : (r : Refusal) → plan-answer (block-job s) kinds operands .verdict ≡ Refused r → Promised s ws kinds operands old old (certificate.Refused r)
-      plan-refused r e = early r (walked ∙ e)
+    walked : plan-verdict s ws kinds operands ≡ a .verdict
+    walked = after (t .accepted) ∙ sym (ap (λ (x : PlanAnswer). x .verdict) drawn-is)
 
-      module _ {new : Memory} (passed : plan-answer (block-job s) kinds operands .verdict ≡ Passed) (found : BoundAnswer) (b : Bounded (block-job s) (weight-in ws) old new found) where
-        left : Leaves (plan-verdict s ws kinds operands) (block-job s) (weight-in ws) old new
-        left = rw (walked ∙ passed) (b .memory)
+    pub plan-refused : (r : Refusal) {c : Certificate} → a .verdict ≡ Refused r → c ≡ handed-on (a .verdict) (compared 0 0) → Promised s ws kinds operands old old c
+    plan-refused r p h = early r (walked ∙ p) p h
 
-        answer : {v : Checked} → first-refusal (memory-checks (block-job s) (weight-in ws) old) ≡ v → certificate-of s ws kinds operands old ≡ handed-on v unrefused
-        answer e = ap (λ v. handed-on v unrefused) (ap₂ next (walked ∙ passed) e)
+    module _ (passed : a .verdict ≡ Passed) {new : Memory} {floors : List ℕ} {found : BoundAnswer} (bounded : Bounded (job-of j) (weight-in ws) old new floors found) where
+      whole : Bounded (block-job s) (weight-in ws) old new floors found
+      whole = subst (λ j. Bounded (job-of j) (weight-in ws) old new floors found) (t .record-is) bounded
 
-        pub storage-refused : (r : Refusal) → found ≡ bound.Refused r → Promised s ws kinds operands old new (certificate.Refused r)
-        storage-refused r e = promised (certificate.Refused r) (sym (answer (refused-behind _ (report-of (block-job s) (weight-in ws)) (sym e ∙ b .answer)))) left
+      left : Leaves (plan-verdict s ws kinds operands) (block-job s) (weight-in ws) old new
+      left = rw (walked ∙ passed) (whole .memory)
 
+      answer : {v : Checked} → first-refusal (memory-checks (block-job s) (weight-in ws) old) ≡ v → certificate-of s ws kinds operands old ≡ handed-on v unrefused
+      answer e = ap (λ v. handed-on v unrefused) (ap₂ next (walked ∙ passed) e)
+
+      pub storage-refused : {v : Checked} (r : Refusal) {c : Certificate} → found ≡ bound.Refused r → v ≡ storage-verdict found → c ≡ handed-on v (compared 0 0) → Promised s ws kinds operands old new c
+      storage-refused r {c} e u h = promised c (h ∙ ap (λ v. handed-on v (compared 0 0)) (u ∙ ap (λ f. storage-verdict f) e)
+          ∙ sym (answer (refused-behind _ (report-of (block-job s) (weight-in ws)) (sym e ∙ whole .answer)))) left
+
+      module _ (x : BoundReport) (e : found ≡ bound.Answered x) where
         -- the report behind a bound that was answered
-        reported : (x : BoundReport) → found ≡ bound.Answered x → (first-refusal (memory-checks (block-job s) (weight-in ws) old) ≡ Passed) × (x .bound ≡ bound-of (block-job s) (weight-in ws))
-        reported x e = let v = answered-behind _ (report-of (block-job s) (weight-in ws)) (sym e ∙ b .answer) in (v .0, ap (λ (y : BoundReport). y .bound) (v .1))
+        reported : (first-refusal (memory-checks (block-job s) (weight-in ws) old) ≡ Passed) × (x .bound ≡ bound-of (block-job s) (weight-in ws))
+        reported = let v = answered-behind _ (report-of (block-job s) (weight-in ws)) (sym e ∙ whole .answer) in (v .0, ap (λ (y : BoundReport). y .bound) (v .1))
 
-        pub certified : (x : BoundReport) (r : Certificate) → found ≡ bound.Answered x
-            → r ≡ compared (plan-answer (block-job s) kinds operands .report .profit) (x .bound) → Promised s ws kinds operands old new r
-        certified x r e f = let v = reported x e in promised r (f ∙ ap (λ k. compared (plan-answer (block-job s) kinds operands .report .profit) k) (v .1) ∙ sym (answer (v .0))) left
+        pub certified : {c : Certificate} → c ≡ compared (a .report .profit) (x .bound) → Promised s ws kinds operands old new c
+        certified {c} h = promised c (h ∙ ap₂ compared (ap (λ (x : PlanAnswer). x .report .profit) drawn-is) (reported .1) ∙ sym (answer (reported .0))) left
 
         -- the profit is at most the bound answered
-        pub profit-most : (x : BoundReport) → found ≡ bound.Answered x → plan-answer (block-job s) kinds operands .report .profit ≤ x .bound
-        profit-most x e = omega (arith, reported x e .1, drawn-most s ws kinds operands good passed)
+        pub profit-most : a .report .profit ≤ x .bound
+        profit-most = omega (
+          arith,
+          ap (λ (x : PlanAnswer). x .report .profit) drawn-is,
+          reported .1,
+          drawn-most s ws kinds operands (accepted-both s ws (t .accepted) .0) (sym (ap (λ (x : PlanAnswer). x .verdict) drawn-is) ∙ passed),
+        )

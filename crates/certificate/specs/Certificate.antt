@@ -10,10 +10,6 @@ use Rattle.refusal.specs.declared.Checked.{Checked}
 use Rattle.job.specs.Weights.{block-job, weight-in}
 use Rattle.plan.specs.Plan.{plan-answer}
 use Rattle.bound.specs.Bound.{Memory, memory-checks, accept-verdict}
-use Rattle.job.specs.declared.WeightsAnswer.{WeightsAnswer}
-use Rattle.job.specs.declared.WeightsAnswer.the-variants as weights
-use Rattle.bound.specs.declared.BoundAnswer.{BoundAnswer}
-use Rattle.bound.specs.declared.BoundAnswer.the-variants as bound
 use Rattle.certificate.specs.declared.Certificate.{Certificate}
 use Rattle.certificate.specs.declared.Certificate.the-variants as certificate
 
@@ -58,13 +54,3 @@ abbrev pub certificate-said : List ℕ → List ℕ → List ℕ → List ℕ �
 certificate-said s ws kinds operands m =
     outcome-by (certify-verdict s ws kinds operands m)
     (certificate-values (plan-answer (block-job s) kinds operands .report .profit) (bound-of (block-job s) (weight-in ws)))
-
--- a refusal of the weights handed on; an answer with a capacity has none
-abbrev pub weights-handed-on : WeightsAnswer → Certificate
-weights-handed-on (weights.Capacity q) = certificate.Best 0
-weights-handed-on (weights.Refused r) = certificate.Refused r
-
--- a refusal of the storage handed on; an answer with a report has none
-abbrev pub bound-handed-on : BoundAnswer → Certificate
-bound-handed-on (bound.Answered b) = certificate.Best 0
-bound-handed-on (bound.Refused r) = certificate.Refused r

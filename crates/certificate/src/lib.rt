@@ -6,9 +6,11 @@ use refusal::Checked;
 use refusal::Refusal;
 ghost use mathlib.Core.Path.{_≡_};
 ghost use Prim.Native.Nat.{_≤_};
+ghost use Rattle.refusal.specs.declared.Checked.the-variants.{Passed};
 ghost use Rattle.job.specs.Weights.{block-job, weight-in};
 ghost use Rattle.bound.specs.Bound.{lent, Leaves};
-ghost use Rattle.certificate.specs.Certificate.{certificate-of, plan-verdict, compared, handed-on, weights-handed-on, bound-handed-on, certificate-outcome, certificate-said};
+ghost use Rattle.certificate.specs.Certificate.{certificate-of, plan-verdict, compared, handed-on, certificate-outcome, certificate-said};
+ghost use Rattle.certificate.specs.Contracts.{weights-verdict, storage-verdict};
 ghost use Rattle.certificate.specs.Promises.{BestSaid, GapSaid};
 
 // What certify answers: best, with the profit; or a gap, with the profit and the bound less the profit; or a refusal.
@@ -18,33 +20,23 @@ pub enum Certificate {
     Refused(Refusal),
 }
 
-// A check's refusal handed on.
-fn refused(c: Checked) -> Certificate
-    ensures { λ r. ⌜ r ≡ handed-on c (Certificate.Best 0) ⌝ }
+// The verdict behind the weights' answer.
+fn weights_verdict(a: WeightsAnswer) -> Checked
+    ensures { λ r. ⌜ r ≡ weights-verdict a ⌝ }
 {
-    match c {
-        Checked::Refused(r) => Certificate::Refused(r),
-        Checked::Passed => Certificate::Best(0),
+    match a {
+        WeightsAnswer::Refused(r) => Checked::Refused(r),
+        WeightsAnswer::Capacity(_) => Checked::Passed,
     }
 }
 
-// The weights' refusal handed on.
-fn weights_refused(a: WeightsAnswer) -> Certificate
-    ensures { λ r. ⌜ r ≡ weights-handed-on a ⌝ }
+// The verdict behind the bound's answer.
+fn storage_verdict(a: BoundAnswer) -> Checked
+    ensures { λ r. ⌜ r ≡ storage-verdict a ⌝ }
 {
     match a {
-        WeightsAnswer::Refused(r) => Certificate::Refused(r),
-        WeightsAnswer::Capacity(_) => Certificate::Best(0),
-    }
-}
-
-// The storage's refusal handed on.
-fn bound_refused(a: BoundAnswer) -> Certificate
-    ensures { λ r. ⌜ r ≡ bound-handed-on a ⌝ }
-{
-    match a {
-        BoundAnswer::Refused(r) => Certificate::Refused(r),
-        BoundAnswer::Answered(_) => Certificate::Best(0),
+        BoundAnswer::Refused(r) => Checked::Refused(r),
+        BoundAnswer::Answered(_) => Checked::Passed,
     }
 }
 
@@ -57,6 +49,17 @@ fn compare(profit: u64, bound: u64) -> Certificate
         return Certificate::Best(profit);
     }
     Certificate::Gap(profit, bound - profit)
+}
+
+// The verdict's refusal handed on; where it passes, the profit against the bound.
+fn conclude(verdict: Checked, profit: u64, bound: u64) -> Certificate
+    requires { ⌜ (verdict ≡ Passed → profit ≤ bound) ⌝ }
+    ensures { λ r. ⌜ r ≡ handed-on verdict (compared profit bound) ⌝ }
+{
+    match verdict {
+        Checked::Refused(r) => Certificate::Refused(r),
+        Checked::Passed => compare(profit, bound),
+    }
 }
 
 // Certifies a plan for a job block and weights: "best" exactly when the checked profit equals the bound, otherwise the gap. The job's,
@@ -80,23 +83,23 @@ pub fn certify(
     let answer = job::read_job(block);
     let read = answer.verdict;
     let Checked::Passed = read else {
-        return refused(read);
+        return conclude(read, 0, 0);
     };
     let record = answer.job;
     let accepted = job::check_weights(record, weights);
     let WeightsAnswer::Capacity(q) = accepted else {
-        return weights_refused(accepted);
+        return conclude(weights_verdict(accepted), 0, 0);
     };
     let drawn = plan::check_nodes(record, kinds, operands);
     let walked = drawn.verdict;
     let Checked::Passed = walked else {
-        return refused(walked);
+        return conclude(walked, 0, 0);
     };
     let report = drawn.report;
     let mut floors = [0u16; 2002];
     let found = bound::bound_of_job(record, weights, q, lengths, widths, &mut floors[..], table);
     let BoundAnswer::Answered(b) = found else {
-        return bound_refused(found);
+        return conclude(storage_verdict(found), 0, 0);
     };
-    compare(report.profit, b.bound)
+    conclude(Checked::Passed, report.profit, b.bound)
 }

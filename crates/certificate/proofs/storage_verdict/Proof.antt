@@ -1,7 +1,7 @@
--- `certificate::bound_refused` meets its contract.
+-- `certificate::storage_verdict` meets its contract.
 use borrow.Author.Needs.{needs}
-use Rattle.certificate.proofs.bound_refused.Statement.{statement}
-use Rattle.certificate.proofs.bound_refused.Tie as tie
+use Rattle.certificate.proofs.storage_verdict.Statement.{statement}
+use Rattle.certificate.proofs.storage_verdict.Tie as tie
 
 enum-known-a : tie.Need-enum-known-a
 enum-known-a c = search needs
@@ -15,5 +15,5 @@ returns c = rw (c .before .a .given .1)
 returns-2 : tie.Need-returns-2
 returns-2 c = search needs
 
-pub bound-refused-spec : {M : Type 1} → statement M
-bound-refused-spec = tie.close (tie.spec enum-known-a enum-told returns returns-2)
+pub storage-verdict-spec : {M : Type 1} → statement M
+storage-verdict-spec = tie.close (tie.spec enum-known-a enum-told returns returns-2)

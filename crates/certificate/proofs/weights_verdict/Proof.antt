@@ -1,7 +1,7 @@
--- `certificate::weights_refused` meets its contract.
+-- `certificate::weights_verdict` meets its contract.
 use borrow.Author.Needs.{needs}
-use Rattle.certificate.proofs.weights_refused.Statement.{statement}
-use Rattle.certificate.proofs.weights_refused.Tie as tie
+use Rattle.certificate.proofs.weights_verdict.Statement.{statement}
+use Rattle.certificate.proofs.weights_verdict.Tie as tie
 
 enum-known-a : tie.Need-enum-known-a
 enum-known-a c = search needs
@@ -15,5 +15,5 @@ returns c = rw (c .before .a .given .1)
 returns-2 : tie.Need-returns-2
 returns-2 c = search needs
 
-pub weights-refused-spec : {M : Type 1} → statement M
-weights-refused-spec = tie.close (tie.spec enum-known-a enum-told returns returns-2)
+pub weights-verdict-spec : {M : Type 1} → statement M
+weights-verdict-spec = tie.close (tie.spec enum-known-a enum-told returns returns-2)
