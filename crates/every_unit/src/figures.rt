@@ -1,5 +1,7 @@
 // The figures of every rectangle and share, by the definition: 0; the price of any kind that fits and weighs at most the share; every
-// length cut with every division of the share; every width cut likewise. By rising length, then width, then share.
+// length cut with every division of the share; every width cut likewise.
+use crate::job::BOUND;
+use crate::job::CAPACITY;
 use crate::job::FIGURES;
 use crate::job::LENGTH_COUNT;
 use crate::job::NORMAL_LENGTHS;
@@ -7,12 +9,14 @@ use crate::job::NORMAL_WIDTHS;
 use crate::job::PRICE;
 use crate::job::WEIGHT;
 use crate::job::WIDTH_COUNT;
-use crate::job::count_shares;
+use crate::job::WORD_COUNT;
 use crate::job::kind_count;
 use crate::job::kind_side;
+use crate::job::note_capacity;
 use crate::job::plate_side;
 use crate::job::shares;
 use crate::job::widths;
+use crate::units::list_positions;
 use test_tools::Words;
 use test_tools::larger;
 use test_tools::minus;
@@ -84,34 +88,31 @@ fn figure(t: &Words, l: usize, w: usize, c: usize) -> usize {
     larger(best_kind(t, l, w, c), cut)
 }
 
-fn fill_cell(t: &mut Words, l: usize, w: usize) {
-    for c in 0..shares(t) {
-        let x = figure(t, l, w, c);
-        put(t, cell(t, l, w), c, x);
-    }
+// The figure that stands at the k-th place: by rising length, then width, then share.
+fn figure_at(t: &Words, k: usize) -> usize {
+    let cell = quotient(k, shares(t));
+    let l = quotient(cell, widths(t));
+    figure(t, l, rest(cell, widths(t)), rest(k, shares(t)))
 }
 
-fn fill_length(t: &mut Words, l: usize) {
-    for w in 0..widths(t) {
-        fill_cell(t, l, w);
-    }
+// How many figures there are, with one more length than the plate's.
+fn figure_count(t: &Words) -> usize {
+    minus(cell(t, plus(plate_side(t, 0), 1), 0), FIGURES)
 }
 
 // Fills in every figure of a job.
-pub fn fill_figures(t: &mut Words) {
-    count_shares(t);
-    for l in 0..plus(plate_side(t, 0), 1) {
-        fill_length(t, l);
+fn fill_figures(t: &mut Words) {
+    for k in 0..figure_count(t) {
+        let x = figure_at(t, k);
+        put(t, FIGURES, k, x);
     }
 }
 
-// The figure of the plate and the whole capacity.
-pub fn bound_at_every_unit(t: &Words) -> usize {
-    word(
-        t,
-        cell(t, plate_side(t, 0), plate_side(t, 1)),
-        minus(shares(t), 1),
-    )
+// Notes the figure of the plate and the whole capacity.
+fn note_bound(t: &mut Words) {
+    let c = word(t, CAPACITY, 0);
+    let x = word(t, cell(t, plate_side(t, 0), plate_side(t, 1)), c);
+    put(t, BOUND, 0, x);
 }
 
 // Where the figures of the n-th normal length and width begin, the widths running fastest.
@@ -132,21 +133,27 @@ fn normal_figure(t: &Words, k: usize) -> usize {
     )
 }
 
-// How many figures the planner's table has.
-fn normal_figures(t: &Words) -> usize {
-    times(
-        times(word(t, LENGTH_COUNT, 0), word(t, WIDTH_COUNT, 0)),
-        shares(t),
-    )
+fn count_words(t: &mut Words) {
+    let cells = times(word(t, LENGTH_COUNT, 0), word(t, WIDTH_COUNT, 0));
+    put(t, WORD_COUNT, 0, times(cells, shares(t)));
 }
 
-// Moves the figures of the planner's table to the front, in its order, and answers how many there are. No figure is overwritten before
-// it is moved, because an entry of a list is not less than its number.
-pub fn keep_normal(t: &mut Words) -> usize {
-    let n = normal_figures(t);
-    for k in 0..n {
+// Moves the figures of the planner's table to the front, in its order. No figure is overwritten before it is moved, because an entry of
+// a list is not less than its number.
+fn keep_normal(t: &mut Words) {
+    for k in 0..word(t, WORD_COUNT, 0) {
         let x = normal_figure(t, k);
         put(t, FIGURES, k, x);
     }
-    n
+}
+
+// Computes what is expected of a job: bound, capacity, both lists and the table.
+pub fn compute(t: &mut Words) {
+    note_capacity(t);
+    list_positions(t, 0);
+    list_positions(t, 1);
+    fill_figures(t);
+    note_bound(t);
+    count_words(t);
+    keep_normal(t);
 }

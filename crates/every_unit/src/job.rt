@@ -8,9 +8,6 @@ use test_tools::word;
 // Plate length, plate width, number of kinds.
 pub const PLATE: usize = 9000;
 
-// How many shares there are, counted from 0.
-const SHARES: usize = 9004;
-
 // What is left of the capacity while a job is drawn, and the state of the random numbers.
 pub const LEFT: usize = 9005;
 
@@ -30,10 +27,16 @@ pub const WEIGHT: usize = 9290;
 // How many weights there are; then the weights.
 pub const WEIGHTS: usize = 9289;
 
-// How many normal lengths and widths there are, and the two lists.
-pub const LENGTH_COUNT: usize = 9400;
+// What is expected of the planner: bound, capacity, numbers of normal lengths and widths, words of the table.
+pub const BOUND: usize = 9400;
 
-pub const WIDTH_COUNT: usize = 9401;
+pub const CAPACITY: usize = 9401;
+
+pub const LENGTH_COUNT: usize = 9402;
+
+pub const WIDTH_COUNT: usize = 9403;
+
+pub const WORD_COUNT: usize = 9404;
 
 pub const NORMAL_LENGTHS: usize = 10000;
 
@@ -73,12 +76,12 @@ fn capacity(t: &Words) -> usize {
     sum
 }
 
-pub fn count_shares(t: &mut Words) {
-    let n = capacity(t);
-    put(t, SHARES, 0, plus(n, 1));
+pub fn note_capacity(t: &mut Words) {
+    let q = capacity(t);
+    put(t, CAPACITY, 0, q);
 }
 
 // How many shares there are, counted from 0.
 pub fn shares(t: &Words) -> usize {
-    word(t, SHARES, 0)
+    plus(word(t, CAPACITY, 0), 1)
 }

@@ -8,9 +8,11 @@ use every_unit::NORMAL_LENGTHS;
 use every_unit::NORMAL_WIDTHS;
 use every_unit::WEIGHTS;
 use every_unit::WIDTH_COUNT;
+use every_unit::WORD_COUNT;
 use every_unit::write_block;
 use refusal::Refusal;
 use test_tools::Words;
+use test_tools::at_most;
 use test_tools::copy_bytes;
 use test_tools::different_entries;
 use test_tools::different_words;
@@ -18,20 +20,24 @@ use test_tools::fill_list;
 use test_tools::fill_table;
 use test_tools::first_bytes;
 use test_tools::put;
-use test_tools::smaller;
 use test_tools::word;
 
 // Entries of the two lists and words of the table that are lent.
-pub const LENT: usize = 60000;
+pub const LENT_LENGTHS: usize = 60000;
+
+pub const LENT_WIDTHS: usize = 60001;
+
+pub const LENT_WORDS: usize = 60002;
 
 // A refusal's number and place; or 0 and bound, capacity, number of normal lengths and of normal widths.
 pub const ANSWER: usize = 60010;
 
 // How many entries of the lengths, of the widths, and words of the table are not as expected.
-pub const DIFFERENT: usize = 60020;
+pub const OTHER_LENGTHS: usize = 60020;
 
-// How many words are expected in the table.
-pub const WORD_COUNT: usize = 60030;
+pub const OTHER_WIDTHS: usize = 60021;
+
+pub const OTHER_WORDS: usize = 60022;
 
 fn widen(x: u16) -> usize {
     x as usize
@@ -57,13 +63,20 @@ fn note_answer(t: &mut Words, answer: BoundAnswer) {
     }
 }
 
+fn note_list(t: &mut Words, at: usize, list: &[u16], from: usize, count: usize) {
+    let n = different_entries(list, t, from, word(t, count, 0));
+    put(t, at, 0, n);
+}
+
+fn note_table(t: &mut Words, table: &[u64]) {
+    let n = different_words(table, t, FIGURES, word(t, WORD_COUNT, 0));
+    put(t, OTHER_WORDS, 0, n);
+}
+
 fn note_left(t: &mut Words, lengths: &[u16; 1008], widths: &[u16; 1008], table: &[u64; 36872]) {
-    let x = different_entries(lengths, t, NORMAL_LENGTHS, word(t, LENGTH_COUNT, 0));
-    put(t, DIFFERENT, 0, x);
-    let y = different_entries(widths, t, NORMAL_WIDTHS, word(t, WIDTH_COUNT, 0));
-    put(t, DIFFERENT, 1, y);
-    let z = different_words(table, t, FIGURES, word(t, WORD_COUNT, 0));
-    put(t, DIFFERENT, 2, z);
+    note_list(t, OTHER_LENGTHS, lengths, NORMAL_LENGTHS, LENGTH_COUNT);
+    note_list(t, OTHER_WIDTHS, widths, NORMAL_WIDTHS, WIDTH_COUNT);
+    note_table(t, table);
 }
 
 // The bound call on the job's block and weights, of up to 65 kinds.
@@ -94,9 +107,9 @@ fn call_lent(t: &mut Words) {
     fill_list(&mut lengths);
     fill_list(&mut widths);
     fill_table(&mut table);
-    let p = smaller(word(t, LENT, 0), 1008);
-    let r = smaller(word(t, LENT, 1), 1008);
-    let k = smaller(word(t, LENT, 2), 36872);
+    let p = at_most(t, LENT_LENGTHS, 1008);
+    let r = at_most(t, LENT_WIDTHS, 1008);
+    let k = at_most(t, LENT_WORDS, 36872);
     note_answer(
         t,
         call_bound(t, &mut lengths[..p], &mut widths[..r], &mut table[..k]),

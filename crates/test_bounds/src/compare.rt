@@ -1,22 +1,23 @@
 // Generated jobs of one shape: the second computation, the bound call, and what differs.
 use crate::call::ANSWER;
-use crate::call::DIFFERENT;
-use crate::call::LENT;
-use crate::call::WORD_COUNT;
+use crate::call::LENT_LENGTHS;
+use crate::call::LENT_WIDTHS;
+use crate::call::LENT_WORDS;
+use crate::call::OTHER_LENGTHS;
+use crate::call::OTHER_WIDTHS;
+use crate::call::OTHER_WORDS;
 use crate::call::try_bound;
-use every_unit::LENGTH_COUNT;
-use every_unit::WIDTH_COUNT;
-use every_unit::bound_at_every_unit;
+use every_unit::BOUND;
+use every_unit::CAPACITY;
+use every_unit::PLATE;
+use every_unit::WORD_COUNT;
+use every_unit::compute;
 use every_unit::draw_job;
-use every_unit::fill_figures;
-use every_unit::keep_normal;
-use every_unit::list_positions;
-use every_unit::plate_side;
-use every_unit::shares;
 use test_tools::Words;
+use test_tools::add;
 use test_tools::labelled;
+use test_tools::labelled_word;
 use test_tools::larger;
-use test_tools::minus;
 use test_tools::plus;
 use test_tools::put;
 use test_tools::text;
@@ -25,100 +26,104 @@ use test_tools::word;
 
 const JOBS: usize = 140;
 
-// Expected bound, capacity, number of normal lengths and of normal widths.
-const EXPECTED: usize = 60040;
-
 // Of a shape: jobs that agreed, table words compared, sum of the bounds, greatest capacity.
-const TALLY: usize = 60050;
+const AGREED: usize = 60050;
 
-// Of all shapes: jobs compared, jobs that agreed; the first job that does not agree, counted from 1, and what differs.
-const TOTAL: usize = 60060;
+const TABLE_WORDS: usize = 60051;
 
-fn add(t: &mut Words, at: usize, x: usize) {
-    let sum = plus(word(t, at, 0), x);
-    put(t, at, 0, sum);
+const BOUNDS: usize = 60052;
+
+const GREATEST: usize = 60053;
+
+// Of all shapes: jobs compared and jobs that agreed.
+const ALL_COMPARED: usize = 60060;
+
+const ALL_AGREED: usize = 60061;
+
+// The first job that does not agree, counted from 1, and what differs.
+const FIRST: usize = 60062;
+
+const FIRST_OTHER: usize = 60063;
+
+// Lends as much as a word says, and some more.
+fn lend(t: &mut Words, at: usize, from: usize, i: usize, spare: usize) {
+    let n = plus(word(t, from, i), spare);
+    put(t, at, 0, n);
 }
 
-// The second computation: figures and normal positions; then the words that are expected in the table.
-fn expect(t: &mut Words) {
-    fill_figures(t);
-    list_positions(t, 0);
-    list_positions(t, 1);
-    put(t, EXPECTED, 0, bound_at_every_unit(t));
-    put(t, EXPECTED, 1, minus(shares(t), 1));
-    put(t, EXPECTED, 2, word(t, LENGTH_COUNT, 0));
-    put(t, EXPECTED, 3, word(t, WIDTH_COUNT, 0));
-    let n = keep_normal(t);
-    put(t, WORD_COUNT, 0, n);
+// Lends the memory that is needed, and for every second job some more.
+fn lend_all(t: &mut Words, number: usize) {
+    let spare = times(number % 2, number % 8);
+    lend(t, LENT_LENGTHS, PLATE, 0, plus(spare, 1));
+    lend(t, LENT_WIDTHS, PLATE, 1, plus(spare, 1));
+    lend(t, LENT_WORDS, WORD_COUNT, 0, spare);
 }
 
-// Lends the memory that is needed, and some words more.
-fn lend(t: &mut Words, spare: usize) {
-    put(t, LENT, 0, plus(plus(plate_side(t, 0), 1), spare));
-    put(t, LENT, 1, plus(plus(plate_side(t, 1), 1), spare));
-    put(t, LENT, 2, plus(word(t, WORD_COUNT, 0), spare));
-}
-
-// Whether the answer is no refusal and has the expected values.
-fn answer_agrees(t: &Words) -> bool {
-    let mut other = word(t, ANSWER, 0);
+// How many of the four answered values are not as expected, and the number of a refusal.
+fn other_answers(t: &Words) -> usize {
+    let mut n = word(t, ANSWER, 0);
     for i in 0..4 {
-        other = plus(
-            other,
-            (word(t, EXPECTED, i) != word(t, ANSWER, plus(i, 1))) as usize,
+        n = plus(
+            n,
+            (word(t, BOUND, i) != word(t, ANSWER, plus(i, 1))) as usize,
         );
     }
-    other == 0
+    n
 }
 
 // What differs: 0 nothing, 1 the answer, 2 the lengths, 3 the widths, 4 the table or a word after it.
 fn difference(t: &Words) -> usize {
-    if !answer_agrees(t) {
+    if other_answers(t) != 0 {
         return 1;
     }
-    if word(t, DIFFERENT, 0) != 0 {
+    if word(t, OTHER_LENGTHS, 0) != 0 {
         return 2;
     }
-    if word(t, DIFFERENT, 1) != 0 {
+    if word(t, OTHER_WIDTHS, 0) != 0 {
         return 3;
     }
-    times(4, (word(t, DIFFERENT, 2) != 0) as usize)
+    times(4, (word(t, OTHER_WORDS, 0) != 0) as usize)
 }
 
 fn note_sizes(t: &mut Words) {
-    add(t, plus(TALLY, 1), word(t, WORD_COUNT, 0));
-    add(t, plus(TALLY, 2), word(t, EXPECTED, 0));
-    let most = larger(word(t, TALLY, 3), word(t, EXPECTED, 1));
-    put(t, TALLY, 3, most);
+    add(t, TABLE_WORDS, word(t, WORD_COUNT, 0));
+    add(t, BOUNDS, word(t, BOUND, 0));
+    let most = larger(word(t, GREATEST, 0), word(t, CAPACITY, 0));
+    put(t, GREATEST, 0, most);
 }
 
-// Notes the first job that does not agree.
-fn note_first(t: &mut Words, d: usize) {
-    if word(t, TOTAL, 3) == 0 {
-        put(t, TOTAL, 2, word(t, TOTAL, 0));
-        put(t, TOTAL, 3, d);
+fn note_agreed(t: &mut Words) {
+    add(t, AGREED, 1);
+    add(t, ALL_AGREED, 1);
+}
+
+// Notes what differs in a job, where it is the first.
+fn note_first(t: &mut Words, number: usize, other: usize) {
+    if word(t, FIRST, 0) == 0 {
+        put(t, FIRST, 0, number);
+        put(t, FIRST_OTHER, 0, other);
     }
 }
 
-fn note_difference(t: &mut Words, d: usize) {
-    add(t, TOTAL, 1);
-    if d == 0 {
-        add(t, plus(TOTAL, 1), 1);
-        add(t, TALLY, 1);
+fn note_difference(t: &mut Words, number: usize) {
+    let other = difference(t);
+    if other == 0 {
+        note_agreed(t);
     } else {
-        note_first(t, d);
+        note_first(t, number, other);
     }
 }
 
-// Draws the next job, and compares it. Every second job is lent exactly the words that it needs, the others a few more.
+// Draws the next job, and compares it.
 fn compare_job(t: &mut Words) {
-    let number = word(t, TOTAL, 0);
+    let number = word(t, ALL_COMPARED, 0);
+    add(t, ALL_COMPARED, 1);
     draw_job(t);
-    expect(t);
-    lend(t, times(number % 2, number % 8));
+    compute(t);
+    lend_all(t, number);
     try_bound(t);
     note_sizes(t);
-    note_difference(t, difference(t));
+    note_difference(t, plus(number, 1));
 }
 
 fn compare_jobs(t: &mut Words, n: usize) {
@@ -129,7 +134,7 @@ fn compare_jobs(t: &mut Words, n: usize) {
 
 fn clear_tally(t: &mut Words) {
     for i in 0..4 {
-        put(t, TALLY, i, 0);
+        put(t, AGREED, i, 0);
     }
 }
 
@@ -137,27 +142,30 @@ fn clear_tally(t: &mut Words) {
 pub fn compare_shape(t: &mut Words) {
     clear_tally(t);
     compare_jobs(t, JOBS);
-    labelled(b": ", JOBS as u64);
-    labelled(b" compared, ", word(t, TALLY, 0) as u64);
-    labelled(b" agreed; table words ", word(t, TALLY, 1) as u64);
-    labelled(b", sum of bounds ", word(t, TALLY, 2) as u64);
-    labelled(b", greatest capacity ", word(t, TALLY, 3) as u64);
+    print_shape(t);
 }
 
-// The first job that does not agree, and what differs: 1 the answer, 2 the lengths, 3 the widths, 4 the table; or none.
+fn print_shape(t: &Words) {
+    labelled(b": ", JOBS as u64);
+    labelled_word(b" compared, ", t, AGREED);
+    labelled_word(b" agreed; table words ", t, TABLE_WORDS);
+    labelled_word(b", sum of bounds ", t, BOUNDS);
+    labelled_word(b", greatest capacity ", t, GREATEST);
+}
+
+// The first job that does not agree, and the number of what differs; or none.
 fn print_first(t: &Words) {
-    text(b"first difference: ");
-    if word(t, TOTAL, 3) == 0 {
-        text(b"none");
+    if word(t, FIRST, 0) == 0 {
+        text(b"first difference: none");
         return;
     }
-    labelled(b"job ", word(t, TOTAL, 2) as u64);
-    labelled(b", of kind ", word(t, TOTAL, 3) as u64);
+    labelled_word(b"first difference: job ", t, FIRST);
+    labelled_word(b", ", t, FIRST_OTHER);
 }
 
 pub fn print_total(t: &Words) {
-    labelled(b": ", word(t, TOTAL, 0) as u64);
-    labelled(b" compared, ", word(t, TOTAL, 1) as u64);
+    labelled_word(b": ", t, ALL_COMPARED);
+    labelled_word(b" compared, ", t, ALL_AGREED);
     text(b" agreed\n");
     print_first(t);
 }

@@ -2,27 +2,27 @@
 // length and width; number of kinds; kind length, width, price, demand and weight; the last kind's price; entries of the two lists and
 // words of the table that are lent.
 use crate::call::ANSWER;
-use crate::call::DIFFERENT;
-use crate::call::LENT;
-use crate::call::WORD_COUNT;
+use crate::call::LENT_LENGTHS;
+use crate::call::OTHER_LENGTHS;
+use crate::call::OTHER_WIDTHS;
+use crate::call::OTHER_WORDS;
 use crate::call::try_bound;
 use every_unit::KIND_LENGTH;
 use every_unit::LENGTH_COUNT;
 use every_unit::PLATE;
 use every_unit::PRICE;
-use every_unit::WIDTH_COUNT;
 use test_tools::ROW;
 use test_tools::Words;
-use test_tools::labelled;
+use test_tools::labelled_word;
 use test_tools::minus;
 use test_tools::plus;
 use test_tools::put;
 use test_tools::word;
 
-// The plate, and the lent memory.
-fn copy_three(t: &mut Words, to: usize, column: usize) {
+// Three numbers of the row: the plate, or the lent memory.
+fn copy_three(t: &mut Words, to: usize, from: usize) {
     for i in 0..3 {
-        let x = word(t, ROW, plus(column, i));
+        let x = word(t, from, i);
         put(t, to, i, x);
     }
 }
@@ -35,25 +35,31 @@ fn copy_kinds(t: &mut Words) {
     }
 }
 
-fn make_job(t: &mut Words) {
-    copy_three(t, PLATE, 0);
-    copy_three(t, LENT, 9);
-    copy_kinds(t);
-    put(t, PRICE, minus(word(t, ROW, 2), 1), word(t, ROW, 8));
+fn price_last(t: &mut Words) {
+    let n = word(t, ROW, 2);
+    let price = word(t, ROW, 8);
+    put(t, PRICE, minus(n, 1), price);
 }
 
-// Nothing is expected, so that every change differs.
+// Expects no length, no width and no word, so that every change differs.
 fn expect_nothing(t: &mut Words) {
-    put(t, LENGTH_COUNT, 0, 0);
-    put(t, WIDTH_COUNT, 0, 0);
-    put(t, WORD_COUNT, 0, 0);
+    for i in 0..3 {
+        put(t, LENGTH_COUNT, i, 0);
+    }
+}
+
+fn make_job(t: &mut Words) {
+    copy_three(t, PLATE, ROW);
+    copy_three(t, LENT_LENGTHS, plus(ROW, 9));
+    copy_kinds(t);
+    price_last(t);
 }
 
 fn print_report(t: &Words) {
-    labelled(b"bound ", word(t, ANSWER, 1) as u64);
-    labelled(b" capacity ", word(t, ANSWER, 2) as u64);
-    labelled(b" lengths ", word(t, ANSWER, 3) as u64);
-    labelled(b" widths ", word(t, ANSWER, 4) as u64);
+    labelled_word(b"bound ", t, plus(ANSWER, 1));
+    labelled_word(b" capacity ", t, plus(ANSWER, 2));
+    labelled_word(b" lengths ", t, plus(ANSWER, 3));
+    labelled_word(b" widths ", t, plus(ANSWER, 4));
 }
 
 fn print_answer(t: &Words) {
@@ -61,8 +67,14 @@ fn print_answer(t: &Words) {
         print_report(t);
         return;
     }
-    labelled(b"refused ", word(t, ANSWER, 0) as u64);
-    labelled(b" place ", word(t, ANSWER, 1) as u64);
+    labelled_word(b"refused ", t, ANSWER);
+    labelled_word(b" place ", t, plus(ANSWER, 1));
+}
+
+fn print_changed(t: &Words) {
+    labelled_word(b"; changed ", t, OTHER_LENGTHS);
+    labelled_word(b" ", t, OTHER_WIDTHS);
+    labelled_word(b" ", t, OTHER_WORDS);
 }
 
 pub fn run_limit(t: &mut Words) {
@@ -70,7 +82,5 @@ pub fn run_limit(t: &mut Words) {
     expect_nothing(t);
     try_bound(t);
     print_answer(t);
-    labelled(b"; changed ", word(t, DIFFERENT, 0) as u64);
-    labelled(b" ", word(t, DIFFERENT, 1) as u64);
-    labelled(b" ", word(t, DIFFERENT, 2) as u64);
+    print_changed(t);
 }

@@ -1,14 +1,17 @@
 // Certificates, with marked memory lent.
 use crate::lent::JOB;
 use crate::lent::KINDS;
-use crate::lent::LENT;
+use crate::lent::LENT_LENGTHS;
+use crate::lent::LENT_WIDTHS;
+use crate::lent::LENT_WORDS;
 use crate::lent::OPERANDS;
 use crate::lent::WEIGHTS;
 use crate::lent::count;
-use crate::lent::print_refusal;
+use crate::lent::print_refused;
 use certificate::Certificate;
 use certificate::certify;
 use test_tools::Words;
+use test_tools::at_most;
 use test_tools::copy_bytes;
 use test_tools::copy_numbers;
 use test_tools::different_entries;
@@ -18,18 +21,10 @@ use test_tools::fill_table;
 use test_tools::first_bytes;
 use test_tools::first_numbers;
 use test_tools::labelled;
-use test_tools::smaller;
-use test_tools::text;
-use test_tools::word;
 
 fn print_gap(profit: u64, gap: u64) {
     labelled(b" profit ", profit);
     labelled(b" gap ", gap);
-}
-
-fn print_refused(r: refusal::Refusal) {
-    text(b" refused");
-    print_refusal(r);
 }
 
 fn print_certificate(c: Certificate) {
@@ -54,9 +49,9 @@ fn certify_plan(t: &Words, block: &[u8], weights: &[u8], kinds: &[u8], operands:
     fill_list(&mut lengths);
     fill_list(&mut widths);
     fill_table(&mut table);
-    let p = smaller(word(t, LENT, 1), 1008);
-    let r = smaller(word(t, LENT, 2), 1008);
-    let k = smaller(word(t, LENT, 3), 36872);
+    let p = at_most(t, LENT_LENGTHS, 1008);
+    let r = at_most(t, LENT_WIDTHS, 1008);
+    let k = at_most(t, LENT_WORDS, 36872);
     print_certificate(certify(
         block,
         weights,
@@ -84,8 +79,8 @@ fn certify_arrays(t: &Words, block: &[u8], weights: &[u8]) {
 }
 
 pub fn run_certify(t: &Words) {
-    let mut block = [0u8; 5000];
-    let mut weights = [0u8; 5000];
+    let mut block = [0u8; 656];
+    let mut weights = [0u8; 65];
     copy_bytes(t, JOB, &mut block);
     copy_bytes(t, WEIGHTS, &mut weights);
     certify_arrays(

@@ -5,7 +5,6 @@ use crate::lent::OPERANDS;
 use crate::lent::PLAN;
 use crate::lent::count;
 use crate::lent::print_refusal;
-use crate::lent::widen;
 use plan::PlanAnswer;
 use plan::Report;
 use plan::check_plan;
@@ -17,15 +16,16 @@ use test_tools::copy_numbers;
 use test_tools::first_bytes;
 use test_tools::first_numbers;
 use test_tools::labelled;
+use test_tools::labelled_small;
 use test_tools::plus;
 use test_tools::put;
 use test_tools::text;
 
 fn print_report(r: Report) {
     labelled(b" profit ", r.profit);
-    labelled(b" copies ", widen(r.copies[0]));
-    labelled(b" ", widen(r.copies[1]));
-    labelled(b" ", widen(r.copies[2]));
+    labelled_small(b" copies ", r.copies[0]);
+    labelled_small(b" ", r.copies[1]);
+    labelled_small(b" ", r.copies[2]);
     labelled(b" areas ", r.pieces);
     labelled(b" ", r.waste);
     labelled(b" ", r.trim);
@@ -42,7 +42,7 @@ fn print_answer(a: PlanAnswer) {
 }
 
 pub fn run_arrays(t: &Words) {
-    let mut block = [0u8; 5000];
+    let mut block = [0u8; 656];
     let mut kinds = [0u8; 5000];
     let mut operands = [0u16; 5000];
     copy_bytes(t, JOB, &mut block);
@@ -56,7 +56,7 @@ pub fn run_arrays(t: &Words) {
 }
 
 pub fn run_block(t: &Words) {
-    let mut block = [0u8; 5000];
+    let mut block = [0u8; 656];
     let mut plan = [0u8; 5000];
     copy_bytes(t, JOB, &mut block);
     copy_bytes(t, PLAN, &mut plan);

@@ -2,6 +2,8 @@
 use refusal::Refusal;
 use test_tools::Words;
 use test_tools::labelled;
+use test_tools::labelled_small;
+use test_tools::text;
 use test_tools::word;
 
 pub const JOB: usize = 9000;
@@ -10,8 +12,16 @@ pub const WEIGHTS: usize = 10000;
 
 pub const PLAN: usize = 11000;
 
-// Entries of the two lists and words of the table.
+// Entries of the two lists and words of the table that are lent.
 pub const LENT: usize = 12000;
+
+pub const LENT_LENGTHS: usize = 12001;
+
+pub const LENT_WIDTHS: usize = 12002;
+
+pub const LENT_WORDS: usize = 12003;
+
+pub const REMARK: usize = 13000;
 
 pub const KINDS: usize = 20000;
 
@@ -21,11 +31,12 @@ pub fn count(t: &Words, from: usize) -> usize {
     word(t, from, 0)
 }
 
-pub fn widen(n: u16) -> u64 {
-    n as u64
+pub fn print_refusal(r: Refusal) {
+    labelled_small(b" ", refusal::number(r));
+    labelled(b" at ", refusal::place(r));
 }
 
-pub fn print_refusal(r: Refusal) {
-    labelled(b" ", widen(refusal::number(r)));
-    labelled(b" at ", refusal::place(r));
+pub fn print_refused(r: Refusal) {
+    text(b" refused");
+    print_refusal(r);
 }

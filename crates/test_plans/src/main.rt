@@ -1,6 +1,6 @@
 // Runs the calls on plans by a script (its standard input): the check of plans, the writing of plans, certificates.
 // `job`, `weights`, `kinds`, `operands` and `plan` set the bytes of the job block, the weights, the plan's two arrays and the plan block;
-// `lend` sets how many entries of the two lists and words of the table are lent. Then a call runs on what is set:
+// `lend` sets how many entries of the two lists and words of the table a certificate is lent. Then a call runs on what is set:
 // `Arrays` checks the two arrays, `Block` the plan block, `Jobs` and `Plans` every truncation of the job block and of the plan block;
 // `Write` writes a plan into the arrays and prints arrays of seven entries as kind.operand; `Certify` certifies the arrays and prints how
 // many entries of the lists and words of the table it changed. An answer is printed as its values, a refusal as number and place.
@@ -19,6 +19,7 @@ use lent::KINDS;
 use lent::LENT;
 use lent::OPERANDS;
 use lent::PLAN;
+use lent::REMARK;
 use lent::WEIGHTS;
 use test_tools::Words;
 use test_tools::next_command;
@@ -27,15 +28,16 @@ use write::run_write;
 
 const COMMANDS: usize = 1000;
 
-fn set(t: &mut Words, letter: u8) {
+// Where the numbers of a line go; those of a remark go to a place of their own.
+fn place(letter: u8) -> usize {
     match letter {
-        b'j' => row_to(t, JOB),
-        b'w' => row_to(t, WEIGHTS),
-        b'k' => row_to(t, KINDS),
-        b'o' => row_to(t, OPERANDS),
-        b'p' => row_to(t, PLAN),
-        b'l' => row_to(t, LENT),
-        _ => {}
+        b'j' => JOB,
+        b'w' => WEIGHTS,
+        b'k' => KINDS,
+        b'o' => OPERANDS,
+        b'p' => PLAN,
+        b'l' => LENT,
+        _ => REMARK,
     }
 }
 
@@ -47,7 +49,7 @@ fn run(t: &mut Words, letter: u8) {
         b'P' => run_plans(t),
         b'W' => run_write(t),
         b'C' => run_certify(t),
-        _ => set(t, letter),
+        _ => row_to(t, place(letter)),
     }
 }
 

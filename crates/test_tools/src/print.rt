@@ -1,4 +1,6 @@
 // Printing on standard output.
+use crate::words::Words;
+use crate::words::word;
 use libc::STDOUT_FILENO;
 
 pub fn text(s: &[u8]) {
@@ -10,12 +12,16 @@ pub fn print_byte(b: u8) {
     text(&one);
 }
 
-pub fn number(x: u64) {
-    io::print_decimal(STDOUT_FILENO, x);
-}
-
 // A label and a number.
 pub fn labelled(label: &[u8], x: u64) {
     text(label);
-    number(x);
+    io::print_decimal(STDOUT_FILENO, x);
+}
+
+pub fn labelled_small(label: &[u8], x: u16) {
+    labelled(label, x as u64);
+}
+
+pub fn labelled_word(label: &[u8], t: &Words, at: usize) {
+    labelled(label, word(t, at, 0) as u64);
 }

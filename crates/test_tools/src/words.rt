@@ -56,3 +56,16 @@ pub fn smaller(a: usize, b: usize) -> usize
 {
     if a < b { a } else { b }
 }
+
+// The word at a place, or the most that is wanted where it is greater.
+pub fn at_most(t: &Words, at: usize, most: usize) -> usize
+    ensures { λ r. ⌜ r ≤ most ⌝ }
+{
+    smaller(word(t, at, 0), most)
+}
+
+// Adds a number to a word.
+pub fn add(t: &mut Words, at: usize, x: usize) {
+    let sum = plus(word(t, at, 0), x);
+    put(t, at, 0, sum);
+}

@@ -8,9 +8,8 @@ pub fill-figures-spec : {M : Type 1} → statement M
 fill-figures-spec =
     tie.close
     (tie.spec
-    (λ t₀ l₀ l-end t l. l ≤ l-end)
-    (λ t₀ l₀ l-end t l. l-end - l)
-    (search needs)
+    (λ t₀ k₀ k-end t k. k ≤ k-end)
+    (λ t₀ k₀ k-end t k. k-end - k)
     (search needs)
     (search needs)
     (search needs)

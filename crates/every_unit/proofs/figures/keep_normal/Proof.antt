@@ -8,8 +8,8 @@ pub keep-normal-spec : {M : Type 1} → statement M
 keep-normal-spec =
     tie.close
     (tie.spec
-    (λ t₀ n k₀ t k. k ≤ n)
-    (λ t₀ n k₀ t k. n - k)
+    (λ t₀ k₀ k-end t k. k ≤ k-end)
+    (λ t₀ k₀ k-end t k. k-end - k)
     (search needs)
     (search needs)
     (search needs)

@@ -8,9 +8,8 @@ pub copy-three-spec : {M : Type 1} → statement M
 copy-three-spec =
     tie.close
     (tie.spec
-    (λ t₀ to column i₀ t i. i ≤ 3)
-    (λ t₀ to column i₀ t i. 3 - i)
-    (search needs)
+    (λ t₀ to from i₀ t i. i ≤ 3)
+    (λ t₀ to from i₀ t i. 3 - i)
     (search needs)
     (search needs)
     (search needs)

@@ -18,6 +18,4 @@ print-entries-spec =
     (search needs)
     (search needs)
     (search needs)
-    (search needs)
-    (search needs)
     (search needs))
