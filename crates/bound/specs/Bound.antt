@@ -8,6 +8,7 @@ use lib.Dec.{ltb}
 use lib.ListN.{length, take}
 use Rattle.cutting.specs.declared.Direction.{Direction}
 use Rattle.cutting.specs.declared.Direction.the-variants.{Length, Width}
+use Rattle.cutting.specs.Limits.{most-figure}
 use Rattle.cutting.specs.Lists.{over}
 use Rattle.cutting.specs.Job.{Job, InRange, capacity, figure-of, bound-of, normal-positions}
 use Rattle.cutting.specs.Promises.{NoneAbove, MostWithin}
@@ -100,7 +101,7 @@ bound-said s ws m = outcome-by (bound-verdict s ws m) (report-values (report-of 
 pub record BoundHolds (J : Job) (weight : ℕ → ℕ) (q n : ℕ) : Type 0 where
   pub most : MostWithin J weight q n
   pub demands : NoneAbove J n
-  pub ceiling : n ≤ 1000000000000
+  pub ceiling : n ≤ most-figure
   pub figure : n ≡ figure-of J weight (J .plate .0) (J .plate .1) q
 
 -- what an answer says: its bound holds at its capacity

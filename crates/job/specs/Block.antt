@@ -5,6 +5,7 @@ use mathlib.Core.List.{List, [], _∷_, _++_, map}
 use Prim.Native.Nat.{ℕ, zero, suc, _+_, _*_}
 use lib.Dec.{ltb, eqb}
 use lib.ListN.{length, getD}
+use Rattle.cutting.specs.Limits.{most-side, most-kinds, most-price, most-demand}
 use Rattle.cutting.specs.Lists.{range, only}
 use Rattle.cutting.specs.Job.{Job}
 use Rattle.refusal.specs.Refusals.{Check, Outcome, first-refusal, by-check, outcome-by}
@@ -53,18 +54,18 @@ outside lo hi x = ltb x lo || ltb hi x
 abbrev pub header-checks : List ℕ → List Check
 header-checks s =
     (ltb (length s) 6, ShortHeader)
-    ∷ (outside 1 1000 (plate-length-at s) || outside 1 1000 (plate-width-at s), PlateSide)
-    ∷ (outside 1 64 (count-at s), KindCount)
+    ∷ (outside 1 most-side (plate-length-at s) || outside 1 most-side (plate-width-at s), PlateSide)
+    ∷ (outside 1 most-kinds (count-at s), KindCount)
     ∷ (not (eqb (length s) (6 + 10 * count-at s)), BlockLength)
     ∷ []
 
 -- check 5, of one kind
 abbrev pub size-check : List ℕ → ℕ → Check
-size-check s i = (outside 1 1000 (length-at s i) || outside 1 1000 (width-at s i), KindSide i)
+size-check s i = (outside 1 most-side (length-at s i) || outside 1 most-side (width-at s i), KindSide i)
 
 -- checks 6 and 7, of one kind, price first
 abbrev pub pair-checks : List ℕ → ℕ → List Check
-pair-checks s i = (ltb 1000000 (price-at s i), Price i) ∷ (ltb 255 (demand-at s i), Demand i) ∷ []
+pair-checks s i = (ltb most-price (price-at s i), Price i) ∷ (ltb most-demand (demand-at s i), Demand i) ∷ []
 
 -- the checks of the kinds from i on, n of them, kind after kind
 unfoldable pub each-kind : (ℕ → List Check) → ℕ → ℕ → List Check

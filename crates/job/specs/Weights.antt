@@ -6,6 +6,7 @@ use mathlib.Core.List.{List, [], _∷_, _++_}
 use Prim.Native.Nat.{ℕ}
 use lib.Dec.{ltb, eqb}
 use lib.ListN.{length, getD}
+use Rattle.cutting.specs.Limits.{most-capacity}
 use Rattle.cutting.specs.Job.{Job, capacity}
 use Rattle.refusal.specs.Refusals.{Check, Outcome, first-refusal, by-check, refused-as, outcome-by}
 use Rattle.refusal.specs.declared.Checked.the-variants.{Passed, Refused}
@@ -21,7 +22,7 @@ weight-in ws i = getD ws i 0
 
 -- checks 8 and 9
 abbrev pub weight-checks : Job → List ℕ → List Check
-weight-checks J ws = (not (eqb (length ws) (J .count)), refusal.WeightCount) ∷ (ltb 4095 (capacity J (weight-in ws)), refusal.Capacity) ∷ []
+weight-checks J ws = (not (eqb (length ws) (J .count)), refusal.WeightCount) ∷ (ltb most-capacity (capacity J (weight-in ws)), refusal.Capacity) ∷ []
 
 -- what the weights of a job answer: the capacity, or the first refusal
 abbrev pub weights-answer : Job → List ℕ → WeightsAnswer

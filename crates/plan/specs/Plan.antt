@@ -6,6 +6,7 @@ use lib.Dec.{eqb}
 use lib.ListN.{length, replicate}
 use Rattle.cutting.specs.declared.Node.{Node}
 use Rattle.cutting.specs.Tree.{Rect}
+use Rattle.cutting.specs.Limits.{most-nodes}
 use Rattle.cutting.specs.Job.{Job}
 use Rattle.refusal.specs.declared.Refusal.{Refusal}
 use Rattle.refusal.specs.declared.Refusal.the-variants.{PlanLength, NodeCount, NodeMissing, NodeLeft}
@@ -69,7 +70,7 @@ nodes-in (k ∷ ks) (o ∷ os) = (k, o) ∷ nodes-in ks os
 
 -- checks 10 and 11
 abbrev pub plan-checks : List ℕ → List ℕ → List Check
-plan-checks kinds operands = (not (eqb (length kinds) (length operands)), PlanLength) ∷ (outside 1 4095 (length kinds), NodeCount) ∷ []
+plan-checks kinds operands = (not (eqb (length kinds) (length operands)), PlanLength) ∷ (outside 1 most-nodes (length kinds), NodeCount) ∷ []
 
 -- what a plan's arrays answer: checks 10 and 11, then the walk from the plate
 unfoldable pub plan-answer : Job → List ℕ → List ℕ → PlanAnswer

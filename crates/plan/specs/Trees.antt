@@ -2,6 +2,7 @@
 use mathlib.Core.Path.{_≡_}
 use mathlib.Core.List.{List}
 use Prim.Native.Nat.{ℕ, _+_, _*_, _≤_}
+use Rattle.cutting.specs.Limits.{most-nodes}
 use Rattle.cutting.specs.Tree.{Tree}
 use Rattle.cutting.specs.Preorder.{node-count, kinds-of, operands-of}
 use Rattle.cutting.specs.Job.{Job, OnPlate, profit, copies-of, KeepsDemands, pieces-area-of, waste-area-of, trim-area-of}
@@ -16,7 +17,7 @@ use Rattle.plan.specs.Plan.{empty-report}
 pub record PlanOf (J : Job) (t : Tree ℕ) (kinds operands : List ℕ) : Type 0 where
   pub on-plate : OnPlate J t
   pub demands : KeepsDemands J t
-  pub nodes : node-count t ≤ 4095
+  pub nodes : node-count t ≤ most-nodes
   pub kinds-are : kinds ≡ kinds-of t
   pub operands-are : operands ≡ operands-of t
 
