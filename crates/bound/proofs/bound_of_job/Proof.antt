@@ -56,7 +56,7 @@ normal-positions-requires-2 c κs =
 words-requires : tie.Need-words-requires
 words-requires c κs =
     let given = start c .pre .0 in
-    (omega (arith, lengths-hold c .number, count-most (J c) (given .in-range) Length), omega (arith, widths-hold c .number, count-most (J c) (given .in-range) Width), given .most)
+    (omega (arith, lengths-hold c .number, count-most (J c) (given .in-range) Length), omega (arith, widths-hold c .number, count-most (J c) (given .in-range) Width), omega (arith, given .most))
 
 same-length : tie.Need-same-length
 same-length c = search needs

@@ -36,16 +36,20 @@ enum-told-4 : tie.Need-enum-told-4
 enum-told-4 c = search needs
 
 returns-2 : tie.Need-returns-2
-returns-2 c = let e = c .before .before .check-sizes .ensures ∙ ap (λ n. first-refusal (each-kind (λ i. size-check (now (c .before .before .before .before .before .before .before .before .args .block)) i ∷ []) 0 n)) (c .before .before .before .read-u16 .ensures) in
-    e ∙ next-stops _ (sym e ∙ c .enum-told4 .given .1) ∙ next-passes _ (sym (c .before .before .before .before .before .before .check-header .ensures) ∙ c .before .before .before .before .enum-told .given .1) ∙ sym (job-parts (now (c .before .before .before .before .before .before .before .before .args .block)))
+returns-2 c =
+    let start = c .before .before .before .before .before .before .before .before in
+    let e = c .before .before .check-sizes .ensures ∙ ap (λ n. first-refusal (each-kind (λ i. size-check (now (start .args .block)) i ∷ []) 0 n)) (c .before .before .before .read-u16 .ensures) in
+    e ∙ next-stops _ (sym e ∙ c .enum-told4 .given .1) ∙ next-passes _ (sym (c .before .before .before .before .before .before .check-header .ensures) ∙ c .before .before .before .before .enum-told .given .1) ∙ sym (job-parts (now (start .args .block)))
 
 check-pairs-requires : tie.Need-check-pairs-requires
 check-pairs-requires c κs = header-holds (now (c .before .before .before .before .before .before .before .before .args .block)) (c .before .before .before .read-u16 .result) (c .before .before .before .read-u16 .ensures) (sym (c .before .before .before .before .before .before .check-header .ensures) ∙ c .before .before .before .before .enum-told .given .1)
 
 returns-3 : tie.Need-returns-3
-returns-3 c = let e = c .before .before .before .check-sizes .ensures ∙ ap (λ n. first-refusal (each-kind (λ i. size-check (now (c .before .before .before .before .before .before .before .before .before .args .block)) i ∷ []) 0 n)) (c .before .before .before .before .read-u16 .ensures) in
-    let f = c .check-pairs .ensures ∙ ap (λ n. first-refusal (each-kind (pair-checks (now (c .before .before .before .before .before .before .before .before .before .args .block))) 0 n)) (c .before .before .before .before .read-u16 .ensures) in
-    f ∙ next-passes _ (sym e ∙ c .before .enum-told3 .given .1) ∙ next-passes _ (sym (c .before .before .before .before .before .before .before .check-header .ensures) ∙ c .before .before .before .before .before .enum-told .given .1) ∙ sym (job-parts (now (c .before .before .before .before .before .before .before .before .before .args .block)))
+returns-3 c =
+    let start = c .before .before .before .before .before .before .before .before .before in
+    let e = c .before .before .before .check-sizes .ensures ∙ ap (λ n. first-refusal (each-kind (λ i. size-check (now (start .args .block)) i ∷ []) 0 n)) (c .before .before .before .before .read-u16 .ensures) in
+    let f = c .check-pairs .ensures ∙ ap (λ n. first-refusal (each-kind (pair-checks (now (start .args .block))) 0 n)) (c .before .before .before .before .read-u16 .ensures) in
+    f ∙ next-passes _ (sym e ∙ c .before .enum-told3 .given .1) ∙ next-passes _ (sym (c .before .before .before .before .before .before .before .check-header .ensures) ∙ c .before .before .before .before .before .enum-told .given .1) ∙ sym (job-parts (now (start .args .block)))
 
 pub check-job-spec : {M : Type 1} → statement M
 check-job-spec =

@@ -37,9 +37,11 @@ enum-told-2 : tie.Need-enum-told-2
 enum-told-2 c = search needs
 
 returns : tie.Need-returns
-returns c = let s = now (c .before .before .before .before .before .args .block) in
-    let i = c .before .before .before .before .before .args .i in
-    let e : c .before .before .before .read-u32 .result ≡ price-at s i = c .before .before .before .read-u32 .ensures ∙ ap (λ n. u32-at s (6 + 4 * n + 6 * i)) (c .before .before .before .before .before .pre .0 .0) in
+returns c =
+    let start = c .before .before .before .before .before in
+    let s = now (start .args .block) in
+    let i = start .args .i in
+    let e : c .before .before .before .read-u32 .result ≡ price-at s i = c .before .before .before .read-u32 .ensures ∙ ap (λ n. u32-at s (6 + 4 * n + 6 * i)) (start .pre .0 .0) in
     check-stops _ _ _ (c .before .before .refuse-if .ensures ∙ ap (λ p. refuse-when (ltb 1000000 p) (Price i)) e) (c .enum-told2 .given .1)
 
 add-read-u16 : tie.Need-add-read-u16
@@ -52,10 +54,12 @@ refuse-if-requires-2 : tie.Need-refuse-if-requires-2
 refuse-if-requires-2 c κs = search needs
 
 returns-2 : tie.Need-returns-2
-returns-2 c = let s = now (c .before .before .before .before .before .before .before .args .block) in
-    let i = c .before .before .before .before .before .before .before .args .i in
-    let e : c .before .before .before .before .before .read-u32 .result ≡ price-at s i = c .before .before .before .before .before .read-u32 .ensures ∙ ap (λ n. u32-at s (6 + 4 * n + 6 * i)) (c .before .before .before .before .before .before .before .pre .0 .0) in
-    let k : 6 + 4 * (c .before .before .before .before .before .before .before .args .n) + 6 * i + 4 ≡ 10 + 4 * count-at s + 6 * i = omega (arith, c .before .before .before .before .before .before .before .pre .0 .0) in
+returns-2 c =
+    let start = c .before .before .before .before .before .before .before in
+    let s = now (start .args .block) in
+    let i = start .args .i in
+    let e : c .before .before .before .before .before .read-u32 .result ≡ price-at s i = c .before .before .before .before .before .read-u32 .ensures ∙ ap (λ n. u32-at s (6 + 4 * n + 6 * i)) (start .pre .0 .0) in
+    let k : 6 + 4 * (start .args .n) + 6 * i + 4 ≡ 10 + 4 * count-at s + 6 * i = omega (arith, start .pre .0 .0) in
     let d : c .before .read-u16 .result ≡ demand-at s i = c .before .read-u16 .ensures ∙ ap (u16-at s) k in
     check-last _ _ (c .refuse-if2 .ensures ∙ ap (λ d. refuse-when (ltb 255 d) (Demand i)) d)
     ∙ check-passes _ _ _ (c .before .before .before .before .refuse-if .ensures ∙ ap (λ p. refuse-when (ltb 1000000 p) (Price i)) e) (c .before .before .enum-told .given .1)

@@ -26,7 +26,9 @@ enum-told-2 : tie.Need-enum-told-2 Inv-loop μ-loop
 enum-told-2 c = search needs
 
 returns : tie.Need-returns Inv-loop μ-loop
-returns c = stops (pair-checks (now (c .before .before .before .before .before .before .args .block))) (c .before .before .before .before .loop .i) (c .before .before .before .before .before .before .args .n) (c .before .before .before .loop-test .taken) (c .before .before .before .before .loop .inv .1) (c .before .before .check-pair .ensures) (c .enum-told2 .given .1)
+returns c =
+    let start = c .before .before .before .before .before .before in
+    stops (pair-checks (now (start .args .block))) (c .before .before .before .before .loop .i) (start .args .n) (c .before .before .before .loop-test .taken) (c .before .before .before .before .loop .inv .1) (c .before .before .check-pair .ensures) (c .enum-told2 .given .1)
 
 add-i : tie.Need-add-i Inv-loop μ-loop
 add-i c = search needs
@@ -35,10 +37,14 @@ loop-less : tie.Need-loop-less Inv-loop μ-loop
 loop-less c = search needs
 
 loop-again : tie.Need-loop-again Inv-loop μ-loop
-loop-again c = (search needs, passes (pair-checks (now (c .before .before .before .before .before .before .args .block))) (c .before .before .before .before .loop .i) (c .before .before .before .before .before .before .args .n) (c .before .before .before .loop-test .taken) (c .before .before .before .before .loop .inv .1) (c .before .before .check-pair .ensures) (c .enum-told .given .1))
+loop-again c =
+    let start = c .before .before .before .before .before .before in
+    (search needs, passes (pair-checks (now (start .args .block))) (c .before .before .before .before .loop .i) (start .args .n) (c .before .before .before .loop-test .taken) (c .before .before .before .before .loop .inv .1) (c .before .before .check-pair .ensures) (c .enum-told .given .1))
 
 returns-2 : tie.Need-returns-2 Inv-loop μ-loop
-returns-2 c = ends (pair-checks (now (c .before .before .before .args .block))) (c .before .loop .i) (c .before .before .before .args .n) (c .loop-test .left) (c .before .loop .inv .1)
+returns-2 c =
+    let start = c .before .before .before in
+    ends (pair-checks (now (start .args .block))) (c .before .loop .i) (start .args .n) (c .loop-test .left) (c .before .loop .inv .1)
 
 pub check-pairs-spec : {M : Type 1} → statement M
 check-pairs-spec =

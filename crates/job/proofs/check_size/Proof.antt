@@ -25,8 +25,10 @@ refuse-if-requires : tie.Need-refuse-if-requires
 refuse-if-requires c κs = search needs
 
 returns : tie.Need-returns
-returns c = let s = now (c .before .before .before .args .block) in
-    let i = c .before .before .before .args .i in
+returns c =
+    let start = c .before .before .before in
+    let s = now (start .args .block) in
+    let i = start .args .i in
     let e : 6 + 4 * i + 2 ≡ 8 + 4 * i = omega arith in
     check-last _ _ (c .refuse-if .ensures ∙ ap (λ t. refuse-when t (KindSide i)) (c .before .side-outside .ensures ∙ ap (λ k. outside 1 1000 (u16-at s (6 + 4 * i)) || outside 1 1000 (u16-at s k)) e))
 

@@ -35,7 +35,9 @@ mul-fields : tie.Need-mul-fields Inv-loop μ-loop
 mul-fields c = search needs
 
 array-write-fields : tie.Need-array-write-fields Inv-loop μ-loop
-array-write-fields c = omega (arith, ap length (c .before .before .loop .inv .1), entries-length (λ k. u16-at (now (c .before .before .before .before .args .block)) (c .before .before .before .before .args .from + c .before .before .before .before .args .step * k)) (c .before .before .loop .i))
+array-write-fields c =
+    let start = c .before .before .before .before in
+    omega (arith, ap length (c .before .before .loop .inv .1), entries-length (λ k. u16-at (now (start .args .block)) (start .args .from + start .args .step * k)) (c .before .before .loop .i))
 
 add-i : tie.Need-add-i Inv-loop μ-loop
 add-i c = search needs
@@ -44,10 +46,14 @@ loop-less : tie.Need-loop-less Inv-loop μ-loop
 loop-less c = search needs
 
 loop-again : tie.Need-loop-again Inv-loop μ-loop
-loop-again c = (search needs, entries-more (λ k. u16-at (now (c .before .before .before .before .args .block)) (c .before .before .before .before .args .from + c .before .before .before .before .args .step * k)) (c .before .before .loop .i) (c .before .before .loop .fields) (c .read-u16 .result) (omega arith) (c .read-u16 .ensures) (c .before .before .loop .inv .1))
+loop-again c =
+    let start = c .before .before .before .before in
+    (search needs, entries-more (λ k. u16-at (now (start .args .block)) (start .args .from + start .args .step * k)) (c .before .before .loop .i) (c .before .before .loop .fields) (c .read-u16 .result) (omega arith) (c .read-u16 .ensures) (c .before .before .loop .inv .1))
 
 returns : tie.Need-returns Inv-loop μ-loop
-returns c = let e : c .before .loop .i ≡ c .before .before .before .args .n = omega arith in c .before .loop .inv .1 ∙ ap (entries (λ k. u16-at (now (c .before .before .before .args .block)) (c .before .before .before .args .from + c .before .before .before .args .step * k))) e
+returns c =
+    let start = c .before .before .before in
+    let e : c .before .loop .i ≡ start .args .n = omega arith in c .before .loop .inv .1 ∙ ap (entries (λ k. u16-at (now (start .args .block)) (start .args .from + start .args .step * k))) e
 
 pub read-fields-spec : {M : Type 1} → statement M
 read-fields-spec =

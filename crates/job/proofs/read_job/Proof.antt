@@ -20,13 +20,19 @@ empty-record-requires : tie.Need-empty-record-requires
 empty-record-requires c κs = search needs
 
 returns : tie.Need-returns
-returns c = read-said (now (c .before .before .before .before .before .args .block)) (read-refused (now (c .before .before .before .before .before .args .block)) (c .before .before .before .check-job .ensures) (c .before .enum-told2 .given .1) (c .empty-record .ensures))
+returns c =
+    let start = c .before .before .before .before .before in
+    read-said (now (start .args .block)) (read-refused (now (start .args .block)) (c .before .before .before .check-job .ensures) (c .before .enum-told2 .given .1) (c .empty-record .ensures))
 
 read-record-requires : tie.Need-read-record-requires
-read-record-requires c κs = header-holds (now (c .before .before .before .before .args .block)) _ refl (job-passed (now (c .before .before .before .before .args .block)) (sym (c .before .before .check-job .ensures) ∙ c .enum-told .given .1) .0)
+read-record-requires c κs =
+    let start = c .before .before .before .before in
+    header-holds (now (start .args .block)) _ refl (job-passed (now (start .args .block)) (sym (c .before .before .check-job .ensures) ∙ c .enum-told .given .1) .0)
 
 returns-2 : tie.Need-returns-2
-returns-2 c = read-said (now (c .before .before .before .before .before .args .block)) (ap (λ j. record { verdict = Passed; job = j }) (c .read-record .ensures) ∙ sym (read-passed (now (c .before .before .before .before .before .args .block)) (sym (c .before .before .before .check-job .ensures) ∙ c .before .enum-told .given .1)))
+returns-2 c =
+    let start = c .before .before .before .before .before in
+    read-said (now (start .args .block)) (ap (λ j. record { verdict = Passed; job = j }) (c .read-record .ensures) ∙ sym (read-passed (now (start .args .block)) (sym (c .before .before .before .check-job .ensures) ∙ c .before .enum-told .given .1)))
 
 pub read-job-spec : {M : Type 1} → statement M
 read-job-spec =

@@ -50,10 +50,14 @@ loop-less : tie.Need-loop-less Inv-loop μ-loop
 loop-less c = search needs
 
 loop-again : tie.Need-loop-again Inv-loop μ-loop
-loop-again c = (search needs, entries-more (price-at (now (c .before .before .before .before .args .block))) (c .before .before .loop .i) (c .before .before .loop .prices) (c .read-u32 .result) (omega arith) (c .read-u32 .ensures ∙ ap (λ n. u32-at (now (c .before .before .before .before .args .block)) (6 + 4 * n + 6 * c .before .before .loop .i)) (c .before .before .before .before .pre .0)) (c .before .before .loop .inv .1))
+loop-again c =
+    let start = c .before .before .before .before in
+    (search needs, entries-more (price-at (now (start .args .block))) (c .before .before .loop .i) (c .before .before .loop .prices) (c .read-u32 .result) (omega arith) (c .read-u32 .ensures ∙ ap (λ n. u32-at (now (start .args .block)) (6 + 4 * n + 6 * c .before .before .loop .i)) (start .pre .0)) (c .before .before .loop .inv .1))
 
 returns : tie.Need-returns Inv-loop μ-loop
-returns c = let e : c .before .loop .i ≡ c .before .before .before .args .n = omega arith in c .before .loop .inv .1 ∙ ap (entries (price-at (now (c .before .before .before .args .block)))) e
+returns c =
+    let start = c .before .before .before in
+    let e : c .before .loop .i ≡ start .args .n = omega arith in c .before .loop .inv .1 ∙ ap (entries (price-at (now (start .args .block)))) e
 
 pub read-prices-spec : {M : Type 1} → statement M
 read-prices-spec =
