@@ -25,7 +25,7 @@ use Rattle.choice.specs.declared.Cell.{Cell}
 use Rattle.choice.specs.declared.Chosen.{Chosen}
 use Rattle.choice.specs.declared.Dimensions.{Dimensions}
 use Rattle.choice.specs.Choice.{Inside, chosen-of, chosen-at}
-use Rattle.writer.specs.Waiting.{plan-at}
+use Rattle.writer.specs.Contracts.{plan-at}
 use Rattle.writer.proofs.Preorder.{nodes-most}
 
 module _ (J : Job) (weight : ℕ → ℕ) (l w c : ℕ) where

@@ -22,7 +22,7 @@ use Rattle.choice.specs.declared.Cell.{Cell}
 use Rattle.choice.specs.declared.Chosen.{Chosen}
 use Rattle.choice.specs.declared.Dimensions.{Dimensions}
 use Rattle.choice.specs.Choice.{Inside, chosen-at}
-use Rattle.writer.specs.Waiting.{cell-at, with-cell, plan-at, nodes-left, Waiting, Stepped}
+use Rattle.writer.specs.Contracts.{cell-at, with-cell, plan-at, nodes-left, Waiting, Stepped}
 use Rattle.writer.proofs.Plan.{first-cell, second-cell, half-of, Parts, plan-nodes, leaf-nodes, cut-position, cut-parts, cut-nodes}
 
 module _ (xs : List ℕ) (i : ℕ) (cell : Cell) where

@@ -1,74 +1,37 @@
--- Writing the plan of a job whose lists and table are filled: what the maps, the count and the writer ask, and what the answers say.
-use mathlib.Core.Path.{_≡_, refl, sym, _∙_, ap}
+-- Writing the plan of an accepted job: what the bound of the job leaves is what the choice reads, and what each refusal or the count of
+-- the nodes makes of the answer.
+use mathlib.Core.Path.{_≡_, refl, sym, _∙_, ap, subst}
 use mathlib.Core.Bool.{Bool, true, false, _||_}
 use mathlib.Core.List.{List, [], _∷_}
-use Prim.Native.Nat.{ℕ, _+_, _≤_, _<_}
-use native.Mathlib.Decide.{ℕ-discrete}
+use Prim.Native.Nat.{ℕ, _≤_}
 use native.Mathlib.Omega.{arith}
 use borrow.Author.Tests.{ltb-false}
 use lib.Dec.{ltb}
-use lib.ListN.{length, getD, set, take, drop, length-set}
-use lib.Seq.{ext-getD, getD-take, getD-drop, getD-set-same, getD-set-other, length-take-le}
+use lib.ListN.{length, drop, length-append, List·getD-append}
 use Rattle.cutting.specs.declared.Direction.{Direction}
 use Rattle.cutting.specs.declared.Direction.the-variants.{Length, Width}
 use Rattle.cutting.specs.Lists.{over}
-use Rattle.cutting.specs.Tree.{side}
 use Rattle.cutting.specs.Preorder.{kinds-of, operands-of, node-count}
-use Rattle.cutting.specs.Job.{Job, InRange, normal-positions, capacity, bound-plan}
-use Rattle.refusal.specs.Refusals.{first-refusal}
+use Rattle.cutting.specs.Job.{Job, normal-positions, capacity, bound-plan}
+use Rattle.refusal.specs.Refusals.{next, refuse-when, first-refusal}
+use Rattle.refusal.specs.declared.Refusal.{Refusal}
 use Rattle.refusal.specs.declared.Refusal.the-variants.{PlanLong}
+use Rattle.refusal.specs.declared.Checked.{Checked}
+use Rattle.refusal.specs.declared.Checked.the-variants.{Passed, Refused}
 use Rattle.job.specs.Weights.{weight-in}
-use Rattle.positions.specs.Positions.{Rising, Floors}
-use Rattle.positions.proofs.Positions.{positions-rising, floors-found}
-use Rattle.table.specs.Table.{position-count, Listed, Mapped}
+use Rattle.job.proofs.Checks.{cons-passed}
+use Rattle.table.specs.Table.{Listed, words-needed}
 use Rattle.bound.specs.declared.BoundReport.{BoundReport}
+use Rattle.bound.specs.declared.BoundAnswer.{BoundAnswer}
+use Rattle.bound.specs.declared.BoundAnswer.the-variants as bounded
 use Rattle.bound.specs.Bound as bound
-use Rattle.choice.specs.declared.Dimensions.{Dimensions}
+use Rattle.bound.specs.Contracts.{Weighed, Bounded}
+use Rattle.bound.proofs.Holds.{answered-behind, refused-behind}
 use Rattle.choice.specs.Choice.{ChoiceInput}
+use Rattle.writer.specs.declared.WriteAnswer.{WriteAnswer}
 use Rattle.writer.specs.declared.WriteAnswer.the-variants as answer
-use Rattle.writer.specs.Write.{Joined, write-report, write-answer-by, Filled, plan-verdict, Planned}
-
--- a list that holds the normal positions begins with them
-module _ (J : Job) (d : Direction) (list : List ℕ) (listed : Listed J d list) where
-  listed-take : take (position-count J d) list ≡ normal-positions J d
-  listed-take =
-      let e = length-take-le (position-count J d) list (listed .0) in
-      ext-getD 0 (take (position-count J d) list) (normal-positions J d) e
-      (λ i h. (let l : i < position-count J d = omega (arith, e) in getD-take (position-count J d) list i 0 l ∙ listed .1 i l))
-
-  -- what the map of remainders asks, and what it gives
-  pub map-ready : {n : ℕ} → n ≡ position-count J d → InRange J → (1 ≤ n) × (n ≤ length list) × (side d (J .plate) ≤ 1000) × Rising list n
-  map-ready e r = rw e (
-      let p = positions-rising J d list (position-count J d) (listed .0) listed-take in
-      let s : side d (J .plate) ≤ 1000 = elim d [ Length ↦ r .plate-length .1 | Width ↦ r .plate-width .1 ] in
-      (p .0, listed .0, s, p .1)
-      )
-
-  map-given : {n : ℕ} (floors : List ℕ) → n ≡ position-count J d → Floors list n (side d (J .plate) + 1) floors → Mapped J d floors
-  map-given floors e f x h = floors-found J d list (position-count J d) (listed .0) listed-take floors (rw e at f) x h
-
--- two lists in one array, as far as their first m entries are copied
-module _ (a b : List ℕ) (n : ℕ) where
-  abbrev pub Copied : ℕ → List ℕ → Type 0
-  Copied m r = (length r ≡ n + n) × ((i : ℕ) → i < m → (getD r i 0 ≡ getD a i 0) × (getD r (n + i) 0 ≡ getD b i 0))
-
-  pub copied-more : (m : ℕ) (r : List ℕ) → m < n → Copied m r → Copied (m + 1) (set (set r m (getD a m 0)) (n + m) (getD b m 0))
-  copied-more m r h c = (simp length-set (c .0), λ i l. go (set r m (getD a m 0)) refl i l (ℕ-discrete i m))
-    where
-      go : (once : List ℕ) → once ≡ set r m (getD a m 0) → (i : ℕ) → i < m + 1 → Dec (i ≡ m)
-          → (getD (set once (n + m) (getD b m 0)) i 0 ≡ getD a i 0) × (getD (set once (n + m) (getD b m 0)) (n + i) 0 ≡ getD b i 0)
-      go once o i l (yes e) = rw e (
-        getD-set-other once (n + m) m (getD b m 0) 0 (λ z. omega arith) ∙ ap (λ xs. getD xs m 0) o ∙ getD-set-same r m (getD a m 0) 0 (omega (arith, c .0)),
-        getD-set-same once (n + m) (getD b m 0) 0 (omega (arith, c .0, ap length o, length-set r m (getD a m 0))),
-      )
-      go once o i l (no e) =
-          let k = c .1 i (omega arith) in (
-            getD-set-other once (n + m) i (getD b m 0) 0 (λ z. omega arith) ∙ ap (λ xs. getD xs i 0) o ∙ getD-set-other r m i (getD a m 0) 0 e ∙ k .0,
-            getD-set-other once (n + m) (n + i) (getD b m 0) 0 (λ z. e (omega arith)) ∙ ap (λ xs. getD xs (n + i) 0) o ∙ getD-set-other r m (n + i) (getD a m 0) 0 (λ z. omega arith) ∙ k .1,
-          )
-
-  pub copied-all : (r : List ℕ) → Copied n r → Joined a b n r
-  copied-all r c = record { entries = c .0; lower = λ i l. c .1 i l .0; upper = λ i l. getD-drop n r i 0 ∙ c .1 i l .1 }
+use Rattle.writer.specs.Write.{plan-verdict}
+use Rattle.writer.specs.Contracts.{table-of, room-verdict, Planned}
 
 -- three tests of which none holds
 pub none-long : (n a b : ℕ) → (ltb 4095 n || ltb a n) || ltb b n ≡ false → (n ≤ 4095) × (n ≤ a) × (n ≤ b)
@@ -80,74 +43,99 @@ none-long n a b e = go (ltb 4095 n) (ltb a n) (ltb b n) refl refl refl e
     go false true z p q r f = absurd (let u : _≡_ {A = ℕ} 0 1 = cc in omega arith)
     go false false true p q r f = absurd (let u : _≡_ {A = ℕ} 0 1 = cc in omega arith)
 
--- the dimensions of the table that a report is of
-abbrev pub dimensions : BoundReport → Dimensions
-dimensions report = record { columns = report .widths; capacity = report .capacity }
+-- a refusal leaves the plan arrays as they were
+pub untouched : (J : Job) (weight : ℕ → ℕ) (kinds operands : List ℕ) (r : Refusal) → Planned (Refused r) J weight kinds operands kinds operands (answer.Refused r)
+untouched J weight kinds operands r = record { answer = refl; kinds-left = refl; operands-left = refl }
 
-module _ {J : Job} {weights lengths widths table : List ℕ} (f : Filled J weights lengths widths table) {report : BoundReport} (e : report ≡ bound.report-of J (weight-in weights)) where
-  -- what the report says
-  counts : (report .lengths ≡ position-count J Length) × (report .widths ≡ position-count J Width) × (report .capacity ≡ capacity J (weight-in weights))
-  counts = rw e (refl, refl, refl)
+one-passed : (t : Bool) (r : Refusal) → t ≡ false → first-refusal ((t, r) ∷ []) ≡ Passed
+unfolding first-refusal
+one-passed t r e = ap (λ x. next (refuse-when x r) Passed) e
 
-  pub capacity-is : report .capacity ≡ capacity J (weight-in weights)
-  capacity-is = counts .2
+-- the normal positions over old contents
+listed-over : (J : Job) (d : Direction) (old : List ℕ) → Listed J d (over (normal-positions J d) old)
+listed-over J d old = (
+  omega (arith, length-append (normal-positions J d) (drop (length (normal-positions J d)) old)),
+  λ i h. List·getD-append (normal-positions J d) (drop (length (normal-positions J d)) old) 0 i h,
+)
 
-  pub lengths-ready : (1 ≤ report .lengths) × (report .lengths ≤ length lengths) × (J .plate .0 ≤ 1000) × Rising lengths (report .lengths)
-  lengths-ready = map-ready J Length lengths (f .lengths-are) (counts .0) (f .in-range)
+-- the plan of a job by the bound's answer
+module _ {J : Job} {ws : List ℕ} {q : ℕ} (given : Weighed J ws q) {old new : bound.Memory} {floors : List ℕ} {b : BoundAnswer} (left : Bounded J (weight-in ws) old new floors b) where
+  abbrev storage : Checked
+  storage = first-refusal (bound.memory-checks J (weight-in ws) old)
 
-  pub widths-ready : (1 ≤ report .widths) × (report .widths ≤ length widths) × (J .plate .1 ≤ 1000) × Rising widths (report .widths)
-  widths-ready = map-ready J Width widths (f .widths-are) (counts .1) (f .in-range)
+  -- the bound is refused: so is the plan
+  pub bound-refused : (kinds operands : List ℕ) {r : Refusal} → b ≡ bounded.Refused r → Planned (room-verdict J (weight-in ws) old kinds operands) J (weight-in ws) kinds operands kinds operands (answer.Refused r)
+  bound-refused kinds operands {r} e =
+      let v = refused-behind storage (bound.report-of J (weight-in ws)) (sym e ∙ left .answer) in
+      subst (λ v. Planned (next v (plan-verdict J (weight-in ws) kinds operands)) J (weight-in ws) kinds operands kinds operands (answer.Refused r)) (sym v) (untouched J (weight-in ws) kinds operands r)
 
-  -- what the choice reads
-  pub choice-input : {mx my floors : List ℕ} → Floors lengths (report .lengths) (J .plate .0 + 1) mx → Floors widths (report .widths) (J .plate .1 + 1) my → Joined mx my 1001 floors
-      → ChoiceInput J weights (dimensions report) lengths widths floors table
-  choice-input {mx} {my} {floors} a b j = record {
-    floors-there = j .entries;
-    tabled = record {
-      in-range = f .in-range;
-      weighed = f .weighed;
-      columns-are = counts .1;
-      capacity-most = omega (arith, counts .2, f .capacity-most);
-      lengths-are = f .lengths-are;
-      widths-are = f .widths-are;
-      lengths-floored = map-given J Length lengths (f .lengths-are) floors (counts .0) (λ x l. (let z = j .lower x (omega (arith, f .in-range .plate-length)) in rw z (a x l)));
-      widths-floored = map-given J Width widths (f .widths-are) (drop 1001 floors) (counts .1) (λ x l. (let z = j .upper x (omega (arith, f .in-range .plate-width)) in rw z (b x l)));
-      words-there = rw (counts .2) (f .words-there);
-      figures = rw (counts .2) (f .figures);
-    };
-  }
+  module _ {report : BoundReport} (e : b ≡ bounded.Answered report) where
+    behind : (storage ≡ Passed) × (report ≡ bound.report-of J (weight-in ws))
+    behind = answered-behind storage (bound.report-of J (weight-in ws)) (sym e ∙ left .answer)
 
-  module _ (kinds operands : List ℕ) {nodes : ℕ} {long : Bool} (n : nodes ≡ node-count (bound-plan J (weight-in weights))) (t : long ≡ (ltb 4095 nodes || ltb (length kinds) nodes) || ltb (length operands) nodes) where
-    verdict : (b : Bool) → long ≡ b → plan-verdict J (weight-in weights) kinds operands ≡ first-refusal ((b, PlanLong nodes) ∷ [])
+    -- what the choice reads is there
+    pub choice-input : ChoiceInput J ws (table-of report) (new .lengths) (new .widths) floors (new .table)
+    choice-input =
+        let weight = weight-in ws in
+        let lists = bound.list-check J (length (old .lengths)) (length (old .widths)) in
+        let words = bound.table-check J (capacity J weight) (length (old .table)) in
+        let long = cons-passed (lists .0) (lists .1) (words ∷ []) (behind .0) in
+        let room = cons-passed (words .0) (words .1) [] (long .1) in
+        let v : first-refusal (lists ∷ []) ≡ Passed = one-passed (lists .0) (lists .1) (long .0) in
+        let l : new .lengths ≡ over (normal-positions J Length) (old .lengths) = left .memory .lengths ∙ ap (λ u. bound.list-after u (normal-positions J Length) (old .lengths)) v in
+        let w : new .widths ≡ over (normal-positions J Width) (old .widths) = left .memory .widths ∙ ap (λ u. bound.list-after u (normal-positions J Width) (old .widths)) v in
+        let f = subst (λ u. bound.TableAfter u J weight (old .table) (new .table)) (behind .0) (left .memory .table) in
+        let m = left .mapped report e in
+        record {
+          floors-there = m .entries;
+          tabled = record {
+            in-range = given .in-range;
+            weighed = given .weights;
+            columns-are = rw (behind .1) refl;
+            capacity-most = rw (behind .1) (omega (arith, given .total, given .most));
+            lengths-are = rw l (listed-over J Length (old .lengths));
+            widths-are = rw w (listed-over J Width (old .widths));
+            lengths-floored = m .lengths;
+            widths-floored = m .widths;
+            words-there = rw (behind .1) (omega (arith, ltb-false (length (old .table)) (words-needed J (capacity J weight)) (room .0), f .1 .0));
+            figures = rw (behind .1) (f .0);
+          };
+        }
+
+    -- what planning asks
+    pub plan-ready : ChoiceInput J ws (table-of report) (new .lengths) (new .widths) floors (new .table) × (report ≡ bound.report-of J (weight-in ws))
+    plan-ready = (choice-input, behind .1)
+
+    -- check 21 alone is left
+    pub plan-made : {kinds operands new-kinds new-operands : List ℕ} {r : WriteAnswer} → Planned (plan-verdict J (weight-in ws) kinds operands) J (weight-in ws) kinds operands new-kinds new-operands r
+        → Planned (room-verdict J (weight-in ws) old kinds operands) J (weight-in ws) kinds operands new-kinds new-operands r
+    plan-made {kinds} {operands} {new-kinds} {new-operands} {r} p =
+        subst (λ v. Planned (next v (plan-verdict J (weight-in ws) kinds operands)) J (weight-in ws) kinds operands new-kinds new-operands r) (sym (behind .0)) p
+
+-- the plan by the number of its nodes
+module _ (J : Job) (weight : ℕ → ℕ) {report : BoundReport} (e : report ≡ bound.report-of J weight) where
+  pub capacity-is : report .capacity ≡ capacity J weight
+  capacity-is = ap (λ b. b .capacity) e
+
+  module _ (kinds operands : List ℕ) {nodes : ℕ} {long : Bool} (n : nodes ≡ node-count (bound-plan J weight)) (t : long ≡ (ltb 4095 nodes || ltb (length kinds) nodes) || ltb (length operands) nodes) where
+    verdict : (b : Bool) → long ≡ b → plan-verdict J weight kinds operands ≡ first-refusal ((b, PlanLong nodes) ∷ [])
     verdict b h = rw (sym n) (ap (λ x. first-refusal ((x, PlanLong nodes) ∷ [])) (sym t ∙ h))
 
-    -- refusal 21 with the nodes needed; the arrays are untouched
-    pub plan-refused : long ≡ true → Planned J (weight-in weights) kinds operands kinds operands (answer.Refused (PlanLong nodes))
+    -- it is too long: refusal 21 with the nodes needed
+    pub plan-refused : long ≡ true → Planned (plan-verdict J weight kinds operands) J weight kinds operands kinds operands (answer.Refused (PlanLong nodes))
     unfolding first-refusal
-    plan-refused h =
-        let v = verdict true h in
-        let T = bound-plan J (weight-in weights) in
-        record {
-          answer = sym (ap (λ v. write-answer-by v (write-report J (weight-in weights))) v);
-          kinds-left = sym (ap (λ v. bound.list-after v (kinds-of T) kinds) v);
-          operands-left = sym (ap (λ v. bound.list-after v (operands-of T) operands) v);
-        }
+    plan-refused h = subst (λ v. Planned v J weight kinds operands kinds operands (answer.Refused (PlanLong nodes))) (sym (verdict true h)) (untouched J weight kinds operands (PlanLong nodes))
 
     module _ (h : long ≡ false) where
       -- there is room: so many entries are there
-      pub room : (node-count (bound-plan J (weight-in weights)) ≤ length kinds) × (node-count (bound-plan J (weight-in weights)) ≤ length operands)
+      pub room : (node-count (bound-plan J weight) ≤ length kinds) × (node-count (bound-plan J weight) ≤ length operands)
       room = let m = none-long nodes (length kinds) (length operands) (sym t ∙ h) in (omega (arith, n, m .1), omega (arith, n, m .2))
 
       -- the plan is written over the arrays' first entries, and reported
-      pub plan-written : {new-kinds new-operands : List ℕ} → new-kinds ≡ over (kinds-of (bound-plan J (weight-in weights))) kinds → new-operands ≡ over (operands-of (bound-plan J (weight-in weights))) operands
-          → Planned J (weight-in weights) kinds operands new-kinds new-operands
+      pub plan-written : {new-kinds new-operands : List ℕ} → new-kinds ≡ over (kinds-of (bound-plan J weight)) kinds → new-operands ≡ over (operands-of (bound-plan J weight)) operands
+          → Planned (plan-verdict J weight kinds operands) J weight kinds operands new-kinds new-operands
           (answer.Written (record { bound = report .bound; capacity = report .capacity; lengths = report .lengths; widths = report .widths; nodes = nodes }))
       unfolding first-refusal
-      plan-written p q =
-          let v = verdict false h in
-          let T = bound-plan J (weight-in weights) in
-          record {
-            answer = rw (e, n) (sym (ap (λ v. write-answer-by v (write-report J (weight-in weights))) v));
-            kinds-left = p ∙ sym (ap (λ v. bound.list-after v (kinds-of T) kinds) v);
-            operands-left = q ∙ sym (ap (λ v. bound.list-after v (operands-of T) operands) v);
-          }
+      plan-written {new-kinds} {new-operands} p o =
+          subst (λ v. Planned v J weight kinds operands new-kinds new-operands (answer.Written (record { bound = report .bound; capacity = report .capacity; lengths = report .lengths; widths = report .widths; nodes = nodes })))
+          (sym (verdict false h)) (record { answer = rw (e, n) refl; kinds-left = p; operands-left = o })

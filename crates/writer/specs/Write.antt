@@ -3,21 +3,20 @@
 use mathlib.Core.Path.{_≡_}
 use mathlib.Core.Bool.{_||_}
 use mathlib.Core.List.{List, [], _∷_}
-use Prim.Native.Nat.{ℕ, _+_, _≤_, _<_}
+use Prim.Native.Nat.{ℕ}
 use lib.Dec.{ltb}
-use lib.ListN.{length, getD, drop}
+use lib.ListN.{length}
 use Rattle.cutting.specs.declared.Direction.the-variants.{Length, Width}
 use Rattle.cutting.specs.Tree.{Tree}
 use Rattle.cutting.specs.Preorder.{kinds-of, operands-of, node-count}
 use Rattle.cutting.specs.Lists.{over}
-use Rattle.cutting.specs.Job.{Job, InRange, capacity, bound-of, bound-plan}
+use Rattle.cutting.specs.Job.{Job, capacity, bound-of, bound-plan}
 use Rattle.cutting.specs.Promises.{EarnsWithin, PlanFollows}
-use Rattle.refusal.specs.Refusals.{Check, Outcome, next, first-refusal, refused-as, outcome-by}
+use Rattle.refusal.specs.Refusals.{Check, Outcome, next, first-refusal, by-check, refused-as, outcome-by}
 use Rattle.refusal.specs.declared.Checked.{Checked}
-use Rattle.refusal.specs.declared.Checked.the-variants.{Passed, Refused}
 use Rattle.refusal.specs.declared.Refusal.the-variants.{PlanLong}
 use Rattle.job.specs.Weights.{block-job, weight-in, Accepted}
-use Rattle.table.specs.Table.{position-count, Listed, words-needed, Figures}
+use Rattle.table.specs.Table.{position-count}
 use Rattle.bound.specs.Bound.{Memory, list-after, bound-verdict, BoundHolds}
 use Rattle.writer.specs.declared.WriteReport.{WriteReport}
 use Rattle.writer.specs.declared.WriteAnswer.{WriteAnswer}
@@ -39,8 +38,7 @@ write-report J weight = record {
 
 -- the report, or the refusal
 abbrev pub write-answer-by : Checked → WriteReport → WriteAnswer
-write-answer-by Passed b = answer.Written b
-write-answer-by (Refused r) b = answer.Refused r
+write-answer-by v b = by-check v (answer.Written b) answer.Refused
 
 -- a report's values: the bound, Q, p, r and the node count
 abbrev pub write-values : WriteReport → List ℕ
@@ -51,31 +49,9 @@ abbrev pub write-outcome : WriteAnswer → Outcome
 write-outcome (answer.Written b) = (0, write-values b)
 write-outcome (answer.Refused r) = refused-as r
 
--- an array holds the first n entries of one list, and from entry n on those of another
-pub record Joined (a b : List ℕ) (n : ℕ) (r : List ℕ) : Type 0 where
-  pub entries : length r ≡ n + n
-  pub lower : (i : ℕ) → i < n → getD r i 0 ≡ getD a i 0
-  pub upper : (i : ℕ) → i < n → getD (drop n r) i 0 ≡ getD b i 0
-
--- a job and weights that were accepted, with lists and table filled
-pub record Filled (J : Job) (weights lengths widths table : List ℕ) : Type 0 where
-  pub in-range : InRange J
-  pub weighed : J .count ≤ length weights
-  pub capacity-most : capacity J (weight-in weights) ≤ 4095
-  pub lengths-are : Listed J Length lengths
-  pub widths-are : Listed J Width widths
-  pub words-there : words-needed J (capacity J (weight-in weights)) ≤ length table
-  pub figures : Figures J (weight-in weights) (capacity J (weight-in weights)) table
-
 -- the verdict of check 21 over the two plan arrays
 abbrev pub plan-verdict : Job → (ℕ → ℕ) → List ℕ → List ℕ → Checked
 plan-verdict J weight kinds operands = first-refusal (plan-check (bound-plan J weight) (length kinds) (length operands) ∷ [])
-
--- the answer of a filled table, and what it leaves in the plan arrays
-pub record Planned (J : Job) (weight : ℕ → ℕ) (kinds operands new-kinds new-operands : List ℕ) (r : WriteAnswer) : Type 0 where
-  pub answer : r ≡ write-answer-by (plan-verdict J weight kinds operands) (write-report J weight)
-  pub kinds-left : new-kinds ≡ list-after (plan-verdict J weight kinds operands) (kinds-of (bound-plan J weight)) kinds
-  pub operands-left : new-operands ≡ list-after (plan-verdict J weight kinds operands) (operands-of (bound-plan J weight)) operands
 
 -- the plan behind the bound of a job block and weights
 abbrev pub block-plan : List ℕ → List ℕ → Tree ℕ

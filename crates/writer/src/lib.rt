@@ -3,13 +3,13 @@ mod nodes;
 
 use bound::BoundAnswer;
 use bound::BoundReport;
-use bound::bound;
+use bound::bound_of_job;
 use choice::Dimensions;
 use job::JobRecord;
-use job::read_job;
+use job::WeightsAnswer;
 use nodes::count_nodes;
 use nodes::write_nodes;
-use positions::floor_map;
+use refusal::Checked;
 use refusal::Refusal;
 ghost use mathlib.Core.Path.{_≡_};
 ghost use mathlib.Core.Bool.{_||_};
@@ -17,8 +17,12 @@ ghost use lib.Dec.{ltb};
 ghost use Rattle.cutting.specs.Preorder.{kinds-of, operands-of};
 ghost use Rattle.job.specs.Block.{job-of};
 ghost use Rattle.job.specs.Weights.{block-job, weight-in};
+ghost use Rattle.refusal.specs.declared.Checked.the-variants.{Passed};
 ghost use Rattle.bound.specs.Bound.{report-of, lent, Leaves, accept-verdict};
-ghost use Rattle.writer.specs.Write.{Joined, Filled, Planned, block-plan, write-answer, write-outcome, write-said, array-after, PlanChosen, PlanWritten, BoundWritten};
+ghost use Rattle.bound.specs.Contracts.{Weighed};
+ghost use Rattle.choice.specs.Choice.{ChoiceInput};
+ghost use Rattle.writer.specs.Contracts.{table-of, room-verdict, Planned};
+ghost use Rattle.writer.specs.Write.{plan-verdict, block-plan, write-answer, write-outcome, write-said, array-after, PlanChosen, PlanWritten, BoundWritten};
 
 // What the writing call reports: what the bound call does, and the number of the plan's nodes.
 pub struct WriteReport {
@@ -48,40 +52,27 @@ fn too_long(nodes: u64, m: usize, n: usize) -> bool
     (n as u64) < nodes
 }
 
-// The floors of both sides in one array: those of the lengths first, those of the widths from entry 1001 on.
-fn join_floors(length_floors: &[u16; 1001], width_floors: &[u16; 1001]) -> [u16; 2002]
-    ensures { λ r. ⌜ Joined (now («length_floors» .entry)) (now («width_floors» .entry)) 1001 r ⌝ }
-{
-    let mut floors = [0u16; 2002];
-    for i in 0..1001 {
-        floors[i] = length_floors[i];
-        floors[1001 + i] = width_floors[i];
-    }
-    floors
-}
-
-// The plan of a job whose lists and table are filled: refusal 21 with the nodes needed, or the plan in preorder.
-pub fn plan_of_job(
+// The plan of a job whose lists, floors and table are filled: refusal 21 with the nodes needed, or the plan in preorder.
+fn plan_of_job(
     job: JobRecord,
     weights: &[u8],
     report: BoundReport,
     lengths: &[u16],
     widths: &[u16],
+    floors: &[u16],
     table: &[u64],
     kinds: &mut [u8],
     operands: &mut [u16],
 ) -> WriteAnswer
-    requires { ⌜ Filled (job-of job) (now weights) (now lengths) (now widths) (now table) × (report ≡ report-of (job-of job) (weight-in (now weights))) ⌝ }
-    ensures { λ r. ⌜ Planned (job-of job) (weight-in (now (weights .entry))) (now (kinds .entry)) (now (operands .entry)) (now (kinds .exit)) (now (operands .exit)) r ⌝ }
+    requires { ⌜ ChoiceInput (job-of job) (now weights) (table-of report) (now lengths) (now widths) (now floors) (now table) × (report ≡ report-of (job-of job) (weight-in (now weights))) ⌝ }
+    ensures { λ r. ⌜ Planned (plan-verdict (job-of job) (weight-in (now (weights .entry))) (now (kinds .entry)) (now (operands .entry))) (job-of job) (weight-in (now (weights .entry)))
+        (now (kinds .entry)) (now (operands .entry)) (now (kinds .exit)) (now (operands .exit)) r ⌝ }
 {
-    let length_floors = floor_map(lengths, report.lengths, job.length);
-    let width_floors = floor_map(widths, report.widths, job.width);
-    let floors = join_floors(&length_floors, &width_floors);
     let g = Dimensions {
         columns: report.widths,
         capacity: report.capacity,
     };
-    let nodes = count_nodes(job, weights, g, lengths, widths, &floors[..], table);
+    let nodes = count_nodes(job, weights, g, lengths, widths, floors, table);
     if too_long(nodes, kinds.len(), operands.len()) {
         return WriteAnswer::Refused(Refusal::PlanLong(nodes));
     }
@@ -91,7 +82,7 @@ pub fn plan_of_job(
         g,
         lengths,
         widths,
-        &floors[..],
+        floors,
         table,
         kinds,
         operands,
@@ -103,6 +94,41 @@ pub fn plan_of_job(
         widths: report.widths,
         nodes: nodes,
     })
+}
+
+// The plan of a job that was read and weights that were accepted: refusals 19 to 21, or lists, table and plan.
+fn write_accepted(
+    job: JobRecord,
+    weights: &[u8],
+    q: u16,
+    lengths: &mut [u16],
+    widths: &mut [u16],
+    table: &mut [u64],
+    kinds: &mut [u8],
+    operands: &mut [u16],
+) -> WriteAnswer
+    requires { ⌜ Weighed (job-of job) (now weights) q ⌝ }
+    ensures memory { λ _. ⌜ Leaves Passed (job-of job) (weight-in (now (weights .entry)))
+        (lent (now (lengths .entry)) (now (widths .entry)) (now (table .entry))) (lent (now (lengths .exit)) (now (widths .exit)) (now (table .exit))) ⌝ }
+    ensures plan { λ r. ⌜ Planned (room-verdict (job-of job) (weight-in (now (weights .entry))) (lent (now (lengths .entry)) (now (widths .entry)) (now (table .entry))) (now (kinds .entry)) (now (operands .entry)))
+        (job-of job) (weight-in (now (weights .entry))) (now (kinds .entry)) (now (operands .entry)) (now (kinds .exit)) (now (operands .exit)) r ⌝ }
+{
+    let mut floors = [0u16; 2002];
+    let bounded = bound_of_job(job, weights, q, lengths, widths, &mut floors[..], table);
+    match bounded {
+        BoundAnswer::Refused(r) => WriteAnswer::Refused(r),
+        BoundAnswer::Answered(report) => plan_of_job(
+            job,
+            weights,
+            report,
+            &lengths[..],
+            &widths[..],
+            &floors[..],
+            &table[..],
+            kinds,
+            operands,
+        ),
+    }
 }
 
 // The plan behind the bound of a job block and weights, in preorder in the two plan arrays. Lists and table are left as the bound call
@@ -128,22 +154,17 @@ pub fn write_plan(
     ensures plan { λ r. ⌜ PlanWritten (now (block .entry)) (now (weights .entry)) (now (kinds .entry)) (now (operands .entry)) (now (kinds .exit)) (now (operands .exit)) r ⌝ }
     ensures bound { λ r. ⌜ BoundWritten (now (block .entry)) (now (weights .entry)) r ⌝ }
 {
-    let bounded = bound(block, weights, lengths, widths, table);
-    match bounded {
-        BoundAnswer::Refused(r) => WriteAnswer::Refused(r),
-        BoundAnswer::Answered(report) => {
-            let answer = read_job(block);
-            let job = answer.job;
-            plan_of_job(
-                job,
-                weights,
-                report,
-                &lengths[..],
-                &widths[..],
-                &table[..],
-                kinds,
-                operands,
-            )
+    let answer = job::read_job(block);
+    let read = answer.verdict;
+    if let Checked::Refused(r) = read {
+        return WriteAnswer::Refused(r);
+    }
+    let job = answer.job;
+    let weighed = job::check_weights(job, weights);
+    match weighed {
+        WeightsAnswer::Refused(r) => WriteAnswer::Refused(r),
+        WeightsAnswer::Capacity(q) => {
+            write_accepted(job, weights, q, lengths, widths, table, kinds, operands)
         }
     }
 }

@@ -20,7 +20,7 @@ ghost use Rattle.cutting.specs.Job.{capacity, bound-plan};
 ghost use Rattle.job.specs.Block.{job-of};
 ghost use Rattle.job.specs.Weights.{weight-in};
 ghost use Rattle.choice.specs.Choice.{ChoiceInput};
-ghost use Rattle.writer.specs.Waiting.{cell-at, with-cell, Waiting, Stepped};
+ghost use Rattle.writer.specs.Contracts.{cell-at, with-cell, Waiting, Stepped};
 
 // A step of the walk: the node that it reached, and how many cells wait after it.
 struct Step {

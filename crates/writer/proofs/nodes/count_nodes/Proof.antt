@@ -1,5 +1,5 @@
 -- `writer::nodes::count_nodes` meets its contract. The measure is the number of nodes to come.
-use Rattle.writer.specs.Waiting.{with-cell, nodes-left, Waiting}
+use Rattle.writer.specs.Contracts.{with-cell, nodes-left, Waiting}
 use Rattle.writer.proofs.Waiting.{none-left, bound-nodes, plate-waits, count-left}
 use Rattle.cutting.specs.Job.{bound-plan}
 use Rattle.cutting.specs.Preorder.{node-count}

@@ -1,5 +1,5 @@
 -- `writer::nodes::write_nodes` meets its contract. The measure is the number of nodes to come.
-use Rattle.writer.specs.Waiting.{with-cell, nodes-left, Waiting}
+use Rattle.writer.specs.Contracts.{with-cell, nodes-left, Waiting}
 use Rattle.writer.proofs.Waiting.{none-left, bound-nodes, plate-waits, plan-left, count-left, kinds-begin, operands-begin, one-written, all-written}
 use Rattle.cutting.specs.Lists.{over}
 use Rattle.cutting.specs.Job.{bound-plan}

@@ -1,16 +1,23 @@
--- The walk down a plan by a list of waiting cells in one array: three entries a cell, the next cell last.
+-- What only the inner contracts of the writing call cite: the walk down a plan by a list of waiting cells in one array, three entries a
+-- cell, the next cell last; and what a verdict makes of the answer and of the plan arrays.
 use mathlib.Core.Path.{_≡_}
 use mathlib.Core.List.{List, [], _∷_, _++_}
 use Prim.Native.Nat.{ℕ, zero, suc, _+_, _*_, _≤_, _<_}
 use lib.ListN.{length, getD, set}
 use Rattle.cutting.specs.declared.Node.{Node}
 use Rattle.cutting.specs.Tree.{Tree}
-use Rattle.cutting.specs.Preorder.{preorder}
-use Rattle.cutting.specs.Job.{Job, plan-of}
+use Rattle.cutting.specs.Preorder.{preorder, kinds-of, operands-of}
+use Rattle.cutting.specs.Job.{Job, plan-of, bound-plan}
+use Rattle.refusal.specs.Refusals.{next, first-refusal}
+use Rattle.refusal.specs.declared.Checked.{Checked}
+use Rattle.bound.specs.declared.BoundReport.{BoundReport}
+use Rattle.bound.specs.Bound.{Memory, memory-checks, list-after}
 use Rattle.choice.specs.declared.Cell.{Cell}
 use Rattle.choice.specs.declared.Dimensions.{Dimensions}
 use Rattle.choice.specs.Choice.{Inside}
 use Rattle.writer.specs.declared.nodes.Step.{Step}
+use Rattle.writer.specs.declared.WriteAnswer.{WriteAnswer}
+use Rattle.writer.specs.Write.{write-report, write-answer-by, plan-verdict}
 
 -- the cell at place i: its length, width and share
 abbrev pub cell-at : List ℕ → ℕ → Cell
@@ -39,3 +46,17 @@ pub record Waiting (J : Job) (g : Dimensions) (waiting : List ℕ) (n : ℕ) : T
 pub record Stepped (J : Job) (weight : ℕ → ℕ) (g : Dimensions) (old new : List ℕ) (n : ℕ) (step : Step) : Type 0 where
   pub nodes : nodes-left J weight old n ≡ step .node ∷ nodes-left J weight new (step .depth)
   pub waits : Waiting J g new (step .depth)
+
+-- the dimensions of the table that a report is of
+abbrev pub table-of : BoundReport → Dimensions
+table-of report = record { columns = report .widths; capacity = report .capacity }
+
+-- the verdict of the checks that an accepted job is left to: 19, 20, then 21
+abbrev pub room-verdict : Job → (ℕ → ℕ) → Memory → List ℕ → List ℕ → Checked
+room-verdict J weight m kinds operands = next (first-refusal (memory-checks J weight m)) (plan-verdict J weight kinds operands)
+
+-- what a verdict makes of the answer, and of the plan arrays: the plan over their old contents, or as they were
+pub record Planned (v : Checked) (J : Job) (weight : ℕ → ℕ) (kinds operands new-kinds new-operands : List ℕ) (r : WriteAnswer) : Type 0 where
+  pub answer : r ≡ write-answer-by v (write-report J weight)
+  pub kinds-left : new-kinds ≡ list-after v (kinds-of (bound-plan J weight)) kinds
+  pub operands-left : new-operands ≡ list-after v (operands-of (bound-plan J weight)) operands
