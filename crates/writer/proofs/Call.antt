@@ -12,10 +12,11 @@ use Rattle.refusal.specs.declared.Refusal.{Refusal}
 use Rattle.refusal.specs.declared.Checked.{Checked}
 use Rattle.refusal.specs.declared.Checked.the-variants.{Passed, Refused}
 use Rattle.job.specs.declared.JobRecord.{JobRecord}
-use Rattle.job.specs.Block.{record-of, job-of}
+use Rattle.job.specs.Block.{job-of}
 use Rattle.job.specs.Weights.{block-job, weight-in, Accepted}
 use Rattle.job.proofs.Checks.{passed-both, cons-passed}
 use Rattle.job.proofs.Weights.{accepted-in-range}
+use Rattle.job.proofs.Taken.{Taken}
 use Rattle.bound.specs.Bound as bound
 use Rattle.bound.proofs.Holds.{bound-held}
 use Rattle.writer.specs.declared.WriteReport.{WriteReport}
@@ -82,12 +83,13 @@ module _ (s ws : List ℕ) (old : bound.Memory) (kinds operands : List ℕ) wher
       (rw v (record { lengths = refl; widths = refl; table = refl }))
 
   -- both are accepted: what planning the job answers and leaves is what the call does
-  pub accepted : {j : JobRecord} {new : bound.Memory} {new-kinds new-operands : List ℕ} {r : WriteAnswer} → bound.accept-verdict s ws ≡ Passed → j ≡ record-of s
-      → bound.Leaves Passed (job-of j) (weight-in ws) old new → Planned (room-verdict (job-of j) (weight-in ws) old kinds operands) (job-of j) (weight-in ws) kinds operands new-kinds new-operands r
-      → Promised s ws old new kinds operands new-kinds new-operands r
-  accepted {j} {new} {new-kinds} {new-operands} {r} v e left p =
-      let q = subst (λ j. Planned (room-verdict (job-of j) (weight-in ws) old kinds operands) (job-of j) (weight-in ws) kinds operands new-kinds new-operands r) e p in
-      promised (subst (λ v. Planned (after v) (block-job s) (weight-in ws) kinds operands new-kinds new-operands r) (sym v) q) (rw v (subst (λ j. bound.Leaves Passed (job-of j) (weight-in ws) old new) e left))
+  pub accepted : {j : JobRecord} {q : ℕ} → Taken s ws j q → {new : bound.Memory} {new-kinds new-operands : List ℕ} {r : WriteAnswer} → bound.Leaves Passed (job-of j) (weight-in ws) old new
+      → Planned (room-verdict (job-of j) (weight-in ws) old kinds operands) (job-of j) (weight-in ws) kinds operands new-kinds new-operands r → Promised s ws old new kinds operands new-kinds new-operands r
+  accepted t {new} {new-kinds} {new-operands} {r} left p =
+      let v = t .accepted in
+      let plan = subst (λ j. Planned (room-verdict (job-of j) (weight-in ws) old kinds operands) (job-of j) (weight-in ws) kinds operands new-kinds new-operands r) (t .record-is) p in
+      let memory = subst (λ j. bound.Leaves Passed (job-of j) (weight-in ws) old new) (t .record-is) left in
+      promised (subst (λ v. Planned (after v) (block-job s) (weight-in ws) kinds operands new-kinds new-operands r) (sym v) plan) (rw v memory)
 
 -- a plan that was written has at most 4,095 nodes, and each array holds them
 pub written-fits : (s ws : List ℕ) (m : bound.Memory) (kinds operands : List ℕ) {r : WriteAnswer} {report : WriteReport} → r ≡ write-answer s ws m kinds operands → r ≡ answer.Written report

@@ -6,7 +6,6 @@ use bound::BoundReport;
 use bound::bound_of_job;
 use choice::Dimensions;
 use job::JobRecord;
-use job::WeightsAnswer;
 use nodes::count_nodes;
 use nodes::write_nodes;
 use refusal::Checked;
@@ -154,17 +153,12 @@ pub fn write_plan(
     ensures plan { λ r. ⌜ PlanWritten (now (block .entry)) (now (weights .entry)) (now (kinds .entry)) (now (operands .entry)) (now (kinds .exit)) (now (operands .exit)) r ⌝ }
     ensures bound { λ r. ⌜ BoundWritten (now (block .entry)) (now (weights .entry)) r ⌝ }
 {
-    let answer = job::read_job(block);
-    let read = answer.verdict;
-    if let Checked::Refused(r) = read {
+    let accepted = job::accept(block, weights);
+    let verdict = accepted.verdict;
+    if let Checked::Refused(r) = verdict {
         return WriteAnswer::Refused(r);
     }
-    let job = answer.job;
-    let weighed = job::check_weights(job, weights);
-    match weighed {
-        WeightsAnswer::Refused(r) => WriteAnswer::Refused(r),
-        WeightsAnswer::Capacity(q) => {
-            write_accepted(job, weights, q, lengths, widths, table, kinds, operands)
-        }
-    }
+    let job = accepted.job;
+    let q = accepted.capacity;
+    write_accepted(job, weights, q, lengths, widths, table, kinds, operands)
 }
