@@ -1,5 +1,5 @@
 -- The bound is the table's last word: the figure of the last normal length and width at the whole capacity is that of the plate.
-use mathlib.Core.Path.{_≡_, sym, _∙_, ap, ap₂}
+use mathlib.Core.Path.{_≡_, sym, _∙_, ap₂}
 use mathlib.Core.List.{List}
 use Prim.Native.Nat.{ℕ, _+_, _-_, _*_, _≤_, _<_}
 use native.Mathlib.Nat.{mul-le-mul}
@@ -8,7 +8,7 @@ use lib.ListN.{getD}
 use Rattle.cutting.specs.declared.Direction.{Direction}
 use Rattle.cutting.specs.declared.Direction.the-variants.{Length, Width}
 use Rattle.cutting.specs.Tree.{side}
-use Rattle.cutting.specs.Job.{Job, InRange, figure-of, bound-of, capacity, normal-positions, normal-floor}
+use Rattle.cutting.specs.Job.{Job, InRange, figure-of, bound-of, capacity, normal-floor}
 use Rattle.cutting.proofs.Table.{positions-some, positions-length, positions-normal, positions-floor, figure-floor}
 use Rattle.table.specs.Table.{position-count, position, words-needed, Figures}
 

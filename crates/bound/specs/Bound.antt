@@ -5,16 +5,14 @@ use mathlib.Core.Bool.{_||_}
 use mathlib.Core.List.{List, [], _∷_, _++_}
 use Prim.Native.Nat.{ℕ, _+_, _≤_}
 use lib.Dec.{ltb}
-use lib.ListN.{length, take}
-use Rattle.cutting.specs.declared.Direction.{Direction}
+use lib.ListN.{length}
 use Rattle.cutting.specs.declared.Direction.the-variants.{Length, Width}
 use Rattle.cutting.specs.Limits.{most-figure}
 use Rattle.cutting.specs.Lists.{over}
-use Rattle.cutting.specs.Job.{Job, InRange, capacity, figure-of, bound-of, normal-positions}
+use Rattle.cutting.specs.Job.{Job, capacity, figure-of, bound-of, normal-positions}
 use Rattle.cutting.specs.Promises.{NoneAbove, MostWithin}
 use Rattle.refusal.specs.Refusals.{Check, Outcome, next, first-refusal, by-check, refused-as, outcome-by}
 use Rattle.refusal.specs.declared.Checked.{Checked}
-use Rattle.refusal.specs.declared.Checked.the-variants.{Passed}
 use Rattle.refusal.specs.declared.Refusal.the-variants.{ListShort, TableShort}
 use Rattle.job.specs.Block.{job-checks}
 use Rattle.job.specs.Weights.{block-job, weight-in, weight-checks}

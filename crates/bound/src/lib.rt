@@ -123,7 +123,7 @@ fn fill_table<'a>(
 }
 
 // The bound of a job that was read and weights that were accepted: refusals 19 and 20, then the lists, the floors of both sides, the
-// table and the report.
+// table and the report. The 2,002 entries for the floors are lent, so that a caller who goes on to write the plan has them.
 pub fn bound_of_job(
     job: JobRecord,
     weights: &[u8],

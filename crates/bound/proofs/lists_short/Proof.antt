@@ -1,5 +1,4 @@
 -- `bound::lists_short` meets its contract.
-use lib.Dec.{ltb}
 use borrow.Author.Tests.{lt-ltb, le-ltb}
 use borrow.Author.Needs.{needs}
 use Rattle.bound.proofs.lists_short.Statement.{statement}

@@ -1,5 +1,4 @@
 -- `certificate::conclude` meets its contract.
-use mathlib.Core.Path.{sym, _∙_}
 use borrow.Author.Needs.{needs}
 use Rattle.certificate.proofs.conclude.Statement.{statement}
 use Rattle.certificate.proofs.conclude.Tie as tie
