@@ -1,2 +1,4 @@
+pub mod Fill
 pub mod Raised
 pub mod Rows
+pub mod Ready

@@ -1,12 +1,11 @@
 -- Words that take values where those are more, and the values that a row's words take: the sums of two earlier rows, the prices of kinds,
--- and the sums that a cell pushes to the units beyond it.
--- Assumes nothing.
+-- and the sums that a cell pushes to the units past it.
 use mathlib.Core.Path.{_≡_}
 use mathlib.Core.List.{List}
 use mathlib.Core.Logic.{_⊎_}
 use Prim.Native.Nat.{ℕ, _+_, _-_, _*_, _≤_, _<_, min}
 use lib.ListN.{getD}
-use Rattle.table.specs.Words.{beyond}
+use Rattle.table.specs.Words.{remainder}
 
 -- each word has become the greatest of what it was and the values offered to it
 pub record Raised (offered : ℕ → ℕ → Type 0) (old new : List ℕ) : Type 0 where
@@ -18,36 +17,40 @@ pub record Raised (offered : ℕ → ℕ → Type 0) (old new : List ℕ) : Type
 abbrev pub Single : ℕ → ℕ → ℕ → ℕ → Type 0
 Single x v i u = (i ≡ x) × (u ≡ v)
 
--- the r words from `at` on are offered the sums of those from x on and those from y on
-pub record Sums (xs : List ℕ) (at x y r i v : ℕ) : Type 0 where
+-- the words of a row from `target` on are offered the sums of those of two rows, from `first` and `second` on
+pub record Sums (xs : List ℕ) (target first second columns i v : ℕ) : Type 0 where
   pub index : ℕ
-  pub inside : index < r
-  pub place : i ≡ at + index
-  pub value : v ≡ getD xs (x + index) 0 + getD xs (y + index) 0
+  pub inside : index < columns
+  pub place : i ≡ target + index
+  pub value : v ≡ getD xs (first + index) 0 + getD xs (second + index) 0
 
--- a row of r words is offered the cuts of entry a at the entries from 1 to k less 1 whose parts make up the whole
-pub record LengthCuts (xs list map : List ℕ) (a k at r i v : ℕ) : Type 0 where
+-- a row is offered the cuts of entry a at the entries from 1 to the half's end less 1 whose parts make up the whole
+pub record LengthCuts (xs normal-lengths length-floors : List ℕ) (a half-end start columns i v : ℕ) : Type 0 where
   pub part : ℕ
   pub from : 1 ≤ part
-  pub to : part < k
-  pub exact : getD list part 0 + getD list (beyond list map a part) 0 ≡ getD list a 0
-  pub sums : Sums xs at (part * r) (beyond list map a part * r) r i v
+  pub to : part < half-end
+  pub exact : getD normal-lengths part 0 + getD normal-lengths (remainder normal-lengths length-floors a part) 0 ≡ getD normal-lengths a 0
+  pub sums : Sums xs start (part * columns) (remainder normal-lengths length-floors a part * columns) columns i v
 
 -- the unit of a kind's width is offered its price, if the kind has length l, fits in width w and has no weight
-pub record Kind (l w size width weight price i v : ℕ) : Type 0 where
-  pub long : size ≡ l
-  pub fits : width ≤ w
+pub record Kind (l w kind-length kind-width weight price i v : ℕ) : Type 0 where
+  pub long : kind-length ≡ l
+  pub fits : kind-width ≤ w
   pub light : weight ≡ 0
-  pub place : i ≡ width
+  pub place : i ≡ kind-width
   pub value : v ≡ price
 
 -- the same for every kind below `count`
-pub record Kinds (l w : ℕ) (lengths widths weights prices : ℕ → ℕ) (count i v : ℕ) : Type 0 where
+pub record Kinds (l w : ℕ) (kind-lengths kind-widths weights prices : ℕ → ℕ) (count i v : ℕ) : Type 0 where
   pub index : ℕ
   pub inside : index < count
-  pub kind : Kind l w (lengths index) (widths index) (weights index) (prices index) i v
+  pub kind : Kind l w (kind-lengths index) (kind-widths index) (weights index) (prices index) i v
 
--- the units beyond x are offered v together with what the units from `least` to `end` less 1 have
+-- an array, entry by entry
+abbrev pub each : List ℕ → ℕ → ℕ
+each xs i = getD xs i 0
+
+-- the units past x are offered v together with what the units from `least` to `end` less 1 have
 pub record Pushed (xs : List ℕ) (x least end v i u : ℕ) : Type 0 where
   pub index : ℕ
   pub from : least ≤ index

@@ -19,8 +19,8 @@ use Rattle.cutting.proofs.Lists.{mem-range, range-mem, mem-filter}
 use Rattle.cutting.proofs.Greatest.{greatest-le}
 use Rattle.cutting.proofs.Pieces.{true-fits-in}
 use Rattle.cutting.proofs.Table.{sides-suffice, positions-first, positions-entry, positions-normal}
-use Rattle.table.specs.Table.{Positions}
-use Rattle.table.specs.Words.{Half, beyond}
+use Rattle.table.specs.Contracts.{Positions}
+use Rattle.table.specs.Words.{Half, remainder}
 use Rattle.table.proofs.Halves.{half-parts}
 use Rattle.table.proofs.Figures.{entry-is, entry-side, positions-axis, between}
 use Rattle.table.specs.States.{by-state, Order, figure-at, Covers}
@@ -29,112 +29,112 @@ use Rattle.table.proofs.Covered.{Along, covered}
 use Rattle.table.proofs.Across.{across, across-above, two-parts, more-side, kind-most, state-half}
 
 module _ (J : Job) (le : ℕ → ℕ → Bool) (own : ℕ → ℕ) (order : Order le) (fit : InRange J) where
-  module _ (d : Direction) (p : ℕ) (list map : List ℕ) (given : Positions J d p list map) where
-    rise : (i j : ℕ) → i < j → j < p → getD list i 0 < getD list j 0
-    rise = positions-axis J d p list map fit given .rise
+  module _ (d : Direction) (count : ℕ) (positions floors : List ℕ) (given : Positions J d count positions floors) where
+    rise : (i j : ℕ) → i < j → j < count → getD positions i 0 < getD positions j 0
+    rise = positions-axis J d count positions floors fit given .rise
 
-    normal-entry : (i : ℕ) → i < p → T (normal-side J d (getD list i 0))
-    normal-entry i h = subst (λ x. T (normal-side J d x)) (sym (entry-is J d p list map fit given i h)) (positions-normal J d i (omega (arith, given .counted)) .0)
+    normal-entry : (i : ℕ) → i < count → T (normal-side J d (getD positions i 0))
+    normal-entry i h = subst (λ x. T (normal-side J d x)) (sym (entry-is J d count positions floors fit given i h)) (positions-normal J d i (omega (arith, given .counted)) .0)
 
     -- the figures along a side
-    pub along : (o : ℕ) → Along le list p (λ i s. across J le own d o (getD list i 0) s)
+    pub along : (o : ℕ) → Along le positions count (λ i s. across J le own d o (getD positions i 0) s)
     along o = record {
-      above = λ i t s h l. across-above J le own order fit d o (getD list i 0) t s l;
-      sums = λ i j a k m hi hj ha l c. omega (arith, two-parts J le own order fit d o (getD list i 0) (getD list j 0) k m c, more-side J le own order fit d o (getD list i 0 + getD list j 0) (getD list a 0) (k + m) l);
-      closed = λ i j a hi hj ha l. between J d p list map fit given (getD list i 0 + getD list j 0) a ha (sides-suffice J .additive d .1 (getD list i 0) (getD list j 0) (normal-entry i hi) (normal-entry j hj)) l;
+      above = λ i t s h l. across-above J le own order fit d o (getD positions i 0) t s l;
+      sums = λ i j a k m hi hj ha l c. omega (arith, two-parts J le own order fit d o (getD positions i 0) (getD positions j 0) k m c, more-side J le own order fit d o (getD positions i 0 + getD positions j 0) (getD positions a 0) (k + m) l);
+      closed = λ i j a hi hj ha l. between J d count positions floors fit given (getD positions i 0 + getD positions j 0) a ha (sides-suffice J .additive d .1 (getD positions i 0) (getD positions j 0) (normal-entry i hi) (normal-entry j hj)) l;
       rise = rise;
     }
 
     -- no cut up to half of entry a gives more than g at state s, if none does whose parts make up the whole, at states that cover its parts
     -- over the entries before them
-    pub side-covered : (o a k s g n : ℕ) (some : ℕ → ℕ → Type 0) → a < p → Half list a k → s < n → across J le own d o (getD list (a - 1) 0) s ≤ g
-        → ((i : ℕ) → i < a → Covers le n (some i) (across J le own d o (getD list i 0)) (across J le own d o (getD list (i - 1) 0)))
-        → ((i j : ℕ) → 1 ≤ i → i < k → j ≡ beyond list map a i → j < a → getD list i 0 + getD list j 0 ≡ getD list a 0 → (t u : ℕ) → t < n → u < n → some i t → some j u
-        → T (le t (t + u)) → T (le (t + u) s) → across J le own d o (getD list i 0) t + across J le own d o (getD list j 0) u ≤ g)
-        → (i : ℕ) → 1 ≤ i → i < k → (e m : ℕ) → T (le e (e + m)) → e + m ≡ s → across J le own d o (getD list i 0) e + across J le own d o (getD list (beyond list map a i) 0) m ≤ g
-    side-covered o a k s g n some ha half hs before covers tried i l m = covered le order list p n (λ i s. across J le own d o (getD list i 0) s) (along o) a i (beyond list map a i) s g
+    pub side-covered : (o a half-end s g n : ℕ) (some : ℕ → ℕ → Type 0) → a < count → Half positions a half-end → s < n → across J le own d o (getD positions (a - 1) 0) s ≤ g
+        → ((i : ℕ) → i < a → Covers le n (some i) (across J le own d o (getD positions i 0)) (across J le own d o (getD positions (i - 1) 0)))
+        → ((i j : ℕ) → 1 ≤ i → i < half-end → j ≡ remainder positions floors a i → j < a → getD positions i 0 + getD positions j 0 ≡ getD positions a 0 → (t u : ℕ) → t < n → u < n → some i t → some j u
+        → T (le t (t + u)) → T (le (t + u) s) → across J le own d o (getD positions i 0) t + across J le own d o (getD positions j 0) u ≤ g)
+        → (i : ℕ) → 1 ≤ i → i < half-end → (e m : ℕ) → T (le e (e + m)) → e + m ≡ s → across J le own d o (getD positions i 0) e + across J le own d o (getD positions (remainder positions floors a i) 0) m ≤ g
+    side-covered o a half-end s g n some ha half hs before covers tried i l m = covered le order positions count n (λ i s. across J le own d o (getD positions i 0) s) (along o) a i (remainder positions floors a i) s g
         ha (omega (arith, half .most)) (omega (arith, q .0)) l hs (q .1) (half .within i l m) before
-        (some i) (some (beyond list map a i)) (covers i (omega (arith, half .most))) (covers (beyond list map a i) (q .0)) (tried i (beyond list map a i) l m refl (q .0))
+        (some i) (some (remainder positions floors a i)) (covers i (omega (arith, half .most))) (covers (remainder positions floors a i) (q .0)) (tried i (remainder positions floors a i) l m refl (q .0))
       where
-        q : (beyond list map a i < a) × (getD list i 0 + getD list (beyond list map a i) 0 ≤ getD list a 0)
-        q = half-parts list map p (positions-axis J d p list map fit given) a k i ha half l m
+        q : (remainder positions floors a i < a) × (getD positions i 0 + getD positions (remainder positions floors a i) 0 ≤ getD positions a 0)
+        q = half-parts positions floors count (positions-axis J d count positions floors fit given) a half-end i ha half l m
 
     -- the cuts up to half of entry a give no more than g, if no cut at an entry below the half does
-    pub half-le : (o a k s g : ℕ) → a < p → Half list a k
-        → ((i : ℕ) → 1 ≤ i → i < k → (e m : ℕ) → T (le e (e + m)) → e + m ≡ s → across J le own d o (getD list i 0) e + across J le own d o (getD list (beyond list map a i) 0) m ≤ g)
-        → greatest (λ x. greatest (λ q. across J le own d o x (q .0) + across J le own d o (normal-floor J d (getD list a 0 - x)) (q .1)) (by-state {P = ℕ} le own .splits d s)) (filter (normal-side J d) (range 1 (getD list a 0 / 2))) ≤ g
-    half-le o a k s g h half cuts = greatest-le _ g (filter (normal-side J d) (range 1 (getD list a 0 / 2))) (λ x m.
-        (let f = mem-filter (normal-side J d) (range 1 (getD list a 0 / 2)) m in
-        let q = mem-range 1 (getD list a 0 / 2) x (f .0) in
-        let e = positions-entry J d x (omega (arith, entry-side J d p list map fit given a h)) (f .1) in
-        at x (e .0) (omega (arith, e .1, given .counted)) (entry-is J d p list map fit given (e .0) (omega (arith, e .1, given .counted)) ∙ e .2) (omega arith) (omega arith)))
+    pub half-le : (o a half-end s g : ℕ) → a < count → Half positions a half-end
+        → ((i : ℕ) → 1 ≤ i → i < half-end → (e m : ℕ) → T (le e (e + m)) → e + m ≡ s → across J le own d o (getD positions i 0) e + across J le own d o (getD positions (remainder positions floors a i) 0) m ≤ g)
+        → greatest (λ x. greatest (λ q. across J le own d o x (q .0) + across J le own d o (normal-floor J d (getD positions a 0 - x)) (q .1)) (by-state {P = ℕ} le own .splits d s)) (filter (normal-side J d) (range 1 (getD positions a 0 / 2))) ≤ g
+    half-le o a half-end s g h half cuts = greatest-le _ g (filter (normal-side J d) (range 1 (getD positions a 0 / 2))) (λ x m.
+        (let f = mem-filter (normal-side J d) (range 1 (getD positions a 0 / 2)) m in
+        let q = mem-range 1 (getD positions a 0 / 2) x (f .0) in
+        let e = positions-entry J d x (omega (arith, entry-side J d count positions floors fit given a h)) (f .1) in
+        at x (e .0) (omega (arith, e .1, given .counted)) (entry-is J d count positions floors fit given (e .0) (omega (arith, e .1, given .counted)) ∙ e .2) (omega arith) (omega arith)))
       where
-        at : (x i : ℕ) → i < p → getD list i 0 ≡ x → 1 ≤ x → 2 * x ≤ getD list a 0
-            → greatest (λ q. across J le own d o x (q .0) + across J le own d o (normal-floor J d (getD list a 0 - x)) (q .1)) (by-state {P = ℕ} le own .splits d s) ≤ g
+        at : (x i : ℕ) → i < count → getD positions i 0 ≡ x → 1 ≤ x → 2 * x ≤ getD positions a 0
+            → greatest (λ q. across J le own d o x (q .0) + across J le own d o (normal-floor J d (getD positions a 0 - x)) (q .1)) (by-state {P = ℕ} le own .splits d s) ≤ g
         at x i l e q z = greatest-le _ g (by-state {P = ℕ} le own .splits d s) (λ u m.
             (let v = split-state le order own d s u m in
-            omega (arith, cuts i (positive (ℕ-discrete i 0)) (below (decLe k i) (ℕ-discrete k i)) (u .0) (u .1) (rw (v .1) (v .0)) (v .1), ap (λ y. across J le own d o y (u .0)) e, ap (λ y. across J le own d o y (u .1)) rest)))
+            omega (arith, cuts i (positive (ℕ-discrete i 0)) (below (decLe half-end i) (ℕ-discrete half-end i)) (u .0) (u .1) (rw (v .1) (v .0)) (v .1), ap (λ y. across J le own d o y (u .0)) e, ap (λ y. across J le own d o y (u .1)) rest)))
           where
             positive : Dec (i ≡ 0) → 1 ≤ i
-            positive (yes v) = absurd (omega (arith, ap (λ i. getD list i 0) v, entry-is J d p list map fit given 0 (omega arith), positions-first J d))
+            positive (yes v) = absurd (omega (arith, ap (λ i. getD positions i 0) v, entry-is J d count positions floors fit given 0 (omega arith), positions-first J d))
             positive (no v) = omega arith
 
-            below : Dec (k ≤ i) → Dec (k ≡ i) → i < k
-            below (yes v) (yes w) = absurd (omega (arith, half .past, ap (λ i. getD list i 0) w))
-            below (yes v) (no w) = absurd (omega (arith, half .past, rise k i (omega arith) l))
+            below : Dec (half-end ≤ i) → Dec (half-end ≡ i) → i < half-end
+            below (yes v) (yes w) = absurd (omega (arith, half .past, ap (λ i. getD positions i 0) w))
+            below (yes v) (no w) = absurd (omega (arith, half .past, rise half-end i (omega arith) l))
             below (no v) w = omega arith
 
-            rest : getD list (beyond list map a i) 0 ≡ normal-floor J d (getD list a 0 - x)
+            rest : getD positions (remainder positions floors a i) 0 ≡ normal-floor J d (getD positions a 0 - x)
             rest =
-                let f = given .floored (getD list a 0 - getD list i 0) (omega (arith, entry-side J d p list map fit given a h)) in
-                entry-is J d p list map fit given (beyond list map a i) (omega (arith, f .0, given .counted)) ∙ f .1 ∙ ap (λ x. normal-floor J d (getD list a 0 - x)) e
+                let f = given .floored (getD positions a 0 - getD positions i 0) (omega (arith, entry-side J d count positions floors fit given a h)) in
+                entry-is J d count positions floors fit given (remainder positions floors a i) (omega (arith, f .0, given .counted)) ∙ f .1 ∙ ap (λ x. normal-floor J d (getD positions a 0 - x)) e
 
-  module _ (p r : ℕ) (long longmap wide widemap : List ℕ) (lengths : Positions J Length p long longmap) (widths : Positions J Width r wide widemap) where
+  module _ (length-count columns : ℕ) (normal-lengths length-floors normal-widths width-floors : List ℕ) (lengths : Positions J Length length-count normal-lengths length-floors) (widths : Positions J Width columns normal-widths width-floors) where
     -- the figure of entry a of the lengths, entry b of the widths and state s
     abbrev cell : ℕ → ℕ → ℕ → ℕ
-    cell a b s = figure-at J le own (getD long a 0) (getD wide b 0) s
+    cell a b s = figure-at J le own (getD normal-lengths a 0) (getD normal-widths b 0) s
 
-    module _ (a b s g : ℕ) (ha : a < p) (hb : b < r) (above : cell (a - 1) b s ≤ g) (before : cell a (b - 1) s ≤ g)
-        (kinds : (i : ℕ) → i < J .count → J .size i .0 ≡ getD long a 0 → J .size i .1 ≡ getD wide b 0 → T (le (own i) s) → J .price i ≤ g) where
+    module _ (a b s g : ℕ) (ha : a < length-count) (hb : b < columns) (above : cell (a - 1) b s ≤ g) (before : cell a (b - 1) s ≤ g)
+        (kinds : (i : ℕ) → i < J .count → J .size i .0 ≡ getD normal-lengths a 0 → J .size i .1 ≡ getD normal-widths b 0 → T (le (own i) s) → J .price i ≤ g) where
       -- a kind that fits earns no more than g: a smaller one lies in a cell before
-      kind-le : (i : ℕ) → i < J .count → J .size i .0 ≤ getD long a 0 → J .size i .1 ≤ getD wide b 0 → T (le (own i) s) → J .price i ≤ g
-      kind-le i h u v m = go (ℕ-discrete (J .size i .0) (getD long a 0)) (ℕ-discrete (J .size i .1) (getD wide b 0))
+      kind-le : (i : ℕ) → i < J .count → J .size i .0 ≤ getD normal-lengths a 0 → J .size i .1 ≤ getD normal-widths b 0 → T (le (own i) s) → J .price i ≤ g
+      kind-le i h u v m = go (ℕ-discrete (J .size i .0) (getD normal-lengths a 0)) (ℕ-discrete (J .size i .1) (getD normal-widths b 0))
         where
-          on-length : getD long a 0 ≤ J .plate .0
-          on-length = entry-side J Length p long longmap fit lengths a ha
+          on-length : getD normal-lengths a 0 ≤ J .plate .0
+          on-length = entry-side J Length length-count normal-lengths length-floors fit lengths a ha
 
-          on-width : getD wide b 0 ≤ J .plate .1
-          on-width = entry-side J Width r wide widemap fit widths b hb
+          on-width : getD normal-widths b 0 ≤ J .plate .1
+          on-width = entry-side J Width columns normal-widths width-floors fit widths b hb
 
           normal : (d : Direction) → T (normal-side J d (side d (J .size i)))
           normal d = sides-suffice J .has-side d i (range-mem 0 (J .count) i (omega arith) (omega arith)) (omega (arith, on-length), omega (arith, on-width))
 
-          go : Dec (J .size i .0 ≡ getD long a 0) → Dec (J .size i .1 ≡ getD wide b 0) → J .price i ≤ g
+          go : Dec (J .size i .0 ≡ getD normal-lengths a 0) → Dec (J .size i .1 ≡ getD normal-widths b 0) → J .price i ≤ g
           go (yes e) (yes f) = kinds i h e f m
-          go (no e) f = omega (arith, kind-most J le own order fit (getD long (a - 1) 0) (getD wide b 0) s i h (between J Length p long longmap fit lengths (J .size i .0) a ha (normal Length) (omega arith)) v m)
-          go (yes e) (no f) = omega (arith, kind-most J le own order fit (getD long a 0) (getD wide (b - 1) 0) s i h u (between J Width r wide widemap fit widths (J .size i .1) b hb (normal Width) (omega arith)) m)
+          go (no e) f = omega (arith, kind-most J le own order fit (getD normal-lengths (a - 1) 0) (getD normal-widths b 0) s i h (between J Length length-count normal-lengths length-floors fit lengths (J .size i .0) a ha (normal Length) (omega arith)) v m)
+          go (yes e) (no f) = omega (arith, kind-most J le own order fit (getD normal-lengths a 0) (getD normal-widths (b - 1) 0) s i h u (between J Width columns normal-widths width-floors fit widths (J .size i .1) b hb (normal Width) (omega arith)) m)
 
-      singles : greatest (λ i. only (fits-in (J .size i) (getD long a 0, getD wide b 0) && le (own i) s) (J .price i)) (range 0 (J .count)) ≤ g
-      singles = greatest-le _ g (range 0 (J .count)) (λ i m. (let h = mem-range 0 (J .count) i m in go i (omega arith) (ℕ-discrete (only (fits-in (J .size i) (getD long a 0, getD wide b 0) && le (own i) s) (J .price i)) 0)))
+      singles : greatest (λ i. only (fits-in (J .size i) (getD normal-lengths a 0, getD normal-widths b 0) && le (own i) s) (J .price i)) (range 0 (J .count)) ≤ g
+      singles = greatest-le _ g (range 0 (J .count)) (λ i m. (let h = mem-range 0 (J .count) i m in go i (omega arith) (ℕ-discrete (only (fits-in (J .size i) (getD normal-lengths a 0, getD normal-widths b 0) && le (own i) s) (J .price i)) 0)))
         where
-          go : (i : ℕ) → i < J .count → Dec (only (fits-in (J .size i) (getD long a 0, getD wide b 0) && le (own i) s) (J .price i) ≡ 0)
-              → only (fits-in (J .size i) (getD long a 0, getD wide b 0) && le (own i) s) (J .price i) ≤ g
+          go : (i : ℕ) → i < J .count → Dec (only (fits-in (J .size i) (getD normal-lengths a 0, getD normal-widths b 0) && le (own i) s) (J .price i) ≡ 0)
+              → only (fits-in (J .size i) (getD normal-lengths a 0, getD normal-widths b 0) && le (own i) s) (J .price i) ≤ g
           go i h (yes e) = omega arith
           go i h (no e) =
-              let o = only-positive (fits-in (J .size i) (getD long a 0, getD wide b 0) && le (own i) s) (J .price i) (omega arith) in
-              let t = T-and (fits-in (J .size i) (getD long a 0, getD wide b 0)) (le (own i) s) (o .0) in
-              let f = true-fits-in (J .size i) (getD long a 0, getD wide b 0) (t .0) in
+              let o = only-positive (fits-in (J .size i) (getD normal-lengths a 0, getD normal-widths b 0) && le (own i) s) (J .price i) (omega arith) in
+              let t = T-and (fits-in (J .size i) (getD normal-lengths a 0, getD normal-widths b 0)) (le (own i) s) (o .0) in
+              let f = true-fits-in (J .size i) (getD normal-lengths a 0, getD normal-widths b 0) (t .0) in
               omega (arith, o .1, kind-le i h (f .0) (f .1) (t .1))
 
       -- the cells before it, the kinds of exactly its size and the cuts up to half of its sides give a cell its figure
-      pub complete : (ka kb : ℕ) → Half long a ka → Half wide b kb
-          → ((i : ℕ) → 1 ≤ i → i < ka → (e m : ℕ) → T (le e (e + m)) → e + m ≡ s → cell i b e + cell (beyond long longmap a i) b m ≤ g)
-          → ((i : ℕ) → 1 ≤ i → i < kb → (e m : ℕ) → T (le e (e + m)) → e + m ≡ s → cell a i e + cell a (beyond wide widemap b i) m ≤ g)
+      pub complete : (length-half-end width-half-end : ℕ) → Half normal-lengths a length-half-end → Half normal-widths b width-half-end
+          → ((i : ℕ) → 1 ≤ i → i < length-half-end → (e m : ℕ) → T (le e (e + m)) → e + m ≡ s → cell i b e + cell (remainder normal-lengths length-floors a i) b m ≤ g)
+          → ((i : ℕ) → 1 ≤ i → i < width-half-end → (e m : ℕ) → T (le e (e + m)) → e + m ≡ s → cell a i e + cell a (remainder normal-widths width-floors b i) m ≤ g)
           → cell a b s ≤ g
-      complete ka kb half-a half-b long-cuts wide-cuts = omega (
+      complete length-half-end width-half-end length-half width-half length-cuts width-cuts = omega (
         arith,
-        state-half J le own order fit (getD long a 0) (getD wide b 0) s (entry-side J Length p long longmap fit lengths a ha) (entry-side J Width r wide widemap fit widths b hb),
+        state-half J le own order fit (getD normal-lengths a 0) (getD normal-widths b 0) s (entry-side J Length length-count normal-lengths length-floors fit lengths a ha) (entry-side J Width columns normal-widths width-floors fit widths b hb),
         singles,
-        half-le Length p long longmap lengths (getD wide b 0) a ka s g ha half-a long-cuts,
-        half-le Width r wide widemap widths (getD long a 0) b kb s g hb half-b wide-cuts,
+        half-le Length length-count normal-lengths length-floors lengths (getD normal-widths b 0) a length-half-end s g ha length-half length-cuts,
+        half-le Width columns normal-widths width-floors widths (getD normal-lengths a 0) b width-half-end s g hb width-half width-cuts,
       )

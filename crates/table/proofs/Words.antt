@@ -1,5 +1,4 @@
 -- Laws of written runs: nothing written yet, one word more; of the words past the table; and of cells that lie one after the other.
--- Assumes nothing.
 use mathlib.Core.Path.{_≡_, refl, sym, _∙_}
 use mathlib.Core.List.{List}
 use Prim.Native.Nat.{ℕ, _+_, _*_, _≤_, _<_}
@@ -37,8 +36,8 @@ pub first-more : (f : ℕ → ℕ) (j : ℕ) (old xs : List ℕ) (v : ℕ) → j
 first-more f j old xs v l e w = let z : 0 + j ≡ j = omega arith in rw z at (run-more f 0 j old xs v (omega arith) e w)
 
 -- a cell lies before the next one
-pub cell-before : (b r n : ℕ) → b < r → b * n + n ≤ r * n
-cell-before b r n h = omega (arith, mul-le-mul-right {m = b + 1} {n = r} n (omega arith))
+pub cell-before : (b columns words : ℕ) → b < columns → b * words + words ≤ columns * words
+cell-before b columns words h = omega (arith, mul-le-mul-right {m = b + 1} {n = columns} words (omega arith))
 
 -- no word from m on has changed
 pub words-past : (m : ℕ) (old new : List ℕ) → length new ≡ length old → ((i : ℕ) → m ≤ i → getD new i 0 ≡ getD old i 0) → Kept m old new

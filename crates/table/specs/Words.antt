@@ -1,6 +1,5 @@
 -- What the fills of the table share: a run of words that is written, every other word as it was, and the cuts of a side at the entries
--- of a list of positions.
--- Assumes nothing.
+-- of a list of positions, with floors that give each length the index of a position not above it.
 use mathlib.Core.Path.{_≡_}
 use mathlib.Core.List.{List}
 use Prim.Native.Nat.{ℕ, _+_, _-_, _*_, _≤_, _<_}
@@ -16,29 +15,29 @@ pub record Run (f : ℕ → ℕ) (at m : ℕ) (old new : List ℕ) : Type 0 wher
   pub here : (j : ℕ) → j < m → getD new (at + j) 0 ≡ f j
   pub rest : Outside at (at + m) old new
 
--- k is the first index from 1 on whose entry is past half of entry b
-pub record Half (list : List ℕ) (b k : ℕ) : Type 0 where
-  pub least : 1 ≤ k
-  pub most : k ≤ b
-  pub within : (i : ℕ) → 1 ≤ i → i < k → 2 * getD list i 0 ≤ getD list b 0
-  pub past : getD list b 0 < 2 * getD list k 0
+-- the first index from 1 on whose entry is past half of entry b: where the first half of the cuts ends
+pub record Half (positions : List ℕ) (b half-end : ℕ) : Type 0 where
+  pub least : 1 ≤ half-end
+  pub most : half-end ≤ b
+  pub within : (i : ℕ) → 1 ≤ i → i < half-end → 2 * getD positions i 0 ≤ getD positions b 0
+  pub past : getD positions b 0 < 2 * getD positions half-end 0
 
--- where a side, entry b of a list, is cut at entry i: the index that a map gives for what is beyond the cut
-abbrev pub beyond : List ℕ → List ℕ → ℕ → ℕ → ℕ
-beyond list map b i = getD map (getD list b 0 - getD list i 0) 0
+-- where a side, entry b of a list, is cut at entry i: the index of the remainder's floor
+abbrev pub remainder : List ℕ → List ℕ → ℕ → ℕ → ℕ
+remainder positions floors b i = getD floors (getD positions b 0 - getD positions i 0) 0
 
--- the cuts of entry b at the entries from 1 to k less 1: both parts are earlier entries, and no more than the side together
-pub record Cuts (list map : List ℕ) (b k : ℕ) : Type 0 where
-  pub least : 1 ≤ k
-  pub most : k ≤ b
-  pub listed : b < length list
-  pub mapped : getD list b 0 < length map
-  pub part : (i : ℕ) → 1 ≤ i → i < k → getD list i 0 ≤ getD list b 0
-  pub earlier : (i : ℕ) → 1 ≤ i → i < k → beyond list map b i < b
+-- the cuts of entry b at the entries from 1 to the half's end less 1: both parts are earlier entries, and no more than the side together
+pub record Cuts (positions floors : List ℕ) (b half-end : ℕ) : Type 0 where
+  pub least : 1 ≤ half-end
+  pub most : half-end ≤ b
+  pub listed : b < length positions
+  pub mapped : getD positions b 0 < length floors
+  pub part : (i : ℕ) → 1 ≤ i → i < half-end → getD positions i 0 ≤ getD positions b 0
+  pub earlier : (i : ℕ) → 1 ≤ i → i < half-end → remainder positions floors b i < b
 
--- a rising list of r entries up to 1,000, and a map from each number up to an entry to the index of an entry not above it
-pub record Axis (list map : List ℕ) (r : ℕ) : Type 0 where
-  pub listed : r ≤ length list
-  pub rise : (i j : ℕ) → i < j → j < r → getD list i 0 < getD list j 0
-  pub side : (b : ℕ) → b < r → (getD list b 0 ≤ 1000) × (getD list b 0 < length map)
-  pub floored : (b x : ℕ) → b < r → x ≤ getD list b 0 → (getD map x 0 < r) × (getD list (getD map x 0) 0 ≤ x)
+-- a rising list of so many entries up to 1,000, and floors: for each number up to an entry the index of an entry not above it
+pub record Axis (positions floors : List ℕ) (count : ℕ) : Type 0 where
+  pub listed : count ≤ length positions
+  pub rise : (i j : ℕ) → i < j → j < count → getD positions i 0 < getD positions j 0
+  pub side : (b : ℕ) → b < count → (getD positions b 0 ≤ 1000) × (getD positions b 0 < length floors)
+  pub floored : (b x : ℕ) → b < count → x ≤ getD positions b 0 → (getD floors x 0 < count) × (getD positions (getD floors x 0) 0 ≤ x)

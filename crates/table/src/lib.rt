@@ -1,12 +1,21 @@
 // What the fills of the table share: reading a list of positions, the half of a side, the greater of two figures, and runs of words.
-// The definitions of the table's contents stand in specs/Table; which cuts can give a cell more, and what makes a cell complete, is
+// The definitions of the table's contents stand in specs/Table, what a fill asks in specs/Contracts; which cuts can give a cell more, and what makes a cell complete, is
 // proved in proofs/Covered and proofs/Complete.
 ghost use mathlib.Core.Path.{_≡_};
 ghost use Prim.Native.Nat.{ℕ, _+_, _*_, _≤_, _<_, max};
 ghost use lib.ListN.{length, getD};
 ghost use Rattle.table.specs.Words.{Run, Half};
 
-// An entry of a list of positions, or of a map from a side to the index of its normal position.
+// What a table is of: the plate's sides, the number of kinds, and the numbers of normal lengths and normal widths.
+pub struct Extents {
+    pub length: u16,
+    pub width: u16,
+    pub count: u16,
+    pub length_count: u16,
+    pub columns: u16,
+}
+
+// An entry of a list of positions, or of floors.
 pub fn entry(list: &[u16], i: usize) -> usize
     requires { ⌜ i < length (now list) ⌝ }
     ensures { λ r. ⌜ (r ≡ getD (now (list .entry)) i 0) × (r < 65536) ⌝ }
@@ -15,17 +24,17 @@ pub fn entry(list: &[u16], i: usize) -> usize
 }
 
 // The first index from 1 on whose entry is past half of entry b: those before `from` are known not to be.
-pub fn half(list: &[u16], from: usize, b: usize) -> usize
-    requires { ⌜ (1 ≤ from) × (from ≤ b) × (b < length (now list)) × (0 < getD (now list) b 0)
-        × ((i : ℕ) → 1 ≤ i → i < from → 2 * getD (now list) i 0 ≤ getD (now list) b 0) ⌝ }
-    ensures { λ r. ⌜ Half (now (list .entry)) b r ⌝ }
+pub fn half(positions: &[u16], from: usize, b: usize) -> usize
+    requires { ⌜ (1 ≤ from) × (from ≤ b) × (b < length (now positions)) × (0 < getD (now positions) b 0)
+        × ((i : ℕ) → 1 ≤ i → i < from → 2 * getD (now positions) i 0 ≤ getD (now positions) b 0) ⌝ }
+    ensures { λ r. ⌜ Half (now (positions .entry)) b r ⌝ }
 {
-    let whole = entry(list, b);
-    let mut k = from;
-    while 2 * entry(list, k) <= whole {
-        k = k + 1;
+    let whole = entry(positions, b);
+    let mut half_end = from;
+    while 2 * entry(positions, half_end) <= whole {
+        half_end = half_end + 1;
     }
-    k
+    half_end
 }
 
 // The greater of two numbers below 2^63, without a comparison, which is slow on vectors of 64-bit words: 2^63 and the difference have the

@@ -1,5 +1,4 @@
 -- `one_share::level` meets its contract. The loop's invariant: the units passed are v, every other unit is as it was.
--- Assumes nothing.
 use borrow.Author.Needs.{needs}
 use native.Mathlib.Omega.{arith}
 use mathlib.Core.Path.{_≡_, refl}

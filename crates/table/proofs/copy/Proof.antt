@@ -1,5 +1,4 @@
 -- `table::copy` meets its contract. The loop's invariant: the words passed are copied, every other word is as it was.
--- Assumes nothing.
 use borrow.Author.Needs.{needs}
 use native.Mathlib.Omega.{arith}
 use mathlib.Core.Path.{_≡_, refl}

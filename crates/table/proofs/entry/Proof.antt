@@ -1,5 +1,4 @@
 -- `table::entry` meets its contract. The element of a u16 slice is below 65,536, so its cast loses nothing.
--- Assumes nothing.
 use borrow.Author.Needs.{needs}
 use native.Mathlib.Omega.{arith}
 use mathlib.Core.Path.{refl}

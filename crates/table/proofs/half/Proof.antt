@@ -1,5 +1,5 @@
--- `table::half` meets its contract. The loop's invariant: every entry from 1 to k less 1 is up to half of entry b. It stops before entry b, which is past its own half.
--- Assumes nothing.
+-- `table::half` meets its contract. The loop's invariant: every entry passed from 1 on is up to half of entry b. It stops before entry b,
+-- which is past its own half.
 use borrow.Author.Needs.{needs}
 use native.Mathlib.Omega.{arith}
 use mathlib.Core.Path.{_≡_}
@@ -11,10 +11,10 @@ use Rattle.table.proofs.half.Statement.{statement}
 use Rattle.table.proofs.half.Tie as tie
 
 abbrev Inv-loop : tie.InvT-loop
-Inv-loop list from b whole k₀ k = (1 ≤ k) × (k ≤ b) × (whole ≡ getD list b 0) × (whole < 65536) × ((i : ℕ) → 1 ≤ i → i < k → 2 * getD list i 0 ≤ getD list b 0)
+Inv-loop positions from b whole half-end₀ half-end = (1 ≤ half-end) × (half-end ≤ b) × (whole ≡ getD positions b 0) × (whole < 65536) × ((i : ℕ) → 1 ≤ i → i < half-end → 2 * getD positions i 0 ≤ getD positions b 0)
 
 abbrev μ-loop : tie.MeasureT-loop
-μ-loop list from b whole k₀ k = b - k
+μ-loop positions from b whole half-end₀ half-end = b - half-end
 
 entry-requires : tie.Need-entry-requires Inv-loop μ-loop
 entry-requires c κs = search needs
@@ -28,19 +28,24 @@ entry-requires-2 c κs = search needs
 mul-if1 : tie.Need-mul-if1 Inv-loop μ-loop
 mul-if1 c = search needs
 
-add-k : tie.Need-add-k Inv-loop μ-loop
-add-k c = search needs
+add-half-end : tie.Need-add-half-end Inv-loop μ-loop
+add-half-end c = search needs
 
 loop-less : tie.Need-loop-less Inv-loop μ-loop
-loop-less c = omega (arith, half-below (now (c .before .before .before .before .before .args .list)) (c .before .before .before .before .before .args .b) (c .before .before .loop .k) (c .before .before .loop .inv .1) (c .before .before .before .before .before .pre .3) (omega arith))
+loop-less c =
+    let e = c .before .before .before .before .before in
+    let l = c .before .before .loop in
+    omega (arith, half-below (now (e .args .positions)) (e .args .b) (l .half-end) (l .inv .1) (e .pre .3) (omega arith))
 
 loop-again : tie.Need-loop-again Inv-loop μ-loop
 loop-again c =
-    let below = half-below (now (c .before .before .before .before .before .args .list)) (c .before .before .before .before .before .args .b) (c .before .before .loop .k) (c .before .before .loop .inv .1) (c .before .before .before .before .before .pre .3) (omega arith) in
-    (omega arith, omega arith, c .before .before .loop .inv .2, c .before .before .loop .inv .3, half-more (now (c .before .before .before .before .before .args .list)) (c .before .before .before .before .before .args .b) (c .before .before .loop .k) (c .before .before .loop .inv .4) (omega arith))
+    let e = c .before .before .before .before .before in
+    let l = c .before .before .loop in
+    let below = half-below (now (e .args .positions)) (e .args .b) (l .half-end) (l .inv .1) (e .pre .3) (omega arith) in
+    (omega arith, omega arith, l .inv .2, l .inv .3, half-more (now (e .args .positions)) (e .args .b) (l .half-end) (l .inv .4) (omega arith))
 
 returns : tie.Need-returns Inv-loop μ-loop
-returns c = record { least = c .before .before .loop .inv .0; most = c .before .before .loop .inv .1; within = c .before .before .loop .inv .4; past = omega arith }
+returns c = let l = c .before .before .loop in record { least = l .inv .0; most = l .inv .1; within = l .inv .4; past = omega arith }
 
 pub half-spec : {M : Type 1} → statement M
 half-spec =
@@ -52,7 +57,7 @@ half-spec =
     loop-holds
     entry-requires-2
     mul-if1
-    add-k
+    add-half-end
     loop-less
     loop-again
     returns)

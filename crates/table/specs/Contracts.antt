@@ -1,0 +1,39 @@
+-- What the steps of a fill, and the reading of a filled table, ask of the lists and floors that they are lent.
+use mathlib.Core.Path.{_≡_}
+use mathlib.Core.List.{List}
+use Prim.Native.Nat.{ℕ, _≤_, _<_}
+use lib.ListN.{length, getD, take}
+use Rattle.cutting.specs.declared.Direction.{Direction}
+use Rattle.cutting.specs.Tree.{side}
+use Rattle.cutting.specs.Job.{Job, normal-positions, normal-floor}
+use Rattle.table.specs.Table.{position-count, position}
+
+-- a list holds the normal positions of a side
+abbrev pub Listed : Job → Direction → List ℕ → Type 0
+Listed J d positions = (position-count J d ≤ length positions) × ((i : ℕ) → i < position-count J d → getD positions i 0 ≡ position J d i)
+
+-- floors hold for each length up to the plate's side the index of the largest normal position not above it
+abbrev pub Mapped : Job → Direction → List ℕ → Type 0
+Mapped J d floors = (x : ℕ) → x ≤ side d (J .plate) → (getD floors x 0 < position-count J d) × (position J d (getD floors x 0) ≡ normal-floor J d x)
+
+-- the job of a plate and of arrays with the sizes and prices of its kinds: the figures do not read the demands
+abbrev pub kinds-job : ℕ → ℕ → ℕ → List ℕ → List ℕ → List ℕ → Job
+kinds-job l w count kind-lengths kind-widths prices = record {
+  plate = (l, w);
+  count = count;
+  size = λ i. (getD kind-lengths i 0, getD kind-widths i 0);
+  price = λ i. getD prices i 0;
+  demand = λ i. 0;
+}
+
+-- a list begins with the normal positions of one side of a job, so many
+pub record NormalList (J : Job) (d : Direction) (count : ℕ) (positions : List ℕ) : Type 0 where
+  pub counted : count ≡ position-count J d
+  pub listed : take count positions ≡ normal-positions J d
+
+-- such a list, and the floors of its side
+pub record Positions (J : Job) (d : Direction) (count : ℕ) (positions floors : List ℕ) : Type 0 where
+  pub counted : count ≡ position-count J d
+  pub listed : take count positions ≡ normal-positions J d
+  pub mapped : side d (J .plate) < length floors
+  pub floored : Mapped J d floors
