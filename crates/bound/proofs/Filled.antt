@@ -15,7 +15,8 @@ use Rattle.positions.specs.Contracts.{Holds, Listable, positions-of, Mappable, 
 use Rattle.positions.proofs.Lists.{holds-take, holds-length}
 use Rattle.positions.proofs.Fitting.{lengths-found, widths-found}
 use Rattle.positions.proofs.Positions.{positions-rising, floors-found}
-use Rattle.table.specs.Table.{words-needed, kinds-job, Mapped, Positions}
+use Rattle.table.specs.Table.{words-needed}
+use Rattle.table.specs.Contracts.{kinds-job, Mapped, Positions}
 use Rattle.bound.specs.declared.TableSize.{TableSize}
 use Rattle.bound.specs.Contracts.{SidesMapped, BothMapped, Fillable, FilledBy, Weighed}
 

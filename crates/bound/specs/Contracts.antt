@@ -9,7 +9,8 @@ use Rattle.refusal.specs.Refusals.{first-refusal}
 use Rattle.refusal.specs.declared.Checked.the-variants.{Passed}
 use Rattle.job.specs.Weights.{weight-in}
 use Rattle.positions.specs.Contracts.{Floors}
-use Rattle.table.specs.Table.{words-needed, Figures, Kept, kinds-job, Mapped, Positions}
+use Rattle.table.specs.Table.{words-needed, Figures, Kept}
+use Rattle.table.specs.Contracts.{kinds-job, Mapped, Positions}
 use Rattle.bound.specs.declared.TableSize.{TableSize}
 use Rattle.bound.specs.declared.BoundReport.{BoundReport}
 use Rattle.bound.specs.declared.BoundAnswer.{BoundAnswer}

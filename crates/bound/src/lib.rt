@@ -5,6 +5,7 @@ use positions::map_floors;
 use positions::normal_positions;
 use refusal::Checked;
 use refusal::Refusal;
+use table::Extents;
 ghost use mathlib.Core.Path.{_≡_};
 ghost use mathlib.Core.Bool.{_||_};
 ghost use Prim.Native.Nat.{_+_, _*_, _≤_};
@@ -83,26 +84,28 @@ fn fill_table<'a>(
     requires { ⌜ Fillable (size-job size (now «kind_lengths») (now «kind_widths») (now prices)) (now weights) size (now lengths) (now widths) (now floors) (now table) ⌝ }
     ensures { λ _. ⌜ FilledBy (size-job size (now («kind_lengths» .entry)) (now («kind_widths» .entry)) (now (prices .entry))) (weight-in (now (weights .entry))) (size .capacity) (now (table .entry)) (now (table .exit)) ⌝ }
 {
-    let width_floors = &floors[1001..];
     if size.capacity == 0 {
+        let extents = Extents {
+            length: size.length,
+            width: size.width,
+            count: size.count,
+            length_count: size.rows,
+            columns: size.columns,
+        };
         one_share::fill(
-            size.length,
-            size.width,
+            extents,
             kind_lengths,
             kind_widths,
             prices,
             weights,
-            size.count,
             lengths,
             floors,
-            size.rows,
             widths,
-            width_floors,
-            size.columns,
             table,
         );
         return;
     }
+    let width_floors = &floors[1001..];
     state_fill::fill_weighed(
         size.length,
         size.width,

@@ -21,7 +21,8 @@ use Rattle.cutting.proofs.Lists.{mem-range, mem-pairs, range-length, range-entr
 use Rattle.cutting.proofs.Positions.{between-length, between-entry}
 use Rattle.cutting.proofs.Table.{normal-zero}
 use Rattle.job.specs.Weights.{weight-in}
-use Rattle.table.specs.Table.{position-count, position, Listed, Mapped}
+use Rattle.table.specs.Table.{position-count, position}
+use Rattle.table.specs.Contracts.{Listed, Mapped}
 use Rattle.choice.specs.declared.Cell.{Cell}
 use Rattle.choice.specs.declared.Chosen.{Chosen}
 use Rattle.choice.specs.declared.Dimensions.{Dimensions}

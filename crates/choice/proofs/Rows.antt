@@ -14,7 +14,8 @@ use Rattle.cutting.proofs.Floor.{floor-le}
 use Rattle.cutting.proofs.Job.{figure-ceiling}
 use Rattle.cutting.proofs.Table.{positions-rise, positions-normal, positions-length, positions-floor, figure-floor}
 use Rattle.job.specs.Weights.{weight-in}
-use Rattle.table.specs.Table.{position-count, position, Listed, Mapped, words-needed, word}
+use Rattle.table.specs.Table.{position-count, position, words-needed, word}
+use Rattle.table.specs.Contracts.{Listed, Mapped}
 use Rattle.choice.specs.Search.{Row, Searchable}
 use Rattle.choice.specs.Choice.{Tabled}
 

@@ -8,7 +8,8 @@ use Rattle.cutting.specs.declared.Node.the-variants.{Waste, Piece, Cut}
 use Rattle.cutting.specs.Choice.{Choice, as-waste, as-piece, as-cut}
 use Rattle.cutting.specs.Job.{Job, InRange, plan-choice}
 use Rattle.job.specs.Weights.{weight-in}
-use Rattle.table.specs.Table.{position-count, Listed, Mapped, words-needed, Figures}
+use Rattle.table.specs.Table.{position-count, words-needed, Figures}
+use Rattle.table.specs.Contracts.{Listed, Mapped}
 use Rattle.choice.specs.declared.Cell.{Cell}
 use Rattle.choice.specs.declared.Chosen.{Chosen}
 use Rattle.choice.specs.declared.Dimensions.{Dimensions}

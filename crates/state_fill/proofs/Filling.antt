@@ -10,7 +10,8 @@ use lib.ListN.{length, getD}
 use Rattle.cutting.specs.declared.Direction.the-variants.{Length, Width}
 use Rattle.cutting.specs.Job.{Job, InRange}
 use Rattle.cutting.proofs.Table.{positions-first, positions-some}
-use Rattle.table.specs.Table.{position-count, Kept, Positions}
+use Rattle.table.specs.Table.{position-count, Kept}
+use Rattle.table.specs.Contracts.{Positions}
 use Rattle.table.specs.Words.{Outside, Run, Half, Axis}
 use Rattle.table.proofs.Words.{cell-before, words-past}
 use Rattle.table.proofs.Halves.{half-next}

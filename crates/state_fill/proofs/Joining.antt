@@ -8,7 +8,7 @@ use native.Mathlib.Decide.{ℕ-discrete, decLe}
 use native.Mathlib.Omega.{arith}
 use lib.Dec.{T}
 use lib.ListN.{getD}
-use Rattle.table.specs.Words.{Outside, beyond, Cuts}
+use Rattle.table.specs.Words.{Outside, remainder, Cuts}
 use Rattle.state_fill.specs.Cells.{figure-in, note-in, held, note, Rises, Listed, Low, Grown, Taken, Ready, JoinedWith, Joined, CutAt, Placed}
 use Rattle.state_fill.proofs.Growing.{grown-none, grown-then}
 
@@ -134,46 +134,46 @@ module _ (le : ℕ → ℕ → Bool) (at n : ℕ) where
     cut-none from xs = record { grown = grown-none le at n xs; sums = λ i t u h l. absurd (omega arith); low = λ f r s l. l }
 
     -- a cut whose parts do not make up the whole is passed over
-    pub cut-passed : (i : ℕ) (xs : List ℕ) → (getD list i 0 + getD list (beyond list map a i) 0 ≡ getD list a 0 → ⊥) → CutAt le list map a i (i + 1) base step at n xs xs
+    pub cut-passed : (i : ℕ) (xs : List ℕ) → (getD list i 0 + getD list (remainder list map a i) 0 ≡ getD list a 0 → ⊥) → CutAt le list map a i (i + 1) base step at n xs xs
     cut-passed i xs h = record {
       grown = grown-none le at n xs;
       sums = λ j t u l m e. absurd (h (let z : j ≡ i = omega arith in rw z at e));
       low = λ f r s l. l;
     }
 
-    pub cut-joined : (i : ℕ) (old new : List ℕ) → Joined le at n (base + i * step) (base + beyond list map a i * step) old new → CutAt le list map a i (i + 1) base step at n old new
+    pub cut-joined : (i : ℕ) (old new : List ℕ) → Joined le at n (base + i * step) (base + remainder list map a i * step) old new → CutAt le list map a i (i + 1) base step at n old new
     cut-joined i old new w = record {
       grown = w .grown;
       sums = λ j t u l m e x y h b. (let z : j ≡ i = omega arith in rw z (w .sums t u (rw z at x) (rw z at y) h b));
       low = λ f r s l. w .low f r (λ t u ht hu h b. s i t u (omega arith) (omega arith) ht hu h b) l;
     }
 
-    pub cut-part : (i y : ℕ) (old new : List ℕ) → y ≡ beyond list map a i → Joined le at n (base + i * step) (base + y * step) old new → CutAt le list map a i (i + 1) base step at n old new
+    pub cut-part : (i y : ℕ) (old new : List ℕ) → y ≡ remainder list map a i → Joined le at n (base + i * step) (base + y * step) old new → CutAt le list map a i (i + 1) base step at n old new
     cut-part i y old new e w = cut-joined i old new (rw e at w)
 
     -- the cuts so far, and those from there on
-    pub cut-then : (from mid end : ℕ) (old xs new : List ℕ) → ((i : ℕ) → from ≤ i → i < end → (base + i * step + n ≤ at) × (base + beyond list map a i * step + n ≤ at)) → from ≤ mid → mid ≤ end
+    pub cut-then : (from mid end : ℕ) (old xs new : List ℕ) → ((i : ℕ) → from ≤ i → i < end → (base + i * step + n ≤ at) × (base + remainder list map a i * step + n ≤ at)) → from ≤ mid → mid ≤ end
         → CutAt le list map a from mid base step at n old xs → CutAt le list map a mid end base step at n xs new → CutAt le list map a from end base step at n old new
     cut-then from mid end old xs new room lo hi p q = record {
       grown = grown-then le at n old xs new (p .grown) (q .grown);
       sums = λ i t u l m e x y h b. go i t u l m e x y h b (decLe mid i);
-      low = λ f r s l. q .low f r (λ i t u lm m ht hu h b. (let k = room i (omega arith) m in omega (arith, same (base + i * step) t (omega arith), same (base + beyond list map a i * step) u (omega arith), s i t u (omega arith) m ht hu h b)))
+      low = λ f r s l. q .low f r (λ i t u lm m ht hu h b. (let k = room i (omega arith) m in omega (arith, same (base + i * step) t (omega arith), same (base + remainder list map a i * step) u (omega arith), s i t u (omega arith) m ht hu h b)))
           (p .low f r (λ i t u lm m ht hu h b. s i t u lm (omega arith) ht hu h b) l);
     }
       where
         same : (x s : ℕ) → x + s < at → held xs x s ≡ held old x s
         same x s h = held-kept at (at + n) old xs (p .grown .rest) x s h
 
-        go : (i t u : ℕ) → from ≤ i → i < end → getD list i 0 + getD list (beyond list map a i) 0 ≡ getD list a 0 → Listed old (base + i * step) n t → Listed old (base + beyond list map a i * step) n u
-            → t + u < n → T (le t (t + u)) → Dec (mid ≤ i) → held old (base + i * step) t + held old (base + beyond list map a i * step) u ≤ held new at (t + u)
+        go : (i t u : ℕ) → from ≤ i → i < end → getD list i 0 + getD list (remainder list map a i) 0 ≡ getD list a 0 → Listed old (base + i * step) n t → Listed old (base + remainder list map a i * step) n u
+            → t + u < n → T (le t (t + u)) → Dec (mid ≤ i) → held old (base + i * step) t + held old (base + remainder list map a i * step) u ≤ held new at (t + u)
         go i t u l m e x y h b (no k) = omega (arith, p .sums i t u l (omega arith) e x y h b, q .grown .more (t + u) h)
         go i t u l m e x y h b (yes k) =
             let o = room i l m in
             omega (
               arith,
               same (base + i * step) t (omega arith),
-              same (base + beyond list map a i * step) u (omega arith),
-              q .sums i t u k m e (listed-kept at (at + n) old xs (p .grown .rest) (base + i * step) n t (o .0) x) (listed-kept at (at + n) old xs (p .grown .rest) (base + beyond list map a i * step) n u (o .1) y) h b,
+              same (base + remainder list map a i * step) u (omega arith),
+              q .sums i t u k m e (listed-kept at (at + n) old xs (p .grown .rest) (base + i * step) n t (o .0) x) (listed-kept at (at + n) old xs (p .grown .rest) (base + remainder list map a i * step) n u (o .1) y) h b,
             )
 
   module _ (lengths widths own prices : ℕ → ℕ) (l w : ℕ) where

@@ -13,8 +13,9 @@ use Rattle.cutting.specs.declared.Direction.{Direction}
 use Rattle.cutting.specs.declared.Direction.the-variants.{Length, Width}
 use Rattle.cutting.specs.Job.{Job, InRange}
 use Rattle.cutting.proofs.Table.{positions-length}
-use Rattle.table.specs.Table.{position-count, Positions}
-use Rattle.table.specs.Words.{Outside, Run, Half, beyond, Cuts}
+use Rattle.table.specs.Table.{position-count}
+use Rattle.table.specs.Contracts.{Positions}
+use Rattle.table.specs.Words.{Outside, Run, Half, remainder, Cuts}
 use Rattle.table.proofs.Words.{cell-before}
 use Rattle.table.proofs.Halves.{half-cuts, half-parts}
 use Rattle.table.proofs.Figures.{positions-axis}
@@ -77,13 +78,13 @@ module _ (J : Job) (le : ℕ → ℕ → Bool) (own : ℕ → ℕ) (order : Orde
       omega (
         arith,
         figures i t (omega (arith, half .most)) ht,
-        figures (beyond list map a i) u (q .0) hu,
-        along J le own order fit d p list map given o .sums i (beyond list map a i) a t u (omega (arith, half .most)) (omega (arith, q .0)) ha (q .1) b,
+        figures (remainder list map a i) u (q .0) hu,
+        along J le own order fit d p list map given o .sums i (remainder list map a i) a t u (omega (arith, half .most)) (omega (arith, q .0)) ha (q .1) b,
       ))) h
 
   -- and no cut gives more than g at a state, if what the cell has at the states below is at most g
   pub side-taken : (s g : ℕ) → s < n → across J le own d o (getD list (a - 1) 0) s ≤ g → ((t : ℕ) → T (le t s) → held new at t ≤ g)
-      → (i : ℕ) → 1 ≤ i → i < k → (e m : ℕ) → T (le e (e + m)) → e + m ≡ s → across J le own d o (getD list i 0) e + across J le own d o (getD list (beyond list map a i) 0) m ≤ g
+      → (i : ℕ) → 1 ≤ i → i < k → (e m : ℕ) → T (le e (e + m)) → e + m ≡ s → across J le own d o (getD list i 0) e + across J le own d o (getD list (remainder list map a i) 0) m ≤ g
   side-taken s g hs before has = side-covered J le own order fit d p list map given o a k s g n (λ i. Listed old (base + i * step) n) ha half hs before covers
       (λ i j l m e hj x t u ht hu f y b v. omega (
         arith,
@@ -93,7 +94,7 @@ module _ (J : Job) (le : ℕ → ℕ → Bool) (own : ℕ → ℕ) (order : Orde
         has (t + u) v,
       ))
     where
-      taken : (i j : ℕ) → 1 ≤ i → i < k → j ≡ beyond list map a i → getD list i 0 + getD list j 0 ≡ getD list a 0 → (t u : ℕ) → Listed old (base + i * step) n t → Listed old (base + j * step) n u
+      taken : (i j : ℕ) → 1 ≤ i → i < k → j ≡ remainder list map a i → getD list i 0 + getD list j 0 ≡ getD list a 0 → (t u : ℕ) → Listed old (base + i * step) n t → Listed old (base + j * step) n u
           → t + u < n → T (le t (t + u)) → held old (base + i * step) t + held old (base + j * step) u ≤ held new at (t + u)
       taken i j l m e x t u f y z b = rw e (cuts .sums i t u l m (rw e at x) f (rw e at y) z b)
 

@@ -7,7 +7,7 @@ use mathlib.Core.List.{List}
 use Prim.Native.Nat.{ℕ, _+_, _-_, _*_, _/_, _%_, _≤_, _<_}
 use lib.Dec.{T}
 use lib.ListN.{length, getD}
-use Rattle.table.specs.Words.{Outside, beyond}
+use Rattle.table.specs.Words.{Outside, remainder}
 use Rattle.table.specs.States.{below, Blocks, Covers}
 
 -- the figure and the note of a word
@@ -108,11 +108,11 @@ pub record Joined (le : ℕ → ℕ → Bool) (at n x y : ℕ) (old new : List �
 -- entry i begins at word base + i · step
 pub record CutAt (le : ℕ → ℕ → Bool) (list map : List ℕ) (a from end base step at n : ℕ) (old new : List ℕ) : Type 0 where
   pub grown : Grown le at n old new
-  pub sums : (i t u : ℕ) → from ≤ i → i < end → getD list i 0 + getD list (beyond list map a i) 0 ≡ getD list a 0
-      → Listed old (base + i * step) n t → Listed old (base + beyond list map a i * step) n u → t + u < n → T (le t (t + u))
-      → held old (base + i * step) t + held old (base + beyond list map a i * step) u ≤ held new at (t + u)
+  pub sums : (i t u : ℕ) → from ≤ i → i < end → getD list i 0 + getD list (remainder list map a i) 0 ≡ getD list a 0
+      → Listed old (base + i * step) n t → Listed old (base + remainder list map a i * step) n u → t + u < n → T (le t (t + u))
+      → held old (base + i * step) t + held old (base + remainder list map a i * step) u ≤ held new at (t + u)
   pub low : (f : ℕ → ℕ) → Rises le n f
-      → ((i t u : ℕ) → from ≤ i → i < end → t < n → u < n → t + u < n → T (le t (t + u)) → held old (base + i * step) t + held old (base + beyond list map a i * step) u ≤ f (t + u))
+      → ((i t u : ℕ) → from ≤ i → i < end → t < n → u < n → t + u < n → T (le t (t + u)) → held old (base + i * step) t + held old (base + remainder list map a i * step) u ≤ f (t + u))
       → Low f at n old → Low f at n new
 
 -- the cell has taken the price of every kind below `count` of exactly the size l by w at the kind's state

@@ -7,7 +7,8 @@ use Prim.Native.Nat.{ℕ, _+_, _-_, _*_, _≤_, _<_}
 use lib.ListN.{length, getD}
 use Rattle.cutting.specs.declared.Direction.the-variants.{Length, Width}
 use Rattle.cutting.specs.Job.{Job, InRange}
-use Rattle.table.specs.Table.{position-count, position, Positions}
+use Rattle.table.specs.Table.{position-count, position}
+use Rattle.table.specs.Contracts.{Positions}
 use Rattle.table.specs.Words.{Half}
 use Rattle.table.specs.States.{figure-at, Covers}
 use Rattle.state_fill.specs.Cells.{held, note, under, Digits, Listed}

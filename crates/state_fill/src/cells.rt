@@ -8,7 +8,7 @@ use crate::words::note;
 use table::greater;
 ghost use Prim.Native.Nat.{ℕ, _+_, _*_, _-_, _≤_, _<_, max};
 ghost use lib.ListN.{length, getD};
-ghost use Rattle.table.specs.Table.{kinds-job};
+ghost use Rattle.table.specs.Contracts.{kinds-job};
 ghost use Rattle.table.specs.Words.{Outside, Run};
 ghost use Rattle.state_fill.specs.Cells.{held, note, under, Digits, Rises, Flagged, Taken, Ready, Inherited, Placed, Finished, Topped};
 ghost use Rattle.state_fill.specs.Tables.{owns, Made, Spot};

@@ -5,7 +5,8 @@ ghost use Prim.Native.Nat.{ℕ, _≤_, _<_};
 ghost use lib.ListN.{length, getD};
 ghost use Rattle.cutting.specs.declared.Direction.the-variants.{Length, Width};
 ghost use Rattle.cutting.specs.Job.{InRange};
-ghost use Rattle.table.specs.Table.{kinds-job, Positions, words-needed, Figures, Kept};
+ghost use Rattle.table.specs.Table.{words-needed, Figures, Kept};
+ghost use Rattle.table.specs.Contracts.{kinds-job, Positions};
 
 fn widen(weight: u8) -> u32
     ensures { λ r. ⌜ r ≡ weight ⌝ }

@@ -20,7 +20,8 @@ use Rattle.refusal.specs.declared.Checked.{Checked}
 use Rattle.refusal.specs.declared.Checked.the-variants.{Passed, Refused}
 use Rattle.job.specs.Weights.{weight-in}
 use Rattle.job.proofs.Checks.{cons-passed}
-use Rattle.table.specs.Table.{Listed, words-needed}
+use Rattle.table.specs.Table.{words-needed}
+use Rattle.table.specs.Contracts.{Listed}
 use Rattle.bound.specs.declared.BoundReport.{BoundReport}
 use Rattle.bound.specs.declared.BoundAnswer.{BoundAnswer}
 use Rattle.bound.specs.declared.BoundAnswer.the-variants as bounded

@@ -5,34 +5,22 @@ use borrow.Author.Needs.{needs}
 use Rattle.bound.proofs.fill_table.Statement.{statement}
 use Rattle.bound.proofs.fill_table.Tie as tie
 
-sub-width-floors : tie.Need-sub-width-floors
-sub-width-floors c = search needs
-
-part-width-floors-start : tie.Need-part-width-floors-start
-part-width-floors-start c = search needs
-
-part-width-floors-end : tie.Need-part-width-floors-end
-part-width-floors-end c = search needs
-
 fill-requires : tie.Need-fill-requires
 fill-requires c κs =
-    let e = c .before .before .before .before .before .before .before .before .before in
-    let given = e .pre in
-    let z = c .before .if1 .taken in (
-      given .in-range,
-      given .weights,
-      given .lengths-are,
-      rw (to-end (now (e .args .floors))) (given .widths-are),
-      rw z at (given .room),
-    )
+    let given = c .before .before .before .before .before .before .before .before .pre in
+    record {
+      range = given .in-range;
+      weighed = given .weights;
+      lengths = given .lengths-are;
+      widths = record { counted = given .widths-are .counted; listed = given .widths-are .listed };
+      room = rw (c .before .if1 .taken) at (given .room);
+    }
 
 same-length : tie.Need-same-length
 same-length c = search needs
 
 returns : tie.Need-returns
-returns c =
-    let e = c .before .before .before .before .before .before .before .before .before .before .before .before in
-    rw (c .before .before .before .before .if1 .taken) (c .before .before .fill .ensures)
+returns c = rw (c .before .before .before .before .if1 .taken) (c .before .before .fill .ensures)
 
 fill-weighed-requires : tie.Need-fill-weighed-requires
 fill-weighed-requires c κs =
@@ -50,12 +38,12 @@ pub fill-table-spec : {M : Type 1} → statement M
 fill-table-spec =
     tie.close
     (tie.spec
-    sub-width-floors
-    part-width-floors-start
-    part-width-floors-end
     fill-requires
     same-length
     returns
+    (search needs)
+    (search needs)
+    (search needs)
     fill-weighed-requires
     same-length-2
     returns-2)

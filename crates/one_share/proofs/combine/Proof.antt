@@ -70,3 +70,4 @@ combine-spec =
     loop-again
     same-length
     returns)
+-- x

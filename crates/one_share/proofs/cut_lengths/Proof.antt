@@ -130,3 +130,4 @@ cut-lengths-spec =
     loop-again
     same-length
     returns)
+-- x

@@ -90,3 +90,4 @@ fill-spec =
     loop-again
     same-length
     returns)
+-- x

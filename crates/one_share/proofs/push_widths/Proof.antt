@@ -116,3 +116,4 @@ push-widths-spec =
     same-length
     same-length-2
     returns)
+-- x

@@ -6,7 +6,7 @@ use Prim.Native.Nat.{_-_, _*_, _<_}
 use native.Mathlib.Nat.{mul-le-mul-right}
 use lib.ListN.{length}
 use denote.Ref.{now}
-use Rattle.table.specs.Table.{kinds-job}
+use Rattle.table.specs.Contracts.{kinds-job}
 use Rattle.state_fill.proofs.Filling.{InTable, lent-of, lent-kept, some-state, table-some, table-words, table-room, table-start, table-half, table-row, table-more, table-bare, table-end}
 use Rattle.state_fill.proofs.rows.fill.Statement.{statement}
 use Rattle.state_fill.proofs.rows.fill.Tie as tie

@@ -4,7 +4,7 @@ use borrow.Author.Needs.{needs}
 use native.Mathlib.Omega.{arith}
 use mathlib.Core.Path.{refl, _∙_}
 use Prim.Native.Nat.{_-_}
-use Rattle.table.specs.Table.{kinds-job}
+use Rattle.table.specs.Contracts.{kinds-job}
 use Rattle.state_fill.proofs.Filling.{InRow, row-some, row-room, row-words, row-start, row-half, row-spot, row-fits, row-more, row-end}
 use Rattle.state_fill.proofs.rows.fill_row.Statement.{statement}
 use Rattle.state_fill.proofs.rows.fill_row.Tie as tie

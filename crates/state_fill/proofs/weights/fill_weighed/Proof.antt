@@ -2,7 +2,7 @@
 use borrow.Author.Needs.{needs}
 use native.Mathlib.Omega.{arith}
 use denote.Ref.{now}
-use Rattle.table.specs.Table.{kinds-job}
+use Rattle.table.specs.Contracts.{kinds-job}
 use Rattle.state_fill.proofs.Ties.{one-digit, figures-one}
 use Rattle.state_fill.proofs.weights.fill_weighed.Statement.{statement}
 use Rattle.state_fill.proofs.weights.fill_weighed.Tie as tie
