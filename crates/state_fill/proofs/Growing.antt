@@ -12,7 +12,7 @@ use lib.ListN.{length, getD, set}
 use lib.Seq.{getD-set-same, getD-set-other}
 use Rattle.table.specs.Words.{Outside}
 use Rattle.table.specs.States.{Order, Covers}
-use Rattle.state_fill.specs.Cells.{figure-in, note-in, held, under, Digits, Rises, Lift, Lifted, Raised, Flagged, Low, Grown, Taken}
+use Rattle.state_fill.specs.Cells.{figure-in, note-in, held, under, Digits, Rises, Growing, Lift, Lifted, Raised, Flagged, Low, Grown, Taken}
 use Rattle.state_fill.proofs.Digits.{below-last, digits-order}
 use Rattle.state_fill.proofs.Noted.{figure-plain, figure-flagged, note-flagged}
 
@@ -138,9 +138,8 @@ pub test-false : (r b : Bool) → r ≡ b → r ≡ false → T b → ⊥
 test-false r b e f t = subst T (sym e ∙ f) t
 
 -- the words of all states, as the code counts them
-module _ (blocks : List ℕ) (d n : ℕ) (given : Digits blocks d n) where
-  pub rises-states : (f : ℕ → ℕ) → Rises (under blocks d) n f → Rises (under blocks d) (getD blocks d 0) f
-  rises-states f r t s h l = r t s (omega (arith, given .states)) l
+pub growing-states : {blocks : List ℕ} {d n at : ℕ} {xs : List ℕ} → Growing blocks d n at xs → Growing blocks d (getD blocks d 0) at xs
+growing-states {blocks} {d} {n} {at} {xs} given = subst (λ m. Growing blocks d m at xs) (given .digits .states) given
 
-  pub lifted-states : (at t v : ℕ) (old new : List ℕ) → Lifted (under blocks d) at (getD blocks d 0) t v old new → Lifted (under blocks d) at n t v old new
-  lifted-states at t v old new w = subst (λ m. Lifted (under blocks d) at m t v old new) (sym (given .states)) w
+pub lifted-states : {blocks : List ℕ} {d n at t v : ℕ} {old new : List ℕ} → Digits blocks d n → Lifted (under blocks d) at (getD blocks d 0) t v old new → Lifted (under blocks d) at n t v old new
+lifted-states {blocks} {d} {n} {at} {t} {v} {old} {new} given w = subst (λ m. Lifted (under blocks d) at m t v old new) (sym (given .states)) w

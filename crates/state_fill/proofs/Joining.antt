@@ -7,9 +7,11 @@ use Prim.Native.Nat.{ℕ, _+_, _-_, _*_, _≤_, _<_}
 use native.Mathlib.Decide.{ℕ-discrete, decLe}
 use native.Mathlib.Omega.{arith}
 use lib.Dec.{T}
-use lib.ListN.{getD}
+use lib.ListN.{length, getD}
+use Rattle.cutting.specs.Job.{Job}
 use Rattle.table.specs.Words.{Outside, remainder, Cuts}
-use Rattle.state_fill.specs.Cells.{figure-in, note-in, held, note, Rises, Listed, Low, Grown, Taken, Ready, JoinedWith, Joined, CutAt, Placed}
+use Rattle.table.proofs.Halves.{remainder-is}
+use Rattle.state_fill.specs.Cells.{figure-in, note-in, held, note, under, Rises, Growing, Listed, Low, Grown, Taken, Ready, JoinedWith, Joined, Cuttable, CutAt, Placed}
 use Rattle.state_fill.proofs.Growing.{grown-none, grown-then}
 
 module _ (at end : ℕ) (old new : List ℕ) (kept : Outside at end old new) where
@@ -22,24 +24,40 @@ module _ (at end : ℕ) (old new : List ℕ) (kept : Outside at end old new) whe
   pub listed-kept : (x n t : ℕ) → x + n ≤ at → Listed old x n t → Listed new x n t
   listed-kept x n t h l = (l .0, l .1, note-kept x (l .0) (omega (arith, l .1)) ∙ l .2)
 
-  pub ready-kept : (x n : ℕ) → x + n ≤ at → Ready old x n → Ready new x n
-  ready-kept x n h r = record {
-    small = λ s l. omega (arith, held-kept x s (omega arith), r .small s l);
-    most = λ s l. omega (arith, held-kept x s (omega arith), held-kept x (n - 1) (omega arith), r .most s l);
-    notes = λ k l. omega (arith, note-kept x k (omega arith), r .notes k l);
-    ended = λ j k l m z. note-kept x k (omega arith) ∙ r .ended j k l m (sym (note-kept x j (omega arith)) ∙ z);
+  pub ready-kept : (x n : ℕ) → Ready old x n at → Ready new x n at
+  ready-kept x n r = record {
+    before = r .before;
+    small = λ s l. omega (arith, held-kept x s (omega (arith, r .before)), r .small s l);
+    most = λ s l. omega (arith, held-kept x s (omega (arith, r .before)), held-kept x (n - 1) (omega (arith, r .before)), r .most s l);
+    notes = λ k l. omega (arith, note-kept x k (omega (arith, r .before)), r .notes k l);
+    ended = λ j k l m z. note-kept x k (omega (arith, r .before)) ∙ r .ended j k l m (sym (note-kept x j (omega (arith, r .before))) ∙ z);
   }
 
+-- a cell that has grown goes on growing
+pub growing-kept : {blocks : List ℕ} {d n at : ℕ} {old new : List ℕ} → Growing blocks d n at old → length new ≡ length old → Grown (under blocks d) at n old new → Growing blocks d n at new
+growing-kept g e w = record { digits = g .digits; room = omega (arith, g .room); rises = w .rises (g .rises) }
+
+-- an entry of a list is a state
+pub entry-state : {x n at end : ℕ} {old new : List ℕ} → Ready old x n at → Outside at end old new → (k r : ℕ) → k < n → r ≡ note new x k → r - 1 < n
+entry-state {x} {n} {at} {end} {old} {new} ready rest k r h e = omega (arith, ready .notes k h, note-kept at end old new rest x k (omega (arith, ready .before)))
+
 -- an entry past the end of a list is none
-pub past-end : (xs : List ℕ) (x n i k u : ℕ) → Ready xs x n → i < n → note xs x k ≡ 0 → note xs x i ≡ u + 1 → i < k
-past-end xs x n i k u r h z e = go (decLe k i)
+pub past-end : (xs : List ℕ) (x n at i k u : ℕ) → Ready xs x n at → i < n → note xs x k ≡ 0 → note xs x i ≡ u + 1 → i < k
+past-end xs x n at i k u r h z e = go (decLe k i)
   where
     go : Dec (k ≤ i) → i < k
     go (yes l) = absurd (omega (arith, r .ended k i l h z))
     go (no l) = omega arith
 
-pub same-less : (y z a : ℕ) → y ≡ z → z < a → y < a
-same-less y z a e h = omega arith
+-- one cut: its first part can be read, and so can its second, at the entry that the map gives
+module _ {blocks list map : List ℕ} {d n a i base step at : ℕ} {xs : List ℕ} (given : Cuttable blocks list map d n a i (i + 1) base step at xs) where
+  pub first-part : Ready xs (base + i * step) n at
+  first-part = given .ready i (omega (arith, given .cuts .most))
+
+  pub second-entry : (whole part y : ℕ) → whole ≡ getD list a 0 → part ≡ getD list i 0 → y ≡ getD map (whole - part) 0 → (y ≡ remainder list map a i) × (y < a)
+  second-entry whole part y e f g =
+      let other = remainder-is list map a i whole part y e f g in
+      (other, rw other (given .cuts .earlier i (given .first) (omega arith)))
 
 -- cuts at fewer entries
 pub cuts-fewer : (list map : List ℕ) (a j k : ℕ) → 1 ≤ j → j ≤ k → Cuts list map a k → Cuts list map a j
@@ -87,7 +105,7 @@ module _ (le : ℕ → ℕ → Bool) (at n : ℕ) where
   }
 
   -- nothing can be gained: with its greatest figure, the cell from y on gives no more than state t has
-  pub with-skip : (t v y : ℕ) (xs : List ℕ) → Ready xs y n → Rises le n (held xs at) → v + held xs y (n - 1) ≤ held xs at t → JoinedWith le at n t v y xs xs
+  pub with-skip : (t v y : ℕ) (xs : List ℕ) → Ready xs y n at → Rises le n (held xs at) → v + held xs y (n - 1) ≤ held xs at t → JoinedWith le at n t v y xs xs
   with-skip t v y xs ready rises h = record {
     grown = grown-none le at n xs;
     sums = λ u l k b. omega (arith, ready .most u (omega arith), rises t (t + u) k b);
@@ -176,32 +194,35 @@ module _ (le : ℕ → ℕ → Bool) (at n : ℕ) where
               q .sums i t u k m e (listed-kept at (at + n) old xs (p .grown .rest) (base + i * step) n t (o .0) x) (listed-kept at (at + n) old xs (p .grown .rest) (base + remainder list map a i * step) n u (o .1) y) h b,
             )
 
-  module _ (lengths widths own prices : ℕ → ℕ) (l w : ℕ) where
-    pub placed-none : (xs : List ℕ) → Placed le lengths widths own prices 0 l w at n xs xs
+  module _ (J : Job) (own : ℕ → ℕ) (l w : ℕ) where
+    pub placed-none : (xs : List ℕ) → Placed le J own 0 l w at n xs xs
     placed-none xs = record { grown = grown-none le at n xs; taken = λ i h. absurd (omega arith); low = λ f r s low. low }
 
     -- a kind of another size is passed over
-    pub placed-other : (i : ℕ) (old new : List ℕ) → (lengths i ≡ l → widths i ≡ w → ⊥) → Placed le lengths widths own prices i l w at n old new → Placed le lengths widths own prices (i + 1) l w at n old new
+    pub placed-other : (i : ℕ) (old new : List ℕ) → (J .size i .0 ≡ l → J .size i .1 ≡ w → ⊥) → Placed le J own i l w at n old new → Placed le J own (i + 1) l w at n old new
     placed-other i old new h p = record {
       grown = p .grown;
       taken = λ j k a b c. go j k a b c (ℕ-discrete j i);
       low = λ f r s low. p .low f r (λ j k. s j (omega arith)) low;
     }
       where
-        go : (j : ℕ) → j < i + 1 → lengths j ≡ l → widths j ≡ w → own j < n → Dec (j ≡ i) → prices j ≤ held new at (own j)
+        go : (j : ℕ) → j < i + 1 → J .size j .0 ≡ l → J .size j .1 ≡ w → own j < n → Dec (j ≡ i) → J .price j ≤ held new at (own j)
         go j k a b c (yes e) = absurd (h (rw e at a) (rw e at b))
         go j k a b c (no e) = p .taken j (omega arith) a b c
 
-    pub placed-more : (i : ℕ) (old mid new : List ℕ) → ((s : ℕ) → T (le s s)) → lengths i ≡ l → widths i ≡ w → Placed le lengths widths own prices i l w at n old mid → Taken le at n (own i) 0 (prices i) mid new → Placed le lengths widths own prices (i + 1) l w at n old new
-    placed-more i old mid new refl-le a b p q = record {
+    pub placed-more : (i t v : ℕ) (old mid new : List ℕ) → ((s : ℕ) → T (le s s)) → J .size i .0 ≡ l → J .size i .1 ≡ w → t ≡ own i → v ≡ J .price i
+        → Placed le J own i l w at n old mid → Taken le at n t 0 v mid new → Placed le J own (i + 1) l w at n old new
+    placed-more i t v old mid new refl-le a b state price p q = record {
       grown = grown-then le at n old mid new (p .grown) (q .grown);
       taken = λ j k x y c. go j k x y c (ℕ-discrete j i);
-      low = λ f r s low. q .low f r (λ h t. (let z : own i + 0 ≡ own i = omega arith in rw z (s i (omega arith) a b (omega arith)))) (p .low f r (λ j k. s j (omega arith)) low);
+      low = λ f r s low. q .low f r (λ h u. rw (here, price) (s i (omega arith) a b (omega arith))) (p .low f r (λ j k. s j (omega arith)) low);
     }
       where
-        go : (j : ℕ) → j < i + 1 → lengths j ≡ l → widths j ≡ w → own j < n → Dec (j ≡ i) → prices j ≤ held new at (own j)
+        here : t + 0 ≡ own i
+        here = omega arith
+
+        go : (j : ℕ) → j < i + 1 → J .size j .0 ≡ l → J .size j .1 ≡ w → own j < n → Dec (j ≡ i) → J .price j ≤ held new at (own j)
         go j k x y c (no e) = omega (arith, p .taken j (omega arith) x y c, q .grown .more (own j) c)
         go j k x y c (yes e) =
-            let z : own i + 0 ≡ own i = omega arith in
             let c′ : own i < n = rw e at c in
-            rw e (rw z at (q .taken (omega arith) (rw z (refl-le (own i)))))
+            rw e (rw (here, price) at (q .taken (omega arith) (rw (here, state) (refl-le (own i)))))

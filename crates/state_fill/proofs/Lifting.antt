@@ -13,8 +13,8 @@ use borrow.Author.Tests.{le-leb, lt-leb}
 use lib.Seq.{getD-set-same, getD-set-other}
 use Rattle.table.specs.Words.{Outside}
 use Rattle.table.specs.States.{below, Blocks}
-use Rattle.state_fill.specs.Cells.{figure-in, held, under, Rises, Lift, Lifted}
-use Rattle.state_fill.proofs.Digits.{quotient, rest, below-less, below-parts, parts-below}
+use Rattle.state_fill.specs.Cells.{figure-in, held, under, Rises, Growing, Lift, Lifted}
+use Rattle.state_fill.proofs.Digits.{quotient, rest, lower-blocks, below-less, below-parts, parts-below}
 
 -- the words below x are raised, and those from x on are as they were
 pub record Partly (le : ℕ → ℕ → Bool) (at m t v x : ℕ) (old new : List ℕ) : Type 0 where
@@ -90,10 +90,10 @@ block-room size end j k e h = go (decLe k j)
     go (yes l) = absurd (omega (arith, mul-le-mul-right {m = k} {n = j} size l))
     go (no l) = omega (arith, mul-le-mul-right {m = j + 1} {n = k} size (omega arith))
 
--- the blocks of the last digit before the j-th are raised
-abbrev pub Blockwise : List ℕ → ℕ → ℕ → ℕ → ℕ → ℕ → List ℕ → List ℕ → Type 0
-Blockwise blocks d at t v x old new =
-    (j : ℕ) × (x ≡ j * getD blocks (d - 1) 0) × (t / getD blocks (d - 1) 0 ≤ j) × Partly (under blocks d) at (getD blocks d 0) t v x old new
+-- the blocks of the last digit before the one from x on are raised
+pub record Blockwise (blocks : List ℕ) (d at t v x : ℕ) (old new : List ℕ) : Type 0 where
+  pub passed : (j : ℕ) × (x ≡ j * getD blocks (d - 1) 0) × (t / getD blocks (d - 1) 0 ≤ j)
+  pub partly : Partly (under blocks d) at (getD blocks d 0) t v x old new
 
 module _ (blocks : List ℕ) (e at t v : ℕ) (digits : Blocks (λ i. getD blocks i 0) (suc e)) where
   abbrev size : ℕ
@@ -182,56 +182,63 @@ module _ (blocks : List ℕ) (e at t v : ℕ) (digits : Blocks (λ i. getD block
           rw (y, o) at (here (s - j * size) _ _ (omega arith) (rw f at q))
 
 -- the same at the code's d, its block size and its place
-module _ (blocks : List ℕ) (at t v : ℕ) where
-  pub first-block : (d size : ℕ) → 1 ≤ d → Blocks (λ i. getD blocks i 0) d → size ≡ getD blocks (d - 1) 0 → (xs : List ℕ) → Blockwise blocks d at t v (t - t % size) xs xs
-  first-block zero size h digits f xs = absurd (omega arith)
-  first-block (suc e) size h digits f xs =
-      let k : suc e - 1 ≡ e = omega arith in
-      let g : size ≡ getD blocks e 0 = rw k at f in
-      let x : t - t % getD blocks e 0 ≡ t / getD blocks e 0 * getD blocks e 0 = omega (arith, div-add-mod' t (getD blocks e 0)) in
-      rw (g, k, x) (t / getD blocks e 0, refl, omega arith, up-first blocks e at t v digits xs)
+pub first-block : {blocks : List ℕ} {d at size : ℕ} {xs : List ℕ} → 1 ≤ d → Growing blocks d (getD blocks d 0) at xs → size ≡ getD blocks (d - 1) 0 → (t v : ℕ) → Blockwise blocks d at t v (t - t % size) xs xs
+first-block {d = zero} h given f t v = absurd (omega arith)
+first-block {blocks = blocks} {d = suc e} {at = at} {size = size} {xs = xs} h given f t v =
+    let k : suc e - 1 ≡ e = omega arith in
+    let g : size ≡ getD blocks e 0 = rw k at f in
+    let x : t - t % getD blocks e 0 ≡ t / getD blocks e 0 * getD blocks e 0 = omega (arith, div-add-mod' t (getD blocks e 0)) in
+    rw (g, x) (record { passed = rw k (t / getD blocks e 0, refl, omega arith); partly = up-first blocks e at t v (given .digits .digits) xs })
 
-  -- the block lies whole before the end
-  pub room-block : (d size x : ℕ) (old xs : List ℕ) → 1 ≤ d → Blocks (λ i. getD blocks i 0) d → size ≡ getD blocks (d - 1) 0 → x < getD blocks d 0 → Blockwise blocks d at t v x old xs → x + size ≤ getD blocks d 0
-  room-block zero size x old xs h digits f l w = absurd (omega arith)
-  room-block (suc e) size x old xs h digits f l w =
-      let k : suc e - 1 ≡ e = omega arith in
-      let o = digits .whole e (omega arith) in
-      let z : e + 1 ≡ suc e = omega arith in
-      let b : getD blocks (suc e) 0 ≡ o .0 * getD blocks e 0 = rw z at (o .1) in
-      let y : x ≡ w .0 * getD blocks e 0 = rw k at (w .1) in
-      omega (arith, block-room (getD blocks e 0) (getD blocks (suc e) 0) (w .0) (o .0) b (omega arith), rw k at f)
+pub some-size : {blocks : List ℕ} {d at size : ℕ} {xs : List ℕ} → Growing blocks d (getD blocks d 0) at xs → size ≡ getD blocks (d - 1) 0 → 1 ≤ size
+some-size {blocks} {d} given f = omega (arith, f, given .digits .digits .some (d - 1) (omega arith))
 
-  pub stop-block : (d size x : ℕ) (old xs : List ℕ) → 1 ≤ d → Blocks (λ i. getD blocks i 0) d → size ≡ getD blocks (d - 1) 0 → x < getD blocks d 0 → Rises (under blocks d) (getD blocks d 0) (held old at)
-      → v ≤ figure-in (getD xs (at + x + t % size) 0) → Blockwise blocks d at t v x old xs → Lifted (under blocks d) at (getD blocks d 0) t v old xs
-  stop-block zero size x old xs h digits f l rises u w = absurd (omega arith)
-  stop-block (suc e) size x old xs h digits f l rises u w =
-      let k : suc e - 1 ≡ e = omega arith in
-      let g : size ≡ getD blocks e 0 = rw k at f in
-      let y : x ≡ w .0 * getD blocks e 0 = rw k at (w .1) in
-      let a : at + w .0 * getD blocks e 0 + t % getD blocks e 0 ≡ at + (w .0 * getD blocks e 0 + t % getD blocks e 0) = omega arith in
-      up-stop blocks e at t v digits (w .0) old xs rises (omega (arith, room-block (suc e) size x old xs h digits f l w)) (rw (g, y, a) at u) (rw y at (w .3))
+-- the block lies whole before the end
+pub room-block : {blocks : List ℕ} {d at t v size x : ℕ} {old xs : List ℕ} → 1 ≤ d → Growing blocks d (getD blocks d 0) at old → size ≡ getD blocks (d - 1) 0 → x < getD blocks d 0 → Blockwise blocks d at t v x old xs → x + size ≤ getD blocks d 0
+room-block {d = zero} h given f l w = absurd (omega arith)
+room-block {blocks = blocks} {d = suc e} {x = x} h given f l w =
+    let k : suc e - 1 ≡ e = omega arith in
+    let o = given .digits .digits .whole e (omega arith) in
+    let z : e + 1 ≡ suc e = omega arith in
+    let b : getD blocks (suc e) 0 ≡ o .0 * getD blocks e 0 = rw z at (o .1) in
+    let y : x ≡ w .passed .0 * getD blocks e 0 = rw k at (w .passed .1) in
+    omega (arith, block-room (getD blocks e 0) (getD blocks (suc e) 0) (w .passed .0) (o .0) b (omega arith), rw k at f)
 
-  pub inner-block : (d size x : ℕ) (old xs : List ℕ) → 1 ≤ d → Blocks (λ i. getD blocks i 0) d → size ≡ getD blocks (d - 1) 0 → x < getD blocks d 0 → Rises (under blocks d) (getD blocks d 0) (held old at)
-      → Blockwise blocks d at t v x old xs → Rises (under blocks (d - 1)) (getD blocks (d - 1) 0) (held xs (at + x))
-  inner-block zero size x old xs h digits f l rises w = absurd (omega arith)
-  inner-block (suc e) size x old xs h digits f l rises w =
-      let k : suc e - 1 ≡ e = omega arith in
-      let y : x ≡ w .0 * getD blocks e 0 = rw k at (w .1) in
-      rw (k, y) (up-inner blocks e at t v digits (w .0) old xs rises (omega (arith, room-block (suc e) size x old xs h digits f l w, rw k at f)) (rw y at (w .3)))
+pub stop-block : {blocks : List ℕ} {d at t v size x : ℕ} {old xs : List ℕ} → 1 ≤ d → Growing blocks d (getD blocks d 0) at old → size ≡ getD blocks (d - 1) 0 → x < getD blocks d 0 → Blockwise blocks d at t v x old xs
+    → v ≤ figure-in (getD xs (at + x + t % size) 0) → Lifted (under blocks d) at (getD blocks d 0) t v old xs
+stop-block {d = zero} h given f l w u = absurd (omega arith)
+stop-block {blocks = blocks} {d = suc e} {at = at} {t = t} {v = v} {size = size} {x = x} {old = old} {xs = xs} h given f l w u =
+    let k : suc e - 1 ≡ e = omega arith in
+    let g : size ≡ getD blocks e 0 = rw k at f in
+    let y : x ≡ w .passed .0 * getD blocks e 0 = rw k at (w .passed .1) in
+    let a : at + w .passed .0 * getD blocks e 0 + t % getD blocks e 0 ≡ at + (w .passed .0 * getD blocks e 0 + t % getD blocks e 0) = omega arith in
+    up-stop blocks e at t v (given .digits .digits) (w .passed .0) old xs (given .rises) (omega (arith, room-block h given f l w)) (rw (g, y, a) at u) (rw y at (w .partly))
 
-  pub more-block : (d size x : ℕ) (old xs new : List ℕ) → 1 ≤ d → Blocks (λ i. getD blocks i 0) d → size ≡ getD blocks (d - 1) 0 → x < getD blocks d 0
-      → Blockwise blocks d at t v x old xs → Lifted (under blocks (d - 1)) (at + x) (getD blocks (d - 1) 0) (t % size) v xs new → Blockwise blocks d at t v (x + size) old new
-  more-block zero size x old xs new h digits f l w n = absurd (omega arith)
-  more-block (suc e) size x old xs new h digits f l w n =
-      let k : suc e - 1 ≡ e = omega arith in
-      let g : size ≡ getD blocks e 0 = rw k at f in
-      let y : x ≡ w .0 * getD blocks e 0 = rw k at (w .1) in
-      rw (g, k) (w .0 + 1, omega arith, omega (arith, rw k at (w .2)), rw (← y) at (up-more blocks e at t v digits (w .0) old xs new (rw k at (w .2)) (omega (arith, room-block (suc e) size x old xs h digits f l w)) (rw y at (w .3)) (rw (k, g, y) at n)))
+-- a block is a cell of the digits before
+pub inner-block : {blocks : List ℕ} {d at t v size x : ℕ} {old xs : List ℕ} → 1 ≤ d → Growing blocks d (getD blocks d 0) at old → size ≡ getD blocks (d - 1) 0 → x < getD blocks d 0 → Blockwise blocks d at t v x old xs
+    → length xs ≡ length old → Growing blocks (d - 1) (getD blocks (d - 1) 0) (at + x) xs
+inner-block {d = zero} h given f l w e = absurd (omega arith)
+inner-block {blocks = blocks} {d = suc e} {at = at} {t = t} {v = v} {size = size} {x = x} {old = old} {xs = xs} h given f l w same =
+    let k : suc e - 1 ≡ e = omega arith in
+    let y : x ≡ w .passed .0 * getD blocks e 0 = rw k at (w .passed .1) in
+    let m : x + getD blocks e 0 ≤ getD blocks (suc e) 0 = omega (arith, room-block h given f l w, rw k at f) in
+    rw k (record {
+      digits = record { digits = lower-blocks (λ i. getD blocks i 0) e (given .digits .digits); listed = omega (arith, given .digits .listed); states = refl; most = omega (arith, given .digits .most) };
+      room = omega (arith, same, given .room);
+      rises = rw y (up-inner blocks e at t v (given .digits .digits) (w .passed .0) old xs (given .rises) (omega arith) (rw y at (w .partly)));
+    })
 
-  -- the digits before d, and their words
-  pub blocks-before : (d : ℕ) → Blocks (λ i. getD blocks i 0) d → Blocks (λ i. getD blocks i 0) (d - 1)
-  blocks-before d digits = record { some = λ i h. digits .some i (omega arith); whole = λ i h. digits .whole i (omega arith) }
+pub more-block : {blocks : List ℕ} {d at t v size x : ℕ} {old xs new : List ℕ} → 1 ≤ d → Growing blocks d (getD blocks d 0) at old → size ≡ getD blocks (d - 1) 0 → x < getD blocks d 0 → Blockwise blocks d at t v x old xs
+    → Lifted (under blocks (d - 1)) (at + x) (getD blocks (d - 1) 0) (t % size) v xs new → Blockwise blocks d at t v (x + size) old new
+more-block {d = zero} h given f l w n = absurd (omega arith)
+more-block {blocks = blocks} {d = suc e} {at = at} {t = t} {v = v} {size = size} {x = x} {old = old} {xs = xs} {new = new} h given f l w n =
+    let k : suc e - 1 ≡ e = omega arith in
+    let g : size ≡ getD blocks e 0 = rw k at f in
+    let y : x ≡ w .passed .0 * getD blocks e 0 = rw k at (w .passed .1) in
+    rw g (record {
+      passed = rw k (w .passed .0 + 1, omega arith, omega (arith, rw k at (w .passed .2)));
+      partly = rw (← y) at (up-more blocks e at t v (given .digits .digits) (w .passed .0) old xs new (rw k at (w .passed .2)) (omega (arith, room-block h given f l w)) (rw y at (w .partly)) (rw (k, g, y) at n));
+    })
 
 -- one digit, at the code's d
 pub one-digit : (blocks : List ℕ) (d m : ℕ) (f : ℕ → ℕ) → d ≡ 0 → m ≡ getD blocks d 0 → Rises (under blocks d) (getD blocks d 0) f → Rises leb m f

@@ -7,7 +7,7 @@ use native.Mathlib.Omega.{arith}
 use lib.ListN.{length, getD, set, length-set}
 use lib.Seq.{getD-set-same, getD-set-other}
 use Rattle.table.specs.Words.{Outside, Run}
-use Rattle.state_fill.specs.Cells.{figure-in, note-in, held, note, Flagged, Inherited, Finished}
+use Rattle.state_fill.specs.Cells.{figure-in, note-in, held, note, Flagged, FlaggedBelow, Inherited, Finished}
 use Rattle.state_fill.proofs.Noted.{figure-small, figure-plain, note-plain, figure-noted, note-noted, figure-flagged, note-flagged}
 use Rattle.state_fill.proofs.Growing.{outside-same}
 use Rattle.state_fill.proofs.Joining.{held-kept, note-kept}
@@ -187,10 +187,10 @@ module _ (at n : ℕ) where
     }
 
   -- all flagged states are listed
-  pub listing-end : (s k : ℕ) (old new : List ℕ) → s ≤ n → ((t : ℕ) → t < n → Flagged old at t → t < s) → Listing at n s k old new → Finished at n old new
-  listing-end s k old new e top p = record {
+  pub listing-end : (s k : ℕ) (old new : List ℕ) → FlaggedBelow at n s old → Listing at n s k old new → Finished at n old new
+  listing-end s k old new below p = record {
     same = p .same;
-    listed = λ t h f. (let q = p .found t (top t h f) f in (q .0, omega (arith, q .1, p .most), q .2));
+    listed = λ t h f. (let q = p .found t (below .flags t h f) f in (q .0, omega (arith, q .1, p .most, below .most), q .2));
     notes = λ j h. notes j h (decLe k j);
     ended = λ i j h l z. none j l (past i j h z (decLe k i));
     rest = p .rest;
@@ -201,7 +201,7 @@ module _ (at n : ℕ) where
         where
           go : Dec (s ≤ j) → Dec (1 ≤ note old at j) → note new at j ≡ 0
           go (no m) f = p .none j l (omega arith)
-          go (yes m) (yes f) = absurd (omega (arith, top j h f))
+          go (yes m) (yes f) = absurd (omega (arith, below .flags j h f))
           go (yes m) (no f) = omega (arith, ap note-in (p .left j m h))
 
       notes : (j : ℕ) → j < n → Dec (k ≤ j) → note new at j ≤ n

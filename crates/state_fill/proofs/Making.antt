@@ -20,8 +20,8 @@ use Rattle.table.proofs.Words.{cell-before}
 use Rattle.table.proofs.Halves.{half-cuts, half-parts}
 use Rattle.table.proofs.Figures.{positions-axis}
 use Rattle.table.specs.States.{Order, Covers}
-use Rattle.state_fill.specs.Cells.{figure-in, note-in, held, under, Rises, Flagged, Listed, Low, Grown, Ready, CutAt, Placed, Inherited, Finished, Topped}
-use Rattle.state_fill.specs.Tables.{tabled, cell, owns, Made, Spot}
+use Rattle.state_fill.specs.Cells.{figure-in, note-in, held, under, Rises, Flagged, Listed, Low, Grown, Growing, Ready, Cuttable, CutAt, Placed, Inherited, Finished, FlaggedBelow, Topped}
+use Rattle.state_fill.specs.Tables.{tabled, cell, Made, Spot}
 use Rattle.state_fill.proofs.Noted.{figure-small, figure-plain, note-plain}
 use Rattle.table.proofs.Across.{across, across-above, state-above, state-low, more-side, kind-most}
 use Rattle.table.proofs.Complete.{along, side-covered, complete}
@@ -99,13 +99,13 @@ module _ (J : Job) (le : ℕ → ℕ → Bool) (own : ℕ → ℕ) (order : Orde
       taken i j l m e x t u f y z b = rw e (cuts .sums i t u l m (rw e at x) f (rw e at y) z b)
 
 -- the cell at its place
-module _ {J : Job} {states long longmap wide widemap blocks : List ℕ} {d n row a b ka kb at column : ℕ} {t0 : List ℕ} (spot : Spot J states long longmap wide widemap blocks d n row a b ka kb at column t0) where
+module _ {J : Job} {own : ℕ → ℕ} {long longmap wide widemap blocks : List ℕ} {d n row a b ka kb at column : ℕ} {t0 : List ℕ} (spot : Spot J own long longmap wide widemap blocks d n row a b ka kb at column t0) where
   abbrev le : ℕ → ℕ → Bool
   le = under blocks d
 
   -- the figures of the cells, state by state
   abbrev F : ℕ → ℕ → ℕ → ℕ
-  F i j s = tabled J (under blocks d) (owns states) long wide i j s
+  F i j s = tabled J (under blocks d) own long wide i j s
 
   order : Order (under blocks d)
   order = order-of blocks d n (spot .lent .digits)
@@ -125,7 +125,7 @@ module _ {J : Job} {states long longmap wide widemap blocks : List ℕ} {d n row
   room = omega (
     arith,
     spot .at-is,
-    spot .lent .words,
+    spot .lent .room,
     cell-before (a * position-count J Width + b) (position-count J Length * position-count J Width) n (omega (arith, cell-before a (position-count J Length) (position-count J Width) (spot .long-in .1))),
   )
 
@@ -176,15 +176,16 @@ module _ {J : Job} {states long longmap wide widemap blocks : List ℕ} {d n row
   low : (i j s : ℕ) → i < position-count J Length → j < position-count J Width → F i j s ≤ 1000000000000
   low i j s h m = omega (
     arith,
-    state-low J (under blocks d) (owns states) order fit (getD long i 0) (getD wide j 0) s (positions-axis J Length (position-count J Length) long longmap fit (spot .lent .lengths) .side i h .0),
+    state-low J (under blocks d) own order fit (getD long i 0) (getD wide j 0) s (positions-axis J Length (position-count J Length) long longmap fit (spot .lent .lengths) .side i h .0),
     positions-axis J Width (position-count J Width) wide widemap fit (spot .lent .widths) .side j m .0,
   )
 
   rising : (i j : ℕ) → Rises (under blocks d) n (F i j)
-  rising i j t s h l = state-above J (under blocks d) (owns states) order fit (getD long i 0) (getD wide j 0) t s l
+  rising i j t s h l = state-above J (under blocks d) own order fit (getD long i 0) (getD wide j 0) t s l
 
-  ready : (i j : ℕ) (xs : List ℕ) → i < position-count J Length → j < position-count J Width → Made J (under blocks d) (owns states) long wide n i j xs → Ready xs (cell J n i j) n
-  ready i j xs h l w = record {
+  ready : (i j : ℕ) (xs : List ℕ) → i < position-count J Length → j < position-count J Width → Made J (under blocks d) own long wide n i j xs → cell J n i j + n ≤ at → Ready xs (cell J n i j) n at
+  ready i j xs h l w before = record {
+    before = before;
     small = λ s m. omega (arith, w .figures s m, low i j s h l);
     most = λ s m. omega (arith, w .figures s m, w .figures (n - 1) (omega arith), rising i j s (n - 1) (omega arith) (last-state blocks d n (spot .lent .digits) s m));
     notes = w .notes;
@@ -192,29 +193,42 @@ module _ {J : Job} {states long longmap wide widemap blocks : List ℕ} {d n row
   }
 
   -- cells of the column and of the row, in a table where words from here on were written
-  pub row-ready : (xs : List ℕ) → Outside at (at + n) t0 xs → (i : ℕ) → i < a → Ready xs (column + i * row) n
-  row-ready xs o i h = rw (row-word i) (ready i b xs (omega (arith, spot .long-in .1)) (spot .wide-in .1) (made-kept (row-earlier i h) o (spot .rows i b h (spot .wide-in .1))))
+  earlier-row : (xs : List ℕ) → Outside at (at + n) t0 xs → (i : ℕ) → i < a → Ready xs (cell J n i b) n at
+  earlier-row xs o i h = ready i b xs (omega (arith, spot .long-in .1)) (spot .wide-in .1) (made-kept (row-earlier i h) o (spot .rows i b h (spot .wide-in .1))) (row-earlier i h)
 
-  pub cell-ready : (xs : List ℕ) → Outside at (at + n) t0 xs → (j : ℕ) → j < b → Ready xs (at - column + j * n) n
-  cell-ready xs o j h = rw (cell-word j) (ready a j xs (spot .long-in .1) (omega (arith, spot .wide-in .1)) (made-kept (cell-earlier j h) o (spot .cells j h)))
+  earlier-cell : (xs : List ℕ) → Outside at (at + n) t0 xs → (j : ℕ) → j < b → Ready xs (cell J n a j) n at
+  earlier-cell xs o j h = ready a j xs (spot .long-in .1) (omega (arith, spot .wide-in .1)) (made-kept (cell-earlier j h) o (spot .cells j h)) (cell-earlier j h)
+
+  row-ready : (xs : List ℕ) → Outside at (at + n) t0 xs → (i : ℕ) → i < a → Ready xs (column + i * row) n at
+  row-ready xs o i h = rw (row-word i) (earlier-row xs o i h)
+
+  cell-ready : (xs : List ℕ) → Outside at (at + n) t0 xs → (j : ℕ) → j < b → Ready xs (at - column + j * n) n at
+  cell-ready xs o j h = rw (cell-word j) (earlier-cell xs o j h)
+
+  -- so the cuts of its two sides can be taken
+  pub long-cuttable : (xs : List ℕ) → Outside at (at + n) t0 xs → Growing blocks d n at xs → Cuttable blocks long longmap d n a 1 ka column row at xs
+  long-cuttable xs o g = record { growing = g; first = omega arith; cuts = long-cuts-are; ready = row-ready xs o }
+
+  pub wide-cuttable : (xs : List ℕ) → Outside at (at + n) t0 xs → Growing blocks d n at xs → Cuttable blocks wide widemap d n b 1 kb (at - column) n at xs
+  wide-cuttable xs o g = record { growing = g; first = omega arith; cuts = wide-cuts-are; ready = cell-ready xs o }
 
   -- the two cells before it
-  pub above-ready : (xs : List ℕ) → Outside at (at + n) t0 xs → Ready xs (at - row) n × (at - row + n ≤ at)
-  above-ready xs o = rw above-word (ready (a - 1) b xs (omega (arith, spot .long-in .1)) (spot .wide-in .1) (made-kept (row-earlier (a - 1) (omega (arith, spot .long-in .0))) o (spot .rows (a - 1) b (omega (arith, spot .long-in .0)) (spot .wide-in .1))), row-earlier (a - 1) (omega (arith, spot .long-in .0)))
+  pub above-ready : (xs : List ℕ) → Outside at (at + n) t0 xs → Ready xs (at - row) n at
+  above-ready xs o = rw above-word (earlier-row xs o (a - 1) (omega (arith, spot .long-in .0)))
 
-  pub before-ready : (xs : List ℕ) → Outside at (at + n) t0 xs → Ready xs (at - n) n × (at - n + n ≤ at)
-  before-ready xs o = rw before-word (ready a (b - 1) xs (spot .long-in .1) (omega (arith, spot .wide-in .1)) (made-kept (cell-earlier (b - 1) (omega (arith, spot .wide-in .0))) o (spot .cells (b - 1) (omega (arith, spot .wide-in .0)))), cell-earlier (b - 1) (omega (arith, spot .wide-in .0)))
+  pub before-ready : (xs : List ℕ) → Outside at (at + n) t0 xs → Ready xs (at - n) n at
+  before-ready xs o = rw before-word (earlier-cell xs o (b - 1) (omega (arith, spot .wide-in .0)))
 
   -- a longer and a wider cell have no less
   longer : (i k j s : ℕ) → i ≤ k → k < position-count J Length → F i j s ≤ F k j s
-  longer i k j s h l = more-side J (under blocks d) (owns states) order fit Length (getD wide j 0) (getD long i 0) (getD long k 0) s (rise i k h l (decLe k i))
+  longer i k j s h l = more-side J (under blocks d) own order fit Length (getD wide j 0) (getD long i 0) (getD long k 0) s (rise i k h l (decLe k i))
     where
       rise : (i k : ℕ) → i ≤ k → k < position-count J Length → Dec (k ≤ i) → getD long i 0 ≤ getD long k 0
       rise i k h l (yes m) = let e : i ≡ k = omega arith in omega (arith, ap (λ i. getD long i 0) e)
       rise i k h l (no m) = omega (arith, positions-axis J Length (position-count J Length) long longmap fit (spot .lent .lengths) .rise i k (omega arith) l)
 
   wider : (i j k s : ℕ) → j ≤ k → k < position-count J Width → F i j s ≤ F i k s
-  wider i j k s h l = more-side J (under blocks d) (owns states) order fit Width (getD long i 0) (getD wide j 0) (getD wide k 0) s (rise j k h l (decLe k j))
+  wider i j k s h l = more-side J (under blocks d) own order fit Width (getD long i 0) (getD wide j 0) (getD wide k 0) s (rise j k h l (decLe k j))
     where
       rise : (i k : ℕ) → i ≤ k → k < position-count J Width → Dec (k ≤ i) → getD wide i 0 ≤ getD wide k 0
       rise i k h l (yes m) = let e : i ≡ k = omega arith in omega (arith, ap (λ i. getD wide i 0) e)
@@ -232,8 +246,8 @@ module _ {J : Job} {states long longmap wide widemap blocks : List ℕ} {d n row
     started s h = ap figure-in (run .here s h) ∙ (figure-plain _ (omega (arith, figure-small (getD t0 (at - row + s) 0), figure-small (getD t0 (at - n + s) 0))) ∙ ap₂ max (above-figure s h) (before-figure s h))
 
     -- no state is flagged yet, so all that are flagged later lie below the number handed on
-    pub start-topped : (high : ℕ) (xs : List ℕ) → Topped at n 0 high t1 xs → (high ≤ n) × ((t : ℕ) → t < n → Flagged xs at t → t < high)
-    start-topped high xs p = (p .most (omega arith), λ t h f. go t h (p .flags t h f))
+    pub start-topped : (high : ℕ) (xs : List ℕ) → Topped at n 0 high t1 xs → FlaggedBelow at n high xs
+    start-topped high xs p = record { most = p .most (omega arith); flags = λ t h f. go t h (p .flags t h f) }
       where
         go : (t : ℕ) → t < n → Flagged t1 at t ⊎ (t < high) → t < high
         go t h (inr l) = l
@@ -250,8 +264,11 @@ module _ {J : Job} {states long longmap wide widemap blocks : List ℕ} {d n row
       same : (s : ℕ) → s < n → held t3 at s ≡ held t1 at s
       same s h = second .same s h ∙ first .same s h
 
-      pub inherited-rises : Rises (under blocks d) n (held t3 at)
+      inherited-rises : Rises (under blocks d) n (held t3 at)
       inherited-rises t s h l = omega (arith, same s h, same t (omega (arith, order .less t s l)), start-rises t s h l)
+
+      pub inherited-growing : length t3 ≡ length t0 → Growing blocks d n at t3
+      inherited-growing e = record { digits = spot .lent .digits; room = omega (arith, room); rises = inherited-rises }
 
       inherited-low : Low (F a b) at n t3
       inherited-low s h = omega (arith, same s h, started s h, longer (a - 1) a b s (omega arith) (spot .long-in .1), wider a (b - 1) b s (omega arith) (spot .wide-in .1))
@@ -260,8 +277,8 @@ module _ {J : Job} {states long longmap wide widemap blocks : List ℕ} {d n row
       covers-above : Covers (under blocks d) n (Flagged t3 at) (held t3 at) (F (a - 1) b)
       covers-above = start-covers (under blocks d) n (Listed t0 (cell J n a (b - 1)) n) (Flagged t3 at) (F a (b - 1)) (F (a - 1) b) (F (a - 1) (b - 1)) (held t3 at)
           (λ s h. omega (arith, same s h, started s h)) (λ s. wider (a - 1) (b - 1) b s (omega arith) (spot .wide-in .1)) (rising (a - 1) b)
-          (λ t h l m. second .kept t h (first .flags t (listed-kept at (at + n) t0 t1 (run .rest) (at - n) n t (before-ready t0 none .1) (rw before-word l))
-          (omega (arith, above-figure t h, before-figure t h, held-kept at (at + n) t0 t1 (run .rest) (at - n) t (omega (arith, before-ready t0 none .1)), held-kept at (at + n) t0 t1 (run .rest) (at - row) t (omega (arith, above-ready t0 none .1))))))
+          (λ t h l m. second .kept t h (first .flags t (listed-kept at (at + n) t0 t1 (run .rest) (at - n) n t (before-ready t0 none .before) (rw before-word l))
+          (omega (arith, above-figure t h, before-figure t h, held-kept at (at + n) t0 t1 (run .rest) (at - n) t (omega (arith, before-ready t0 none .before)), held-kept at (at + n) t0 t1 (run .rest) (at - row) t (omega (arith, above-ready t0 none .before))))))
           (spot .cells (b - 1) (omega (arith, spot .wide-in .0)) .longer)
         where
           none : Outside at (at + n) t0 t0
@@ -270,8 +287,8 @@ module _ {J : Job} {states long longmap wide widemap blocks : List ℕ} {d n row
       covers-before : Covers (under blocks d) n (Flagged t3 at) (held t3 at) (F a (b - 1))
       covers-before = start-covers (under blocks d) n (Listed t0 (cell J n (a - 1) b) n) (Flagged t3 at) (F (a - 1) b) (F a (b - 1)) (F (a - 1) (b - 1)) (held t3 at)
           (λ s h. omega (arith, same s h, started s h)) (λ s. longer (a - 1) a (b - 1) s (omega arith) (spot .long-in .1)) (rising a (b - 1))
-          (λ t h l m. second .flags t (listed-kept at (at + n) t0 t2 kept (at - row) n t (above-ready t0 none .1) (rw above-word l))
-          (omega (arith, above-figure t h, before-figure t h, held-kept at (at + n) t0 t2 kept (at - n) t (omega (arith, before-ready t0 none .1)), held-kept at (at + n) t0 t2 kept (at - row) t (omega (arith, above-ready t0 none .1)))))
+          (λ t h l m. second .flags t (listed-kept at (at + n) t0 t2 kept (at - row) n t (above-ready t0 none .before) (rw above-word l))
+          (omega (arith, above-figure t h, before-figure t h, held-kept at (at + n) t0 t2 kept (at - n) t (omega (arith, before-ready t0 none .before)), held-kept at (at + n) t0 t2 kept (at - row) t (omega (arith, above-ready t0 none .before)))))
           (spot .rows (a - 1) b (omega (arith, spot .long-in .0)) (spot .wide-in .1) .wider)
         where
           none : Outside at (at + n) t0 t0
@@ -281,7 +298,7 @@ module _ {J : Job} {states long longmap wide widemap blocks : List ℕ} {d n row
           kept = outside-chain at (at + n) t0 t1 t2 (run .rest) (first .rest)
 
       -- the kinds and the cuts
-      module _ (t4 t5 t6 t7 : List ℕ) (kinds : Placed (under blocks d) (λ i. J .size i .0) (λ i. J .size i .1) (owns states) (J .price) (J .count) (getD long a 0) (getD wide b 0) at n t3 t4)
+      module _ (t4 t5 t6 t7 : List ℕ) (kinds : Placed (under blocks d) J own (J .count) (getD long a 0) (getD wide b 0) at n t3 t4)
           (long-cuts : CutAt (under blocks d) long longmap a 1 ka column row at n t4 t5) (wide-cuts : CutAt (under blocks d) wide widemap b 1 kb (at - column) n at n t5 t6) (done : Finished at n t6 t7) where
         o4 : Outside at (at + n) t0 t4
         o4 = outside-chain at (at + n) t0 t3 t4 inherited-rest (kinds .grown .rest)
@@ -309,21 +326,21 @@ module _ {J : Job} {states long longmap wide widemap blocks : List ℕ} {d n row
 
         -- no figure is too large
         sound : Low (F a b) at n t6
-        sound = side-low J (under blocks d) (owns states) order fit Width (position-count J Width) wide widemap (spot .lent .widths) (getD long a 0) b kb (at - column) n at n t5 t6 (spot .wide-in .1) (spot .half-b) wide-figures wide-covers wide-cuts
-            (side-low J (under blocks d) (owns states) order fit Length (position-count J Length) long longmap (spot .lent .lengths) (getD wide b 0) a ka column row at n t4 t5 (spot .long-in .1) (spot .half-a) long-figures long-covers long-cuts
-            (kinds .low (F a b) (rising a b) (λ i h e f l. kind-most J (under blocks d) (owns states) order fit (getD long a 0) (getD wide b 0) (owns states i) i h (omega arith) (omega arith) (order .same (owns states i))) inherited-low))
+        sound = side-low J (under blocks d) own order fit Width (position-count J Width) wide widemap (spot .lent .widths) (getD long a 0) b kb (at - column) n at n t5 t6 (spot .wide-in .1) (spot .half-b) wide-figures wide-covers wide-cuts
+            (side-low J (under blocks d) own order fit Length (position-count J Length) long longmap (spot .lent .lengths) (getD wide b 0) a ka column row at n t4 t5 (spot .long-in .1) (spot .half-a) long-figures long-covers long-cuts
+            (kinds .low (F a b) (rising a b) (λ i h e f l. kind-most J (under blocks d) own order fit (getD long a 0) (getD wide b 0) (own i) i h (omega arith) (omega arith) (order .same (own i))) inherited-low))
 
         rises : Rises (under blocks d) n (held t6 at)
         rises = grown .rises inherited-rises
 
         -- and none too small
         full : (s : ℕ) → s < n → F a b s ≤ held t6 at s
-        full s h = complete J (under blocks d) (owns states) order fit (position-count J Length) (position-count J Width) long longmap wide widemap (spot .lent .lengths) (spot .lent .widths) a b s (held t6 at s) (spot .long-in .1) (spot .wide-in .1)
-            above before (λ i l e f m. (let k : owns states i < n = omega (arith, order .less (owns states i) s m) in omega (arith, kinds .taken i l e f k, long-cuts .grown .more (owns states i) k, wide-cuts .grown .more (owns states i) k, rises (owns states i) s h m)))
+        full s h = complete J (under blocks d) own order fit (position-count J Length) (position-count J Width) long longmap wide widemap (spot .lent .lengths) (spot .lent .widths) a b s (held t6 at s) (spot .long-in .1) (spot .wide-in .1)
+            above before (λ i l e f m. (let k : own i < n = omega (arith, order .less (own i) s m) in omega (arith, kinds .taken i l e f k, long-cuts .grown .more (own i) k, wide-cuts .grown .more (own i) k, rises (own i) s h m)))
             ka kb (spot .half-a) (spot .half-b)
-            (side-taken J (under blocks d) (owns states) order fit Length (position-count J Length) long longmap (spot .lent .lengths) (getD wide b 0) a ka column row at n t4 t5 (spot .long-in .1) (spot .half-a) long-figures long-covers long-cuts
+            (side-taken J (under blocks d) own order fit Length (position-count J Length) long longmap (spot .lent .lengths) (getD wide b 0) a ka column row at n t4 t5 (spot .long-in .1) (spot .half-a) long-figures long-covers long-cuts
             s (held t6 at s) h above (λ t m. omega (arith, wide-cuts .grown .more t (omega (arith, order .less t s m)), rises t s h m)))
-            (side-taken J (under blocks d) (owns states) order fit Width (position-count J Width) wide widemap (spot .lent .widths) (getD long a 0) b kb (at - column) n at n t5 t6 (spot .wide-in .1) (spot .half-b) wide-figures wide-covers wide-cuts
+            (side-taken J (under blocks d) own order fit Width (position-count J Width) wide widemap (spot .lent .widths) (getD long a 0) b kb (at - column) n at n t5 t6 (spot .wide-in .1) (spot .half-b) wide-figures wide-covers wide-cuts
             s (held t6 at s) h before (λ t m. rises t s h m))
           where
             above : F (a - 1) b s ≤ held t6 at s
@@ -335,7 +352,7 @@ module _ {J : Job} {states long longmap wide widemap blocks : List ℕ} {d n row
         figures : (s : ℕ) → s < n → held t6 at s ≡ F a b s
         figures s h = omega (arith, sound s h, full s h)
 
-        pub made : Made J (under blocks d) (owns states) long wide n a b t7
+        pub made : Made J (under blocks d) own long wide n a b t7
         made = record {
           figures = λ s h. rw (← spot .at-is) (done .same s h ∙ figures s h);
           notes = λ k h. rw (← spot .at-is) (done .notes k h);

@@ -1,6 +1,6 @@
 -- The shares that states stand for: one weight, two weights, the remaining copies of each kind. A tree is within a state exactly if, at each
 -- digit, its pieces come to no more than the digit; so the figures over states are those over these shares.
-use mathlib.Core.Path.{_≡_, refl, sym, _∙_, ap}
+use mathlib.Core.Path.{_≡_, refl, sym, _∙_, ap, subst}
 use mathlib.Core.Bool.{true, false}
 use mathlib.Core.List.{List, [], _∷_}
 use Prim.Native.Nat.{ℕ, zero, suc, _+_, _-_, _*_, _/_, _%_, _≤_, _<_}
@@ -21,7 +21,7 @@ use Rattle.cutting.proofs.Saws.{saw-proper}
 use Rattle.cutting.proofs.Weights.{within-weight, weight-within}
 use Rattle.cutting.proofs.Job.{figure-most, figure-earned}
 use Rattle.cutting.proofs.Pairs.{paired-within, within-paired, exact-within, within-exact}
-use Rattle.table.specs.Table.{position, Figures as Shared}
+use Rattle.table.specs.Table.{position, words-needed, Figures as Shared, Kept}
 use Rattle.table.specs.States.{below, Blocks, by-state, Order, figure-at, digit, own-state}
 use Rattle.state_fill.specs.Cells.{under, Digits}
 use Rattle.state_fill.specs.Tables.{owns, Figures}
@@ -182,10 +182,12 @@ one-block n some = record { some = λ i h. (let e : i ≡ 0 = omega arith in rw 
 pub one-digit : (n : ℕ) → 1 ≤ n → n ≤ 65536 → Digits (n ∷ []) 0 n
 one-digit n some most = record { digits = one-block n some; listed = omega arith; states = refl; most = most }
 
--- a filled table of one digit is that of the weights: its states are the shares
-pub figures-one : (J : Job) (states weights xs : List ℕ) (q : ℕ) → ((i : ℕ) → i < J .count → getD states i 0 ≡ getD weights i 0)
-    → Figures J (under ((q + 1) ∷ []) 0) (owns states) (q + 1) xs → Shared J (λ i. getD weights i 0) q xs
+-- a filled table of one digit is that of the weights, for a job that is equal: its states are the shares
+pub figures-one : {J K : Job} (kinds weights old new : List ℕ) (q : ℕ) → K ≡ J → ((i : ℕ) → i < J .count → owns kinds i ≡ getD weights i 0)
+    → Figures K (under ((q + 1) ∷ []) 0) (owns kinds) (q + 1) new × Kept (words-needed K q) old new → Shared J (λ i. getD weights i 0) q new × Kept (words-needed J q) old new
 unfolding below
-figures-one J states weights xs q same w a b c ha hb hc = w a b c ha hb hc
-    ∙ (figure-one J (owns states) (position J Length a) (position J Width b) c
-    ∙ figure-kinds J (owns states) (λ i. getD weights i 0) same (position J Length a) (position J Width b) c)
+figures-one {J} {K} kinds weights old new q same states w =
+    let f = subst (λ J. Figures J (under ((q + 1) ∷ []) 0) (owns kinds) (q + 1) new) same (w .0) in (
+      λ a b c ha hb hc. f a b c ha hb hc ∙ (figure-one J (owns kinds) (position J Length a) (position J Width b) c ∙ figure-kinds J (owns kinds) (λ i. getD weights i 0) states (position J Length a) (position J Width b) c),
+      subst (λ J. Kept (words-needed J q) old new) same (w .1),
+    )

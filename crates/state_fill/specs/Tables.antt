@@ -1,19 +1,46 @@
--- The table while it is filled: cells that are made hold the figures of their normal length and width, and a list that covers them; and the
--- table when it is filled.
+-- Inner definitions, cited by the contracts of this crate alone. The table while it is filled: cells that are made hold the figures of their
+-- normal length and width, and a list that covers them; and the table when it is filled.
 use mathlib.Core.Path.{_≡_}
 use mathlib.Core.Bool.{Bool}
 use mathlib.Core.List.{List}
 use Prim.Native.Nat.{ℕ, _+_, _-_, _*_, _≤_, _<_}
-use lib.ListN.{length, getD}
+use lib.ListN.{length, getD, take, drop}
 use Rattle.cutting.specs.declared.Direction.the-variants.{Length, Width}
 use Rattle.cutting.specs.Job.{Job, InRange}
 use Rattle.table.specs.Table.{position-count, position}
-use Rattle.table.specs.Contracts.{Positions}
+use Rattle.table.specs.Contracts.{kinds-job, Positions}
 use Rattle.table.specs.Words.{Half}
 use Rattle.table.specs.States.{figure-at, Covers}
+use Rattle.state_fill.specs.declared.shape.Shape.{Shape}
 use Rattle.state_fill.specs.Cells.{held, note, under, Digits, Listed}
 
--- the figure of entry a of the lengths, entry b of the widths and state s
+-- 64 numbers of a list
+abbrev pub part : List ℕ → ℕ → List ℕ
+part kinds from = take 64 (drop from kinds)
+
+-- the job of a plate and of one list of its kinds: their lengths, from 64 on their widths, from 128 on their prices
+abbrev pub job-in : Shape → List ℕ → Job
+job-in shape kinds = kinds-job (shape .l) (shape .w) (shape .count) (part kinds 0) (part kinds 64) (part kinds 128)
+
+-- the state of each kind, in the same list from 192 on
+abbrev pub owns : List ℕ → ℕ → ℕ
+owns kinds i = getD (part kinds 192) i 0
+
+-- arrays of 64 kinds, and one of all of them
+pub record Whole (kind-lengths kind-widths prices kinds : List ℕ) : Type 0 where
+  pub lengths : length kind-lengths ≡ 64
+  pub widths : length kind-widths ≡ 64
+  pub priced : length prices ≡ 64
+  pub all : length kinds ≡ 256
+
+-- the first i kinds are put into one list; the state of each kind below `count` is its weight
+pub record Gathered (kind-lengths kind-widths prices weights : List ℕ) (count i : ℕ) (kinds : List ℕ) : Type 0 where
+  pub lengths : (j : ℕ) → j < i → getD kinds j 0 ≡ getD kind-lengths j 0
+  pub widths : (j : ℕ) → j < i → getD kinds (64 + j) 0 ≡ getD kind-widths j 0
+  pub priced : (j : ℕ) → j < i → getD kinds (128 + j) 0 ≡ getD prices j 0
+  pub states : (j : ℕ) → j < i → j < count → getD kinds (192 + j) 0 ≡ getD weights j 0
+
+-- the figure of the a-th normal length, the b-th normal width and state s
 abbrev pub tabled : Job → (ℕ → ℕ → Bool) → (ℕ → ℕ) → List ℕ → List ℕ → ℕ → ℕ → ℕ → ℕ
 tabled J le own long wide a b s = figure-at J le own (getD long a 0) (getD wide b 0) s
 
@@ -38,23 +65,32 @@ Rows J le own long wide n a xs = (i j : ℕ) → i < a → j < position-count J 
 abbrev pub Cells : Job → (ℕ → ℕ → Bool) → (ℕ → ℕ) → List ℕ → List ℕ → ℕ → ℕ → ℕ → List ℕ → Type 0
 Cells J le own long wide n a b xs = (j : ℕ) → j < b → Made J le own long wide n a j xs
 
--- the state of each kind, from a list
-abbrev pub owns : List ℕ → ℕ → ℕ
-owns states i = getD states i 0
-
--- what the fill is lent: a job in range, a state for each of its kinds, the digits of the states, the normal positions with their maps,
--- and a table that is long enough
-pub record CellsLent (J : Job) (states long longmap wide widemap blocks : List ℕ) (d n : ℕ) (table : List ℕ) : Type 0 where
+-- what the fill is lent: a job in range, the digits of the states, the normal positions with their floors, and a table that is long enough
+pub record CellsLent (J : Job) (long longmap wide widemap blocks : List ℕ) (d n : ℕ) (table : List ℕ) : Type 0 where
   pub range : InRange J
-  pub stated : J .count ≤ length states
   pub digits : Digits blocks d n
   pub lengths : Positions J Length (position-count J Length) long longmap
   pub widths : Positions J Width (position-count J Width) wide widemap
-  pub words : position-count J Length * position-count J Width * n ≤ length table
+  pub room : position-count J Length * position-count J Width * n ≤ length table
+
+-- the numbers that the code counts cells and rows by: p and r, and the words of a row
+pub record Counted (J : Job) (n p r row : ℕ) : Type 0 where
+  pub lengths : p ≡ position-count J Length
+  pub widths : r ≡ position-count J Width
+  pub stride : row ≡ r * n
+
+-- the place of a row that is to be made: all rows before it are
+pub record RowSpot (J : Job) (own : ℕ → ℕ) (long longmap wide widemap blocks : List ℕ) (d n p r row a ka at : ℕ) (table : List ℕ) : Type 0 where
+  pub lent : CellsLent J long longmap wide widemap blocks d n table
+  pub counted : Counted J n p r row
+  pub long-in : (1 ≤ a) × (a < p)
+  pub half-a : Half long a ka
+  pub at-is : at ≡ cell J n a 0
+  pub rows : Rows J (under blocks d) own long wide n a table
 
 -- the place of a cell that is to be made: all cells before it are
-pub record Spot (J : Job) (states long longmap wide widemap blocks : List ℕ) (d n row a b ka kb at column : ℕ) (table : List ℕ) : Type 0 where
-  pub lent : CellsLent J states long longmap wide widemap blocks d n table
+pub record Spot (J : Job) (own : ℕ → ℕ) (long longmap wide widemap blocks : List ℕ) (d n row a b ka kb at column : ℕ) (table : List ℕ) : Type 0 where
+  pub lent : CellsLent J long longmap wide widemap blocks d n table
   pub long-in : (1 ≤ a) × (a < position-count J Length)
   pub wide-in : (1 ≤ b) × (b < position-count J Width)
   pub half-a : Half long a ka
@@ -62,8 +98,8 @@ pub record Spot (J : Job) (states long longmap wide widemap blocks : List ℕ) (
   pub row-is : row ≡ position-count J Width * n
   pub at-is : at ≡ cell J n a b
   pub column-is : column ≡ b * n
-  pub rows : Rows J (under blocks d) (owns states) long wide n a table
-  pub cells : Cells J (under blocks d) (owns states) long wide n a b table
+  pub rows : Rows J (under blocks d) own long wide n a table
+  pub cells : Cells J (under blocks d) own long wide n a b table
 
 -- each word holds the figure of its normal length, normal width and state
 abbrev pub Figures : Job → (ℕ → ℕ → Bool) → (ℕ → ℕ) → ℕ → List ℕ → Type 0

@@ -1,17 +1,20 @@
 // One cell: it starts from the cells before it in length and in width and inherits what they list, takes the kinds of exactly its size
 // and the cuts of its sides, and lists its flagged states.
+use crate::parts::Line;
 use crate::parts::cut;
 use crate::raise::past;
 use crate::raise::take;
+use crate::shape::Shape;
+use crate::shape::widen;
 use crate::words::figure;
 use crate::words::note;
 use table::greater;
-ghost use Prim.Native.Nat.{ℕ, _+_, _*_, _-_, _≤_, _<_, max};
-ghost use lib.ListN.{length, getD};
-ghost use Rattle.table.specs.Contracts.{kinds-job};
+ghost use mathlib.Core.Path.{_≡_};
+ghost use Prim.Native.Nat.{_+_, _≤_, max};
+ghost use lib.ListN.{length};
 ghost use Rattle.table.specs.Words.{Outside, Run};
-ghost use Rattle.state_fill.specs.Cells.{held, note, under, Digits, Rises, Flagged, Taken, Ready, Inherited, Placed, Finished, Topped};
-ghost use Rattle.state_fill.specs.Tables.{owns, Made, Spot};
+ghost use Rattle.state_fill.specs.Cells.{held, note, under, Growing, Taken, Ready, Inherited, Placed, Finished, FlaggedBelow, Topped};
+ghost use Rattle.state_fill.specs.Tables.{job-in, owns, Made, Spot};
 
 // The cell's words become the greater of the figures of the cells before it.
 fn start(table: &mut [u64], at: usize, above: usize, before: usize, words: usize)
@@ -25,7 +28,7 @@ fn start(table: &mut [u64], at: usize, above: usize, before: usize, words: usize
 
 // The states that the cell from x on lists, and at which it is above the cell from y on, are flagged.
 fn inherit(table: &mut [u64], at: usize, x: usize, y: usize, words: usize, top: usize) -> usize
-    requires { ⌜ (words ≤ 65536) × (x + words ≤ at) × (y + words ≤ at) × (at + words ≤ length (now table)) × Ready (now table) x words ⌝ }
+    requires { ⌜ Ready (now table) x words at × (y + words ≤ at) × (at + words ≤ length (now table)) ⌝ }
     ensures { λ r. ⌜ Inherited x y at words (now (table .entry)) (now (table .exit)) × Topped at words top r (now (table .entry)) (now (table .exit)) ⌝ }
 {
     let mut high = top;
@@ -44,7 +47,7 @@ fn inherit(table: &mut [u64], at: usize, x: usize, y: usize, words: usize, top: 
 }
 
 // The price of a kind at its state, where it has one.
-fn place(
+fn place_kind(
     table: &mut [u64],
     blocks: &[u32],
     d: usize,
@@ -54,7 +57,7 @@ fn place(
     price: u32,
     top: usize,
 ) -> usize
-    requires { ⌜ Digits (now blocks) d words × (at + words ≤ length (now table)) × Rises (under (now blocks) d) words (held (now table) at) ⌝ }
+    requires { ⌜ Growing (now blocks) d words at (now table) ⌝ }
     ensures { λ r. ⌜ Taken (under (now (blocks .entry)) d) at words state 0 price (now (table .entry)) (now (table .exit)) × Topped at words top r (now (table .entry)) (now (table .exit)) ⌝ }
 {
     let t = state as usize;
@@ -67,28 +70,25 @@ fn place(
 // The prices of the kinds of exactly the size l by w, at their states; smaller ones came with the cells before.
 fn place_kinds(
     table: &mut [u64],
+    kinds: &[u32; 256],
     blocks: &[u32],
-    d: usize,
-    words: usize,
+    shape: Shape,
     at: usize,
-    kind_lengths: &[u16; 64],
-    kind_widths: &[u16; 64],
-    prices: &[u32; 64],
-    states: &[u32],
-    count: usize,
-    l: u16,
-    w: u16,
+    l: u32,
+    w: u32,
     top: usize,
 ) -> usize
-    requires { ⌜ Digits (now blocks) d words × (count ≤ 64) × (count ≤ length (now states)) × (at + words ≤ length (now table)) × Rises (under (now blocks) d) words (held (now table) at) ⌝ }
-    ensures { λ r. ⌜ Placed (under (now (blocks .entry)) d) (λ i. getD (now («kind_lengths» .entry)) i 0) (λ i. getD (now («kind_widths» .entry)) i 0) (λ i. getD (now (states .entry)) i 0) (λ i. getD (now (prices .entry)) i 0)
-        count l w at words (now (table .entry)) (now (table .exit)) × Topped at words top r (now (table .entry)) (now (table .exit)) ⌝ }
+    requires { ⌜ Growing (now blocks) (shape .d) (shape .words) at (now table) × (shape .count ≤ 64) ⌝ }
+    ensures { λ r. ⌜ Placed (under (now (blocks .entry)) (shape .d)) (job-in shape (now (kinds .entry))) (owns (now (kinds .entry))) (shape .count) l w at (shape .words) (now (table .entry)) (now (table .exit))
+        × Topped at (shape .words) top r (now (table .entry)) (now (table .exit)) ⌝ }
 {
     let mut high = top;
-    for i in 0..count {
-        if kind_lengths[i] == l {
-            if kind_widths[i] == w {
-                high = place(table, blocks, d, words, at, states[i], prices[i], high);
+    for i in 0..shape.count {
+        if kinds[i] == l {
+            if kinds[64 + i] == w {
+                let state = kinds[192 + i];
+                let price = kinds[128 + i];
+                high = place_kind(table, blocks, shape.d, shape.words, at, state, price, high);
             }
         }
     }
@@ -97,7 +97,7 @@ fn place_kinds(
 
 // The flagged states, all below `top`, become the cell's list: the k-th one, plus 1, above the figure of word k.
 fn finish(table: &mut [u64], at: usize, words: usize, top: usize)
-    requires { ⌜ (at + words ≤ length (now table)) × (words ≤ 65536) × (top ≤ words) × ((t : ℕ) → t < words → Flagged (now table) at t → t < top) ⌝ }
+    requires { ⌜ (at + words ≤ length (now table)) × (words ≤ 65536) × FlaggedBelow at words top (now table) ⌝ }
     ensures { λ _. ⌜ Finished at words (now (table .entry)) (now (table .exit)) ⌝ }
 {
     let mut k: usize = 0;
@@ -111,82 +111,80 @@ fn finish(table: &mut [u64], at: usize, words: usize, top: usize)
     }
 }
 
-// A cell of the table from the cells before it in length and width, those that its cuts read among them. `column` is the word of the
-// cell of length 0 and the same width.
+// The place of a cell: the indices of its normal length and width, the ends of their first halves, its word, and the word of the cell of
+// length 0 and the same width.
+pub struct Place {
+    pub a: usize,
+    pub b: usize,
+    pub length_half_end: usize,
+    pub width_half_end: usize,
+    pub at: usize,
+    pub column: usize,
+}
+
+// A cell of the table from the cells before it in length and width, those that its cuts read among them.
 pub fn make_cell(
     table: &mut [u64],
-    l: u16,
-    w: u16,
-    kind_lengths: &[u16; 64],
-    kind_widths: &[u16; 64],
-    prices: &[u32; 64],
-    states: &[u32],
-    count: u16,
+    kinds: &[u32; 256],
     normal_lengths: &[u16],
     length_floors: &[u16],
     normal_widths: &[u16],
     width_floors: &[u16],
     blocks: &[u32],
-    d: usize,
-    words: usize,
-    row: usize,
-    a: usize,
-    b: usize,
-    length_half_end: usize,
-    width_half_end: usize,
-    at: usize,
-    column: usize,
+    shape: Shape,
+    place: Place,
 )
-    requires { ⌜ Spot (kinds-job l w count (now «kind_lengths») (now «kind_widths») (now prices)) (now states) (now «normal_lengths») (now «length_floors») (now «normal_widths») (now «width_floors») (now blocks) d words row a b «length_half_end» «width_half_end» at column (now table) ⌝ }
-    ensures { λ _. ⌜ Made (kinds-job l w count (now («kind_lengths» .entry)) (now («kind_widths» .entry)) (now (prices .entry))) (under (now (blocks .entry)) d) (owns (now (states .entry))) (now («normal_lengths» .entry)) (now («normal_widths» .entry)) words a b (now (table .exit))
-        × Outside at (at + words) (now (table .entry)) (now (table .exit)) ⌝ }
+    requires { ⌜ Spot (job-in shape (now kinds)) (owns (now kinds)) (now «normal_lengths») (now «length_floors») (now «normal_widths») (now «width_floors») (now blocks) (shape .d) (shape .words) (shape .stride)
+        (place .a) (place .b) (place .«length_half_end») (place .«width_half_end») (place .at) (place .column) (now table) ⌝ }
+    ensures { λ _. ⌜ Made (job-in shape (now (kinds .entry))) (under (now (blocks .entry)) (shape .d)) (owns (now (kinds .entry))) (now («normal_lengths» .entry)) (now («normal_widths» .entry)) (shape .words) (place .a) (place .b) (now (table .exit))
+        × Outside (place .at) (place .at + shape .words) (now (table .entry)) (now (table .exit)) ⌝ }
 {
-    let above = at - row;
+    let at = place.at;
+    let words = shape.words;
+    let a = place.a;
+    let b = place.b;
+    let above = at - shape.stride;
     let before = at - words;
     start(table, at, above, before, words);
     let mut top = inherit(table, at, before, above, words, 0);
     top = inherit(table, at, above, before, words, top);
-    top = place_kinds(
-        table,
-        blocks,
-        d,
-        words,
-        at,
-        kind_lengths,
-        kind_widths,
-        prices,
-        states,
-        count as usize,
-        normal_lengths[a],
-        normal_widths[b],
-        top,
-    );
+    let l = widen(normal_lengths[a]);
+    let w = widen(normal_widths[b]);
+    top = place_kinds(table, kinds, blocks, shape, at, l, w, top);
+    let longer = Line {
+        index: a,
+        at: at,
+        base: place.column,
+        stride: shape.stride,
+    };
+    let half_a = place.length_half_end;
     top = cut(
         table,
         normal_lengths,
         length_floors,
         blocks,
-        d,
+        shape.d,
         words,
-        a,
-        length_half_end,
-        at,
-        column,
-        row,
+        longer,
+        half_a,
         top,
     );
+    let wider = Line {
+        index: b,
+        at: at,
+        base: at - place.column,
+        stride: words,
+    };
+    let half_b = place.width_half_end;
     top = cut(
         table,
         normal_widths,
         width_floors,
         blocks,
-        d,
+        shape.d,
         words,
-        b,
-        width_half_end,
-        at,
-        at - column,
-        words,
+        wider,
+        half_b,
         top,
     );
     finish(table, at, words, top);

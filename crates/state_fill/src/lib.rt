@@ -5,9 +5,11 @@ mod cells;
 mod parts;
 mod raise;
 mod rows;
+mod shape;
 mod weights;
 mod words;
 
 pub use raise::below;
 pub use rows::fill;
+pub use shape::Shape;
 pub use weights::fill_weighed;

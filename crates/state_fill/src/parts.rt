@@ -3,11 +3,8 @@ use crate::raise::take;
 use crate::words::figure;
 use crate::words::note;
 use table::entry;
-ghost use mathlib.Core.Path.{_≡_};
-ghost use Prim.Native.Nat.{ℕ, _+_, _*_, _≤_, _<_};
-ghost use lib.ListN.{length};
-ghost use Rattle.table.specs.Words.{Cuts};
-ghost use Rattle.state_fill.specs.Cells.{held, under, Digits, Rises, Ready, JoinedWith, Joined, CutAt, Topped};
+ghost use Prim.Native.Nat.{_+_};
+ghost use Rattle.state_fill.specs.Cells.{under, Growing, Ready, Joinable, JoinedWith, Joined, Cuttable, CutAt, Topped};
 
 // The cell takes v at state t together with the figure of each state that the cell from y on lists. Nothing is to be taken where even the
 // greatest figure of that cell, at its last state, gives no more than state t has.
@@ -22,8 +19,7 @@ fn join_with(
     v: u64,
     top: usize,
 ) -> usize
-    requires { ⌜ Digits (now blocks) d words × (y + words ≤ at) × (at + words ≤ length (now table)) × (t < words) × (v ≤ 1000000000000)
-        × Ready (now table) y words × Rises (under (now blocks) d) words (held (now table) at) ⌝ }
+    requires { ⌜ Joinable (now blocks) d words at y t v (now table) ⌝ }
     ensures { λ r. ⌜ JoinedWith (under (now (blocks .entry)) d) at words t v y (now (table .entry)) (now (table .exit)) × Topped at words top r (now (table .entry)) (now (table .exit)) ⌝ }
 {
     let most = v + figure(table[y + (words - 1)]);
@@ -54,8 +50,7 @@ fn join(
     y: usize,
     top: usize,
 ) -> usize
-    requires { ⌜ Digits (now blocks) d words × (x + words ≤ at) × (y + words ≤ at) × (at + words ≤ length (now table))
-        × Ready (now table) x words × Ready (now table) y words × Rises (under (now blocks) d) words (held (now table) at) ⌝ }
+    requires { ⌜ Growing (now blocks) d words at (now table) × Ready (now table) x words at × Ready (now table) y words at ⌝ }
     ensures { λ r. ⌜ Joined (under (now (blocks .entry)) d) at words x y (now (table .entry)) (now (table .exit)) × Topped at words top r (now (table .entry)) (now (table .exit)) ⌝ }
 {
     let mut high = top;
@@ -71,7 +66,16 @@ fn join(
     high
 }
 
-// A cell of entry a takes the cut at entry i, if its parts make up the whole.
+// A line of cells, along the lengths or along the widths: the cell of entry i begins at word base + i · stride, and the one of `index`, at
+// word `at`, is made.
+pub struct Line {
+    pub index: usize,
+    pub at: usize,
+    pub base: usize,
+    pub stride: usize,
+}
+
+// The cell takes the cut at entry i, if its parts make up the whole.
 fn cut_at(
     table: &mut [u64],
     list: &[u16],
@@ -79,36 +83,25 @@ fn cut_at(
     blocks: &[u32],
     d: usize,
     words: usize,
-    a: usize,
+    line: Line,
     i: usize,
-    at: usize,
-    base: usize,
-    stride: usize,
     top: usize,
 ) -> usize
-    requires { ⌜ Digits (now blocks) d words × Cuts (now list) (now floors) a (i + 1) × (1 ≤ i) × (at ≡ base + a * stride) × (words ≤ stride) × (at + words ≤ length (now table))
-        × ((j : ℕ) → j < a → Ready (now table) (base + j * stride) words) × Rises (under (now blocks) d) words (held (now table) at) ⌝ }
-    ensures { λ r. ⌜ CutAt (under (now (blocks .entry)) d) (now (list .entry)) (now (floors .entry)) a i (i + 1) base stride at words (now (table .entry)) (now (table .exit))
-        × Topped at words top r (now (table .entry)) (now (table .exit)) ⌝ }
+    requires { ⌜ Cuttable (now blocks) (now list) (now floors) d words (line .index) i (i + 1) (line .base) (line .stride) (line .at) (now table) ⌝ }
+    ensures { λ r. ⌜ CutAt (under (now (blocks .entry)) d) (now (list .entry)) (now (floors .entry)) (line .index) i (i + 1) (line .base) (line .stride) (line .at) words (now (table .entry)) (now (table .exit))
+        × Topped (line .at) words top r (now (table .entry)) (now (table .exit)) ⌝ }
 {
-    let left = entry(list, a) - entry(list, i);
+    let left = entry(list, line.index) - entry(list, i);
     let rest = entry(floors, left);
     if entry(list, rest) == left {
-        return join(
-            table,
-            blocks,
-            d,
-            words,
-            at,
-            base + i * stride,
-            base + rest * stride,
-            top,
-        );
+        let x = line.base + i * line.stride;
+        let y = line.base + rest * line.stride;
+        return join(table, blocks, d, words, line.at, x, y, top);
     }
     top
 }
 
-// A cell of entry a takes the cuts at the entries below the end of the first half: the cell of entry i begins at word base + i · stride.
+// The cell takes the cuts at the entries below the end of the first half.
 pub fn cut(
     table: &mut [u64],
     list: &[u16],
@@ -116,34 +109,17 @@ pub fn cut(
     blocks: &[u32],
     d: usize,
     words: usize,
-    a: usize,
+    line: Line,
     half_end: usize,
-    at: usize,
-    base: usize,
-    stride: usize,
     top: usize,
 ) -> usize
-    requires { ⌜ Digits (now blocks) d words × Cuts (now list) (now floors) a «half_end» × (at ≡ base + a * stride) × (words ≤ stride) × (at + words ≤ length (now table))
-        × ((j : ℕ) → j < a → Ready (now table) (base + j * stride) words) × Rises (under (now blocks) d) words (held (now table) at) ⌝ }
-    ensures { λ r. ⌜ CutAt (under (now (blocks .entry)) d) (now (list .entry)) (now (floors .entry)) a 1 «half_end» base stride at words (now (table .entry)) (now (table .exit))
-        × Topped at words top r (now (table .entry)) (now (table .exit)) ⌝ }
+    requires { ⌜ Cuttable (now blocks) (now list) (now floors) d words (line .index) 1 «half_end» (line .base) (line .stride) (line .at) (now table) ⌝ }
+    ensures { λ r. ⌜ CutAt (under (now (blocks .entry)) d) (now (list .entry)) (now (floors .entry)) (line .index) 1 «half_end» (line .base) (line .stride) (line .at) words (now (table .entry)) (now (table .exit))
+        × Topped (line .at) words top r (now (table .entry)) (now (table .exit)) ⌝ }
 {
     let mut high = top;
     for i in 1..half_end {
-        high = cut_at(
-            table,
-            list,
-            floors,
-            blocks,
-            d,
-            words,
-            a,
-            i,
-            at,
-            base,
-            stride,
-            high,
-        );
+        high = cut_at(table, list, floors, blocks, d, words, line, i, high);
     }
     high
 }

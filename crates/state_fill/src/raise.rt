@@ -5,7 +5,7 @@ ghost use Prim.Native.Nat.{_+_, _≤_, _<_, max};
 ghost use lib.Dec.{leb};
 ghost use lib.ListN.{length, getD};
 ghost use Rattle.table.specs.States.{Blocks};
-ghost use Rattle.state_fill.specs.Cells.{held, under, Digits, Rises, Lifted, Raised, Taken, Topped};
+ghost use Rattle.state_fill.specs.Cells.{held, under, Rises, Growing, Lifted, Raised, Taken, Topped};
 
 // The number of states that the digits from 0 to i have together.
 fn block(blocks: &[u32], i: usize) -> usize
@@ -51,8 +51,7 @@ fn run(table: &mut [u64], at: usize, m: usize, t: usize, v: u64)
 // The words of the states from t on become v where they are less: block after block of the last digit, up to the first whose least state
 // from t on is not less.
 fn up(table: &mut [u64], blocks: &[u32], d: usize, at: usize, t: usize, v: u64)
-    requires { ⌜ Blocks (λ i. getD (now blocks) i 0) d × (d < length (now blocks)) × (at + getD (now blocks) d 0 ≤ length (now table))
-        × Rises (under (now blocks) d) (getD (now blocks) d 0) (held (now table) at) ⌝ }
+    requires { ⌜ Growing (now blocks) d (getD (now blocks) d 0) at (now table) ⌝ }
     ensures { λ _. ⌜ Lifted (under (now (blocks .entry)) d) at (getD (now (blocks .entry)) d 0) t v (now (table .entry)) (now (table .exit)) ⌝ }
 {
     let end = block(blocks, d);
@@ -74,8 +73,7 @@ fn up(table: &mut [u64], blocks: &[u32], d: usize, at: usize, t: usize, v: u64)
 
 // State t is raised to v, which is more than it has, with all states above; it is flagged.
 fn raise(table: &mut [u64], blocks: &[u32], d: usize, words: usize, at: usize, t: usize, v: u64)
-    requires { ⌜ Digits (now blocks) d words × (at + words ≤ length (now table)) × (t < words) × (v < 2199023255552)
-        × Rises (under (now blocks) d) words (held (now table) at) ⌝ }
+    requires { ⌜ Growing (now blocks) d words at (now table) × (t < words) × (v < 2199023255552) ⌝ }
     ensures { λ _. ⌜ Raised (under (now (blocks .entry)) d) at words t v (now (table .entry)) (now (table .exit)) ⌝ }
 {
     up(table, blocks, d, at, t, v);
@@ -84,7 +82,7 @@ fn raise(table: &mut [u64], blocks: &[u32], d: usize, words: usize, at: usize, t
 
 // The number past state t, or `top` where that is more.
 pub fn past(top: usize, t: usize) -> usize
-    requires { ⌜ t < 65536 ⌝ }
+    requires { ⌜ t < 8388608 ⌝ }
     ensures { λ r. ⌜ r ≡ max top (t + 1) ⌝ }
 {
     if top <= t { t + 1 } else { top }
@@ -103,8 +101,7 @@ pub fn take(
     v: u64,
     top: usize,
 ) -> usize
-    requires { ⌜ Digits (now blocks) d words × (at + words ≤ length (now table)) × (t < 65536) × (u < 65536) × (v < 2199023255552)
-        × Rises (under (now blocks) d) words (held (now table) at) ⌝ }
+    requires { ⌜ Growing (now blocks) d words at (now table) × (t + u < 131072) × (v < 2199023255552) ⌝ }
     ensures { λ r. ⌜ Taken (under (now (blocks .entry)) d) at words t u v (now (table .entry)) (now (table .exit)) × Topped at words top r (now (table .entry)) (now (table .exit)) ⌝ }
 {
     let s = t + u;

@@ -1,29 +1,43 @@
 // One weight: the states are the shares from 0 to the capacity, one digit, and the state of a kind is its weight.
 use crate::rows::fill;
+use crate::shape::Shape;
+use crate::shape::widen;
 ghost use mathlib.Core.Path.{_≡_};
-ghost use Prim.Native.Nat.{ℕ, _≤_, _<_};
+ghost use Prim.Native.Nat.{_≤_, _<_};
 ghost use lib.ListN.{length, getD};
 ghost use Rattle.cutting.specs.declared.Direction.the-variants.{Length, Width};
 ghost use Rattle.cutting.specs.Job.{InRange};
 ghost use Rattle.table.specs.Table.{words-needed, Figures, Kept};
 ghost use Rattle.table.specs.Contracts.{kinds-job, Positions};
+ghost use Rattle.state_fill.specs.Tables.{Whole, Gathered};
 
-fn widen(weight: u8) -> u32
-    ensures { λ r. ⌜ r ≡ weight ⌝ }
+// The weight of kind i, where there is such a kind.
+fn weight_of(weights: &[u8], count: usize, i: usize) -> u32
+    requires { ⌜ count ≤ length (now weights) ⌝ }
+    ensures { λ r. ⌜ (i < count → r ≡ getD (now (weights .entry)) i 0) ⌝ }
 {
-    weight as u32
+    if i < count { weights[i] as u32 } else { 0 }
 }
 
-// The state of each kind below `count`.
-fn weight_states(weights: &[u8], count: u16) -> [u32; 64]
-    requires { ⌜ (count ≤ 64) × (count ≤ length (now weights)) ⌝ }
-    ensures { λ r. ⌜ (length r ≡ 64) × ((i : ℕ) → i < count → getD r i 0 ≡ getD (now (weights .entry)) i 0) ⌝ }
+// The kinds in one array, 64 of each: their lengths, widths, prices and states.
+fn gather(
+    kind_lengths: [u16; 64],
+    kind_widths: [u16; 64],
+    prices: [u32; 64],
+    weights: &[u8],
+    count: usize,
+) -> [u32; 256]
+    requires { ⌜ count ≤ length (now weights) ⌝ }
+    ensures { λ r. ⌜ Whole «kind_lengths» «kind_widths» prices r × Gathered «kind_lengths» «kind_widths» prices (now (weights .entry)) count 64 r ⌝ }
 {
-    let mut states = [0u32; 64];
-    for i in 0..count as usize {
-        states[i] = widen(weights[i]);
+    let mut kinds = [0u32; 256];
+    for i in 0..64 {
+        kinds[i] = widen(kind_lengths[i]);
+        kinds[64 + i] = widen(kind_widths[i]);
+        kinds[128 + i] = prices[i];
+        kinds[192 + i] = weight_of(weights, count, i);
     }
-    states
+    kinds
 }
 
 // The table of a job, weights and a capacity q: its words are the figures, and the rest is as it was.
@@ -51,26 +65,33 @@ pub fn fill_weighed(
     ensures { λ _. ⌜ Figures (kinds-job l w count (now («kind_lengths» .entry)) (now («kind_widths» .entry)) (now (prices .entry))) (λ i. getD (now (weights .entry)) i 0) q (now (table .exit))
         × Kept (words-needed (kinds-job l w count (now («kind_lengths» .entry)) (now («kind_widths» .entry)) (now (prices .entry))) q) (now (table .entry)) (now (table .exit)) ⌝ }
 {
-    let states = weight_states(weights, count);
+    let kinds = gather(
+        *kind_lengths,
+        *kind_widths,
+        *prices,
+        weights,
+        count as usize,
+    );
     let words = (q as usize) + 1;
     let blocks = [words as u32; 1];
+    let shape = Shape {
+        l: l,
+        w: w,
+        count: count as usize,
+        length_count: length_count as usize,
+        columns: columns as usize,
+        d: 0,
+        words: words,
+        stride: (columns as usize) * words,
+    };
     fill(
-        l,
-        w,
-        kind_lengths,
-        kind_widths,
-        prices,
-        &states,
-        count,
+        table,
+        &kinds,
         normal_lengths,
         length_floors,
-        length_count,
         normal_widths,
         width_floors,
-        columns,
         &blocks,
-        0,
-        words,
-        table,
+        shape,
     );
 }

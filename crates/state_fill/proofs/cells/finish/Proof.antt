@@ -95,9 +95,8 @@ same-length c = c .before .loop .inv .1
 
 returns : tie.Need-returns Inv-loop μ-loop
 returns c =
-    let given = c .before .before .before .pre in
-    let e : c .before .loop .s ≡ c .before .before .before .args .top = omega arith in
-    listing-end _ _ _ _ _ _ (omega (arith, given .2)) (λ t h f. omega (arith, given .3 t h f)) (c .before .loop .inv .2)
+    let e : c .before .loop .s ≡ c .before .before .before .args .top = omega (arith, c .before .before .before .pre .2 .most) in
+    listing-end _ _ _ _ _ _ (c .before .before .before .pre .2) (rw e at (c .before .loop .inv .2))
 
 pub finish-spec : {M : Type 1} → statement M
 finish-spec =

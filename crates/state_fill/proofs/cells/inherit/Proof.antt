@@ -6,7 +6,7 @@ use mathlib.Core.Logic.{⊎-elim}
 use Prim.Native.Nat.{_-_, _≤_}
 use lib.ListN.{length, length-set}
 use Rattle.state_fill.specs.Cells.{note, Topped}
-use Rattle.state_fill.proofs.Joining.{note-kept, ready-kept, past-end}
+use Rattle.state_fill.proofs.Joining.{note-kept, entry-state, past-end}
 use Rattle.state_fill.proofs.Listing.{Inherit, inherit-none, inherit-passed, inherit-more, inherit-end}
 use Rattle.state_fill.proofs.Topping.{topped-none, topped-then, topped-set}
 use Rattle.state_fill.proofs.cells.inherit.Statement.{statement}
@@ -19,7 +19,7 @@ abbrev μ-loop : tie.MeasureT-loop
 μ-loop table₀ at x y n top high₀ k₀ table high k = n - k
 
 loop-holds : tie.Need-loop-holds Inv-loop μ-loop
-loop-holds c = (omega arith, refl, inherit-none _ _ _ _ (c .before .pre .1) (c .before .pre .2) _, topped-none _ _ _ _)
+loop-holds c = (omega arith, refl, inherit-none _ _ _ _ (c .before .pre .0 .before) (c .before .pre .1) _, topped-none _ _ _ _)
 
 add-note : tie.Need-add-note Inv-loop μ-loop
 add-note c = search needs
@@ -28,7 +28,7 @@ mul-note : tie.Need-mul-note Inv-loop μ-loop
 mul-note c = search needs
 
 slice-read-note : tie.Need-slice-read-note Inv-loop μ-loop
-slice-read-note c = omega (arith, c .before .before .loop .inv .1, c .before .before .before .before .pre .1, c .before .before .before .before .pre .3)
+slice-read-note c = omega (arith, c .before .before .loop .inv .1, c .before .before .before .before .pre .0 .before, c .before .before .before .before .pre .2)
 
 note-requires : tie.Need-note-requires Inv-loop μ-loop
 note-requires c κs = search needs
@@ -38,66 +38,69 @@ same-length c = c .before .before .before .before .loop .inv .1
 
 returns : tie.Need-returns Inv-loop μ-loop
 returns c =
-    let start = c .before .before .before .before .before .before in
-    let inv = c .before .before .before .before .loop .inv in
-    (inherit-end _ _ _ _ (start .pre .1) (start .pre .2) _ _ _ (λ i u h e. past-end _ _ (start .args .words) _ _ _ (start .pre .4) h (sym (note-kept _ _ _ _ (inv .2 .rest) (start .args .x) (c .before .before .before .before .loop .k) (omega (arith, start .pre .1))) ∙ (sym (c .before .note .ensures .0) ∙ c .if1 .taken)) e) (inv .2), inv .3)
+    let given = c .before .before .before .before .before .before .pre in
+    let loop = c .before .before .before .before .loop in
+    (inherit-end _ _ _ _ (given .0 .before) (given .1) _ _ _ (λ i u h e. past-end _ _ _ _ _ _ _ (given .0) h (sym (note-kept _ _ _ _ (loop .inv .2 .rest) (c .before .before .before .before .before .before .args .x) (loop .k) (omega (arith, given .0 .before))) ∙ (sym (c .before .note .ensures .0) ∙ c .if1 .taken)) e) (loop .inv .2), loop .inv .3)
 
 sub-t : tie.Need-sub-t Inv-loop μ-loop
 sub-t c = search needs
 
 add-figure : tie.Need-add-figure Inv-loop μ-loop
 add-figure c =
-    let e = c .before .before .before .before .before .before in
-    let ready = ready-kept _ _ _ _ (c .before .before .before .before .loop .inv .2 .rest) (e .args .x) (e .args .words) (e .pre .1) (e .pre .4) in
-    omega (arith, e .pre .2, e .pre .3, ready .notes (c .before .before .before .before .loop .k) (omega arith), c .before .note .ensures .0)
+    let given = c .before .before .before .before .before .before .pre in
+    let loop = c .before .before .before .before .loop in
+    let state = entry-state (given .0) (loop .inv .2 .rest) (loop .k) _ (omega arith) (c .before .note .ensures .0) in
+    omega (arith, given .1, given .2)
 
 mul-figure : tie.Need-mul-figure Inv-loop μ-loop
 mul-figure c = search needs
 
 slice-read-figure : tie.Need-slice-read-figure Inv-loop μ-loop
 slice-read-figure c =
-    let e = c .before .before .before .before .before .before .before in
-    let inv = c .before .before .before .before .before .loop .inv in
-    let ready = ready-kept _ _ _ _ (inv .2 .rest) (e .args .x) (e .args .words) (e .pre .1) (e .pre .4) in
-    omega (arith, inv .1, e .pre .2, e .pre .3, ready .notes (c .before .before .before .before .before .loop .k) (omega arith), c .before .before .note .ensures .0)
+    let given = c .before .before .before .before .before .before .before .pre in
+    let loop = c .before .before .before .before .before .loop in
+    let state = entry-state (given .0) (loop .inv .2 .rest) (loop .k) _ (omega arith) (c .before .before .note .ensures .0) in
+    omega (arith, loop .inv .1, given .1, given .2)
 
 figure-requires : tie.Need-figure-requires Inv-loop μ-loop
 figure-requires c κs = search needs
 
 add-figure-2 : tie.Need-add-figure-2 Inv-loop μ-loop
 add-figure-2 c =
-    let e = c .before .before .before .before .before .before .before .before in
-    let ready = ready-kept _ _ _ _ (c .before .before .before .before .before .before .loop .inv .2 .rest) (e .args .x) (e .args .words) (e .pre .1) (e .pre .4) in
-    omega (arith, e .pre .1, e .pre .3, ready .notes (c .before .before .before .before .before .before .loop .k) (omega arith), c .before .before .before .note .ensures .0)
+    let given = c .before .before .before .before .before .before .before .before .pre in
+    let loop = c .before .before .before .before .before .before .loop in
+    let state = entry-state (given .0) (loop .inv .2 .rest) (loop .k) _ (omega arith) (c .before .before .before .note .ensures .0) in
+    omega (arith, given .0 .before, given .2)
 
 mul-figure-2 : tie.Need-mul-figure-2 Inv-loop μ-loop
 mul-figure-2 c = search needs
 
 slice-read-figure-2 : tie.Need-slice-read-figure-2 Inv-loop μ-loop
 slice-read-figure-2 c =
-    let e = c .before .before .before .before .before .before .before .before .before in
-    let inv = c .before .before .before .before .before .before .before .loop .inv in
-    let ready = ready-kept _ _ _ _ (inv .2 .rest) (e .args .x) (e .args .words) (e .pre .1) (e .pre .4) in
-    omega (arith, inv .1, e .pre .1, e .pre .3, ready .notes (c .before .before .before .before .before .before .before .loop .k) (omega arith), c .before .before .before .before .note .ensures .0)
+    let given = c .before .before .before .before .before .before .before .before .before .pre in
+    let loop = c .before .before .before .before .before .before .before .loop in
+    let state = entry-state (given .0) (loop .inv .2 .rest) (loop .k) _ (omega arith) (c .before .before .before .before .note .ensures .0) in
+    omega (arith, loop .inv .1, given .0 .before, given .2)
 
 figure-requires-2 : tie.Need-figure-requires-2 Inv-loop μ-loop
 figure-requires-2 c κs = search needs
 
 add-figure-3 : tie.Need-add-figure-3 Inv-loop μ-loop
 add-figure-3 c =
-    let e = c .before .before .before .before .before .before .before .before .before .before .before in
-    let ready = ready-kept _ _ _ _ (c .before .before .before .before .before .before .before .before .before .loop .inv .2 .rest) (e .args .x) (e .args .words) (e .pre .1) (e .pre .4) in
-    omega (arith, e .pre .3, ready .notes (c .before .before .before .before .before .before .before .before .before .loop .k) (omega arith), c .before .before .before .before .before .before .note .ensures .0)
+    let given = c .before .before .before .before .before .before .before .before .before .before .before .pre in
+    let loop = c .before .before .before .before .before .before .before .before .before .loop in
+    let state = entry-state (given .0) (loop .inv .2 .rest) (loop .k) _ (omega arith) (c .before .before .before .before .before .before .note .ensures .0) in
+    omega (arith, given .2)
 
 mul-figure-3 : tie.Need-mul-figure-3 Inv-loop μ-loop
 mul-figure-3 c = search needs
 
 slice-read-figure-3 : tie.Need-slice-read-figure-3 Inv-loop μ-loop
 slice-read-figure-3 c =
-    let e = c .before .before .before .before .before .before .before .before .before .before .before .before in
-    let inv = c .before .before .before .before .before .before .before .before .before .before .loop .inv in
-    let ready = ready-kept _ _ _ _ (inv .2 .rest) (e .args .x) (e .args .words) (e .pre .1) (e .pre .4) in
-    omega (arith, inv .1, e .pre .3, ready .notes (c .before .before .before .before .before .before .before .before .before .before .loop .k) (omega arith), c .before .before .before .before .before .before .before .note .ensures .0)
+    let given = c .before .before .before .before .before .before .before .before .before .before .before .before .pre in
+    let loop = c .before .before .before .before .before .before .before .before .before .before .loop in
+    let state = entry-state (given .0) (loop .inv .2 .rest) (loop .k) _ (omega arith) (c .before .before .before .before .before .before .before .note .ensures .0) in
+    omega (arith, loop .inv .1, given .2)
 
 figure-requires-3 : tie.Need-figure-requires-3 Inv-loop μ-loop
 figure-requires-3 c κs = search needs
@@ -113,16 +116,13 @@ mul-table c = search needs
 
 slice-write-table : tie.Need-slice-write-table Inv-loop μ-loop
 slice-write-table c =
-    let e = c .before .before .before .before .before .before .before .before .before .before .before .before .before in
-    let inv = c .before .before .before .before .before .before .before .before .before .before .before .loop .inv in
-    let ready = ready-kept _ _ _ _ (inv .2 .rest) (e .args .x) (e .args .words) (e .pre .1) (e .pre .4) in
-    omega (arith, inv .1, e .pre .3, ready .notes (c .before .before .before .before .before .before .before .before .before .before .before .loop .k) (omega arith), c .before .before .before .before .before .before .before .before .note .ensures .0)
+    let given = c .before .before .before .before .before .before .before .before .before .before .before .before .before .pre in
+    let loop = c .before .before .before .before .before .before .before .before .before .before .before .loop in
+    let state = entry-state (given .0) (loop .inv .2 .rest) (loop .k) _ (omega arith) (c .before .before .before .before .before .before .before .before .note .ensures .0) in
+    omega (arith, loop .inv .1, given .2)
 
 past-requires : tie.Need-past-requires Inv-loop μ-loop
-past-requires c κs =
-    let e = c .before .before .before .before .before .before .before .before .before .before .before .before .before in
-    let ready = ready-kept _ _ _ _ (c .before .before .before .before .before .before .before .before .before .before .before .loop .inv .2 .rest) (e .args .x) (e .args .words) (e .pre .1) (e .pre .4) in
-    omega (arith, e .pre .0, ready .notes (c .before .before .before .before .before .before .before .before .before .before .before .loop .k) (omega arith), c .before .before .before .before .before .before .before .before .note .ensures .0)
+past-requires c κs = omega (arith, c .before .before .before .before .before .before .before .before .note .ensures .1)
 
 add-k : tie.Need-add-k Inv-loop μ-loop
 add-k c = search needs
@@ -132,19 +132,19 @@ loop-less c = search needs
 
 loop-again : tie.Need-loop-again Inv-loop μ-loop
 loop-again c =
-    let e = c .before .before .before .before .before .before .before .before .before .before .before in
-    let inv = c .before .before .before .before .before .before .before .before .before .loop .inv in
-    let ready = ready-kept _ _ _ _ (inv .2 .rest) (e .args .x) (e .args .words) (e .pre .1) (e .pre .4) in
+    let given = c .before .before .before .before .before .before .before .before .before .before .before .pre in
+    let loop = c .before .before .before .before .before .before .before .before .before .loop in
+    let state = entry-state (given .0) (loop .inv .2 .rest) (loop .k) _ (omega arith) (c .before .before .before .before .before .before .note .ensures .0) in
     ⊎-elim
-    (λ w. rw (w .4, w .5) (omega arith, simp length-set (inv .1), inherit-more _ _ _ _ (e .pre .1) (e .pre .2) _ _ _ _ _ (omega (arith, inv .1)) (omega arith) (omega (arith, ready .notes (c .before .before .before .before .before .before .before .before .before .loop .k) (omega arith), c .before .before .before .before .before .before .note .ensures .0)) (sym (c .before .before .before .before .before .before .note .ensures .0) ∙ omega arith) (w .2 .ensures .0) (inv .2), topped-then _ _ _ _ _ _ _ _ (inv .3) (topped-set _ _ _ _ _ _ _ (w .3 .ensures) (omega (arith, ready .notes (c .before .before .before .before .before .before .before .before .before .loop .k) (omega arith), c .before .before .before .before .before .before .note .ensures .0)))))
-    (λ w. rw (w .1, w .2) (omega arith, inv .1, inherit-passed _ _ _ _ (e .pre .1) (e .pre .2) _ (c .before .before .before .before .before .before .note .result - 1) _ _ (omega arith) (omega (arith, ready .notes (c .before .before .before .before .before .before .before .before .before .loop .k) (omega arith), c .before .before .before .before .before .before .note .ensures .0)) (sym (c .before .before .before .before .before .before .note .ensures .0) ∙ omega arith) (omega (arith, w .0 .left, c .before .before .before .figure .ensures .0, c .before .figure2 .ensures .0)) (inv .2), inv .3))
+    (λ w. rw (w .4, w .5) (omega arith, simp length-set (loop .inv .1), inherit-more _ _ _ _ (given .0 .before) (given .1) _ _ _ _ _ (omega (arith, loop .inv .1)) (omega arith) state (sym (c .before .before .before .before .before .before .note .ensures .0) ∙ omega arith) (w .2 .ensures .0) (loop .inv .2), topped-then _ _ _ _ _ _ _ _ (loop .inv .3) (topped-set _ _ _ _ _ _ _ (w .3 .ensures) state)))
+    (λ w. rw (w .1, w .2) (omega arith, loop .inv .1, inherit-passed _ _ _ _ (given .0 .before) (given .1) _ (c .before .before .before .before .before .before .note .result - 1) _ _ (omega arith) state (sym (c .before .before .before .before .before .before .note .ensures .0) ∙ omega arith) (omega (arith, w .0 .left, c .before .before .before .figure .ensures .0, c .before .figure2 .ensures .0)) (loop .inv .2), loop .inv .3))
     (c .if2 .came)
 
 same-length-2 : tie.Need-same-length-2 Inv-loop μ-loop
 same-length-2 c = c .before .loop .inv .1
 
 returns-2 : tie.Need-returns-2 Inv-loop μ-loop
-returns-2 c = (inherit-end _ _ _ _ (c .before .before .before .pre .1) (c .before .before .before .pre .2) _ _ _ (λ i u h e. omega arith) (c .before .loop .inv .2), c .before .loop .inv .3)
+returns-2 c = (inherit-end _ _ _ _ (c .before .before .before .pre .0 .before) (c .before .before .before .pre .1) _ _ _ (λ i u h e. omega arith) (c .before .loop .inv .2), c .before .loop .inv .3)
 
 pub inherit-spec : {M : Type 1} → statement M
 inherit-spec =

@@ -4,27 +4,31 @@ use native.Mathlib.Omega.{arith}
 use mathlib.Core.Path.{_≡_, refl, _∙_}
 use Prim.Native.Nat.{_-_, _≤_, _<_}
 use lib.ListN.{length}
-use Rattle.table.proofs.Halves.{entry-before}
 use Rattle.state_fill.specs.Cells.{under, CutAt, Topped}
-use Rattle.state_fill.proofs.Joining.{ready-kept, cut-none, cut-then, cuts-fewer}
+use Rattle.state_fill.proofs.Joining.{ready-kept, growing-kept, cut-none, cut-then, cuts-fewer}
 use Rattle.state_fill.proofs.Topping.{topped-none, topped-then}
 use Rattle.state_fill.proofs.parts.cut.Statement.{statement}
 use Rattle.state_fill.proofs.parts.cut.Tie as tie
 
 abbrev Inv-loop : tie.InvT-loop
-Inv-loop table₀ list map blocks d n a k at base step top high₀ i₀ table high i = (1 ≤ i) × (i ≤ k) × (length table ≡ length table₀) × CutAt (under blocks d) list map a 1 i base step at n table₀ table × Topped at n top high table₀ table
+Inv-loop table₀ list floors blocks d words line half-end top high₀ i₀ table high i = (1 ≤ i) × (i ≤ half-end) × (length table ≡ length table₀) × CutAt (under blocks d) list floors (line .index) 1 i (line .base) (line .stride) (line .at) words table₀ table × Topped (line .at) words top high table₀ table
 
 abbrev μ-loop : tie.MeasureT-loop
-μ-loop table₀ list map blocks d n a k at base step top high₀ i₀ table high i = k - i
+μ-loop table₀ list floors blocks d words line half-end top high₀ i₀ table high i = half-end - i
 
 loop-holds : tie.Need-loop-holds Inv-loop μ-loop
-loop-holds c = (omega arith, c .before .before .before .before .pre .1 .least, refl, cut-none _ _ _ _ _ _ _ _ 1 _, topped-none _ _ _ _)
+loop-holds c = (omega arith, c .before .before .before .before .pre .cuts .least, refl, cut-none _ _ _ _ _ _ _ _ 1 _, topped-none _ _ _ _)
 
 cut-at-requires : tie.Need-cut-at-requires Inv-loop μ-loop
 cut-at-requires c κs =
-    let e = c .before .before .before .before .before .before .before in
+    let given = c .before .before .before .before .before .before .before .pre in
     let inv = c .before .before .loop .inv in
-    (e .pre .0, cuts-fewer _ _ _ _ _ (omega arith) (omega arith) (e .pre .1), inv .0, e .pre .2, e .pre .3, omega (arith, inv .2, e .pre .4), λ j h. ready-kept _ _ _ _ (inv .3 .grown .rest) _ _ (omega (arith, e .pre .3, entry-before (e .args .at) (e .args .base) (e .args .stride) (e .args .a) j h (e .pre .2))) (e .pre .5 j h), inv .3 .grown .rises (e .pre .6))
+    record {
+      growing = growing-kept (given .growing) (inv .2) (inv .3 .grown);
+      first = inv .0;
+      cuts = cuts-fewer _ _ _ _ _ (omega arith) (omega arith) (given .cuts);
+      ready = λ j h. ready-kept _ _ _ _ (inv .3 .grown .rest) _ _ (given .ready j h);
+    }
 
 add-i : tie.Need-add-i Inv-loop μ-loop
 add-i c = search needs
@@ -34,15 +38,15 @@ loop-less c = search needs
 
 loop-again : tie.Need-loop-again Inv-loop μ-loop
 loop-again c =
-    let e = c .before .before .before .before .before .before .before .before .before .before in
+    let given = c .before .before .before .before .before .before .before .before .before .before .pre in
     let inv = c .before .before .before .before .before .loop .inv in
-    (omega arith, omega arith, c .before .before .cut-at .kept .0 ∙ inv .2, cut-then _ _ _ _ _ _ _ _ 1 _ _ _ _ _ (λ j l m. ((let h : j < e .args .a = omega (arith, e .pre .1 .most) in omega (arith, e .pre .3, entry-before (e .args .at) (e .args .base) (e .args .stride) (e .args .a) j h (e .pre .2))), (let h = e .pre .1 .earlier j l (omega arith) in omega (arith, e .pre .3, entry-before (e .args .at) (e .args .base) (e .args .stride) (e .args .a) _ h (e .pre .2))))) (inv .0) (omega arith) (inv .3) (c .before .before .cut-at .ensures .0), topped-then _ _ _ _ _ _ _ _ (inv .4) (c .before .before .cut-at .ensures .1))
+    (omega arith, omega arith, c .before .before .cut-at .kept .0 ∙ inv .2, cut-then _ _ _ _ _ _ _ _ 1 _ _ _ _ _ (λ j l m. (given .ready j (omega (arith, given .cuts .most)) .before, given .ready _ (given .cuts .earlier j l (omega arith)) .before)) (inv .0) (omega arith) (inv .3) (c .before .before .cut-at .ensures .0), topped-then _ _ _ _ _ _ _ _ (inv .4) (c .before .before .cut-at .ensures .1))
 
 same-length : tie.Need-same-length Inv-loop μ-loop
 same-length c = c .before .loop .inv .2
 
 returns : tie.Need-returns Inv-loop μ-loop
-returns c = let e : c .before .loop .i ≡ c .before .before .before .before .before .before .args .half-end = omega (arith, c .before .before .before .before .before .before .pre .1 .least) in (rw e at (c .before .loop .inv .3), c .before .loop .inv .4)
+returns c = let e : c .before .loop .i ≡ c .before .before .before .before .before .before .args .half-end = omega (arith, c .before .before .before .before .before .before .pre .cuts .least) in (rw e at (c .before .loop .inv .3), c .before .loop .inv .4)
 
 pub cut-spec : {M : Type 1} → statement M
 cut-spec =

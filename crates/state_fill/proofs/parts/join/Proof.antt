@@ -5,7 +5,7 @@ use mathlib.Core.Path.{_≡_, refl, sym, _∙_}
 use Prim.Native.Nat.{_-_, _≤_}
 use lib.ListN.{length}
 use Rattle.state_fill.specs.Cells.{under, note, Topped}
-use Rattle.state_fill.proofs.Joining.{note-kept, ready-kept, past-end, Join, join-none, join-more, join-end}
+use Rattle.state_fill.proofs.Joining.{note-kept, ready-kept, growing-kept, entry-state, past-end, Join, join-none, join-more, join-end}
 use Rattle.state_fill.proofs.Topping.{topped-none, topped-then}
 use Rattle.state_fill.proofs.parts.join.Statement.{statement}
 use Rattle.state_fill.proofs.parts.join.Tie as tie
@@ -26,7 +26,7 @@ mul-note : tie.Need-mul-note Inv-loop μ-loop
 mul-note c = search needs
 
 slice-read-note : tie.Need-slice-read-note Inv-loop μ-loop
-slice-read-note c = omega (arith, c .before .before .loop .inv .1, c .before .before .before .before .before .pre .1, c .before .before .before .before .before .pre .3)
+slice-read-note c = omega (arith, c .before .before .loop .inv .1, c .before .before .before .before .before .pre .1 .before, c .before .before .before .before .before .pre .0 .room)
 
 note-requires : tie.Need-note-requires Inv-loop μ-loop
 note-requires c κs = search needs
@@ -36,38 +36,45 @@ same-length c = c .before .before .before .before .loop .inv .1
 
 returns : tie.Need-returns Inv-loop μ-loop
 returns c =
-    let start = c .before .before .before .before .before .before .before in
-    let inv = c .before .before .before .before .loop .inv in
-    (join-end _ _ _ _ _ _ _ _ (λ i u h e. past-end _ _ (start .args .words) _ _ _ (start .pre .4) h (sym (note-kept _ _ _ _ (inv .2 .grown .rest) (start .args .x) (c .before .before .before .before .loop .k) (omega (arith, start .pre .1))) ∙ (sym (c .before .note .ensures .0) ∙ c .if1 .taken)) e) (inv .2), inv .3)
+    let given = c .before .before .before .before .before .before .before .pre in
+    let loop = c .before .before .before .before .loop in
+    (join-end _ _ _ _ _ _ _ _ (λ i u h e. past-end _ _ _ _ _ _ _ (given .1) h (sym (note-kept _ _ _ _ (loop .inv .2 .grown .rest) (c .before .before .before .before .before .before .before .args .x) (loop .k) (omega (arith, given .1 .before))) ∙ (sym (c .before .note .ensures .0) ∙ c .if1 .taken)) e) (loop .inv .2), loop .inv .3)
 
 sub-t : tie.Need-sub-t Inv-loop μ-loop
 sub-t c = search needs
 
 add-figure : tie.Need-add-figure Inv-loop μ-loop
 add-figure c =
-    let e = c .before .before .before .before .before .before .before in
-    let ready = ready-kept _ _ _ _ (c .before .before .before .before .loop .inv .2 .grown .rest) (e .args .x) (e .args .words) (e .pre .1) (e .pre .4) in
-    omega (arith, e .pre .1, e .pre .3, ready .notes (c .before .before .before .before .loop .k) (omega arith), c .before .note .ensures .0)
+    let given = c .before .before .before .before .before .before .before .pre in
+    let loop = c .before .before .before .before .loop in
+    let state = entry-state (given .1) (loop .inv .2 .grown .rest) (loop .k) _ (omega arith) (c .before .note .ensures .0) in
+    omega (arith, given .1 .before, given .0 .room)
 
 mul-figure : tie.Need-mul-figure Inv-loop μ-loop
 mul-figure c = search needs
 
 slice-read-figure : tie.Need-slice-read-figure Inv-loop μ-loop
 slice-read-figure c =
-    let e = c .before .before .before .before .before .before .before .before in
-    let inv = c .before .before .before .before .before .loop .inv in
-    let ready = ready-kept _ _ _ _ (inv .2 .grown .rest) (e .args .x) (e .args .words) (e .pre .1) (e .pre .4) in
-    omega (arith, inv .1, e .pre .1, e .pre .3, ready .notes (c .before .before .before .before .before .loop .k) (omega arith), c .before .before .note .ensures .0)
+    let given = c .before .before .before .before .before .before .before .before .pre in
+    let loop = c .before .before .before .before .before .loop in
+    let state = entry-state (given .1) (loop .inv .2 .grown .rest) (loop .k) _ (omega arith) (c .before .before .note .ensures .0) in
+    omega (arith, loop .inv .1, given .1 .before, given .0 .room)
 
 figure-requires : tie.Need-figure-requires Inv-loop μ-loop
 figure-requires c κs = search needs
 
 join-with-requires : tie.Need-join-with-requires Inv-loop μ-loop
 join-with-requires c κs =
-    let e = c .before .before .before .before .before .before .before .before .before .before in
-    let inv = c .before .before .before .before .before .before .before .loop .inv in
-    let ready = ready-kept _ _ _ _ (inv .2 .grown .rest) (e .args .x) (e .args .words) (e .pre .1) (e .pre .4) in
-    (e .pre .0, e .pre .2, omega (arith, inv .1, e .pre .3), omega (arith, ready .notes (c .before .before .before .before .before .before .before .loop .k) (omega arith), c .before .before .before .before .note .ensures .0), omega (arith, c .before .figure .ensures .0, ready .small (c .before .before .before .before .note .result - 1) (omega (arith, ready .notes (c .before .before .before .before .before .before .before .loop .k) (omega arith), c .before .before .before .before .note .ensures .0))), ready-kept _ _ _ _ (inv .2 .grown .rest) (e .args .y) (e .args .words) (e .pre .2) (e .pre .5), inv .2 .grown .rises (e .pre .6))
+    let given = c .before .before .before .before .before .before .before .before .before .before .pre in
+    let loop = c .before .before .before .before .before .before .before .loop in
+    let state = entry-state (given .1) (loop .inv .2 .grown .rest) (loop .k) _ (omega arith) (c .before .before .before .before .note .ensures .0) in
+    let kept = loop .inv .2 .grown .rest in
+    record {
+      growing = growing-kept (given .0) (loop .inv .1) (loop .inv .2 .grown);
+      ready = ready-kept _ _ _ _ kept _ _ (given .2);
+      state = state;
+      small = omega (arith, c .before .figure .ensures .0, ready-kept _ _ _ _ kept _ _ (given .1) .small (c .before .before .before .before .note .result - 1) state);
+    }
 
 add-k : tie.Need-add-k Inv-loop μ-loop
 add-k c = search needs
@@ -77,10 +84,10 @@ loop-less c = search needs
 
 loop-again : tie.Need-loop-again Inv-loop μ-loop
 loop-again c =
-    let e = c .before .before .before .before .before .before .before .before .before .before .before .before .before in
-    let inv = c .before .before .before .before .before .before .before .before .before .before .loop .inv in
-    let ready = ready-kept _ _ _ _ (inv .2 .grown .rest) (e .args .x) (e .args .words) (e .pre .1) (e .pre .4) in
-    (omega arith, c .before .before .join-with .kept .0 ∙ inv .1, join-more _ _ _ _ _ _ _ _ _ _ _ (e .pre .1) (e .pre .2) (omega arith) (omega (arith, ready .notes (c .before .before .before .before .before .before .before .before .before .before .loop .k) (omega arith), c .before .before .before .before .before .before .before .note .ensures .0)) (sym (c .before .before .before .before .before .before .before .note .ensures .0) ∙ omega arith) (c .before .before .before .before .figure .ensures .0) (inv .2) (c .before .before .join-with .ensures .0), topped-then _ _ _ _ _ _ _ _ (inv .3) (c .before .before .join-with .ensures .1))
+    let given = c .before .before .before .before .before .before .before .before .before .before .before .before .before .pre in
+    let loop = c .before .before .before .before .before .before .before .before .before .before .loop in
+    let state = entry-state (given .1) (loop .inv .2 .grown .rest) (loop .k) _ (omega arith) (c .before .before .before .before .before .before .before .note .ensures .0) in
+    (omega arith, c .before .before .join-with .kept .0 ∙ loop .inv .1, join-more _ _ _ _ _ _ _ _ _ _ _ (given .1 .before) (given .2 .before) (omega arith) state (sym (c .before .before .before .before .before .before .before .note .ensures .0) ∙ omega arith) (c .before .before .before .before .figure .ensures .0) (loop .inv .2) (c .before .before .join-with .ensures .0), topped-then _ _ _ _ _ _ _ _ (loop .inv .3) (c .before .before .join-with .ensures .1))
 
 same-length-2 : tie.Need-same-length-2 Inv-loop μ-loop
 same-length-2 c = c .before .loop .inv .1

@@ -5,7 +5,7 @@ use mathlib.Core.Path.{_≡_, refl, sym, _∙_}
 use Prim.Native.Nat.{_-_, _≤_}
 use lib.ListN.{length}
 use Rattle.state_fill.specs.Cells.{under, note, Topped}
-use Rattle.state_fill.proofs.Joining.{note-kept, ready-kept, past-end, With, with-none, with-more, with-end, with-skip}
+use Rattle.state_fill.proofs.Joining.{note-kept, ready-kept, growing-kept, entry-state, past-end, With, with-none, with-more, with-end, with-skip}
 use Rattle.state_fill.proofs.Topping.{topped-none, topped-then}
 use Rattle.state_fill.proofs.parts.join_with.Statement.{statement}
 use Rattle.state_fill.proofs.parts.join_with.Tie as tie
@@ -48,8 +48,8 @@ figure-requires-2 c κs = search needs
 
 returns : tie.Need-returns Inv-loop μ-loop
 returns c =
-    let start = c .before .before .before .before .before .before .before in
-    (with-skip _ _ _ _ _ _ _ (start .pre .5) (start .pre .6) (omega (arith, c .before .figure2 .ensures .0, c .before .before .before .figure .ensures .0)), topped-none _ _ _ _)
+    let given = c .before .before .before .before .before .before .before .pre in
+    (with-skip _ _ _ _ _ _ _ (given .ready) (given .growing .rises) (omega (arith, c .before .figure2 .ensures .0, c .before .before .before .figure .ensures .0)), topped-none _ _ _ _)
 
 loop-holds : tie.Need-loop-holds Inv-loop μ-loop
 loop-holds c = (omega arith, refl, with-none _ _ _ _ _ _ _, topped-none _ _ _ _)
@@ -61,7 +61,7 @@ mul-note : tie.Need-mul-note Inv-loop μ-loop
 mul-note c = search needs
 
 slice-read-note : tie.Need-slice-read-note Inv-loop μ-loop
-slice-read-note c = omega (arith, c .before .before .loop .inv .1, c .before .before .before .before .before .before .before .before .before .before .pre .1, c .before .before .before .before .before .before .before .before .before .before .pre .2)
+slice-read-note c = omega (arith, c .before .before .loop .inv .1, c .before .before .before .before .before .before .before .before .before .before .pre .ready .before, c .before .before .before .before .before .before .before .before .before .before .pre .growing .room)
 
 note-requires : tie.Need-note-requires Inv-loop μ-loop
 note-requires c κs = search needs
@@ -71,9 +71,9 @@ same-length c = c .before .before .before .before .loop .inv .1
 
 returns-2 : tie.Need-returns-2 Inv-loop μ-loop
 returns-2 c =
-    let start = c .before .before .before .before .before .before .before .before .before .before .before .before in
-    let inv = c .before .before .before .before .loop .inv in
-    (with-end _ _ _ _ _ _ _ _ _ (λ i u h e. past-end _ _ (start .args .words) _ _ _ (start .pre .5) h (sym (note-kept _ _ _ _ (inv .2 .grown .rest) (start .args .y) (c .before .before .before .before .loop .k) (omega (arith, start .pre .1))) ∙ (sym (c .before .note .ensures .0) ∙ c .if2 .taken)) e) (inv .2), inv .3)
+    let given = c .before .before .before .before .before .before .before .before .before .before .before .before .pre in
+    let loop = c .before .before .before .before .loop in
+    (with-end _ _ _ _ _ _ _ _ _ (λ i u h e. past-end _ _ _ _ _ _ _ (given .ready) h (sym (note-kept _ _ _ _ (loop .inv .2 .grown .rest) (c .before .before .before .before .before .before .before .before .before .before .before .before .args .y) (loop .k) (omega (arith, given .ready .before))) ∙ (sym (c .before .note .ensures .0) ∙ c .if2 .taken)) e) (loop .inv .2), loop .inv .3)
 
 sub-u : tie.Need-sub-u Inv-loop μ-loop
 sub-u c = search needs
@@ -86,23 +86,24 @@ mul-figure-3 c = search needs
 
 slice-read-figure-3 : tie.Need-slice-read-figure-3 Inv-loop μ-loop
 slice-read-figure-3 c =
-    let e = c .before .before .before .before .before .before .before .before .before .before .before .before .before in
-    let inv = c .before .before .before .before .before .loop .inv in
-    let ready = ready-kept _ _ _ _ (inv .2 .grown .rest) (e .args .y) (e .args .words) (e .pre .1) (e .pre .5) in
-    omega (arith, inv .1, e .pre .1, e .pre .2, ready .notes (c .before .before .before .before .before .loop .k) (omega arith), c .before .before .note .ensures .0)
+    let given = c .before .before .before .before .before .before .before .before .before .before .before .before .before .pre in
+    let loop = c .before .before .before .before .before .loop in
+    let state = entry-state (given .ready) (loop .inv .2 .grown .rest) (loop .k) _ (omega arith) (c .before .before .note .ensures .0) in
+    omega (arith, loop .inv .1, given .ready .before, given .growing .room)
 
 figure-requires-3 : tie.Need-figure-requires-3 Inv-loop μ-loop
 figure-requires-3 c κs = search needs
 
 add-sum : tie.Need-add-sum Inv-loop μ-loop
-add-sum c = omega (arith, c .figure3 .ensures .1, c .before .before .before .before .before .before .before .before .before .before .before .before .before .before .pre .4)
+add-sum c = omega (arith, c .figure3 .ensures .1, c .before .before .before .before .before .before .before .before .before .before .before .before .before .before .pre .small)
 
 take-requires : tie.Need-take-requires Inv-loop μ-loop
 take-requires c κs =
-    let e = c .before .before .before .before .before .before .before .before .before .before .before .before .before .before .before in
-    let inv = c .before .before .before .before .before .before .before .loop .inv in
-    let ready = ready-kept _ _ _ _ (inv .2 .grown .rest) (e .args .y) (e .args .words) (e .pre .1) (e .pre .5) in
-    (e .pre .0, omega (arith, inv .1, e .pre .2), omega (arith, e .pre .0 .most, e .pre .3), omega (arith, e .pre .0 .most, ready .notes (c .before .before .before .before .before .before .before .loop .k) (omega arith), c .before .before .before .before .note .ensures .0), omega (arith, e .pre .4, c .before .figure3 .ensures .0, ready .small (c .before .before .before .before .note .result - 1) (omega (arith, ready .notes (c .before .before .before .before .before .before .before .loop .k) (omega arith), c .before .before .before .before .note .ensures .0))), inv .2 .grown .rises (e .pre .6))
+    let given = c .before .before .before .before .before .before .before .before .before .before .before .before .before .before .before .pre in
+    let loop = c .before .before .before .before .before .before .before .loop in
+    let state = entry-state (given .ready) (loop .inv .2 .grown .rest) (loop .k) _ (omega arith) (c .before .before .before .before .note .ensures .0) in
+    let ready = ready-kept _ _ _ _ (loop .inv .2 .grown .rest) _ _ (given .ready) in
+    (growing-kept (given .growing) (loop .inv .1) (loop .inv .2 .grown), omega (arith, given .growing .digits .most, given .state), omega (arith, given .small, c .before .figure3 .ensures .0, ready .small (c .before .before .before .before .note .result - 1) state))
 
 add-k : tie.Need-add-k Inv-loop μ-loop
 add-k c = search needs
@@ -112,10 +113,10 @@ loop-less c = search needs
 
 loop-again : tie.Need-loop-again Inv-loop μ-loop
 loop-again c =
-    let e = c .before .before .before .before .before .before .before .before .before .before .before .before .before .before .before .before .before .before in
-    let inv = c .before .before .before .before .before .before .before .before .before .before .loop .inv in
-    let ready = ready-kept _ _ _ _ (inv .2 .grown .rest) (e .args .y) (e .args .words) (e .pre .1) (e .pre .5) in
-    (omega arith, c .before .before .take .kept .0 ∙ inv .1, with-more _ _ _ _ _ _ _ _ _ _ _ _ (e .pre .1) (omega arith) (omega (arith, ready .notes (c .before .before .before .before .before .before .before .before .before .before .loop .k) (omega arith), c .before .before .before .before .before .before .before .note .ensures .0)) (sym (c .before .before .before .before .before .before .before .note .ensures .0) ∙ omega arith) (omega (arith, c .before .before .before .before .figure3 .ensures .0)) (inv .2) (c .before .before .take .ensures .0), topped-then _ _ _ _ _ _ _ _ (inv .3) (c .before .before .take .ensures .1))
+    let given = c .before .before .before .before .before .before .before .before .before .before .before .before .before .before .before .before .before .before .pre in
+    let loop = c .before .before .before .before .before .before .before .before .before .before .loop in
+    let state = entry-state (given .ready) (loop .inv .2 .grown .rest) (loop .k) _ (omega arith) (c .before .before .before .before .before .before .before .note .ensures .0) in
+    (omega arith, c .before .before .take .kept .0 ∙ loop .inv .1, with-more _ _ _ _ _ _ _ _ _ _ _ _ (given .ready .before) (omega arith) state (sym (c .before .before .before .before .before .before .before .note .ensures .0) ∙ omega arith) (omega (arith, c .before .before .before .before .figure3 .ensures .0)) (loop .inv .2) (c .before .before .take .ensures .0), topped-then _ _ _ _ _ _ _ _ (loop .inv .3) (c .before .before .take .ensures .1))
 
 same-length-2 : tie.Need-same-length-2 Inv-loop μ-loop
 same-length-2 c = c .before .loop .inv .1

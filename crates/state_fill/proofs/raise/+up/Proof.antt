@@ -7,7 +7,7 @@ use Prim.Native.Nat.{_-_}
 use native.Mathlib.Nat.{mod-le, mod-lt}
 use lib.ListN.{length}
 use denote.Ref.{now}
-use Rattle.state_fill.proofs.Lifting.{Blockwise, first-block, room-block, stop-block, inner-block, more-block, blocks-before, partly-all, one-digit, digit-lifted}
+use Rattle.state_fill.proofs.Lifting.{Blockwise, first-block, some-size, room-block, stop-block, inner-block, more-block, partly-all, one-digit, digit-lifted}
 use Prim.Native.Nat.{ℕ, _<_}
 use borrow.Fn.Kinds.{In}
 use borrow.Fn.PlainCycle.{Measures, is, falls, and}
@@ -48,10 +48,13 @@ abbrev up-μ-loop : up-lts.MeasureT-loop
 up-μ-loop table₀ blocks d at t v end size low x₀ table x = end - x
 
 up-block-requires : (t : ℕ) → up-lts.Need-block-requires (callees t) (up-at t) up.Post up-Inv-loop up-μ-loop
-up-block-requires t c κs = c .before .before .pre .1 .1
+up-block-requires t c κs = c .before .before .pre .1 .digits .listed
 
 up-run-requires : (t : ℕ) → up-lts.Need-run-requires (callees t) (up-at t) up.Post up-Inv-loop up-μ-loop
-up-run-requires t c κs = (omega (arith, c .before .before .block .ensures .0, c .before .before .before .before .before .pre .1 .2), one-digit (now (c .before .before .before .before .before .args .blocks)) (c .before .before .before .before .before .args .d) (c .before .before .block .result) _ (omega arith) (c .before .before .block .ensures .0) (c .before .before .before .before .before .pre .1 .3))
+up-run-requires t c κs =
+    let given = c .before .before .before .before .before .pre .1 in
+    let end = c .before .before .block in
+    (omega (arith, end .ensures .0, given .room), one-digit (now (c .before .before .before .before .before .args .blocks)) (c .before .before .before .before .before .args .d) (end .result) _ (omega arith) (end .ensures .0) (given .rises))
 
 up-same-length : (t : ℕ) → up-lts.Need-same-length (callees t) (up-at t) up.Post up-Inv-loop up-μ-loop
 up-same-length t c = search needs
@@ -63,28 +66,39 @@ up-sub-block : (t : ℕ) → up-lts.Need-sub-block (callees t) (up-at t) up.Post
 up-sub-block t c = search needs
 
 up-block-requires-2 : (t : ℕ) → up-lts.Need-block-requires-2 (callees t) (up-at t) up.Post up-Inv-loop up-μ-loop
-up-block-requires-2 t c κs = omega (arith, c .before .before .before .before .pre .1 .1)
+up-block-requires-2 t c κs = omega (arith, c .before .before .before .before .pre .1 .digits .listed)
 
 up-rem-low : (t : ℕ) → up-lts.Need-rem-low (callees t) (up-at t) up.Post up-Inv-loop up-μ-loop
-up-rem-low t c = omega (arith, c .block2 .ensures .0, c .before .before .before .before .before .pre .1 .0 .some (c .before .before .before .before .before .args .d - 1) (omega arith))
+up-rem-low t c = some-size (c .before .before .before .before .before .pre .1) (c .block2 .ensures .0)
 
 up-sub-x : (t : ℕ) → up-lts.Need-sub-x (callees t) (up-at t) up.Post up-Inv-loop up-μ-loop
 up-sub-x t c = mod-le (c .before .before .before .before .before .args .t) (c .block2 .result)
 
 up-loop-holds : (t : ℕ) → up-lts.Need-loop-holds (callees t) (up-at t) up.Post up-Inv-loop up-μ-loop
-up-loop-holds t c = (refl, first-block (now (c .before .before .before .before .before .args .blocks)) _ (c .before .before .before .before .before .args .t) _ _ _ (omega arith) (c .before .before .before .before .before .pre .1 .0) (c .block2 .ensures .0) _)
+up-loop-holds t c = (refl, first-block (omega arith) (c .before .before .before .before .before .pre .1) (c .block2 .ensures .0) _ _)
 
 up-add-figure : (t : ℕ) → up-lts.Need-add-figure (callees t) (up-at t) up.Post up-Inv-loop up-μ-loop
-up-add-figure t c = omega (arith, room-block (now (c .before .before .before .before .before .before .before .args .blocks)) (c .before .before .before .before .before .before .before .args .at) (c .before .before .before .before .before .before .before .args .t) (c .before .before .before .before .before .before .before .args .v) (c .before .before .before .before .before .before .before .args .d) (c .before .before .block2 .result) (c .before .loop .x) (now (c .before .before .before .before .before .before .before .args .table)) (c .before .loop .table) (omega arith) (c .before .before .before .before .before .before .before .pre .1 .0) (c .before .before .block2 .ensures .0) (omega (arith, c .before .before .before .before .block .ensures .0)) (c .before .loop .inv .1), c .before .before .before .before .before .before .before .pre .1 .2)
+up-add-figure t c =
+    let given = c .before .before .before .before .before .before .before .pre .1 in
+    omega (arith, room-block (omega arith) given (c .before .before .block2 .ensures .0) (omega (arith, c .before .before .before .before .block .ensures .0)) (c .before .loop .inv .1), given .room)
 
 up-add-figure-2 : (t : ℕ) → up-lts.Need-add-figure-2 (callees t) (up-at t) up.Post up-Inv-loop up-μ-loop
-up-add-figure-2 t c = omega (arith, room-block (now (c .before .before .before .before .before .before .before .args .blocks)) (c .before .before .before .before .before .before .before .args .at) (c .before .before .before .before .before .before .before .args .t) (c .before .before .before .before .before .before .before .args .v) (c .before .before .before .before .before .before .before .args .d) (c .before .before .block2 .result) (c .before .loop .x) (now (c .before .before .before .before .before .before .before .args .table)) (c .before .loop .table) (omega arith) (c .before .before .before .before .before .before .before .pre .1 .0) (c .before .before .block2 .ensures .0) (omega (arith, c .before .before .before .before .block .ensures .0)) (c .before .loop .inv .1), mod-lt (c .before .before .before .before .before .before .before .args .t) {m = c .before .before .block2 .result} (omega (arith, c .before .before .block2 .ensures .0, c .before .before .before .before .before .before .before .pre .1 .0 .some (c .before .before .before .before .before .before .before .args .d - 1) (omega arith))), c .before .before .before .before .before .before .before .pre .1 .2)
+up-add-figure-2 t c =
+    let given = c .before .before .before .before .before .before .before .pre .1 in
+    let size = c .before .before .block2 in
+    omega (arith, room-block (omega arith) given (size .ensures .0) (omega (arith, c .before .before .before .before .block .ensures .0)) (c .before .loop .inv .1), mod-lt (c .before .before .before .before .before .before .before .args .t) {m = size .result} (some-size given (size .ensures .0)), given .room)
 
 up-mul-figure : (t : ℕ) → up-lts.Need-mul-figure (callees t) (up-at t) up.Post up-Inv-loop up-μ-loop
-up-mul-figure t c = omega (arith, room-block (now (c .before .before .before .before .before .before .before .args .blocks)) (c .before .before .before .before .before .before .before .args .at) (c .before .before .before .before .before .before .before .args .t) (c .before .before .before .before .before .before .before .args .v) (c .before .before .before .before .before .before .before .args .d) (c .before .before .block2 .result) (c .before .loop .x) (now (c .before .before .before .before .before .before .before .args .table)) (c .before .loop .table) (omega arith) (c .before .before .before .before .before .before .before .pre .1 .0) (c .before .before .block2 .ensures .0) (omega (arith, c .before .before .before .before .block .ensures .0)) (c .before .loop .inv .1), mod-lt (c .before .before .before .before .before .before .before .args .t) {m = c .before .before .block2 .result} (omega (arith, c .before .before .block2 .ensures .0, c .before .before .before .before .before .before .before .pre .1 .0 .some (c .before .before .before .before .before .before .before .args .d - 1) (omega arith))), c .before .before .before .before .before .before .before .pre .1 .2, c .before .loop .inv .0)
+up-mul-figure t c =
+    let given = c .before .before .before .before .before .before .before .pre .1 in
+    let size = c .before .before .block2 in
+    omega (arith, room-block (omega arith) given (size .ensures .0) (omega (arith, c .before .before .before .before .block .ensures .0)) (c .before .loop .inv .1), mod-lt (c .before .before .before .before .before .before .before .args .t) {m = size .result} (some-size given (size .ensures .0)), given .room, c .before .loop .inv .0)
 
 up-slice-read-figure : (t : ℕ) → up-lts.Need-slice-read-figure (callees t) (up-at t) up.Post up-Inv-loop up-μ-loop
-up-slice-read-figure t c = omega (arith, room-block (now (c .before .before .before .before .before .before .before .before .args .blocks)) (c .before .before .before .before .before .before .before .before .args .at) (c .before .before .before .before .before .before .before .before .args .t) (c .before .before .before .before .before .before .before .before .args .v) (c .before .before .before .before .before .before .before .before .args .d) (c .before .before .before .block2 .result) (c .before .before .loop .x) (now (c .before .before .before .before .before .before .before .before .args .table)) (c .before .before .loop .table) (omega arith) (c .before .before .before .before .before .before .before .before .pre .1 .0) (c .before .before .before .block2 .ensures .0) (omega (arith, c .before .before .before .before .before .block .ensures .0)) (c .before .before .loop .inv .1), mod-lt (c .before .before .before .before .before .before .before .before .args .t) {m = c .before .before .before .block2 .result} (omega (arith, c .before .before .before .block2 .ensures .0, c .before .before .before .before .before .before .before .before .pre .1 .0 .some (c .before .before .before .before .before .before .before .before .args .d - 1) (omega arith))), c .before .before .before .before .before .before .before .before .pre .1 .2, c .before .before .loop .inv .0)
+up-slice-read-figure t c =
+    let given = c .before .before .before .before .before .before .before .before .pre .1 in
+    let size = c .before .before .before .block2 in
+    omega (arith, room-block (omega arith) given (size .ensures .0) (omega (arith, c .before .before .before .before .before .block .ensures .0)) (c .before .before .loop .inv .1), mod-lt (c .before .before .before .before .before .before .before .before .args .t) {m = size .result} (some-size given (size .ensures .0)), given .room, c .before .before .loop .inv .0)
 
 up-figure-requires : (t : ℕ) → up-lts.Need-figure-requires (callees t) (up-at t) up.Post up-Inv-loop up-μ-loop
 up-figure-requires t c κs = search needs
@@ -93,31 +107,38 @@ up-same-length-2 : (t : ℕ) → up-lts.Need-same-length-2 (callees t) (up-at t)
 up-same-length-2 t c = c .before .before .before .before .loop .inv .0
 
 up-returns-2 : (t : ℕ) → up-lts.Need-returns-2 (callees t) (up-at t) up.Post up-Inv-loop up-μ-loop
-up-returns-2 t c = stop-block (now (c .before .before .before .before .before .before .before .before .before .before .args .blocks)) _ _ _ _ _ _ _ _ (omega arith) (c .before .before .before .before .before .before .before .before .before .before .pre .1 .0) (c .before .before .before .before .before .block2 .ensures .0) (omega (arith, c .before .before .before .before .before .before .before .block .ensures .0)) (c .before .before .before .before .before .before .before .before .before .before .pre .1 .3) (omega (arith, c .before .figure .ensures .0)) (c .before .before .before .before .loop .inv .1)
+up-returns-2 t c = stop-block (omega arith) (c .before .before .before .before .before .before .before .before .before .before .pre .1) (c .before .before .before .before .before .block2 .ensures .0) (omega (arith, c .before .before .before .before .before .before .before .block .ensures .0)) (c .before .before .before .before .loop .inv .1) (omega (arith, c .before .figure .ensures .0))
 
 up-sub-up : (t : ℕ) → up-lts.Need-sub-up (callees t) (up-at t) up.Post up-Inv-loop up-μ-loop
 up-sub-up t c = search needs
 
 up-add-up : (t : ℕ) → up-lts.Need-add-up (callees t) (up-at t) up.Post up-Inv-loop up-μ-loop
-up-add-up t c = omega (arith, room-block (now (c .before .before .before .before .before .before .before .before .before .before .before .args .blocks)) (c .before .before .before .before .before .before .before .before .before .before .before .args .at) (c .before .before .before .before .before .before .before .before .before .before .before .args .t) (c .before .before .before .before .before .before .before .before .before .before .before .args .v) (c .before .before .before .before .before .before .before .before .before .before .before .args .d) (c .before .before .before .before .before .before .block2 .result) (c .before .before .before .before .before .loop .x) (now (c .before .before .before .before .before .before .before .before .before .before .before .args .table)) (c .before .before .before .before .before .loop .table) (omega arith) (c .before .before .before .before .before .before .before .before .before .before .before .pre .1 .0) (c .before .before .before .before .before .before .block2 .ensures .0) (omega (arith, c .before .before .before .before .before .before .before .before .block .ensures .0)) (c .before .before .before .before .before .loop .inv .1), c .before .before .before .before .before .before .before .before .before .before .before .pre .1 .2)
+up-add-up t c =
+    let given = c .before .before .before .before .before .before .before .before .before .before .before .pre .1 in
+    omega (arith, room-block (omega arith) given (c .before .before .before .before .before .before .block2 .ensures .0) (omega (arith, c .before .before .before .before .before .before .before .before .block .ensures .0)) (c .before .before .before .before .before .loop .inv .1), given .room)
 
 up-up-requires : (t : ℕ) → up-lts.Need-up-requires (callees t) (up-at t) up.Post up-Inv-loop up-μ-loop
-up-up-requires t c κs = (omega (arith, c .before .before .before .before .before .before .before .before .before .before .before .pre .0), (blocks-before (now (c .before .before .before .before .before .before .before .before .before .before .before .args .blocks)) (c .before .before .before .before .before .before .before .before .before .before .before .args .at) (c .before .before .before .before .before .before .before .before .before .before .before .args .t) (c .before .before .before .before .before .before .before .before .before .before .before .args .v) (c .before .before .before .before .before .before .before .before .before .before .before .args .d) (c .before .before .before .before .before .before .before .before .before .before .before .pre .1 .0), omega (arith, c .before .before .before .before .before .before .before .before .before .before .before .pre .1 .1), omega (arith, room-block (now (c .before .before .before .before .before .before .before .before .before .before .before .args .blocks)) (c .before .before .before .before .before .before .before .before .before .before .before .args .at) (c .before .before .before .before .before .before .before .before .before .before .before .args .t) (c .before .before .before .before .before .before .before .before .before .before .before .args .v) (c .before .before .before .before .before .before .before .before .before .before .before .args .d) (c .before .before .before .before .before .before .block2 .result) (c .before .before .before .before .before .loop .x) (now (c .before .before .before .before .before .before .before .before .before .before .before .args .table)) (c .before .before .before .before .before .loop .table) (omega arith) (c .before .before .before .before .before .before .before .before .before .before .before .pre .1 .0) (c .before .before .before .before .before .before .block2 .ensures .0) (omega (arith, c .before .before .before .before .before .before .before .before .block .ensures .0)) (c .before .before .before .before .before .loop .inv .1), c .before .before .before .before .before .before .block2 .ensures .0, c .before .before .before .before .before .before .before .before .before .before .before .pre .1 .2, c .before .before .before .before .before .loop .inv .0), inner-block (now (c .before .before .before .before .before .before .before .before .before .before .before .args .blocks)) (c .before .before .before .before .before .before .before .before .before .before .before .args .at) (c .before .before .before .before .before .before .before .before .before .before .before .args .t) (c .before .before .before .before .before .before .before .before .before .before .before .args .v) (c .before .before .before .before .before .before .before .before .before .before .before .args .d) (c .before .before .before .before .before .before .block2 .result) (c .before .before .before .before .before .loop .x) (now (c .before .before .before .before .before .before .before .before .before .before .before .args .table)) (c .before .before .before .before .before .loop .table) (omega arith) (c .before .before .before .before .before .before .before .before .before .before .before .pre .1 .0) (c .before .before .before .before .before .before .block2 .ensures .0) (omega (arith, c .before .before .before .before .before .before .before .before .block .ensures .0)) (c .before .before .before .before .before .before .before .before .before .before .before .pre .1 .3) (c .before .before .before .before .before .loop .inv .1)))
+up-up-requires t c κs = (omega (arith, c .before .before .before .before .before .before .before .before .before .before .before .pre .0), inner-block (omega arith) (c .before .before .before .before .before .before .before .before .before .before .before .pre .1) (c .before .before .before .before .before .before .block2 .ensures .0) (omega (arith, c .before .before .before .before .before .before .before .before .block .ensures .0)) (c .before .before .before .before .before .loop .inv .1) (c .before .before .before .before .before .loop .inv .0))
 
 up-add-x : (t : ℕ) → up-lts.Need-add-x (callees t) (up-at t) up.Post up-Inv-loop up-μ-loop
-up-add-x t c = omega (arith, room-block (now (c .before .before .before .before .before .before .before .before .before .before .before .before .before .before .args .blocks)) (c .before .before .before .before .before .before .before .before .before .before .before .before .before .before .args .at) (c .before .before .before .before .before .before .before .before .before .before .before .before .before .before .args .t) (c .before .before .before .before .before .before .before .before .before .before .before .before .before .before .args .v) (c .before .before .before .before .before .before .before .before .before .before .before .before .before .before .args .d) (c .before .before .before .before .before .before .before .before .before .block2 .result) (c .before .before .before .before .before .before .before .before .loop .x) (now (c .before .before .before .before .before .before .before .before .before .before .before .before .before .before .args .table)) (c .before .before .before .before .before .before .before .before .loop .table) (omega arith) (c .before .before .before .before .before .before .before .before .before .before .before .before .before .before .pre .1 .0) (c .before .before .before .before .before .before .before .before .before .block2 .ensures .0) (omega (arith, c .before .before .before .before .before .before .before .before .before .before .before .block .ensures .0)) (c .before .before .before .before .before .before .before .before .loop .inv .1), c .before .before .before .before .before .before .before .before .before .before .before .before .before .before .pre .1 .2)
+up-add-x t c =
+    let given = c .before .before .before .before .before .before .before .before .before .before .before .before .before .before .pre .1 in
+    omega (arith, room-block (omega arith) given (c .before .before .before .before .before .before .before .before .before .block2 .ensures .0) (omega (arith, c .before .before .before .before .before .before .before .before .before .before .before .block .ensures .0)) (c .before .before .before .before .before .before .before .before .loop .inv .1), given .room)
 
 up-loop-less : (t : ℕ) → up-lts.Need-loop-less (callees t) (up-at t) up.Post up-Inv-loop up-μ-loop
-up-loop-less t c = omega (arith, room-block (now (c .before .before .before .before .before .before .before .before .before .before .before .before .before .before .args .blocks)) (c .before .before .before .before .before .before .before .before .before .before .before .before .before .before .args .at) (c .before .before .before .before .before .before .before .before .before .before .before .before .before .before .args .t) (c .before .before .before .before .before .before .before .before .before .before .before .before .before .before .args .v) (c .before .before .before .before .before .before .before .before .before .before .before .before .before .before .args .d) (c .before .before .before .before .before .before .before .before .before .block2 .result) (c .before .before .before .before .before .before .before .before .loop .x) (now (c .before .before .before .before .before .before .before .before .before .before .before .before .before .before .args .table)) (c .before .before .before .before .before .before .before .before .loop .table) (omega arith) (c .before .before .before .before .before .before .before .before .before .before .before .before .before .before .pre .1 .0) (c .before .before .before .before .before .before .before .before .before .block2 .ensures .0) (omega (arith, c .before .before .before .before .before .before .before .before .before .before .before .block .ensures .0)) (c .before .before .before .before .before .before .before .before .loop .inv .1), c .before .before .before .before .before .before .before .before .before .block2 .ensures .0, c .before .before .before .before .before .before .before .before .before .before .before .before .before .before .pre .1 .0 .some (c .before .before .before .before .before .before .before .before .before .before .before .before .before .before .args .d - 1) (omega arith))
+up-loop-less t c =
+    let given = c .before .before .before .before .before .before .before .before .before .before .before .before .before .before .pre .1 in
+    let size = c .before .before .before .before .before .before .before .before .before .block2 in
+    omega (arith, room-block (omega arith) given (size .ensures .0) (omega (arith, c .before .before .before .before .before .before .before .before .before .before .before .block .ensures .0)) (c .before .before .before .before .before .before .before .before .loop .inv .1), some-size given (size .ensures .0))
 
 up-loop-again : (t : ℕ) → up-lts.Need-loop-again (callees t) (up-at t) up.Post up-Inv-loop up-μ-loop
-up-loop-again t c = (c .before .before .up .kept .0 ∙ c .before .before .before .before .before .before .before .before .loop .inv .0, more-block (now (c .before .before .before .before .before .before .before .before .before .before .before .before .before .before .args .blocks)) _ (c .before .before .before .before .before .before .before .before .before .before .before .before .before .before .args .t) _ _ _ _ _ _ _ (omega arith) (c .before .before .before .before .before .before .before .before .before .before .before .before .before .before .pre .1 .0) (c .before .before .before .before .before .before .before .before .before .block2 .ensures .0) (omega (arith, c .before .before .before .before .before .before .before .before .before .before .before .block .ensures .0)) (c .before .before .before .before .before .before .before .before .loop .inv .1) (c .before .before .up .ensures))
+up-loop-again t c = (c .before .before .up .kept .0 ∙ c .before .before .before .before .before .before .before .before .loop .inv .0, more-block (omega arith) (c .before .before .before .before .before .before .before .before .before .before .before .before .before .before .pre .1) (c .before .before .before .before .before .before .before .before .before .block2 .ensures .0) (omega (arith, c .before .before .before .before .before .before .before .before .before .before .before .block .ensures .0)) (c .before .before .before .before .before .before .before .before .loop .inv .1) (c .before .before .up .ensures))
 
 up-same-length-3 : (t : ℕ) → up-lts.Need-same-length-3 (callees t) (up-at t) up.Post up-Inv-loop up-μ-loop
 up-same-length-3 t c = c .before .loop .inv .0
 
 up-returns-3 : (t : ℕ) → up-lts.Need-returns-3 (callees t) (up-at t) up.Post up-Inv-loop up-μ-loop
-up-returns-3 t c = partly-all _ _ _ _ _ _ _ _ (omega (arith, c .before .before .before .before .block .ensures .0)) (c .before .loop .inv .1 .3)
+up-returns-3 t c = partly-all _ _ _ _ _ _ _ _ (omega (arith, c .before .before .before .before .block .ensures .0)) (c .before .loop .inv .1 .partly)
 
 pub +up-spec : {M : Type 1} → statement M
 +up-spec = close μ-up λ t. up-lts.spec (callees t)

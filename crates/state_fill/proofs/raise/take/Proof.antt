@@ -22,23 +22,21 @@ figure-requires : tie.Need-figure-requires
 figure-requires c κs = search needs
 
 below-requires : tie.Need-below-requires
-below-requires c κs = (c .before .before .before .before .before .before .pre .0 .digits, c .before .before .before .before .before .before .pre .0 .listed)
+below-requires c κs = (c .before .before .before .before .before .before .pre .0 .digits .digits, c .before .before .before .before .before .before .pre .0 .digits .listed)
 
 raise-requires : tie.Need-raise-requires
-raise-requires c κs =
-    let e = c .before .before .before .before .before .before .before .before .before in
-    (e .pre .0, omega (arith, e .pre .1), omega arith, e .pre .4, e .pre .5)
+raise-requires c κs = (c .before .before .before .before .before .before .before .before .before .pre .0, omega arith, c .before .before .before .before .before .before .before .before .before .pre .2)
 
 past-requires : tie.Need-past-requires
-past-requires c κs = omega (arith, c .before .before .before .before .before .before .before .before .before .before .before .before .pre .0 .most)
+past-requires c κs = omega (arith, c .before .before .before .before .before .before .before .before .before .before .before .before .pre .0 .digits .most)
 
 same-length : tie.Need-same-length
 same-length c = search needs
 
 returns : tie.Need-returns
 returns c =
-    let e = c .before .before .before .before .before .before .before .before .before .before .before .before .before in
-    (taken-raised _ _ _ _ _ _ _ _ (order-of _ _ _ (e .pre .0)) (omega arith) (e .pre .4) (omega (arith, c .before .before .before .before .before .before .before .before .figure .ensures .0)) (test-true _ _ (c .before .before .before .before .before .before .below .ensures) (c .before .before .before .before .before .if3 .taken)) (c .before .before .before .raise .ensures), topped-raised _ _ _ _ _ _ _ _ _ (c .past .ensures) (omega arith) (e .pre .4) (c .before .before .before .raise .ensures))
+    let given = c .before .before .before .before .before .before .before .before .before .before .before .before .before .pre in
+    (taken-raised _ _ _ _ _ _ _ _ (order-of _ _ _ (given .0 .digits)) (omega arith) (given .2) (omega (arith, c .before .before .before .before .before .before .before .before .figure .ensures .0)) (test-true _ _ (c .before .before .before .before .before .before .below .ensures) (c .before .before .before .before .before .if3 .taken)) (c .before .before .before .raise .ensures), topped-raised _ _ _ _ _ _ _ _ _ (c .past .ensures) (omega arith) (given .2) (c .before .before .before .raise .ensures))
 
 returns-2 : tie.Need-returns-2
 returns-2 c = (taken-none _ _ _ _ _ _ _ (λ h b. absurd (test-false _ _ (c .before .below .ensures) (c .if3 .left) b)), topped-none _ _ _ _)

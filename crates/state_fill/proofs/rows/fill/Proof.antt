@@ -1,61 +1,47 @@
 -- `state_fill::rows::fill` meets its contract. The loop's invariant: the rows passed are made, and no word past the table has changed.
 use borrow.Author.Needs.{needs}
 use native.Mathlib.Omega.{arith}
-use mathlib.Core.Path.{_∙_}
-use Prim.Native.Nat.{_-_, _*_, _<_}
-use native.Mathlib.Nat.{mul-le-mul-right}
+use mathlib.Core.Path.{_≡_, refl, _∙_}
+use Prim.Native.Nat.{_-_, _<_}
 use lib.ListN.{length}
 use denote.Ref.{now}
-use Rattle.table.specs.Contracts.{kinds-job}
-use Rattle.state_fill.proofs.Filling.{InTable, lent-of, lent-kept, some-state, table-some, table-words, table-room, table-start, table-half, table-row, table-more, table-bare, table-end}
+use Rattle.state_fill.specs.Tables.{job-in, owns}
+use Rattle.state_fill.proofs.Filling.{InTable, table-room, table-cells, table-start, table-half, table-spot, table-fits, table-more, table-bare, table-end}
 use Rattle.state_fill.proofs.rows.fill.Statement.{statement}
 use Rattle.state_fill.proofs.rows.fill.Tie as tie
 
 abbrev Inv-loop : tie.InvT-loop
-Inv-loop l w lengths widths prices states count long longmap p wide widemap r blocks d n table₀ cells rows row at₀ ka₀ a₀ table at ka a = InTable (kinds-job l w count lengths widths prices) states long wide blocks d n p r at ka a table₀ table
+Inv-loop table₀ kinds normal-lengths length-floors normal-widths width-floors blocks shape at₀ half-end₀ a₀ a-end table at half-end a = (a-end ≡ shape .«length_count»)
+    × InTable (job-in shape kinds) (owns kinds) normal-lengths normal-widths blocks (shape .d) (shape .words) (shape .«length_count») (shape .stride) at half-end a table₀ table
 
 abbrev μ-loop : tie.MeasureT-loop
-μ-loop l w lengths widths prices states count long longmap p wide widemap r blocks d n table₀ cells rows row at₀ ka₀ a₀ table at ka a = p - a
+μ-loop table₀ kinds normal-lengths length-floors normal-widths width-floors blocks shape at₀ half-end₀ a₀ a-end table at half-end a = a-end - a
 
-table-fits : (s : tie.Start Inv-loop μ-loop) → length (now (s .args .table)) < 18446744073709551616
-table-fits s = omega arith
-
-mul-row : tie.Need-mul-row Inv-loop μ-loop
-mul-row c =
-    let e = c .before .before .before .before .before .before .before in
-    let lent = lent-of {states = now (e .args .states)} {t0 = now (e .args .table)} (e .pre .0) (e .pre .1) (e .pre .2) (e .pre .3) (e .pre .4) (e .pre .5) in
-    omega (arith, table-fits e, table-room lent (e .pre .3 .counted) (e .pre .4 .counted) 0 (table-some lent (e .pre .3 .counted) (e .pre .4 .counted)))
+table-length : (s : tie.Start Inv-loop μ-loop) → length (now (s .args .table)) < 18446744073709551616
+table-length s = omega arith
 
 clear-requires : tie.Need-clear-requires Inv-loop μ-loop
-clear-requires c κs =
-    let e = c .before .before .before .before .before .before .before .before in
-    let lent = lent-of {states = now (e .args .states)} {t0 = now (e .args .table)} (e .pre .0) (e .pre .1) (e .pre .2) (e .pre .3) (e .pre .4) (e .pre .5) in
-    omega (arith, table-room lent (e .pre .3 .counted) (e .pre .4 .counted) 0 (table-some lent (e .pre .3 .counted) (e .pre .4 .counted)))
+clear-requires c κs = omega (arith, table-room (c .before .before .before .before .before .before .before .pre .0) (c .before .before .before .before .before .before .before .pre .1))
 
 loop-holds : tie.Need-loop-holds Inv-loop μ-loop
 loop-holds c =
-    let e = c .before .before .before .before .before .before .before .before .before .before .before in
-    let lent = lent-of {states = now (e .args .states)} {t0 = now (e .args .table)} (e .pre .0) (e .pre .1) (e .pre .2) (e .pre .3) (e .pre .4) (e .pre .5) in
-    table-start lent (e .pre .3 .counted) (e .pre .4 .counted) _ (c .before .before .clear .ensures)
+    let given = c .before .before .before .before .before .before .before .before .before .before .pre in
+    (refl, table-start (given .0) (given .1) _ _ (c .before .before .clear .ensures))
 
 half-requires : tie.Need-half-requires Inv-loop μ-loop
 half-requires c κs =
-    let e = c .before .before .before .before .before .before .before .before .before .before .before .before .before in
-    let lent = lent-of {states = now (e .args .states)} {t0 = now (e .args .table)} (e .pre .0) (e .pre .1) (e .pre .2) (e .pre .3) (e .pre .4) (e .pre .5) in
-    table-half lent (e .pre .3 .counted) (e .pre .4 .counted) (c .before .before .before .before .clear .kept .0) (omega arith) (c .before .loop .inv)
+    let given = c .before .before .before .before .before .before .before .before .before .before .before .before .pre in
+    table-half (given .0) (given .1) (c .before .before .before .before .clear .kept .0) (omega arith) (c .before .loop .inv .1)
 
 fill-row-requires : tie.Need-fill-row-requires Inv-loop μ-loop
 fill-row-requires c κs =
-    let e = c .before .before .before .before .before .before .before .before .before .before .before .before .before .before .before in
-    let inv = c .before .before .before .loop .inv in
-    let lent = lent-of {states = now (e .args .states)} {t0 = now (e .args .table)} (e .pre .0) (e .pre .1) (e .pre .2) (e .pre .3) (e .pre .4) (e .pre .5) in
-    (lent-kept (inv .same ∙ c .before .before .before .before .before .before .clear .kept .0) lent, e .pre .4 .counted, inv .inside .0, omega (arith, e .pre .3 .counted), c .before .half .ensures, table-row lent (e .pre .3 .counted) (e .pre .4 .counted) (c .before .before .before .before .before .before .clear .kept .0) (omega arith) (inv), inv .rows)
+    let given = c .before .before .before .before .before .before .before .before .before .before .before .before .before .before .pre in
+    table-spot (given .0) (given .1) (c .before .before .before .before .before .before .clear .kept .0) (omega arith) (c .before .before .before .loop .inv .1) _ (c .before .half .ensures)
 
 add-at : tie.Need-add-at Inv-loop μ-loop
 add-at c =
-    let e = c .before .before .before .before .before .before .before .before .before .before .before .before .before .before .before .before .before .before in
-    let lent = lent-of {states = now (e .args .states)} {t0 = now (e .args .table)} (e .pre .0) (e .pre .1) (e .pre .2) (e .pre .3) (e .pre .4) (e .pre .5) in
-    omega (arith, table-fits (c .before .before .before .before .before .before .before .before .before .before .before .before .before .before .before .before .before .before), c .before .before .before .before .before .before .loop .inv .at-is, table-room lent (e .pre .3 .counted) (e .pre .4 .counted) (c .before .before .before .before .before .before .loop .a) (omega arith))
+    let given = c .before .before .before .before .before .before .before .before .before .before .before .before .before .before .before .before .before .before .pre in
+    omega (arith, table-length (c .before .before .before .before .before .before .before .before .before .before .before .before .before .before .before .before .before .before), table-fits (given .0) (given .1) (c .before .before .before .before .before .before .before .before .before .before .clear .kept .0) (omega arith) (c .before .before .before .before .before .before .before .loop .inv .1))
 
 add-a : tie.Need-add-a Inv-loop μ-loop
 add-a c = search needs
@@ -65,30 +51,27 @@ loop-less c = search needs
 
 loop-again : tie.Need-loop-again Inv-loop μ-loop
 loop-again c =
-    let e = c .before .before .before .before .before .before .before .before .before .before .before .before .before .before .before .before .before .before in
-    let lent = lent-of {states = now (e .args .states)} {t0 = now (e .args .table)} (e .pre .0) (e .pre .1) (e .pre .2) (e .pre .3) (e .pre .4) (e .pre .5) in
-    table-more lent (e .pre .3 .counted) (e .pre .4 .counted) (c .before .before .before .before .before .before .before .before .before .clear .kept .0) (omega arith) (c .before .before .before .before .before .before .loop .inv) _ _ (c .before .before .fill-row .kept .0) (c .before .before .before .before .half .ensures) (c .before .before .fill-row .ensures .0) (c .before .before .fill-row .ensures .1)
+    let given = c .before .before .before .before .before .before .before .before .before .before .before .before .before .before .before .before .before .before .pre in
+    let row = c .before .before .before .fill-row in
+    (refl, table-more (given .0) (given .1) (c .before .before .before .before .before .before .before .before .before .before .clear .kept .0) (omega arith) (c .before .before .before .before .before .before .before .loop .inv .1) _ _ (row .kept .0) (c .before .before .before .before .before .half .ensures) (row .ensures .0) (row .ensures .1))
 
 mul-strip-all : tie.Need-mul-strip-all Inv-loop μ-loop
-mul-strip-all c =
-    let e = c .before .before .before .before .before .before .before .before .before .before .before .before .before .before in
-    let lent = lent-of {states = now (e .args .states)} {t0 = now (e .args .table)} (e .pre .0) (e .pre .1) (e .pre .2) (e .pre .3) (e .pre .4) (e .pre .5) in
-    omega (arith, table-fits e, table-words lent (e .pre .3 .counted) (e .pre .4 .counted), e .pre .5, mul-le-mul-right {m = 1} {n = e .args .words} (e .args .length-count * e .args .columns) (some-state (e .pre .2)))
+mul-strip-all c = omega (arith, table-length (c .before .before .before .before .before .before .before .before .before .before .before .before .before .before), table-cells (c .before .before .before .before .before .before .before .before .before .before .before .before .before .before .pre .0) (c .before .before .before .before .before .before .before .before .before .before .before .before .before .before .pre .1))
 
 strip-all-requires : tie.Need-strip-all-requires Inv-loop μ-loop
 strip-all-requires c κs =
-    let e = c .before .before .before .before .before .before .before .before .before .before .before .before .before .before in
-    let lent = lent-of {states = now (e .args .states)} {t0 = now (e .args .table)} (e .pre .0) (e .pre .1) (e .pre .2) (e .pre .3) (e .pre .4) (e .pre .5) in
-    table-bare lent (e .pre .3 .counted) (e .pre .4 .counted) (c .before .before .before .before .before .clear .ensures) (c .before .before .before .before .before .clear .kept .0) (omega arith) (c .before .before .loop .inv)
+    let given = c .before .before .before .before .before .before .before .before .before .before .before .before .before .before .pre in
+    let cleared = c .before .before .before .before .before .before .clear in
+    table-bare (given .0) (given .1) (cleared .ensures) (cleared .kept .0) (omega arith) (c .before .before .before .loop .inv .1)
 
 same-length : tie.Need-same-length Inv-loop μ-loop
-same-length c = c .before .before .strip-all .kept .0 ∙ (c .before .before .before .before .before .loop .inv .same ∙ c .before .before .before .before .before .before .before .before .clear .kept .0)
+same-length c = c .before .before .strip-all .kept .0 ∙ (c .before .before .before .before .before .before .loop .inv .1 .same ∙ c .before .before .before .before .before .before .before .before .before .clear .kept .0)
 
 returns : tie.Need-returns Inv-loop μ-loop
 returns c =
-    let e = c .before .before .before .before .before .before .before .before .before .before .before .before .before .before .before .before .before in
-    let lent = lent-of {states = now (e .args .states)} {t0 = now (e .args .table)} (e .pre .0) (e .pre .1) (e .pre .2) (e .pre .3) (e .pre .4) (e .pre .5) in
-    table-end lent (e .pre .3 .counted) (e .pre .4 .counted) (c .before .before .before .before .before .before .before .before .clear .ensures) (c .before .before .before .before .before .before .before .before .clear .kept .0) (omega arith) (c .before .before .before .before .before .loop .inv) _ (c .before .before .strip-all .kept .0) (c .before .before .strip-all .ensures)
+    let given = c .before .before .before .before .before .before .before .before .before .before .before .before .before .before .before .before .before .pre in
+    let cleared = c .before .before .before .before .before .before .before .before .before .clear in
+    table-end (given .0) (given .1) (cleared .ensures) (cleared .kept .0) (omega arith) (c .before .before .before .before .before .before .loop .inv .1) _ (c .before .before .strip-all .kept .0) (c .before .before .strip-all .ensures)
 
 pub fill-spec : {M : Type 1} → statement M
 fill-spec =
@@ -96,7 +79,6 @@ fill-spec =
     (tie.spec
     Inv-loop
     μ-loop
-    mul-row
     clear-requires
     loop-holds
     half-requires

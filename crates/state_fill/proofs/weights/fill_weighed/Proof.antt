@@ -1,53 +1,55 @@
 -- `state_fill::weights::fill_weighed` meets its contract: one digit, whose states are the shares.
 use borrow.Author.Needs.{needs}
 use native.Mathlib.Omega.{arith}
+use mathlib.Core.Path.{refl}
+use native.Mathlib.Nat.{mul-le-mul-right}
+use Prim.Native.Nat.{_+_}
 use denote.Ref.{now}
-use Rattle.table.specs.Contracts.{kinds-job}
+use Rattle.state_fill.proofs.Gathering.{job-same, states-same, lent-of}
 use Rattle.state_fill.proofs.Ties.{one-digit, figures-one}
 use Rattle.state_fill.proofs.weights.fill_weighed.Statement.{statement}
 use Rattle.state_fill.proofs.weights.fill_weighed.Tie as tie
 
-weight-states-requires : tie.Need-weight-states-requires
-weight-states-requires c κs = search needs
+gather-requires : tie.Need-gather-requires
+gather-requires c κs = search needs
 
 add-words : tie.Need-add-words
 add-words c = search needs
 
-cast-t21 : tie.Need-cast-t21
-cast-t21 c = search needs
+cast-t25 : tie.Need-cast-t25
+cast-t25 c = search needs
+
+mul-t29 : tie.Need-mul-t29
+mul-t29 c = omega (arith, mul-le-mul-right {m = c .before .before .before .before .before .before .before .before .before .before .args .q + 1} {n = 65536} (c .before .before .before .before .before .before .before .before .before .before .args .columns) (omega arith))
 
 slice-aggregate-fill : tie.Need-slice-aggregate-fill
 slice-aggregate-fill c = search needs
 
-slice-aggregate-fill-2 : tie.Need-slice-aggregate-fill-2
-slice-aggregate-fill-2 c = search needs
-
 fill-requires : tie.Need-fill-requires
 fill-requires c κs =
-    let given = c .before .before .before .before .before .before .before .before .before .before .pre in
-    let states = c .before .before .before .weight-states in
-    (given .0, omega (arith, states .ensures .0, given .0 .kinds), one-digit _ (omega arith) (omega (arith, given .2)), given .3, given .4, given .5)
+    let given = c .before .before .before .before .before .before .before .before .before .before .before .before .before .pre in
+    let kinds = c .before .before .before .gather in
+    lent-of (job-same (kinds .ensures .0) (kinds .ensures .1) _ _ _) (given .0) (one-digit _ (omega arith) (omega (arith, given .2))) (given .3) (given .4) (given .5) refl
 
 same-length : tie.Need-same-length
 same-length c = search needs
 
 returns : tie.Need-returns
 returns c =
-    let e = c .before .before .before .before .before .before .before .before .before .before .before .before .before in
-    let states = c .before .before .before .before .before .before .weight-states in
+    let start = c .before .before .before .before .before .before .before .before .before .before .before .before .before .before .before .before in
+    let kinds = c .before .before .before .before .before .before .gather in
     let filled = c .before .before .fill in
-    let job = kinds-job (e .args .l) (e .args .w) (e .args .count) (now (e .args .kind-lengths)) (now (e .args .kind-widths)) (now (e .args .prices)) in
-    (figures-one job (states .result) (now (e .args .weights)) (filled .last .1 .1 .1 .1 .1 .1 .1 .1 .1 .1 .1 .1 .1 .1 .1 .1 .0) (e .args .q) (states .ensures .1) (filled .ensures .0), filled .ensures .1)
+    figures-one (kinds .result) (now (start .args .weights)) (now (start .args .table)) (filled .last .0) (start .args .q) (job-same (kinds .ensures .0) (kinds .ensures .1) _ _ _) (states-same (kinds .ensures .0) (kinds .ensures .1) (start .pre .0 .kinds .1)) (filled .ensures)
 
 pub fill-weighed-spec : {M : Type 1} → statement M
 fill-weighed-spec =
     tie.close
     (tie.spec
-    weight-states-requires
+    gather-requires
     add-words
-    cast-t21
+    cast-t25
+    mul-t29
     slice-aggregate-fill
-    slice-aggregate-fill-2
     fill-requires
     same-length
     returns)
