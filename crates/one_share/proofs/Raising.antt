@@ -33,6 +33,10 @@ raised-max x v u xs l h = record { grown = λ i. grown i (ℕ-discrete i x); low
     low i b f k (yes e) = let m : v ≤ b = f v (e, refl) in rw e (omega (arith, same, rw e at k))
     low i b f k (no e) = omega (arith, getD-set-other xs x i u 0 e)
 
+-- the same, where the value was computed lifted by 2^63
+pub raised-lifted : (x v w u : ℕ) (xs : List ℕ) → x < length xs → u ≡ max (getD xs x 0) (v + 9223372036854775808 + w - 9223372036854775808) → Raised (Single x (v + w)) xs (set xs x u)
+raised-lifted x v w u xs l h = let e : v + 9223372036854775808 + w - 9223372036854775808 ≡ v + w = omega arith in raised-max x (v + w) u xs l (rw e at h)
+
 -- a value that is more is stored
 pub raised-set : (x v : ℕ) (xs : List ℕ) → x < length xs → getD xs x 0 ≤ v → Raised (Single x v) xs (set xs x v)
 raised-set x v xs l h = raised-max x v v xs l (omega arith)

@@ -6,6 +6,7 @@ use table::clear;
 use table::copy;
 use table::entry;
 use table::greater;
+use table::greater_lifted;
 use table::half;
 ghost use mathlib.Core.Path.{_≡_};
 ghost use Prim.Native.Nat.{ℕ, _+_, _-_, _≤_, _<_, min};
@@ -156,8 +157,9 @@ fn push(unit: &mut [u64], x: usize, least: usize, end: usize, v: u64)
     requires { ⌜ PushReady x least end v (now unit) ⌝ }
     ensures { λ _. ⌜ Raised (Pushed (now (unit .entry)) x least end v) (now (unit .entry)) (now (unit .exit)) ⌝ }
 {
+    let lifted = v + 9223372036854775808;
     for j in least..end {
-        unit[x + j] = greater(unit[x + j], v + unit[j]);
+        unit[x + j] = greater_lifted(unit[x + j], lifted + unit[j]);
     }
 }
 

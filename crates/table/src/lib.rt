@@ -1,8 +1,8 @@
 // What the fills of the table share: reading a list of positions, the half of a side, the greater of two figures, and runs of words.
-// The definitions of the table's contents stand in specs/Table, what a fill asks in specs/Contracts; which cuts can give a cell more, and what makes a cell complete, is
-// proved in proofs/Covered and proofs/Complete.
+// The definitions of the table's contents stand in specs/Table, what a fill asks in specs/Contracts; which cuts can give a cell more, and
+// what makes a cell complete, is proved in proofs/Covered and proofs/Complete.
 ghost use mathlib.Core.Path.{_≡_};
-ghost use Prim.Native.Nat.{ℕ, _+_, _*_, _≤_, _<_, max};
+ghost use Prim.Native.Nat.{ℕ, _+_, _-_, _*_, _≤_, _<_, max};
 ghost use lib.ListN.{length, getD};
 ghost use Rattle.table.specs.Words.{Run, Half};
 
@@ -37,14 +37,21 @@ pub fn half(positions: &[u16], from: usize, b: usize) -> usize
     half_end
 }
 
-// The greater of two numbers below 2^63, without a comparison, which is slow on vectors of 64-bit words: 2^63 and the difference have the
-// top bit exactly if b is no less.
+// The greater of two numbers below 2^63, without a comparison, which is slow on vectors of 64-bit words. The second is given lifted by
+// 2^63: the difference has the top bit exactly if the second is no less.
+pub fn greater_lifted(a: u64, lifted: u64) -> u64
+    requires { ⌜ (a < 9223372036854775808) × (9223372036854775808 ≤ lifted) ⌝ }
+    ensures { λ r. ⌜ r ≡ max a (lifted - 9223372036854775808) ⌝ }
+{
+    let d = lifted - a;
+    a + d % 9223372036854775808 * (d / 9223372036854775808)
+}
+
 pub fn greater(a: u64, b: u64) -> u64
     requires { ⌜ (a < 9223372036854775808) × (b < 9223372036854775808) ⌝ }
     ensures { λ r. ⌜ r ≡ max a b ⌝ }
 {
-    let d = b + 9223372036854775808 - a;
-    a + d % 9223372036854775808 * (d / 9223372036854775808)
+    greater_lifted(a, b + 9223372036854775808)
 }
 
 // The m words from `at` on become those from `from` on, which lie before.

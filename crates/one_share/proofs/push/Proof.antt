@@ -5,27 +5,27 @@ use mathlib.Core.Path.{_≡_, refl}
 use Prim.Native.Nat.{_+_, _-_, _≤_, max}
 use lib.ListN.{length, length-set}
 use Rattle.one_share.specs.Raised.{Raised, Pushed}
-use Rattle.one_share.proofs.Raising.{raised-max, push-none, push-same, push-later, push-next, push-end}
+use Rattle.one_share.proofs.Raising.{raised-lifted, push-none, push-same, push-later, push-next, push-end}
 use Rattle.one_share.proofs.push.Statement.{statement}
 use Rattle.one_share.proofs.push.Tie as tie
 
 abbrev Inv-loop : tie.InvT-loop
-Inv-loop unit₀ x least end v j₀ unit j = (least ≤ j) × (j ≤ max least end) × (length unit ≡ length unit₀) × Raised (Pushed unit₀ x least j v) unit₀ unit
+Inv-loop unit₀ x least end v lifted j₀ unit j = (least ≤ j) × (j ≤ max least end) × (length unit ≡ length unit₀) × Raised (Pushed unit₀ x least j v) unit₀ unit
 
 abbrev μ-loop : tie.MeasureT-loop
-μ-loop unit₀ x least end v j₀ unit j = end - j
+μ-loop unit₀ x least end v lifted j₀ unit j = end - j
 
 loop-holds : tie.Need-loop-holds Inv-loop μ-loop
 loop-holds c = (omega arith, omega arith, refl, push-none)
 
-add-greater-2 : tie.Need-add-greater-2 Inv-loop μ-loop
-add-greater-2 c =
+add-greater-lifted-2 : tie.Need-add-greater-lifted-2 Inv-loop μ-loop
+add-greater-lifted-2 c =
     let e = c .before .before .before .before .before in
     let l = c .before .before .before .loop in
     omega (arith, e .pre .parts-low (l .j) (omega arith), push-same (l .inv .3) (e .pre .some) (l .j) (omega arith))
 
-greater-requires : tie.Need-greater-requires Inv-loop μ-loop
-greater-requires c κs =
+greater-lifted-requires : tie.Need-greater-lifted-requires Inv-loop μ-loop
+greater-lifted-requires c κs =
     let e = c .before .before .before .before .before in
     let l = c .before .before .before .loop in (
       omega (arith, e .pre .capped (e .args .x + l .j), push-later (l .inv .3)),
@@ -39,7 +39,7 @@ loop-again c =
       omega arith,
       omega arith,
       simp length-set (l .inv .2),
-      push-next (l .inv .3) (e .pre .some) (l .inv .0) (omega arith) (raised-max (e .args .x + l .j) _ _ (l .unit) (omega (arith, l .inv .2)) (c .greater .ensures)),
+      push-next (l .inv .3) (e .pre .some) (l .inv .0) (omega arith) (raised-lifted (e .args .x + l .j) (e .args .v) _ _ (l .unit) (omega (arith, l .inv .2)) (c .greater-lifted .ensures)),
     )
 
 same-length : tie.Need-same-length Inv-loop μ-loop
@@ -54,14 +54,15 @@ push-spec =
     (tie.spec
     Inv-loop
     μ-loop
+    (λ c. search needs)
     loop-holds
     (λ c. search needs)
     (λ c. search needs)
     (λ c. search needs)
     (λ c. search needs)
     (λ c. search needs)
-    add-greater-2
-    greater-requires
+    add-greater-lifted-2
+    greater-lifted-requires
     (λ c. search needs)
     (λ c. search needs)
     (λ c. search needs)
