@@ -1,23 +1,21 @@
 -- The list of waiting cells: a cell that is put is there and the others stay; what a step takes from the nodes to come; how many cells
 -- can wait.
 use mathlib.Core.Path.{_≡_, refl, sym, _∙_, ap, ap₂, subst}
-use mathlib.Core.List.{List, [], _∷_, _++_, map, append-assoc, append-nil}
+use mathlib.Core.List.{List, [], _∷_, _++_, append-assoc, append-nil}
 use Prim.Native.Nat.{ℕ, zero, suc, _+_, _-_, _*_, _≤_, _<_}
 use native.Mathlib.Numerals.{add-one}
 use native.Mathlib.Decide.{ℕ-discrete}
 use native.Mathlib.Omega.{arith}
-use lib.ListN.{length, getD, set, length-set, length-map}
-use lib.Seq.{getD-set-same, getD-set-other, sets}
+use lib.ListN.{length, getD, set, length-set}
+use lib.Seq.{getD-set-same, getD-set-other}
 use Rattle.cutting.specs.declared.Direction.{Direction}
 use Rattle.cutting.specs.declared.Node.{Node}
 use Rattle.cutting.specs.declared.Node.the-variants.{Cut}
 use Rattle.cutting.specs.declared.Sides.{Sides}
-use Rattle.cutting.specs.Lists.{over}
-use Rattle.cutting.specs.Tree.{side, Tree}
+use Rattle.cutting.specs.Tree.{side}
 use Rattle.cutting.specs.Sides.{rect-of}
-use Rattle.cutting.specs.Preorder.{preorder, kind-of, operand-of, kinds-of, operands-of, node-count}
+use Rattle.cutting.specs.Preorder.{preorder, node-count}
 use Rattle.cutting.specs.Job.{Job, InRange, capacity, plan-of, bound-plan}
-use Rattle.cutting.proofs.Lists.{over-sets}
 use Rattle.choice.specs.declared.Cell.{Cell}
 use Rattle.choice.specs.declared.Chosen.{Chosen}
 use Rattle.choice.specs.declared.Dimensions.{Dimensions}
@@ -196,24 +194,3 @@ module _ {J : Job} (weight : ℕ → ℕ) (h : InRange J) (g : Dimensions) (e : 
     pub count-left : length (nodes-left J weight new 1) ≡ node-count (bound-plan J weight)
     unfolding node-count
     count-left = ap length plan-left
-
--- an array of the nodes' kinds, or of their operands, whose entries from one on are still to be written
-module _ (f : Node → ℕ) where
-  -- one entry more
-  pub one-written : {nodes rest : List Node} {node : Node} {goal : List ℕ} (old : List ℕ) (at : ℕ) {v : ℕ} → nodes ≡ node ∷ rest → v ≡ f node → sets old at (map f nodes) ≡ goal
-      → sets (set old at v) (at + 1) (map f rest) ≡ goal
-  one-written {rest = rest} {node} old at {v} e p q = rw (add-one at, p) refl ∙ ap (λ ns. sets old at (map f ns)) (sym e) ∙ q
-
-  -- none are left
-  pub all-written : {nodes : List Node} {goal : List ℕ} (old : List ℕ) (at : ℕ) → nodes ≡ [] → sets old at (map f nodes) ≡ goal → old ≡ goal
-  all-written old at e q = sym (ap (λ ns. sets old at (map f ns)) e) ∙ q
-
--- all of a tree is still to be written
-module _ (t : Tree ℕ) {nodes : List Node} (e : nodes ≡ preorder t) (old : List ℕ) (h : node-count t ≤ length old) where
-  pub kinds-begin : sets old 0 (map (λ n. kind-of n) nodes) ≡ over (kinds-of t) old
-  unfolding kinds-of node-count
-  kinds-begin = ap (λ ns. sets old 0 (map (λ n. kind-of n) ns)) e ∙ over-sets (kinds-of t) old (omega (arith, length-map (preorder t) (λ n. kind-of n)))
-
-  pub operands-begin : sets old 0 (map (λ n. operand-of n) nodes) ≡ over (operands-of t) old
-  unfolding operands-of node-count
-  operands-begin = ap (λ ns. sets old 0 (map (λ n. operand-of n) ns)) e ∙ over-sets (operands-of t) old (omega (arith, length-map (preorder t) (λ n. operand-of n)))

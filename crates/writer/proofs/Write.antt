@@ -7,11 +7,12 @@ use Prim.Native.Nat.{ℕ, _≤_}
 use native.Mathlib.Omega.{arith}
 use borrow.Author.Tests.{ltb-false}
 use lib.Dec.{ltb}
-use lib.ListN.{length, drop, length-append, List·getD-append}
+use lib.ListN.{length, drop, length-append, length-map, List·getD-append}
+use lib.Seq.{paste, length-sets}
 use Rattle.cutting.specs.declared.Direction.{Direction}
 use Rattle.cutting.specs.declared.Direction.the-variants.{Length, Width}
 use Rattle.cutting.specs.Lists.{over}
-use Rattle.cutting.specs.Preorder.{kinds-of, operands-of, node-count}
+use Rattle.cutting.specs.Preorder.{preorder, kind-of, operand-of, kinds-of, operands-of, node-count}
 use Rattle.cutting.specs.Job.{Job, normal-positions, capacity, bound-plan}
 use Rattle.refusal.specs.Refusals.{next, refuse-when, first-refusal}
 use Rattle.refusal.specs.declared.Refusal.{Refusal}
@@ -29,10 +30,12 @@ use Rattle.bound.specs.Bound as bound
 use Rattle.bound.specs.Contracts.{Weighed, Bounded}
 use Rattle.bound.proofs.Holds.{answered-behind, refused-behind}
 use Rattle.choice.specs.Choice.{ChoiceInput}
+use Rattle.writer.specs.declared.WriteReport.{WriteReport}
 use Rattle.writer.specs.declared.WriteAnswer.{WriteAnswer}
 use Rattle.writer.specs.declared.WriteAnswer.the-variants as answer
 use Rattle.writer.specs.Write.{plan-verdict}
-use Rattle.writer.specs.Contracts.{table-of, room-verdict, Planned}
+use Rattle.writer.specs.Contracts.{NodesListed, Copyable, table-of, reported, room-verdict, Planned}
+use Rattle.writer.proofs.Listed.{copied-over}
 
 -- three tests of which none holds
 pub none-long : (n a b : ℕ) → (ltb 4095 n || ltb a n) || ltb b n ≡ false → (n ≤ 4095) × (n ≤ a) × (n ≤ b)
@@ -118,25 +121,38 @@ module _ (J : Job) (weight : ℕ → ℕ) {report : BoundReport} (e : report ≡
   pub capacity-is : report .capacity ≡ capacity J weight
   capacity-is = ap (λ b. b .capacity) e
 
-  module _ (kinds operands : List ℕ) {nodes : ℕ} {long : Bool} (n : nodes ≡ node-count (bound-plan J weight)) (t : long ≡ (ltb 4095 nodes || ltb (length kinds) nodes) || ltb (length operands) nodes) where
+  module _ (kinds operands : List ℕ) {blank-kinds blank-operands listed-kinds listed-operands : List ℕ} {nodes : ℕ} (l : NodesListed (bound-plan J weight) blank-kinds blank-operands listed-kinds listed-operands nodes)
+      {long : Bool} (t : long ≡ (ltb 4095 nodes || ltb (length kinds) nodes) || ltb (length operands) nodes) where
     verdict : (b : Bool) → long ≡ b → plan-verdict J weight kinds operands ≡ first-refusal ((b, PlanLong nodes) ∷ [])
-    verdict b h = rw (sym n) (ap (λ x. first-refusal ((x, PlanLong nodes) ∷ [])) (sym t ∙ h))
+    verdict b h = rw (sym (l .number)) (ap (λ x. first-refusal ((x, PlanLong nodes) ∷ [])) (sym t ∙ h))
 
     -- it is too long: refusal 21 with the nodes needed
     pub plan-refused : long ≡ true → Planned (plan-verdict J weight kinds operands) J weight kinds operands kinds operands (answer.Refused (PlanLong nodes))
     unfolding first-refusal
     plan-refused h = subst (λ v. Planned v J weight kinds operands kinds operands (answer.Refused (PlanLong nodes))) (sym (verdict true h)) (untouched J weight kinds operands (PlanLong nodes))
 
-    module _ (h : long ≡ false) where
-      -- there is room: so many entries are there
-      pub room : (node-count (bound-plan J weight) ≤ length kinds) × (node-count (bound-plan J weight) ≤ length operands)
-      room = let m = none-long nodes (length kinds) (length operands) (sym t ∙ h) in (omega (arith, n, m .1), omega (arith, n, m .2))
+    module _ (a : length blank-kinds ≡ 4095) (b : length blank-operands ≡ 4095) (h : long ≡ false) where
+      few : (nodes ≤ 4095) × (nodes ≤ length kinds) × (nodes ≤ length operands)
+      few = none-long nodes (length kinds) (length operands) (sym t ∙ h)
 
-      -- the plan is written over the arrays' first entries, and reported
-      pub plan-written : {new-kinds new-operands : List ℕ} → new-kinds ≡ over (kinds-of (bound-plan J weight)) kinds → new-operands ≡ over (operands-of (bound-plan J weight)) operands
-          → Planned (plan-verdict J weight kinds operands) J weight kinds operands new-kinds new-operands
-          (answer.Written (record { bound = report .bound; capacity = report .capacity; lengths = report .lengths; widths = report .widths; nodes = nodes }))
-      unfolding first-refusal
-      plan-written {new-kinds} {new-operands} p o =
-          subst (λ v. Planned v J weight kinds operands new-kinds new-operands (answer.Written (record { bound = report .bound; capacity = report .capacity; lengths = report .lengths; widths = report .widths; nodes = nodes })))
-          (sym (verdict false h)) (record { answer = rw (e, n) refl; kinds-left = p; operands-left = o })
+      -- there is room: the listed nodes can be copied
+      pub copy-ready : Copyable nodes listed-kinds listed-operands kinds operands
+      copy-ready =
+          let k = ap length (l .kinds-listed) ∙ length-sets blank-kinds 0 (kinds-of (bound-plan J weight)) in
+          let o = ap length (l .operands-listed) ∙ length-sets blank-operands 0 (operands-of (bound-plan J weight)) in
+          record { kinds-listed = omega (arith, few .0, k, a); operands-listed = omega (arith, few .0, o, b); kinds-fit = few .1; operands-fit = few .2 }
+
+      -- then the plan stands over the arrays' first entries, and is reported
+      pub plan-written : {written : WriteReport} {new-kinds new-operands : List ℕ} → written ≡ reported report nodes → new-kinds ≡ paste kinds 0 listed-kinds nodes → new-operands ≡ paste operands 0 listed-operands nodes
+          → Planned (plan-verdict J weight kinds operands) J weight kinds operands new-kinds new-operands (answer.Written written)
+      unfolding first-refusal kinds-of operands-of node-count
+      plan-written {written} {new-kinds} {new-operands} w p o =
+          let T = bound-plan J weight in
+          let k : nodes ≡ length (kinds-of T) = l .number ∙ sym (length-map (preorder T) (λ n. kind-of n)) in
+          let m : nodes ≡ length (operands-of T) = l .number ∙ sym (length-map (preorder T) (λ n. operand-of n)) in
+          subst (λ v. Planned v J weight kinds operands new-kinds new-operands (answer.Written written))
+          (sym (verdict false h)) (record {
+            answer = rw (w, e, l .number) refl;
+            kinds-left = p ∙ copied-over kinds listed-kinds (kinds-of T) blank-kinds k (omega (arith, few .0, a)) (l .kinds-listed);
+            operands-left = o ∙ copied-over operands listed-operands (operands-of T) blank-operands m (omega (arith, few .0, b)) (l .operands-listed);
+          })

@@ -4,9 +4,10 @@ use mathlib.Core.Path.{_≡_}
 use mathlib.Core.List.{List, [], _∷_, _++_}
 use Prim.Native.Nat.{ℕ, zero, suc, _+_, _*_, _≤_, _<_}
 use lib.ListN.{length, getD, set}
+use lib.Seq.{sets}
 use Rattle.cutting.specs.declared.Node.{Node}
 use Rattle.cutting.specs.Tree.{Tree}
-use Rattle.cutting.specs.Preorder.{preorder, kinds-of, operands-of}
+use Rattle.cutting.specs.Preorder.{preorder, kinds-of, operands-of, node-count}
 use Rattle.cutting.specs.Job.{Job, plan-of, bound-plan}
 use Rattle.refusal.specs.Refusals.{next, first-refusal}
 use Rattle.refusal.specs.declared.Checked.{Checked}
@@ -16,6 +17,7 @@ use Rattle.choice.specs.declared.Cell.{Cell}
 use Rattle.choice.specs.declared.Dimensions.{Dimensions}
 use Rattle.choice.specs.Choice.{Inside}
 use Rattle.writer.specs.declared.nodes.Step.{Step}
+use Rattle.writer.specs.declared.WriteReport.{WriteReport}
 use Rattle.writer.specs.declared.WriteAnswer.{WriteAnswer}
 use Rattle.writer.specs.Write.{write-report, write-answer-by, plan-verdict}
 
@@ -47,9 +49,26 @@ pub record Stepped (J : Job) (weight : ℕ → ℕ) (g : Dimensions) (old new : 
   pub nodes : nodes-left J weight old n ≡ step .node ∷ nodes-left J weight new (step .depth)
   pub waits : Waiting J g new (step .depth)
 
+-- the nodes of a tree are counted, and listed from the first entries of two lists on, as far as the lists go
+pub record NodesListed (t : Tree ℕ) (kinds operands new-kinds new-operands : List ℕ) (n : ℕ) : Type 0 where
+  pub number : n ≡ node-count t
+  pub kinds-listed : new-kinds ≡ sets kinds 0 (kinds-of t)
+  pub operands-listed : new-operands ≡ sets operands 0 (operands-of t)
+
+-- what copying n listed nodes asks: both lists have so many entries, and both arrays room for them
+pub record Copyable (n : ℕ) (listed-kinds listed-operands kinds operands : List ℕ) : Type 0 where
+  pub kinds-listed : n ≤ length listed-kinds
+  pub operands-listed : n ≤ length listed-operands
+  pub kinds-fit : n ≤ length kinds
+  pub operands-fit : n ≤ length operands
+
 -- the dimensions of the table that a report is of
 abbrev pub table-of : BoundReport → Dimensions
 table-of report = record { columns = report .widths; capacity = report .capacity }
+
+-- a bound's report with the number of the plan's nodes
+abbrev pub reported : BoundReport → ℕ → WriteReport
+reported b n = record { bound = b .bound; capacity = b .capacity; lengths = b .lengths; widths = b .widths; nodes = n }
 
 -- the verdict of the checks that an accepted job is left to: 19, 20, then 21
 abbrev pub room-verdict : Job → (ℕ → ℕ) → Memory → List ℕ → List ℕ → Checked

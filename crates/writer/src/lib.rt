@@ -6,8 +6,8 @@ use bound::BoundReport;
 use bound::bound_of_job;
 use choice::Dimensions;
 use job::JobRecord;
-use nodes::count_nodes;
-use nodes::write_nodes;
+use nodes::copy_nodes;
+use nodes::list_nodes;
 use refusal::Checked;
 use refusal::Refusal;
 ghost use mathlib.Core.Path.{_≡_};
@@ -20,7 +20,7 @@ ghost use Rattle.refusal.specs.declared.Checked.the-variants.{Passed};
 ghost use Rattle.bound.specs.Bound.{report-of, lent, Leaves, accept-verdict};
 ghost use Rattle.bound.specs.Contracts.{Weighed};
 ghost use Rattle.choice.specs.Choice.{ChoiceInput};
-ghost use Rattle.writer.specs.Contracts.{table-of, room-verdict, Planned};
+ghost use Rattle.writer.specs.Contracts.{table-of, reported, room-verdict, Planned};
 ghost use Rattle.writer.specs.Write.{plan-verdict, block-plan, write-answer, write-outcome, write-said, array-after, PlanChosen, PlanWritten, BoundWritten};
 
 // What the writing call reports: what the bound call does, and the number of the plan's nodes.
@@ -51,6 +51,19 @@ fn too_long(nodes: u64, m: usize, n: usize) -> bool
     (n as u64) < nodes
 }
 
+// The bound's report with the number of the plan's nodes.
+fn with_nodes(report: BoundReport, nodes: u64) -> WriteReport
+    ensures { λ r. ⌜ r ≡ reported report nodes ⌝ }
+{
+    WriteReport {
+        bound: report.bound,
+        capacity: report.capacity,
+        lengths: report.lengths,
+        widths: report.widths,
+        nodes: nodes,
+    }
+}
+
 // The plan of a job whose lists, floors and table are filled: refusal 21 with the nodes needed, or the plan in preorder.
 fn plan_of_job(
     job: JobRecord,
@@ -71,11 +84,9 @@ fn plan_of_job(
         columns: report.widths,
         capacity: report.capacity,
     };
-    let nodes = count_nodes(job, weights, g, lengths, widths, floors, table);
-    if too_long(nodes, kinds.len(), operands.len()) {
-        return WriteAnswer::Refused(Refusal::PlanLong(nodes));
-    }
-    write_nodes(
+    let mut own_kinds = [0u8; 4095];
+    let mut own_operands = [0u16; 4095];
+    let count = list_nodes(
         job,
         weights,
         g,
@@ -83,16 +94,16 @@ fn plan_of_job(
         widths,
         floors,
         table,
-        kinds,
-        operands,
+        &mut own_kinds[..],
+        &mut own_operands[..],
     );
-    WriteAnswer::Written(WriteReport {
-        bound: report.bound,
-        capacity: report.capacity,
-        lengths: report.lengths,
-        widths: report.widths,
-        nodes: nodes,
-    })
+    let nodes = count as u64;
+    if too_long(nodes, kinds.len(), operands.len()) {
+        return WriteAnswer::Refused(Refusal::PlanLong(nodes));
+    }
+    copy_nodes(count, &own_kinds[..], &own_operands[..], kinds, operands);
+    let written = with_nodes(report, nodes);
+    WriteAnswer::Written(written)
 }
 
 // The plan of a job that was read and weights that were accepted: refusals 19 to 21, or lists, table and plan.

@@ -1,7 +1,7 @@
-// The nodes of the plan from the plate downward: their number, and their preorder into two lent arrays. Both walk the plan by a list of
-// waiting cells, the next on top: a node's cell makes way for the second part of its cut with the first part above it. The half perimeter
-// of a waiting cell and its place are at most the plate's half perimeter, so at most 1,999 cells wait, and one array of 6,000 entries
-// holds them.
+// The nodes of the plan from the plate downward, in preorder: their number, and the kinds and operands of as many as two lists hold. The
+// walk has a list of waiting cells, the next on top: a node's cell makes way for the second part of its cut with the first part above it.
+// The half perimeter of a waiting cell and its place are at most the plate's half perimeter, so at most 1,999 cells wait, and one array of
+// 6,000 entries holds them.
 use choice::Cell;
 use choice::Dimensions;
 use choice::choose;
@@ -12,15 +12,15 @@ use cutting::first_part;
 use cutting::second_part;
 use job::JobRecord;
 ghost use mathlib.Core.Path.{_≡_};
-ghost use Prim.Native.Nat.{_≤_, _<_};
-ghost use lib.ListN.{length};
-ghost use Rattle.cutting.specs.Lists.{over};
-ghost use Rattle.cutting.specs.Preorder.{kind-of, operand-of, kinds-of, operands-of, node-count};
+ghost use Prim.Native.Nat.{_<_};
+ghost use lib.ListN.{length, set};
+ghost use lib.Seq.{paste};
+ghost use Rattle.cutting.specs.Preorder.{kind-of, operand-of};
 ghost use Rattle.cutting.specs.Job.{capacity, bound-plan};
 ghost use Rattle.job.specs.Block.{job-of};
 ghost use Rattle.job.specs.Weights.{weight-in};
 ghost use Rattle.choice.specs.Choice.{ChoiceInput};
-ghost use Rattle.writer.specs.Contracts.{cell-at, with-cell, Waiting, Stepped};
+ghost use Rattle.writer.specs.Contracts.{cell-at, with-cell, Waiting, Stepped, NodesListed, Copyable};
 
 // A step of the walk: the node that it reached, and how many cells wait after it.
 struct Step {
@@ -133,44 +133,26 @@ fn next_node(
     }
 }
 
-// The number of nodes of the plan behind the bound.
-pub fn count_nodes(
-    job: JobRecord,
-    weights: &[u8],
-    g: Dimensions,
-    lengths: &[u16],
-    widths: &[u16],
-    floors: &[u16],
-    table: &[u64],
-) -> u64
-    requires { ⌜ ChoiceInput (job-of job) (now weights) g (now lengths) (now widths) (now floors) (now table) × (g .capacity ≡ capacity (job-of job) (weight-in (now weights))) ⌝ }
-    ensures { λ r. ⌜ r ≡ node-count (bound-plan (job-of job) (weight-in (now (weights .entry)))) ⌝ }
+// Puts a node's kind at a place of the list of kinds, if the list goes so far.
+fn put_kind(kinds: &mut [u8], at: usize, node: Node)
+    ensures { λ _. ⌜ now (kinds .exit) ≡ set (now (kinds .entry)) at (kind-of node) ⌝ }
 {
-    let mut waiting = [0u16; 6000];
-    let plate = plate_cell(job.length, job.width, g.capacity);
-    put_cell(&mut waiting, 0, plate);
-    let mut depth: usize = 1;
-    let mut nodes: u64 = 0;
-    while 0 < depth {
-        let step = next_node(
-            &mut waiting,
-            depth,
-            job,
-            weights,
-            g,
-            lengths,
-            widths,
-            floors,
-            table,
-        );
-        depth = step.depth;
-        nodes += 1;
+    if at < kinds.len() {
+        kinds[at] = kind_number(node);
     }
-    nodes
 }
 
-// Writes the plan behind the bound in preorder from the arrays' first entries on.
-pub fn write_nodes(
+// Puts a node's operand at a place of the list of operands, if the list goes so far.
+fn put_operand(operands: &mut [u16], at: usize, node: Node)
+    ensures { λ _. ⌜ now (operands .exit) ≡ set (now (operands .entry)) at (operand-of node) ⌝ }
+{
+    if at < operands.len() {
+        operands[at] = operand(node);
+    }
+}
+
+// The number of nodes of the plan behind the bound; lists them in preorder from the first entries on, as far as the lists go.
+pub fn list_nodes(
     job: JobRecord,
     weights: &[u8],
     g: Dimensions,
@@ -180,18 +162,15 @@ pub fn write_nodes(
     table: &[u64],
     kinds: &mut [u8],
     operands: &mut [u16],
-)
-    requires { ⌜ ChoiceInput (job-of job) (now weights) g (now lengths) (now widths) (now floors) (now table) × (g .capacity ≡ capacity (job-of job) (weight-in (now weights)))
-        × (node-count (bound-plan (job-of job) (weight-in (now weights))) ≤ length (now kinds))
-        × (node-count (bound-plan (job-of job) (weight-in (now weights))) ≤ length (now operands)) ⌝ }
-    ensures { λ _. ⌜ (now (kinds .exit) ≡ over (kinds-of (bound-plan (job-of job) (weight-in (now (weights .entry))))) (now (kinds .entry)))
-        × (now (operands .exit) ≡ over (operands-of (bound-plan (job-of job) (weight-in (now (weights .entry))))) (now (operands .entry))) ⌝ }
+) -> usize
+    requires { ⌜ ChoiceInput (job-of job) (now weights) g (now lengths) (now widths) (now floors) (now table) × (g .capacity ≡ capacity (job-of job) (weight-in (now weights))) ⌝ }
+    ensures { λ r. ⌜ NodesListed (bound-plan (job-of job) (weight-in (now (weights .entry)))) (now (kinds .entry)) (now (operands .entry)) (now (kinds .exit)) (now (operands .exit)) r ⌝ }
 {
     let mut waiting = [0u16; 6000];
     let plate = plate_cell(job.length, job.width, g.capacity);
     put_cell(&mut waiting, 0, plate);
     let mut depth: usize = 1;
-    let mut at: usize = 0;
+    let mut nodes: usize = 0;
     while 0 < depth {
         let step = next_node(
             &mut waiting,
@@ -205,9 +184,28 @@ pub fn write_nodes(
             table,
         );
         let node = step.node;
-        kinds[at] = kind_number(node);
-        operands[at] = operand(node);
+        put_kind(kinds, nodes, node);
+        put_operand(operands, nodes, node);
         depth = step.depth;
-        at += 1;
+        nodes += 1;
+    }
+    nodes
+}
+
+// Copies the first entries of the listed kinds and operands.
+pub fn copy_nodes(
+    nodes: usize,
+    listed_kinds: &[u8],
+    listed_operands: &[u16],
+    kinds: &mut [u8],
+    operands: &mut [u16],
+)
+    requires { ⌜ Copyable nodes (now «listed_kinds») (now «listed_operands») (now kinds) (now operands) ⌝ }
+    ensures { λ _. ⌜ (now (kinds .exit) ≡ paste (now (kinds .entry)) 0 (now («listed_kinds» .entry)) nodes)
+        × (now (operands .exit) ≡ paste (now (operands .entry)) 0 (now («listed_operands» .entry)) nodes) ⌝ }
+{
+    for i in 0..nodes {
+        kinds[i] = listed_kinds[i];
+        operands[i] = listed_operands[i];
     }
 }

@@ -50,7 +50,8 @@ returns-2 c =
     let a = w .before .before .before .before .before .before .before .before .before in
     let e = a .before .before .before .before .before .before .before .before .args in
     let t = taken (now (e .block)) (now (e .weights)) (a .accept .ensures .0) (w .before .before .before .before .before .before .before .enum-told .given .1) in
-    accepted (now (e .block)) (now (e .weights)) _ (now (e .kinds)) (now (e .operands)) t (w .write-accepted .ensures .0) (w .write-accepted .ensures .1)
+    let m = lent (now (e .lengths)) (now (e .widths)) (now (e .table)) in
+    accepted (now (e .block)) (now (e .weights)) m (now (e .kinds)) (now (e .operands)) t (w .write-accepted .ensures .0) (w .write-accepted .ensures .1)
 
 pub write-plan-spec : {M : Type 1} → statement M
 write-plan-spec =

@@ -1,0 +1,28 @@
+-- `writer::nodes::put_kind` meets its contract.
+use mathlib.Core.Path.{sym, ap}
+use native.Mathlib.Omega.{arith}
+use lib.ListN.{set}
+use lib.Seq.{set-out}
+use denote.Ref.{now}
+use borrow.Author.Needs.{needs}
+use Rattle.writer.proofs.nodes.put_kind.Statement.{statement}
+use Rattle.writer.proofs.nodes.put_kind.Tie as tie
+
+kind-number-requires : tie.Need-kind-number-requires
+kind-number-requires c κs = search needs
+
+slice-write-kinds : tie.Need-slice-write-kinds
+slice-write-kinds c = search needs
+
+same-length : tie.Need-same-length
+same-length c = search needs
+
+returns : tie.Need-returns
+returns c = ap (λ v. set (now (c .before .before .before .args .kinds)) (c .before .before .before .args .at) v) (c .kind-number .ensures)
+
+returns-2 : tie.Need-returns-2
+returns-2 c = sym (set-out (now (c .before .before .args .kinds)) (c .before .before .args .at) _ (omega (arith, c .if1 .left)))
+
+pub put-kind-spec : {M : Type 1} → statement M
+put-kind-spec =
+    tie.close (tie.spec kind-number-requires slice-write-kinds same-length returns returns-2)

@@ -1,0 +1,32 @@
+-- `writer::nodes::put_operand` meets its contract.
+use mathlib.Core.Path.{sym, ap}
+use native.Mathlib.Omega.{arith}
+use lib.ListN.{set}
+use lib.Seq.{set-out}
+use denote.Ref.{now}
+use borrow.Author.Needs.{needs}
+use Rattle.writer.proofs.nodes.put_operand.Statement.{statement}
+use Rattle.writer.proofs.nodes.put_operand.Tie as tie
+
+operand-requires : tie.Need-operand-requires
+operand-requires c κs = search needs
+
+mul-operands : tie.Need-mul-operands
+mul-operands c = search needs
+
+slice-write-operands : tie.Need-slice-write-operands
+slice-write-operands c = search needs
+
+same-length : tie.Need-same-length
+same-length c = search needs
+
+returns : tie.Need-returns
+returns c = ap (λ v. set (now (c .before .before .before .args .operands)) (c .before .before .before .args .at) v) (c .operand .ensures)
+
+returns-2 : tie.Need-returns-2
+returns-2 c = sym (set-out (now (c .before .before .args .operands)) (c .before .before .args .at) _ (omega (arith, c .if1 .left)))
+
+pub put-operand-spec : {M : Type 1} → statement M
+put-operand-spec =
+    tie.close
+    (tie.spec operand-requires mul-operands slice-write-operands same-length returns returns-2)
