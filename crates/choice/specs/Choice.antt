@@ -1,4 +1,5 @@
--- What the choice reads, a job with its weights and a filled table, and the choice as the code answers it.
+-- What the contracts of the choice cite, all of them inner ones: what the choice reads, a job with its weights and a filled table, and the
+-- choice as the code answers it.
 use mathlib.Core.Path.{_≡_}
 use mathlib.Core.List.{List}
 use Prim.Native.Nat.{ℕ, _≤_}

@@ -1,5 +1,5 @@
--- The two searches of the choice: the lowest-numbered kind that earns a value, and the first pair of position and share whose two words
--- of the table sum to it.
+-- What the inner contracts of the choice's two searches cite: the lowest-numbered kind that earns a value, and the first pair of position
+-- and share whose two words of the table sum to it.
 use mathlib.Core.Bool.{Bool, _&&_}
 use mathlib.Core.Option.{Option, none, some}
 use mathlib.Core.List.{List}

@@ -62,6 +62,16 @@ fn share_of(weight: u8) -> u16
     weight as u16
 }
 
+// The choice of a node, and for a cut of the first part's share.
+fn choice_of(node: Node, share: u16) -> Chosen
+    ensures { λ r. ⌜ r ≡ record { node = node; share = share } ⌝ }
+{
+    Chosen {
+        node: node,
+        share: share,
+    }
+}
+
 // Whether one kind fits the cell, weighs at most the share and has the value as its price.
 fn kind_earns(piece: Sides, price: u32, weight: u8, cell: Cell, value: u64) -> bool
     ensures { λ r. ⌜ r ≡ ((fits-in (rect-of piece) (rect-of (cell .sides)) && leb weight (cell .share)) && eqb price value) ⌝ }
@@ -154,22 +164,13 @@ fn choose_cut(
     let width_floors = &floors[1001..];
     let along = find_cut(lengths, floors, table, l, a, row, column, c, value);
     if let CutFound::At(x, k) = along {
-        return Chosen {
-            node: Node::Cut(Direction::Length, x),
-            share: k,
-        };
+        return choice_of(Node::Cut(Direction::Length, x), k);
     }
     let across = find_cut(widths, width_floors, table, w, b, shares, start, c, value);
     if let CutFound::At(x, k) = across {
-        return Chosen {
-            node: Node::Cut(Direction::Width, x),
-            share: k,
-        };
+        return choice_of(Node::Cut(Direction::Width, x), k);
     }
-    Chosen {
-        node: Node::Waste,
-        share: 0,
-    }
+    choice_of(Node::Waste, 0)
 }
 
 // The choice at a cell: figure 0 gives waste; otherwise the lowest-numbered kind that earns the figure; otherwise a cut. The floors are
@@ -193,17 +194,11 @@ pub fn choose(
     let row = g.columns as usize * shares;
     let value = table[a * row + b * shares + cell.share as usize];
     if value == 0 {
-        return Chosen {
-            node: Node::Waste,
-            share: 0,
-        };
+        return choice_of(Node::Waste, 0);
     }
     let kind = find_kind(job, weights, cell, value);
     if let KindFound::Kind(i) = kind {
-        return Chosen {
-            node: Node::Piece(i),
-            share: 0,
-        };
+        return choice_of(Node::Piece(i), 0);
     }
     choose_cut(cell, value, a, b, g, lengths, widths, floors, table)
 }

@@ -24,7 +24,9 @@ shared-slice-read-a : tie.Need-shared-slice-read-a
 shared-slice-read-a c = search needs
 
 cast-a-2 : tie.Need-cast-a-2
-cast-a-2 c = omega (arith, sizes (c .before .before .before .before .before .before .before .pre .0) (c .before .before .before .before .before .before .before .pre .1))
+cast-a-2 c =
+    let e = c .before .before .before .before .before .before .before in
+    omega (arith, sizes (e .pre .0) (e .pre .1))
 
 cast-b : tie.Need-cast-b
 cast-b c = search needs
@@ -39,7 +41,9 @@ shared-slice-read-b : tie.Need-shared-slice-read-b
 shared-slice-read-b c = search needs
 
 cast-b-2 : tie.Need-cast-b-2
-cast-b-2 c = rw (column (c .before .before .before .before .before .before .before .before .before)) (omega (arith, sizes (c .before .before .before .before .before .before .before .before .before .pre .0) (c .before .before .before .before .before .before .before .before .before .pre .1)))
+cast-b-2 c =
+    let e = c .before .before .before .before .before .before .before .before .before in
+    rw (column e) (omega (arith, sizes (e .pre .0) (e .pre .1)))
 
 cast-shares : tie.Need-cast-shares
 cast-shares c = search needs
@@ -51,31 +55,50 @@ cast-row : tie.Need-cast-row
 cast-row c = search needs
 
 mul-row : tie.Need-mul-row
-mul-row c = omega (arith, sizes (c .before .before .before .before .before .before .before .before .before .before .before .pre .0) (c .before .before .before .before .before .before .before .before .before .before .before .pre .1))
+mul-row c =
+    let e = c .before .before .before .before .before .before .before .before .before .before .before in
+    omega (arith, sizes (e .pre .0) (e .pre .1))
 
 mul-value : tie.Need-mul-value
-mul-value c = omega (arith, sizes (c .before .before .before .before .before .before .before .before .before .before .before .pre .0) (c .before .before .before .before .before .before .before .before .before .before .before .pre .1))
+mul-value c =
+    let e = c .before .before .before .before .before .before .before .before .before .before .before in
+    omega (arith, sizes (e .pre .0) (e .pre .1))
 
 mul-value-2 : tie.Need-mul-value-2
-mul-value-2 c = rw (column (c .before .before .before .before .before .before .before .before .before .before .before)) (omega (arith, sizes (c .before .before .before .before .before .before .before .before .before .before .before .pre .0) (c .before .before .before .before .before .before .before .before .before .before .before .pre .1)))
+mul-value-2 c =
+    let e = c .before .before .before .before .before .before .before .before .before .before .before in
+    rw (column e) (omega (arith, sizes (e .pre .0) (e .pre .1)))
 
 add-value : tie.Need-add-value
-add-value c = rw (column (c .before .before .before .before .before .before .before .before .before .before .before)) (omega (arith, sizes (c .before .before .before .before .before .before .before .before .before .before .before .pre .0) (c .before .before .before .before .before .before .before .before .before .before .before .pre .1)))
+add-value c =
+    let e = c .before .before .before .before .before .before .before .before .before .before .before in
+    rw (column e) (omega (arith, sizes (e .pre .0) (e .pre .1)))
 
 cast-value : tie.Need-cast-value
 cast-value c = search needs
 
 add-value-2 : tie.Need-add-value-2
-add-value-2 c = rw (column (c .before .before .before .before .before .before .before .before .before .before .before .before)) (omega (arith, sizes (c .before .before .before .before .before .before .before .before .before .before .before .before .pre .0) (c .before .before .before .before .before .before .before .before .before .before .before .before .pre .1)))
+add-value-2 c =
+    let e = c .before .before .before .before .before .before .before .before .before .before .before .before in
+    rw (column e) (omega (arith, sizes (e .pre .0) (e .pre .1)))
 
 mul-value-3 : tie.Need-mul-value-3
-mul-value-3 c = rw (column (c .before .before .before .before .before .before .before .before .before .before .before .before)) (omega (arith, sizes (c .before .before .before .before .before .before .before .before .before .before .before .before .pre .0) (c .before .before .before .before .before .before .before .before .before .before .before .before .pre .1)))
+mul-value-3 c =
+    let e = c .before .before .before .before .before .before .before .before .before .before .before .before in
+    rw (column e) (omega (arith, sizes (e .pre .0) (e .pre .1)))
 
 shared-slice-read-value : tie.Need-shared-slice-read-value
-shared-slice-read-value c = rw (column (c .before .before .before .before .before .before .before .before .before .before .before .before .before)) (there (c .before .before .before .before .before .before .before .before .before .before .before .before .before .pre .0) (c .before .before .before .before .before .before .before .before .before .before .before .before .before .pre .1))
+shared-slice-read-value c =
+    let e = c .before .before .before .before .before .before .before .before .before .before .before .before .before in
+    rw (column e) (there (e .pre .0) (e .pre .1))
+
+choice-of-requires : tie.Need-choice-of-requires
+choice-of-requires c κs = search needs
 
 returns : tie.Need-returns
-returns c = none-chosen (c .before .before .before .before .before .before .before .before .before .before .before .before .before .before .pre .0) (c .before .before .before .before .before .before .before .before .before .before .before .before .before .before .pre .1) refl (column (c .before .before .before .before .before .before .before .before .before .before .before .before .before .before)) refl (c .if1 .taken)
+returns c =
+    let e = c .before .before .before .before .before .before .before .before .before .before .before .before .before .before .before in
+    c .choice-of .ensures ∙ none-chosen (e .pre .0) (e .pre .1) refl (column e) refl (c .before .if1 .taken)
 
 find-kind-requires : tie.Need-find-kind-requires
 find-kind-requires c κs = search needs
@@ -83,17 +106,26 @@ find-kind-requires c κs = search needs
 enum-known-kind : tie.Need-enum-known-kind
 enum-known-kind c = search needs
 
+choice-of-requires-2 : tie.Need-choice-of-requires-2
+choice-of-requires-2 c κs = search needs
+
 returns-2 : tie.Need-returns-2
-returns-2 c = kind-chosen (c .before .before .before .before .before .before .before .before .before .before .before .before .before .before .before .before .before .before .pre .0) (c .before .before .before .before .before .before .before .before .before .before .before .before .before .before .before .before .before .before .pre .1) refl (column (c .before .before .before .before .before .before .before .before .before .before .before .before .before .before .before .before .before .before)) refl (c .before .before .before .before .if1 .left) (sym (c .before .before .before .find-kind .ensures) ∙ c .before .kind .given .1)
+returns-2 c =
+    let e = c .before .before .before .before .before .before .before .before .before .before .before .before .before .before .before .before .before .before .before in
+    c .choice-of2 .ensures ∙ kind-chosen (e .pre .0) (e .pre .1) refl (column e) refl (c .before .before .before .before .before .if1 .left) (sym (c .before .before .before .before .find-kind .ensures) ∙ c .before .before .kind .given .1)
 
 enum-told : tie.Need-enum-told
 enum-told c = search needs
 
 choose-cut-requires : tie.Need-choose-cut-requires
-choose-cut-requires c κs = cuts-searchable (c .before .before .before .before .before .before .before .before .before .before .before .before .before .before .before .before .before .pre .0) (c .before .before .before .before .before .before .before .before .before .before .before .before .before .before .before .before .before .pre .1) refl (column (c .before .before .before .before .before .before .before .before .before .before .before .before .before .before .before .before .before))
+choose-cut-requires c κs =
+    let e = c .before .before .before .before .before .before .before .before .before .before .before .before .before .before .before .before .before in
+    cuts-searchable (e .pre .0) (e .pre .1) refl (column e)
 
 returns-3 : tie.Need-returns-3
-returns-3 c = cut-chosen (c .before .before .before .before .before .before .before .before .before .before .before .before .before .before .before .before .before .before .pre .0) (c .before .before .before .before .before .before .before .before .before .before .before .before .before .before .before .before .before .before .pre .1) refl (column (c .before .before .before .before .before .before .before .before .before .before .before .before .before .before .before .before .before .before)) refl (c .before .before .before .before .if1 .left) (sym (c .before .before .before .find-kind .ensures) ∙ c .before .enum-told .given .1) (c .choose-cut .ensures)
+returns-3 c =
+    let e = c .before .before .before .before .before .before .before .before .before .before .before .before .before .before .before .before .before .before in
+    cut-chosen (e .pre .0) (e .pre .1) refl (column e) refl (c .before .before .before .before .if1 .left) (sym (c .before .before .before .find-kind .ensures) ∙ c .before .enum-told .given .1) (c .choose-cut .ensures)
 
 pub choose-spec : {M : Type 1} → statement M
 choose-spec =
@@ -119,9 +151,11 @@ choose-spec =
     add-value-2
     mul-value-3
     shared-slice-read-value
+    choice-of-requires
     returns
     find-kind-requires
     enum-known-kind
+    choice-of-requires-2
     returns-2
     enum-told
     choose-cut-requires

@@ -36,8 +36,9 @@ cast-row c = search needs
 
 mul-row : tie.Need-mul-row
 mul-row c =
-    let a : c .before .before .before .before .before .before .before .before .before .args .g .columns ≤ 65535 = search needs in
-    let b : c .before .before .before .before .before .before .before .before .before .args .g .capacity + 1 ≤ 65536 = search needs in
+    let e = c .before .before .before .before .before .before .before .before .before in
+    let a : e .args .g .columns ≤ 65535 = search needs in
+    let b : e .args .g .capacity + 1 ≤ 65536 = search needs in
     omega (arith, mul-le-mul a b)
 
 mul-column : tie.Need-mul-column
@@ -47,10 +48,14 @@ mul-start : tie.Need-mul-start
 mul-start c = omega (arith, c .before .before .before .before .before .before .before .before .before .pre .1 .remainders 0 (omega arith) 0 (omega arith))
 
 sub-width-floors : tie.Need-sub-width-floors
-sub-width-floors c = omega (arith, c .before .before .before .before .before .before .before .before .before .pre .1 .mapped, length-drop 1001 (now (c .before .before .before .before .before .before .before .before .before .args .floors)))
+sub-width-floors c =
+    let e = c .before .before .before .before .before .before .before .before .before in
+    omega (arith, e .pre .1 .mapped, length-drop 1001 (now (e .args .floors)))
 
 part-width-floors-start : tie.Need-part-width-floors-start
-part-width-floors-start c = omega (arith, c .before .before .before .before .before .before .before .before .before .pre .1 .mapped, length-drop 1001 (now (c .before .before .before .before .before .before .before .before .before .args .floors)))
+part-width-floors-start c =
+    let e = c .before .before .before .before .before .before .before .before .before in
+    omega (arith, e .pre .1 .mapped, length-drop 1001 (now (e .args .floors)))
 
 part-width-floors-end : tie.Need-part-width-floors-end
 part-width-floors-end c = search needs
@@ -61,8 +66,11 @@ find-cut-requires c κs = let across = width-searchable (c .before .before .befo
 enum-known-along : tie.Need-enum-known-along
 enum-known-along c = search needs
 
+choice-of-requires : tie.Need-choice-of-requires
+choice-of-requires c κs = search needs
+
 returns : tie.Need-returns
-returns c = length-out _ (sym (c .before .before .before .find-cut .ensures) ∙ c .before .along .given .1)
+returns c = c .choice-of .ensures ∙ length-out _ (sym (c .before .before .before .before .find-cut .ensures) ∙ c .before .before .along .given .1)
 
 enum-told : tie.Need-enum-told
 enum-told c = search needs
@@ -73,14 +81,24 @@ find-cut-requires-2 c κs = width-searchable (c .before .before .before .before 
 enum-known-across : tie.Need-enum-known-across
 enum-known-across c = search needs
 
+choice-of-requires-2 : tie.Need-choice-of-requires-2
+choice-of-requires-2 c κs = search needs
+
 returns-2 : tie.Need-returns-2
-returns-2 c = width-out (sym (c .before .before .before .before .before .before .find-cut .ensures) ∙ c .before .before .before .before .enum-told .given .1) (sym (rw (rest-part 1001 (now (c .before .before .before .before .before .before .before .before .before .before .before .before .before .before .before .before .before .args .floors))) at (c .before .before .before .find-cut2 .ensures)) ∙ c .before .across .given .1)
+returns-2 c =
+    let across = rw (rest-part 1001 (now (c .before .before .before .before .before .before .before .before .before .before .before .before .before .before .before .before .before .before .args .floors))) at (c .before .before .before .before .find-cut2 .ensures) in
+    c .choice-of2 .ensures ∙ width-out (sym (c .before .before .before .before .before .before .before .find-cut .ensures) ∙ c .before .before .before .before .before .enum-told .given .1) (sym across ∙ c .before .before .across .given .1)
 
 enum-told-2 : tie.Need-enum-told-2
 enum-told-2 c = search needs
 
+choice-of-requires-3 : tie.Need-choice-of-requires-3
+choice-of-requires-3 c κs = search needs
+
 returns-3 : tie.Need-returns-3
-returns-3 c = waste-out (sym (c .before .before .before .before .before .find-cut .ensures) ∙ c .before .before .before .enum-told .given .1) (sym (rw (rest-part 1001 (now (c .before .before .before .before .before .before .before .before .before .before .before .before .before .before .before .before .args .floors))) at (c .before .before .find-cut2 .ensures)) ∙ c .enum-told2 .given .1)
+returns-3 c =
+    let across = rw (rest-part 1001 (now (c .before .before .before .before .before .before .before .before .before .before .before .before .before .before .before .before .before .args .floors))) at (c .before .before .before .find-cut2 .ensures) in
+    c .choice-of3 .ensures ∙ waste-out (sym (c .before .before .before .before .before .before .find-cut .ensures) ∙ c .before .before .before .before .enum-told .given .1) (sym across ∙ c .before .enum-told2 .given .1)
 
 pub choose-cut-spec : {M : Type 1} → statement M
 choose-cut-spec =
@@ -100,10 +118,13 @@ choose-cut-spec =
     part-width-floors-end
     find-cut-requires
     enum-known-along
+    choice-of-requires
     returns
     enum-told
     find-cut-requires-2
     enum-known-across
+    choice-of-requires-2
     returns-2
     enum-told-2
+    choice-of-requires-3
     returns-3)

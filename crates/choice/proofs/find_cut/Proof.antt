@@ -65,7 +65,9 @@ add-second-2 : tie.Need-add-second-2 Inv-loop μ-loop Inv-search μ-search
 add-second-2 c = omega (arith, second-word (c .before .before .before .before .before .before .before .before .before .pre) (c .before .before .before .before .before .search .i) 0 (c .before .before .widen .ensures .0) (c .widen2 .ensures .0) (omega arith))
 
 loop-holds : tie.Need-loop-holds Inv-loop μ-loop Inv-search μ-search
-loop-holds c = (search needs, c .before .before .before .before .before .search .inv .1, c .before .before .before .before .before .search .inv .2 ∙ row-starts _ _ _ _ (search needs))
+loop-holds c =
+    let row = c .before .before .before .before .before .search in
+    (search needs, row .inv .1, row .inv .2 ∙ row-starts _ _ _ _ (search needs))
 
 add-if1 : tie.Need-add-if1 Inv-loop μ-loop Inv-search μ-search
 add-if1 c = omega (arith, c .before .before .before .before .before .before .before .before .before .before .before .pre .rows (c .before .before .before .before .before .before .before .search .i) (omega arith) (c .before .loop .k) (omega arith))
@@ -86,7 +88,11 @@ shared-slice-read-if1-2 : tie.Need-shared-slice-read-if1-2 Inv-loop μ-loop Inv-
 shared-slice-read-if1-2 c = second-word (c .before .before .before .before .before .before .before .before .before .before .before .before .before .pre) (c .before .before .before .before .before .before .before .before .before .search .i) (c .before .before .before .loop .k) (c .before .before .before .before .before .before .widen .ensures .0) (c .before .before .before .before .widen2 .ensures .0) (omega arith) .1
 
 add-if1-2 : tie.Need-add-if1-2 Inv-loop μ-loop Inv-search μ-search
-add-if1-2 c = omega (arith, c .before .before .before .before .before .before .before .before .before .before .before .before .before .pre .rows (c .before .before .before .before .before .before .before .before .before .search .i) (omega arith) (c .before .before .before .loop .k) (omega arith), second-word (c .before .before .before .before .before .before .before .before .before .before .before .before .before .pre) (c .before .before .before .before .before .before .before .before .before .search .i) (c .before .before .before .loop .k) (c .before .before .before .before .before .before .widen .ensures .0) (c .before .before .before .before .widen2 .ensures .0) (omega arith))
+add-if1-2 c =
+    let e = c .before .before .before .before .before .before .before .before .before .before .before .before .before in
+    let turn = c .before .before .before .loop in
+    let row = c .before .before .before .before .before .before .before .before .before .search in
+    omega (arith, e .pre .rows (row .i) (omega arith) (turn .k) (omega arith), second-word (e .pre) (row .i) (turn .k) (c .before .before .before .before .before .before .widen .ensures .0) (c .before .before .before .before .widen2 .ensures .0) (omega arith))
 
 cast-t35 : tie.Need-cast-t35 Inv-loop μ-loop Inv-search μ-search
 cast-t35 c = omega (arith, c .before .before .before .before .before .before .before .before .before .before .before .before .before .before .pre .shares)
@@ -98,7 +104,10 @@ loop-less : tie.Need-loop-less Inv-loop μ-loop Inv-search μ-search
 loop-less c = search needs
 
 loop-again : tie.Need-loop-again Inv-loop μ-loop Inv-search μ-search
-loop-again c = (search needs, c .before .before .before .before .loop .inv .1, c .before .before .before .before .loop .inv .2 ∙ pair-fails (c .before .before .before .before .before .before .before .before .before .before .before .before .before .before .pre) (c .before .before .before .before .before .before .before .before .before .before .before .before .before .before .args .value) (c .before .before .before .before .before .before .before .before .before .before .search .i) (c .before .before .before .before .loop .k) (c .before .before .before .before .before .before .before .widen .ensures .0) (c .before .before .before .before .before .widen2 .ensures .0) (search needs) (c .if1 .left))
+loop-again c =
+    let e = c .before .before .before .before .before .before .before .before .before .before .before .before .before .before in
+    let turn = c .before .before .before .before .loop in
+    (search needs, turn .inv .1, turn .inv .2 ∙ pair-fails (e .pre) (e .args .value) (c .before .before .before .before .before .before .before .before .before .before .search .i) (turn .k) (c .before .before .before .before .before .before .before .widen .ensures .0) (c .before .before .before .before .before .widen2 .ensures .0) (search needs) (c .if1 .left))
 
 add-i : tie.Need-add-i Inv-loop μ-loop Inv-search μ-search
 add-i c = search needs
@@ -113,7 +122,10 @@ returns : tie.Need-returns Inv-loop μ-loop Inv-search μ-search
 returns c = c .before .search .inv .1 ∙ sym (ap (cut-found (c .before .before .before .before .before .args .positions .now)) (c .before .search .inv .2 ∙ rows-end _ _ _ _ (search needs)))
 
 returns-2 : tie.Need-returns-2 Inv-loop μ-loop Inv-search μ-search
-returns-2 c = sym (ap (cut-found (c .before .before .before .before .before .before .before .before .before .before .before .before .before .before .args .positions .now)) (c .before .before .before .before .loop .inv .2 ∙ pair-passes (c .before .before .before .before .before .before .before .before .before .before .before .before .before .before .pre) (c .before .before .before .before .before .before .before .before .before .before .before .before .before .before .args .value) (c .before .before .before .before .before .before .before .before .before .before .search .i) (c .before .before .before .before .loop .k) (c .before .before .before .before .before .before .before .widen .ensures .0) (c .before .before .before .before .before .widen2 .ensures .0) (search needs) (c .if1 .taken)))
+returns-2 c =
+    let e = c .before .before .before .before .before .before .before .before .before .before .before .before .before .before in
+    let turn = c .before .before .before .before .loop in
+    sym (ap (cut-found (e .args .positions .now)) (turn .inv .2 ∙ pair-passes (e .pre) (e .args .value) (c .before .before .before .before .before .before .before .before .before .before .search .i) (turn .k) (c .before .before .before .before .before .before .before .widen .ensures .0) (c .before .before .before .before .before .widen2 .ensures .0) (search needs) (c .if1 .taken)))
 
 pub find-cut-spec : {M : Type 1} → statement M
 find-cut-spec =

@@ -56,7 +56,9 @@ loop-less : tie.Need-loop-less Inv-loop μ-loop
 loop-less c = search needs
 
 loop-again : tie.Need-loop-again Inv-loop μ-loop
-loop-again c = (c .before .before .before .before .before .before .before .loop .inv .0, c .before .before .before .before .before .before .before .loop .inv .1 ∙ left-fails _ _ _ (search needs) (sym (c .before .kind-earns .ensures) ∙ c .if1 .left))
+loop-again c =
+    let turn = c .before .before .before .before .before .before .before .loop in
+    (turn .inv .0, turn .inv .1 ∙ left-fails _ _ _ (search needs) (sym (c .before .kind-earns .ensures) ∙ c .if1 .left))
 
 returns-2 : tie.Need-returns-2 Inv-loop μ-loop
 returns-2 c = sym (ap kind-found (c .before .loop .inv .1 ∙ left-end _ _ _ (search needs)))

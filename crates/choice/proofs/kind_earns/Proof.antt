@@ -13,10 +13,14 @@ share-of-requires : tie.Need-share-of-requires
 share-of-requires c κs = search needs
 
 returns : tie.Need-returns
-returns c = simp (sym (c .before .before .before .before .fits2 .ensures) ∙ c .before .before .before .if1 .taken, le-leb (c .before .before .before .before .before .args .weight) (c .before .before .before .before .before .args .cell .share) (omega arith))
+returns c =
+    let e = c .before .before .before .before .before in
+    simp (sym (c .before .before .before .before .fits2 .ensures) ∙ c .before .before .before .if1 .taken, le-leb (e .args .weight) (e .args .cell .share) (omega arith))
 
 returns-2 : tie.Need-returns-2
-returns-2 c = simp (sym (c .before .before .before .before .fits2 .ensures) ∙ c .before .before .before .if1 .taken, lt-leb (c .before .before .before .before .before .args .weight) (c .before .before .before .before .before .args .cell .share) (omega arith))
+returns-2 c =
+    let e = c .before .before .before .before .before in
+    simp (sym (c .before .before .before .before .fits2 .ensures) ∙ c .before .before .before .if1 .taken, lt-leb (e .args .weight) (e .args .cell .share) (omega arith))
 
 returns-3 : tie.Need-returns-3
 returns-3 c = simp (sym (c .before .fits2 .ensures) ∙ c .if1 .left)

@@ -80,9 +80,10 @@ same-length-2 c = c .before .loop .inv .3
 
 returns : tie.Need-returns Inv-loop μ-loop
 returns c =
+    let e = c .before .before .before .before .before .before .before .before .before .before .before .before in
     let turn = c .before .loop in
-    let J = job-of (c .before .before .before .before .before .before .before .before .before .before .before .before .args .job) in
-    let weight = weight-in (now (c .before .before .before .before .before .before .before .before .before .before .before .before .args .weights)) in
+    let J = job-of (e .args .job) in
+    let weight = weight-in (now (e .args .weights)) in
     let z : turn .depth ≡ 0 = search needs in
     let none = ap (nodes-left J weight (turn .waiting)) z ∙ none-left J weight (turn .waiting) in
     record {

@@ -21,34 +21,48 @@ waiting-cell-requires : tie.Need-waiting-cell-requires
 waiting-cell-requires c κs = omega (arith, few (c .before .before .before .before .before .before))
 
 choose-requires : tie.Need-choose-requires
-choose-requires c κs = (c .before .before .before .before .before .before .before .pre .0, rw (c .waiting-cell .ensures) (top-inside (c .before .before .before .before .before .before .before .pre .0 .tabled .in-range) (c .before .before .before .before .before .before .before .pre .1) (c .before .before .before .before .before .before .before .pre .2)))
+choose-requires c κs =
+    let e = c .before .before .before .before .before .before .before in
+    (e .pre .0, rw (c .waiting-cell .ensures) (top-inside (e .pre .0 .tabled .in-range) (e .pre .1) (e .pre .2)))
 
 enum-known-node : tie.Need-enum-known-node
 enum-known-node c = search needs
 
 returns : tie.Need-returns
-returns c = leaf-stepped (c .before .before .before .before .before .before .before .before .before .pre .0 .tabled .in-range) (c .before .before .before .before .before .before .before .before .before .pre .1) (c .before .before .before .before .before .before .before .before .before .pre .2) _ (c .before .before .waiting-cell .ensures) (c .before .choose .ensures) (λ d x n. miss (0 ∷ 1 ∷ []) 2 tt (rw n at (c .match .keys2)))
+returns c =
+    let e = c .before .before .before .before .before .before .before .before .before in
+    leaf-stepped (e .pre .0 .tabled .in-range) (e .pre .1) (e .pre .2) _ (c .before .before .waiting-cell .ensures) (c .before .choose .ensures) (λ d x n. miss (0 ∷ 1 ∷ []) 2 tt (rw n at (c .match .keys2)))
 
 first-part-requires : tie.Need-first-part-requires
 first-part-requires c κs = search needs
 
 second-part-requires : tie.Need-second-part-requires
-second-part-requires c κs = cut-ready (c .before .before .before .before .before .before .before .before .before .before .before .before .pre .0 .tabled .in-range) (c .before .before .before .before .before .before .before .before .before .before .before .before .pre .1) (c .before .before .before .before .before .before .before .before .before .before .before .before .pre .2) _ (c .before .before .before .before .before .waiting-cell .ensures) (c .before .before .before .before .choose .ensures) (c .before .before .node .given .1) .0
+second-part-requires c κs =
+    let e = c .before .before .before .before .before .before .before .before .before .before .before .before in
+    cut-ready (e .pre .0 .tabled .in-range) (e .pre .1) (e .pre .2) _ (c .before .before .before .before .before .waiting-cell .ensures) (c .before .before .before .before .choose .ensures) (c .before .before .node .given .1) .0
 
 sub-t20 : tie.Need-sub-t20
-sub-t20 c = cut-ready (c .before .before .before .before .before .before .before .before .before .before .before .before .before .before .before .pre .0 .tabled .in-range) (c .before .before .before .before .before .before .before .before .before .before .before .before .before .before .before .pre .1) (c .before .before .before .before .before .before .before .before .before .before .before .before .before .before .before .pre .2) _ (c .before .before .before .before .before .before .before .before .waiting-cell .ensures) (c .before .before .before .before .before .before .before .choose .ensures) (c .before .before .before .before .before .node .given .1) .1
+sub-t20 c =
+    let e = c .before .before .before .before .before .before .before .before .before .before .before .before .before .before .before in
+    cut-ready (e .pre .0 .tabled .in-range) (e .pre .1) (e .pre .2) _ (c .before .before .before .before .before .before .before .before .waiting-cell .ensures) (c .before .before .before .before .before .before .before .choose .ensures) (c .before .before .before .before .before .node .given .1) .1
 
 put-cell-requires : tie.Need-put-cell-requires
-put-cell-requires c κs = (omega (arith, few (c .before .before .before .before .before .before .before .before .before .before .before .before .before .before .before .before)), c .before .before .before .before .before .before .before .before .before .before .before .before .before .before .before .before .pre .1 .entries)
+put-cell-requires c κs =
+    let e = c .before .before .before .before .before .before .before .before .before .before .before .before .before .before .before .before in
+    (omega (arith, few e), e .pre .1 .entries)
 
 put-cell-requires-2 : tie.Need-put-cell-requires-2
-put-cell-requires-2 c κs = (few (c .before .before .before .before .before .before .before .before .before .before .before .before .before .before .before .before .before .before), ap length (c .before .put-cell .ensures) ∙ simp length-set (c .before .before .before .before .before .before .before .before .before .before .before .before .before .before .before .before .before .before .pre .1 .entries))
+put-cell-requires-2 c κs =
+    let e = c .before .before .before .before .before .before .before .before .before .before .before .before .before .before .before .before .before .before in
+    (few e, ap length (c .before .put-cell .ensures) ∙ simp length-set (e .pre .1 .entries))
 
 add-t24 : tie.Need-add-t24
 add-t24 c = omega (arith, few (c .before .before .before .before .before .before .before .before .before .before .before .before .before .before .before .before .before .before .before))
 
 returns-2 : tie.Need-returns-2
-returns-2 c = cut-stepped (c .before .before .before .before .before .before .before .before .before .before .before .before .before .before .before .before .before .before .before .pre .0 .tabled .in-range) (c .before .before .before .before .before .before .before .before .before .before .before .before .before .before .before .before .before .before .before .pre .1) (c .before .before .before .before .before .before .before .before .before .before .before .before .before .before .before .before .before .before .before .pre .2) _ (c .before .before .before .before .before .before .before .before .before .before .before .before .waiting-cell .ensures) (c .before .before .before .before .before .before .before .before .before .before .before .choose .ensures) (c .before .before .before .before .before .before .before .before .before .node .given .1) (c .before .before .before .before .before .before .before .first-part .ensures) (c .before .before .before .before .before .before .second-part .ensures) (c .before .before .put-cell .ensures) (c .put-cell2 .ensures)
+returns-2 c =
+    let e = c .before .before .before .before .before .before .before .before .before .before .before .before .before .before .before .before .before .before .before in
+    cut-stepped (e .pre .0 .tabled .in-range) (e .pre .1) (e .pre .2) _ (c .before .before .before .before .before .before .before .before .before .before .before .before .waiting-cell .ensures) (c .before .before .before .before .before .before .before .before .before .before .before .choose .ensures) (c .before .before .before .before .before .before .before .before .before .node .given .1) (c .before .before .before .before .before .before .before .first-part .ensures) (c .before .before .before .before .before .before .second-part .ensures) (c .before .before .put-cell .ensures) (c .put-cell2 .ensures)
 
 pub next-node-spec : {M : Type 1} → statement M
 next-node-spec =

@@ -21,10 +21,14 @@ same-length : tie.Need-same-length
 same-length c = search needs
 
 returns : tie.Need-returns
-returns c = ap (λ v. set (now (c .before .before .before .args .operands)) (c .before .before .before .args .at) v) (c .operand .ensures)
+returns c =
+    let e = c .before .before .before in
+    ap (λ v. set (now (e .args .operands)) (e .args .at) v) (c .operand .ensures)
 
 returns-2 : tie.Need-returns-2
-returns-2 c = sym (set-out (now (c .before .before .args .operands)) (c .before .before .args .at) _ (omega (arith, c .if1 .left)))
+returns-2 c =
+    let e = c .before .before in
+    sym (set-out (now (e .args .operands)) (e .args .at) _ (omega (arith, c .if1 .left)))
 
 pub put-operand-spec : {M : Type 1} → statement M
 put-operand-spec =
