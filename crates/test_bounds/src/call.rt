@@ -13,12 +13,12 @@ use every_unit::write_block;
 use refusal::Refusal;
 use test_tools::Words;
 use test_tools::at_most;
-use test_tools::copy_bytes;
+use test_tools::bytes;
 use test_tools::different_entries;
 use test_tools::different_words;
-use test_tools::fill_list;
-use test_tools::fill_table;
 use test_tools::first_bytes;
+use test_tools::marked_list;
+use test_tools::marked_table;
 use test_tools::put;
 use test_tools::word;
 
@@ -79,17 +79,15 @@ fn note_left(t: &mut Words, lengths: &[u16; 1008], widths: &[u16; 1008], table: 
     note_table(t, table);
 }
 
-// The bound call on the job's block and weights, of up to 65 kinds.
+// The bound call on the job's block and weights.
 fn call_bound(
     t: &Words,
     lengths: &mut [u16],
     widths: &mut [u16],
     table: &mut [u64],
 ) -> BoundAnswer {
-    let mut block = [0u8; 656];
-    let mut weights = [0u8; 65];
-    copy_bytes(t, BLOCK, &mut block);
-    copy_bytes(t, WEIGHTS, &mut weights);
+    let block = bytes(t, BLOCK);
+    let weights = bytes(t, WEIGHTS);
     bound::bound(
         first_bytes(&block, word(t, BLOCK, 0)),
         first_bytes(&weights, word(t, WEIGHTS, 0)),
@@ -101,12 +99,9 @@ fn call_bound(
 
 // Makes the call with the parts of lists and table that are lent, and notes its answer and what it left.
 fn call_lent(t: &mut Words) {
-    let mut lengths = [0u16; 1008];
-    let mut widths = [0u16; 1008];
-    let mut table = [0u64; 36872];
-    fill_list(&mut lengths);
-    fill_list(&mut widths);
-    fill_table(&mut table);
+    let mut lengths = marked_list();
+    let mut widths = marked_list();
+    let mut table = marked_table();
     let p = at_most(t, LENT_LENGTHS, 1008);
     let r = at_most(t, LENT_WIDTHS, 1008);
     let k = at_most(t, LENT_WORDS, 36872);

@@ -15,10 +15,10 @@ use every_unit::compute;
 use every_unit::draw_job;
 use test_tools::Words;
 use test_tools::add;
-use test_tools::labelled;
-use test_tools::labelled_word;
 use test_tools::larger;
 use test_tools::plus;
+use test_tools::print_numbers;
+use test_tools::print_words;
 use test_tools::put;
 use test_tools::text;
 use test_tools::times;
@@ -85,11 +85,15 @@ fn difference(t: &Words) -> usize {
     times(4, (word(t, OTHER_WORDS, 0) != 0) as usize)
 }
 
+fn note_capacity(t: &mut Words) {
+    let most = larger(word(t, GREATEST, 0), word(t, CAPACITY, 0));
+    put(t, GREATEST, 0, most);
+}
+
 fn note_sizes(t: &mut Words) {
     add(t, TABLE_WORDS, word(t, WORD_COUNT, 0));
     add(t, BOUNDS, word(t, BOUND, 0));
-    let most = larger(word(t, GREATEST, 0), word(t, CAPACITY, 0));
-    put(t, GREATEST, 0, most);
+    note_capacity(t);
 }
 
 fn note_agreed(t: &mut Words) {
@@ -146,26 +150,24 @@ pub fn compare_shape(t: &mut Words) {
 }
 
 fn print_shape(t: &Words) {
-    labelled(b": ", JOBS as u64);
-    labelled_word(b" compared, ", t, AGREED);
-    labelled_word(b" agreed; table words ", t, TABLE_WORDS);
-    labelled_word(b", sum of bounds ", t, BOUNDS);
-    labelled_word(b", greatest capacity ", t, GREATEST);
+    print_numbers(b": # compared, ", &[JOBS as u64]);
+    print_words(
+        b"# agreed; table words #, sum of bounds #, greatest capacity #",
+        t,
+        AGREED,
+    );
 }
 
 // The first job that does not agree, and the number of what differs; or none.
 fn print_first(t: &Words) {
     if word(t, FIRST, 0) == 0 {
         text(b"first difference: none");
-        return;
+    } else {
+        print_words(b"first difference: job #, #", t, FIRST);
     }
-    labelled_word(b"first difference: job ", t, FIRST);
-    labelled_word(b", ", t, FIRST_OTHER);
 }
 
 pub fn print_total(t: &Words) {
-    labelled_word(b": ", t, ALL_COMPARED);
-    labelled_word(b" compared, ", t, ALL_AGREED);
-    text(b" agreed\n");
+    print_words(b": # compared, # agreed\n", t, ALL_COMPARED);
     print_first(t);
 }

@@ -4,8 +4,6 @@
 use crate::call::ANSWER;
 use crate::call::LENT_LENGTHS;
 use crate::call::OTHER_LENGTHS;
-use crate::call::OTHER_WIDTHS;
-use crate::call::OTHER_WORDS;
 use crate::call::try_bound;
 use every_unit::KIND_LENGTH;
 use every_unit::LENGTH_COUNT;
@@ -13,19 +11,12 @@ use every_unit::PLATE;
 use every_unit::PRICE;
 use test_tools::ROW;
 use test_tools::Words;
-use test_tools::labelled_word;
+use test_tools::copy;
 use test_tools::minus;
 use test_tools::plus;
+use test_tools::print_words;
 use test_tools::put;
 use test_tools::word;
-
-// Three numbers of the row: the plate, or the lent memory.
-fn copy_three(t: &mut Words, to: usize, from: usize) {
-    for i in 0..3 {
-        let x = word(t, from, i);
-        put(t, to, i, x);
-    }
-}
 
 // The five numbers of every kind, which stand 70 words apart.
 fn copy_kinds(t: &mut Words) {
@@ -49,32 +40,18 @@ fn expect_nothing(t: &mut Words) {
 }
 
 fn make_job(t: &mut Words) {
-    copy_three(t, PLATE, ROW);
-    copy_three(t, LENT_LENGTHS, plus(ROW, 9));
+    copy(t, PLATE, ROW, 3);
+    copy(t, LENT_LENGTHS, plus(ROW, 9), 3);
     copy_kinds(t);
     price_last(t);
 }
 
-fn print_report(t: &Words) {
-    labelled_word(b"bound ", t, plus(ANSWER, 1));
-    labelled_word(b" capacity ", t, plus(ANSWER, 2));
-    labelled_word(b" lengths ", t, plus(ANSWER, 3));
-    labelled_word(b" widths ", t, plus(ANSWER, 4));
-}
-
 fn print_answer(t: &Words) {
     if word(t, ANSWER, 0) == 0 {
-        print_report(t);
-        return;
+        print_words(b"bound # capacity # lengths # widths #", t, plus(ANSWER, 1));
+    } else {
+        print_words(b"refused # place #", t, ANSWER);
     }
-    labelled_word(b"refused ", t, ANSWER);
-    labelled_word(b" place ", t, plus(ANSWER, 1));
-}
-
-fn print_changed(t: &Words) {
-    labelled_word(b"; changed ", t, OTHER_LENGTHS);
-    labelled_word(b" ", t, OTHER_WIDTHS);
-    labelled_word(b" ", t, OTHER_WORDS);
 }
 
 pub fn run_limit(t: &mut Words) {
@@ -82,5 +59,5 @@ pub fn run_limit(t: &mut Words) {
     expect_nothing(t);
     try_bound(t);
     print_answer(t);
-    print_changed(t);
+    print_words(b"; changed # # #", t, OTHER_LENGTHS);
 }

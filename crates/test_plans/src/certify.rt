@@ -7,48 +7,41 @@ use crate::lent::LENT_WORDS;
 use crate::lent::OPERANDS;
 use crate::lent::WEIGHTS;
 use crate::lent::count;
-use crate::lent::print_refused;
+use crate::lent::print_refusal;
 use certificate::Certificate;
 use certificate::certify;
 use test_tools::Words;
 use test_tools::at_most;
-use test_tools::copy_bytes;
-use test_tools::copy_numbers;
+use test_tools::bytes;
 use test_tools::different_entries;
 use test_tools::different_words;
-use test_tools::fill_list;
-use test_tools::fill_table;
 use test_tools::first_bytes;
 use test_tools::first_numbers;
-use test_tools::labelled;
-
-fn print_gap(profit: u64, gap: u64) {
-    labelled(b" profit ", profit);
-    labelled(b" gap ", gap);
-}
+use test_tools::marked_list;
+use test_tools::marked_table;
+use test_tools::numbers;
+use test_tools::print_numbers;
 
 fn print_certificate(c: Certificate) {
     match c {
-        Certificate::Best(profit) => labelled(b" best ", profit),
-        Certificate::Gap(profit, gap) => print_gap(profit, gap),
-        Certificate::Refused(r) => print_refused(r),
+        Certificate::Best(profit) => print_numbers(b" best #", &[profit]),
+        Certificate::Gap(profit, gap) => print_numbers(b" profit # gap #", &[profit, gap]),
+        Certificate::Refused(r) => print_refusal(b" refused # at #", r),
     }
 }
 
 fn print_changed(t: &Words, lengths: &[u16; 1008], widths: &[u16; 1008], table: &[u64; 36872]) {
-    labelled(b"; changed ", different_entries(lengths, t, 0, 0) as u64);
-    labelled(b" ", different_entries(widths, t, 0, 0) as u64);
-    labelled(b" ", different_words(table, t, 0, 0) as u64);
+    let p = different_entries(lengths, t, 0, 0) as u64;
+    let r = different_entries(widths, t, 0, 0) as u64;
+    let k = different_words(table, t, 0, 0) as u64;
+    print_numbers(b"; changed # # #", &[p, r, k]);
 }
 
 // The certificate of a plan, with the parts of lists and table that are lent.
 fn certify_plan(t: &Words, block: &[u8], weights: &[u8], kinds: &[u8], operands: &[u16]) {
-    let mut lengths = [0u16; 1008];
-    let mut widths = [0u16; 1008];
-    let mut table = [0u64; 36872];
-    fill_list(&mut lengths);
-    fill_list(&mut widths);
-    fill_table(&mut table);
+    let mut lengths = marked_list();
+    let mut widths = marked_list();
+    let mut table = marked_table();
     let p = at_most(t, LENT_LENGTHS, 1008);
     let r = at_most(t, LENT_WIDTHS, 1008);
     let k = at_most(t, LENT_WORDS, 36872);
@@ -65,10 +58,8 @@ fn certify_plan(t: &Words, block: &[u8], weights: &[u8], kinds: &[u8], operands:
 }
 
 fn certify_arrays(t: &Words, block: &[u8], weights: &[u8]) {
-    let mut kinds = [0u8; 5000];
-    let mut operands = [0u16; 5000];
-    copy_bytes(t, KINDS, &mut kinds);
-    copy_numbers(t, OPERANDS, &mut operands);
+    let kinds = bytes(t, KINDS);
+    let operands = numbers(t, OPERANDS);
     certify_plan(
         t,
         block,
@@ -79,10 +70,8 @@ fn certify_arrays(t: &Words, block: &[u8], weights: &[u8]) {
 }
 
 pub fn run_certify(t: &Words) {
-    let mut block = [0u8; 656];
-    let mut weights = [0u8; 65];
-    copy_bytes(t, JOB, &mut block);
-    copy_bytes(t, WEIGHTS, &mut weights);
+    let block = bytes(t, JOB);
+    let weights = bytes(t, WEIGHTS);
     certify_arrays(
         t,
         first_bytes(&block, count(t, JOB)),

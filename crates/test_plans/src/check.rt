@@ -5,30 +5,33 @@ use crate::lent::OPERANDS;
 use crate::lent::PLAN;
 use crate::lent::count;
 use crate::lent::print_refusal;
+use crate::lent::widen;
 use plan::PlanAnswer;
 use plan::Report;
 use plan::check_plan;
 use plan::check_plan_block;
 use refusal::Checked;
 use test_tools::Words;
-use test_tools::copy_bytes;
-use test_tools::copy_numbers;
+use test_tools::bytes;
 use test_tools::first_bytes;
 use test_tools::first_numbers;
-use test_tools::labelled;
-use test_tools::labelled_small;
+use test_tools::numbers;
 use test_tools::plus;
+use test_tools::print_numbers;
 use test_tools::put;
-use test_tools::text;
+
+fn print_copies(copies: [u16; 64]) {
+    print_numbers(
+        b" copies # # #",
+        &[widen(copies[0]), widen(copies[1]), widen(copies[2])],
+    );
+}
 
 fn print_report(r: Report) {
-    labelled(b" profit ", r.profit);
-    labelled_small(b" copies ", r.copies[0]);
-    labelled_small(b" ", r.copies[1]);
-    labelled_small(b" ", r.copies[2]);
-    labelled(b" areas ", r.pieces);
-    labelled(b" ", r.waste);
-    labelled(b" ", r.trim);
+    print_numbers(b" profit #", &[r.profit]);
+    let copies = r.copies;
+    print_copies(copies);
+    print_numbers(b" areas # # #;", &[r.pieces, r.waste, r.trim]);
 }
 
 fn print_answer(a: PlanAnswer) {
@@ -36,18 +39,14 @@ fn print_answer(a: PlanAnswer) {
     let report = a.report;
     match verdict {
         Checked::Passed => print_report(report),
-        Checked::Refused(r) => print_refusal(r),
+        Checked::Refused(r) => print_refusal(b" # at #;", r),
     }
-    text(b";");
 }
 
 pub fn run_arrays(t: &Words) {
-    let mut block = [0u8; 656];
-    let mut kinds = [0u8; 5000];
-    let mut operands = [0u16; 5000];
-    copy_bytes(t, JOB, &mut block);
-    copy_bytes(t, KINDS, &mut kinds);
-    copy_numbers(t, OPERANDS, &mut operands);
+    let block = bytes(t, JOB);
+    let kinds = bytes(t, KINDS);
+    let operands = numbers(t, OPERANDS);
     print_answer(check_plan(
         first_bytes(&block, count(t, JOB)),
         first_bytes(&kinds, count(t, KINDS)),
@@ -56,10 +55,8 @@ pub fn run_arrays(t: &Words) {
 }
 
 pub fn run_block(t: &Words) {
-    let mut block = [0u8; 656];
-    let mut plan = [0u8; 5000];
-    copy_bytes(t, JOB, &mut block);
-    copy_bytes(t, PLAN, &mut plan);
+    let block = bytes(t, JOB);
+    let plan = bytes(t, PLAN);
     print_answer(check_plan_block(
         first_bytes(&block, count(t, JOB)),
         first_bytes(&plan, count(t, PLAN)),

@@ -1,9 +1,7 @@
 // Where the words stand that a call runs on: how many there are, and then each. How a refusal is printed.
 use refusal::Refusal;
 use test_tools::Words;
-use test_tools::labelled;
-use test_tools::labelled_small;
-use test_tools::text;
+use test_tools::print_numbers;
 use test_tools::word;
 
 pub const JOB: usize = 9000;
@@ -31,12 +29,10 @@ pub fn count(t: &Words, from: usize) -> usize {
     word(t, from, 0)
 }
 
-pub fn print_refusal(r: Refusal) {
-    labelled_small(b" ", refusal::number(r));
-    labelled(b" at ", refusal::place(r));
+pub fn widen(n: u16) -> u64 {
+    n as u64
 }
 
-pub fn print_refused(r: Refusal) {
-    text(b" refused");
-    print_refusal(r);
+pub fn print_refusal(form: &[u8], r: Refusal) {
+    print_numbers(form, &[widen(refusal::number(r)), refusal::place(r)]);
 }

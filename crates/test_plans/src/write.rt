@@ -4,47 +4,49 @@ use crate::lent::KINDS;
 use crate::lent::OPERANDS;
 use crate::lent::WEIGHTS;
 use crate::lent::count;
-use crate::lent::print_refused;
+use crate::lent::print_refusal;
+use crate::lent::widen;
 use test_tools::Words;
 use test_tools::at_most;
-use test_tools::copy_bytes;
-use test_tools::copy_numbers;
+use test_tools::bytes;
 use test_tools::first_bytes;
-use test_tools::labelled;
-use test_tools::labelled_small;
+use test_tools::numbers;
+use test_tools::print_numbers;
 use test_tools::text;
 use writer::WriteAnswer;
 use writer::WriteReport;
 use writer::write_plan;
 
 fn print_report(r: WriteReport) {
-    labelled(b" bound ", r.bound);
-    labelled_small(b" capacity ", r.capacity);
-    labelled_small(b" lengths ", r.lengths);
-    labelled_small(b" widths ", r.widths);
-    labelled(b" nodes ", r.nodes);
+    print_numbers(
+        b" bound # capacity # lengths # widths # nodes #",
+        &[
+            r.bound,
+            widen(r.capacity),
+            widen(r.lengths),
+            widen(r.widths),
+            r.nodes,
+        ],
+    );
 }
 
 fn print_answer(a: WriteAnswer) {
     match a {
         WriteAnswer::Written(report) => print_report(report),
-        WriteAnswer::Refused(r) => print_refused(r),
+        WriteAnswer::Refused(r) => print_refusal(b" refused # at #", r),
     }
 }
 
-fn widen(b: u8) -> u16 {
-    b as u16
+fn print_entry(kind: u8, operand: u16) {
+    print_numbers(b" #.#", &[kind as u64, widen(operand)]);
 }
 
-fn print_kind(kinds: &[u8], i: usize) {
+// An entry of both arrays, where they have it.
+fn print_entry_at(kinds: &[u8], operands: &[u16], i: usize) {
     if i < kinds.len() {
-        labelled_small(b" ", widen(kinds[i]));
-    }
-}
-
-fn print_operand(operands: &[u16], i: usize) {
-    if i < operands.len() {
-        labelled_small(b".", operands[i]);
+        if i < operands.len() {
+            print_entry(kinds[i], operands[i]);
+        }
     }
 }
 
@@ -52,8 +54,7 @@ fn print_operand(operands: &[u16], i: usize) {
 fn print_entries(kinds: &[u8; 5000], operands: &[u16; 5000]) {
     text(b":");
     for i in 0..7 {
-        print_kind(kinds, i);
-        print_operand(operands, i);
+        print_entry_at(kinds, operands, i);
     }
 }
 
@@ -74,10 +75,8 @@ fn write(block: &[u8], weights: &[u8], kinds: &mut [u8], operands: &mut [u16]) {
 }
 
 fn write_into(t: &Words, kinds: &mut [u8], operands: &mut [u16]) {
-    let mut block = [0u8; 656];
-    let mut weights = [0u8; 65];
-    copy_bytes(t, JOB, &mut block);
-    copy_bytes(t, WEIGHTS, &mut weights);
+    let block = bytes(t, JOB);
+    let weights = bytes(t, WEIGHTS);
     write(
         first_bytes(&block, count(t, JOB)),
         first_bytes(&weights, count(t, WEIGHTS)),
@@ -87,10 +86,8 @@ fn write_into(t: &Words, kinds: &mut [u8], operands: &mut [u16]) {
 }
 
 pub fn run_write(t: &Words) {
-    let mut kinds = [0u8; 5000];
-    let mut operands = [0u16; 5000];
-    copy_bytes(t, KINDS, &mut kinds);
-    copy_numbers(t, OPERANDS, &mut operands);
+    let mut kinds = bytes(t, KINDS);
+    let mut operands = numbers(t, OPERANDS);
     let m = at_most(t, KINDS, 5000);
     let n = at_most(t, OPERANDS, 5000);
     write_into(t, &mut kinds[..m], &mut operands[..n]);

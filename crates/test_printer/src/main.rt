@@ -2,7 +2,7 @@
 // `Input`, runs the printer on what follows the script in standard input, read as the bound printer reads it: more than 711 bytes, of which
 // only the first 711 count.
 use test_tools::Words;
-use test_tools::copy_bytes;
+use test_tools::bytes;
 use test_tools::first_bytes;
 use test_tools::next_command;
 use test_tools::row_to;
@@ -13,9 +13,8 @@ const INPUT: usize = 9000;
 const COMMANDS: usize = 100;
 
 fn print_row(t: &mut Words) {
-    let mut input = [0u8; 5000];
     row_to(t, INPUT);
-    copy_bytes(t, INPUT, &mut input);
+    let input = bytes(t, INPUT);
     printer::print_plan(first_bytes(&input, word(t, INPUT, 0)));
 }
 

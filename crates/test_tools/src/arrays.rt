@@ -3,6 +3,8 @@ use crate::words::Words;
 use crate::words::plus;
 use crate::words::smaller;
 use crate::words::word;
+ghost use mathlib.Core.Path.{_≡_};
+ghost use lib.ListN.{length};
 
 fn put_byte(bytes: &mut [u8], i: usize, x: usize) {
     if i < bytes.len() {
@@ -10,7 +12,7 @@ fn put_byte(bytes: &mut [u8], i: usize, x: usize) {
     }
 }
 
-pub fn copy_bytes(t: &Words, from: usize, bytes: &mut [u8]) {
+fn copy_bytes(t: &Words, from: usize, bytes: &mut [u8]) {
     for i in 0..bytes.len() {
         put_byte(bytes, i, word(t, from, plus(i, 1)));
     }
@@ -22,10 +24,26 @@ pub fn put_number(numbers: &mut [u16], i: usize, x: usize) {
     }
 }
 
-pub fn copy_numbers(t: &Words, from: usize, numbers: &mut [u16]) {
+fn copy_numbers(t: &Words, from: usize, numbers: &mut [u16]) {
     for i in 0..numbers.len() {
         put_number(numbers, i, word(t, from, plus(i, 1)));
     }
+}
+
+pub fn bytes(t: &Words, from: usize) -> [u8; 5000]
+    ensures { λ r. ⌜ 5000 ≡ length r ⌝ }
+{
+    let mut a = [0u8; 5000];
+    copy_bytes(t, from, &mut a);
+    a
+}
+
+pub fn numbers(t: &Words, from: usize) -> [u16; 5000]
+    ensures { λ r. ⌜ 5000 ≡ length r ⌝ }
+{
+    let mut a = [0u16; 5000];
+    copy_numbers(t, from, &mut a);
+    a
 }
 
 // The first n bytes, or all where there are fewer.

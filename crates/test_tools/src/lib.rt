@@ -1,23 +1,22 @@
 // What the test programs share: one array of words that holds all that a program remembers, scripts of commands and numbers, arrays and
-// memory to lend whose old contents are known, and printing. Contracts say only that nothing here reads or writes out of range, and that it ends:
-// what the programs print is compared.
+// memory to lend whose old contents are known, and printing. Contracts say only that nothing here reads or writes out of range, and that
+// it ends: what the programs print is compared.
 mod arrays;
 mod memory;
 mod print;
 mod script;
 mod words;
 
-pub use arrays::copy_bytes;
-pub use arrays::copy_numbers;
+pub use arrays::bytes;
 pub use arrays::first_bytes;
 pub use arrays::first_numbers;
+pub use arrays::numbers;
 pub use memory::different_entries;
 pub use memory::different_words;
-pub use memory::fill_list;
-pub use memory::fill_table;
-pub use print::labelled;
-pub use print::labelled_small;
-pub use print::labelled_word;
+pub use memory::marked_list;
+pub use memory::marked_table;
+pub use print::print_numbers;
+pub use print::print_words;
 pub use print::text;
 pub use script::ROW;
 pub use script::next_command;
@@ -25,6 +24,7 @@ pub use script::row_to;
 pub use words::Words;
 pub use words::add;
 pub use words::at_most;
+pub use words::copy;
 pub use words::larger;
 pub use words::minus;
 pub use words::plus;

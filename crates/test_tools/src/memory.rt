@@ -3,6 +3,8 @@ use crate::arrays::put_number;
 use crate::words::Words;
 use crate::words::plus;
 use crate::words::word;
+ghost use mathlib.Core.Path.{_≡_};
+ghost use lib.ListN.{length};
 
 // What an entry of a list holds before the call: no position is so large.
 fn old_entry(i: usize) -> usize {
@@ -14,7 +16,7 @@ fn old_word(i: usize) -> u64 {
     std::num::wrapping_add_u64(9223372036854775808, i as u64)
 }
 
-pub fn fill_list(list: &mut [u16]) {
+fn fill_list(list: &mut [u16]) {
     for i in 0..list.len() {
         put_number(list, i, old_entry(i));
     }
@@ -26,10 +28,26 @@ fn put_figure(table: &mut [u64], i: usize, x: u64) {
     }
 }
 
-pub fn fill_table(table: &mut [u64]) {
+fn fill_table(table: &mut [u64]) {
     for i in 0..table.len() {
         put_figure(table, i, old_word(i));
     }
+}
+
+pub fn marked_list() -> [u16; 1008]
+    ensures { λ r. ⌜ 1008 ≡ length r ⌝ }
+{
+    let mut list = [0u16; 1008];
+    fill_list(&mut list);
+    list
+}
+
+pub fn marked_table() -> [u64; 36872]
+    ensures { λ r. ⌜ 36872 ≡ length r ⌝ }
+{
+    let mut table = [0u64; 36872];
+    fill_table(&mut table);
+    table
 }
 
 fn widen(x: u16) -> usize {

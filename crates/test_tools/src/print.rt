@@ -1,5 +1,6 @@
 // Printing on standard output.
 use crate::words::Words;
+use crate::words::plus;
 use crate::words::word;
 use libc::STDOUT_FILENO;
 
@@ -12,16 +13,45 @@ pub fn print_byte(b: u8) {
     text(&one);
 }
 
-// A label and a number.
-pub fn labelled(label: &[u8], x: u64) {
-    text(label);
+fn print_number(x: u64) {
     io::print_decimal(STDOUT_FILENO, x);
 }
 
-pub fn labelled_small(label: &[u8], x: u16) {
-    labelled(label, x as u64);
+fn number_at(numbers: &[u64], i: usize) -> u64 {
+    if i < numbers.len() { numbers[i] } else { 0 }
 }
 
-pub fn labelled_word(label: &[u8], t: &Words, at: usize) {
-    labelled(label, word(t, at, 0) as u64);
+// Prints a byte, or the k-th number in place of #, and answers which number is next.
+fn print_part(b: u8, numbers: &[u64], k: usize) -> usize {
+    if b == b'#' {
+        print_number(number_at(numbers, k));
+        return plus(k, 1);
+    }
+    print_byte(b);
+    k
+}
+
+// Prints a form with numbers, in turn, in the places of #.
+pub fn print_numbers(form: &[u8], numbers: &[u64]) {
+    let mut k: usize = 0;
+    for i in 0..form.len() {
+        k = print_part(form[i], numbers, k);
+    }
+}
+
+fn print_word_part(b: u8, t: &Words, k: usize) -> usize {
+    if b == b'#' {
+        print_number(word(t, k, 0) as u64);
+        return plus(k, 1);
+    }
+    print_byte(b);
+    k
+}
+
+// Prints a form with words, from a place on, in the places of #.
+pub fn print_words(form: &[u8], t: &Words, from: usize) {
+    let mut k = from;
+    for i in 0..form.len() {
+        k = print_word_part(form[i], t, k);
+    }
 }

@@ -3,11 +3,11 @@
 use crate::print::print_byte;
 use crate::print::text;
 use crate::words::Words;
+use crate::words::copy;
 use crate::words::minus;
 use crate::words::plus;
 use crate::words::put;
 use crate::words::times;
-use crate::words::word;
 
 // How many numbers the command has, and where they begin.
 const COUNT: usize = 15;
@@ -162,8 +162,6 @@ pub fn next_command(t: &mut Words) -> u8 {
 
 // Copies the numbers of the command: how many there are, and then each.
 pub fn row_to(t: &mut Words, to: usize) {
-    for i in 0..plus(t[COUNT], 1) {
-        let x = word(t, COUNT, i);
-        put(t, to, i, x);
-    }
+    let n = plus(t[COUNT], 1);
+    copy(t, to, COUNT, n);
 }

@@ -66,6 +66,12 @@ pub fn at_most(t: &Words, at: usize, most: usize) -> usize
 
 // Adds a number to a word.
 pub fn add(t: &mut Words, at: usize, x: usize) {
-    let sum = plus(word(t, at, 0), x);
-    put(t, at, 0, sum);
+    put(t, at, 0, plus(word(t, at, 0), x));
+}
+
+// Copies n words.
+pub fn copy(t: &mut Words, to: usize, from: usize, n: usize) {
+    for i in 0..n {
+        put(t, to, i, word(t, from, i));
+    }
 }

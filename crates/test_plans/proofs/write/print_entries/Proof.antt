@@ -17,5 +17,4 @@ print-entries-spec =
     (search needs)
     (search needs)
     (search needs)
-    (search needs)
     (search needs))

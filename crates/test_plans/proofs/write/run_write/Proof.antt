@@ -14,8 +14,6 @@ run-write-spec =
     (search needs)
     (search needs)
     (search needs)
-    (search needs)
-    (search needs)
     (λ c. simp length-take (omega arith))
     (search needs)
     (λ c. simp length-take (omega arith))
