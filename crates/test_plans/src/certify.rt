@@ -10,6 +10,7 @@ use crate::lent::count;
 use crate::lent::print_refusal;
 use certificate::Certificate;
 use certificate::certify;
+use refusal::Refusal;
 use test_tools::Words;
 use test_tools::at_most;
 use test_tools::bytes;
@@ -22,11 +23,23 @@ use test_tools::marked_table;
 use test_tools::numbers;
 use test_tools::print_numbers;
 
+fn print_best(profit: u64) {
+    print_numbers(b" best #", &[profit]);
+}
+
+fn print_gap(profit: u64, gap: u64) {
+    print_numbers(b" profit # gap #", &[profit, gap]);
+}
+
+fn print_refused(r: Refusal) {
+    print_refusal(b" refused # at #", r);
+}
+
 fn print_certificate(c: Certificate) {
     match c {
-        Certificate::Best(profit) => print_numbers(b" best #", &[profit]),
-        Certificate::Gap(profit, gap) => print_numbers(b" profit # gap #", &[profit, gap]),
-        Certificate::Refused(r) => print_refusal(b" refused # at #", r),
+        Certificate::Best(profit) => print_best(profit),
+        Certificate::Gap(profit, gap) => print_gap(profit, gap),
+        Certificate::Refused(r) => print_refused(r),
     }
 }
 
