@@ -70,4 +70,5 @@ combine-spec =
     loop-again
     same-length
     returns)
+
 -- x

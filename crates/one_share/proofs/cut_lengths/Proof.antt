@@ -130,4 +130,5 @@ cut-lengths-spec =
     loop-again
     same-length
     returns)
+
 -- x

@@ -90,4 +90,5 @@ fill-spec =
     loop-again
     same-length
     returns)
+
 -- x

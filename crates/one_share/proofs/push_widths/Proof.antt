@@ -116,4 +116,5 @@ push-widths-spec =
     same-length
     same-length-2
     returns)
+
 -- x
