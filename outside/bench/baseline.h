@@ -35,7 +35,7 @@ typedef struct {
 } Plate;
 
 void read_plate(Plate *plate, const uint8_t *job, const uint8_t *weights);
-void fill_one_share(const Plate *plate, uint64_t *table);
+void fill_row_fill(const Plate *plate, uint64_t *table);
 void fill_states(const Plate *plate, uint64_t *table);
 size_t write_nodes(const Plate *plate, const uint64_t *table, uint8_t *kinds, uint16_t *operands);
 

@@ -63,7 +63,7 @@ static void fill(const uint8_t *job, const uint8_t *weights, Plate *plate,
     memcpy(lengths, plate->on[LENGTH].at, (size_t)p * sizeof *lengths);
     memcpy(widths, plate->on[WIDTH].at, (size_t)r * sizeof *widths);
     if (capacity == 0)
-        fill_one_share(plate, table);
+        fill_row_fill(plate, table);
     else
         fill_states(plate, table);
     answer[0] = table[(size_t)p * r * (capacity + 1) - 1];

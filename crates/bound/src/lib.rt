@@ -92,7 +92,7 @@ fn fill_table<'a>(
             length_count: size.rows,
             columns: size.columns,
         };
-        one_share::fill(
+        row_fill::fill(
             extents,
             kind_lengths,
             kind_widths,

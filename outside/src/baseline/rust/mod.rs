@@ -1,6 +1,6 @@
 // The baseline in Rust: the tabled algorithm as fast as we know how to write it.
 // Jobs are taken as accepted and storage as large enough.
-mod one_share;
+mod row_fill;
 mod plate;
 mod state_fill;
 mod writer;
@@ -26,7 +26,7 @@ fn fill(plate: &Plate, storage: Storage) -> Bound {
     storage.widths[..r].copy_from_slice(widths);
     let table = &mut storage.table[..p * r * (plate.capacity + 1)];
     if plate.capacity == 0 {
-        one_share::fill(plate, table);
+        row_fill::fill(plate, table);
     } else {
         state_fill::fill(plate, table);
     }

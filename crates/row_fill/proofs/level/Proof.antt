@@ -1,0 +1,55 @@
+-- `row_fill::level` meets its contract. The loop's invariant: the units passed are v, every other unit is as it was.
+use borrow.Author.Needs.{needs}
+use native.Mathlib.Omega.{arith}
+use mathlib.Core.Path.{_≡_, refl}
+use Prim.Native.Nat.{_-_, _≤_}
+use lib.ListN.{length, length-set}
+use Rattle.table.specs.Words.{Run}
+use Rattle.row_fill.proofs.Raising.{level-none, level-more}
+use Rattle.row_fill.proofs.level.Statement.{statement}
+use Rattle.row_fill.proofs.level.Tie as tie
+
+abbrev Inv-loop : tie.InvT-loop
+Inv-loop unit₀ from x v y₀ unit y = (from ≤ y) × (y ≤ x) × (length unit ≡ length unit₀) × Run (λ j. v) from (y - from) unit₀ unit
+
+abbrev μ-loop : tie.MeasureT-loop
+μ-loop unit₀ from x v y₀ unit y = x - y
+
+loop-holds : tie.Need-loop-holds Inv-loop μ-loop
+loop-holds c = (omega arith, search needs, refl, level-none _ _ _)
+
+mul-unit : tie.Need-mul-unit Inv-loop μ-loop
+mul-unit c = search needs
+
+slice-write-unit : tie.Need-slice-write-unit Inv-loop μ-loop
+slice-write-unit c = search needs
+
+add-y : tie.Need-add-y Inv-loop μ-loop
+add-y c = search needs
+
+loop-less : tie.Need-loop-less Inv-loop μ-loop
+loop-less c = search needs
+
+loop-again : tie.Need-loop-again Inv-loop μ-loop
+loop-again c = (omega arith, omega arith, simp length-set (c .before .loop .inv .2), level-more (c .before .before .args .from) (c .before .loop .y) (c .before .before .args .v) _ _ (c .before .loop .inv .0) (omega arith) (c .before .loop .inv .3))
+
+same-length : tie.Need-same-length Inv-loop μ-loop
+same-length c = c .before .loop .inv .2
+
+returns : tie.Need-returns Inv-loop μ-loop
+returns c = let e : c .before .loop .y ≡ c .before .before .args .x = omega arith in rw e at (c .before .loop .inv .3)
+
+pub level-spec : {M : Type 1} → statement M
+level-spec =
+    tie.close
+    (tie.spec
+    Inv-loop
+    μ-loop
+    loop-holds
+    mul-unit
+    slice-write-unit
+    add-y
+    loop-less
+    loop-again
+    same-length
+    returns)

@@ -1,0 +1,281 @@
+// The table of figures where the capacity is 0: a cell is one word.
+// A row starts as the row before and takes its length cuts as sums of two earlier rows. Its words are then laid out over the units of
+// the width, where the kinds of exactly its length are placed and each cell that rises over the one before pushes its width cuts.
+use table::Extents;
+use table::clear;
+use table::copy;
+use table::entry;
+use table::greater;
+use table::greater_lifted;
+use table::half;
+ghost use mathlib.Core.Path.{_≡_};
+ghost use Prim.Native.Nat.{ℕ, _+_, _-_, _≤_, _<_, min};
+ghost use lib.ListN.{length};
+ghost use Rattle.table.specs.Table.{words-needed, Figures, Kept};
+ghost use Rattle.table.specs.Contracts.{kinds-job};
+ghost use Rattle.table.specs.Words.{Run};
+ghost use Rattle.row_fill.specs.Fill.{FillLent};
+ghost use Rattle.row_fill.specs.Raised.{Raised, Sums, Kind, Kinds, each, Pushed, CellPush};
+ghost use Rattle.row_fill.specs.Rows.{Entries, Spread, LengthsTaken, Widened, WidthsTaken};
+ghost use Rattle.row_fill.specs.Ready.{Capped, SumsReady, LengthsReady, KindsReady, PushReady, CellReady, WidthsReady, RowReady};
+
+// A row over the units of its width: its first word and its number of cells, its length, the plate's width and the number of kinds.
+struct Row {
+    start: usize,
+    columns: usize,
+    length: u16,
+    width: u16,
+    count: u16,
+}
+
+fn smaller(a: usize, b: usize) -> usize
+    ensures { λ r. ⌜ r ≡ min a b ⌝ }
+{
+    if a < b { a } else { b }
+}
+
+// Each word of a row becomes the sum of its fellows in two earlier rows where that is more.
+fn combine(table: &mut [u64], target: usize, first: usize, second: usize, columns: usize)
+    requires { ⌜ SumsReady (now table) target first second columns ⌝ }
+    ensures { λ _. ⌜ Raised (Sums (now (table .entry)) target first second columns) (now (table .entry)) (now (table .exit)) ⌝ }
+{
+    for j in 0..columns {
+        table[target + j] = greater(table[target + j], table[first + j] + table[second + j]);
+    }
+}
+
+// Row a starts as the row before it and takes its cuts up to the half whose parts make up the whole.
+fn cut_lengths(
+    table: &mut [u64],
+    normal_lengths: &[u16],
+    length_floors: &[u16],
+    a: usize,
+    half_end: usize,
+    start: usize,
+    columns: usize,
+)
+    requires { ⌜ LengthsReady (now «normal_lengths») (now «length_floors») a «half_end» start columns (now table) ⌝ }
+    ensures { λ _. ⌜ LengthsTaken (now («normal_lengths» .entry)) (now («length_floors» .entry)) a «half_end» start columns (now (table .entry)) (now (table .exit)) ⌝ }
+{
+    copy(table, start - columns, start, columns);
+    let whole = entry(normal_lengths, a);
+    let mut first = columns;
+    for i in 1..half_end {
+        let left = whole - entry(normal_lengths, i);
+        let rest = entry(length_floors, left);
+        if entry(normal_lengths, rest) == left {
+            combine(table, start, first, rest * columns, columns);
+        }
+        first = first + columns;
+    }
+}
+
+// The row's words, each at the unit of its width.
+fn spread(
+    unit: &mut [u64],
+    table: &[u64],
+    start: usize,
+    normal_widths: &[u16],
+    columns: usize,
+    side: usize,
+)
+    requires { ⌜ Entries (now «normal_widths») columns side × (side < length (now unit)) × (start + columns ≤ length (now table)) ⌝ }
+    ensures { λ _. ⌜ Spread (now («normal_widths» .entry)) start columns (now (table .entry)) (now (unit .entry)) (now (unit .exit)) ⌝ }
+{
+    for b in 0..columns {
+        unit[entry(normal_widths, b)] = table[start + b];
+    }
+}
+
+// A kind of length l and no weight that fits in width w, at the unit of its width.
+fn place_kind(
+    unit: &mut [u64],
+    l: u16,
+    w: u16,
+    kind_length: u16,
+    kind_width: u16,
+    weight: u8,
+    price: u64,
+)
+    requires { ⌜ w < length (now unit) ⌝ }
+    ensures { λ _. ⌜ Raised (Kind l w «kind_length» «kind_width» weight price) (now (unit .entry)) (now (unit .exit)) ⌝ }
+{
+    if kind_length != l {
+        return;
+    }
+    if w < kind_width {
+        return;
+    }
+    if weight != 0 {
+        return;
+    }
+    let x = kind_width as usize;
+    if unit[x] < price {
+        unit[x] = price;
+    }
+}
+
+// All kinds of the row's length and no weight.
+fn place_kinds(
+    unit: &mut [u64],
+    kind_lengths: &[u16; 64],
+    kind_widths: &[u16; 64],
+    prices: &[u32; 64],
+    weights: &[u8],
+    row: Row,
+)
+    requires { ⌜ KindsReady (each (now «kind_widths»)) (each (now prices)) (now weights) (row .count) (row .width) (now unit) ⌝ }
+    ensures { λ _. ⌜ Raised (Kinds (row .length) (row .width) (each (now («kind_lengths» .entry))) (each (now («kind_widths» .entry))) (each (now (weights .entry))) (each (now (prices .entry))) (row .count))
+        (now (unit .entry)) (now (unit .exit)) ⌝ }
+{
+    for i in 0..row.count as usize {
+        let price = prices[i] as u64;
+        place_kind(
+            unit,
+            row.length,
+            row.width,
+            kind_lengths[i],
+            kind_widths[i],
+            weights[i],
+            price,
+        );
+    }
+}
+
+// The units from `from` to x less 1, between two entries, become v.
+fn level(unit: &mut [u64], from: usize, x: usize, v: u64)
+    requires { ⌜ (from ≤ x) × (x ≤ length (now unit)) ⌝ }
+    ensures { λ _. ⌜ Run (λ j. v) from (x - from) (now (unit .entry)) (now (unit .exit)) ⌝ }
+{
+    for y in from..x {
+        unit[y] = v;
+    }
+}
+
+// The units past x become v together with those from `least` to `end` less 1 where that is more.
+fn push(unit: &mut [u64], x: usize, least: usize, end: usize, v: u64)
+    requires { ⌜ PushReady x least end v (now unit) ⌝ }
+    ensures { λ _. ⌜ Raised (Pushed (now (unit .entry)) x least end v) (now (unit .entry)) (now (unit .exit)) ⌝ }
+{
+    let lifted = v + 9223372036854775808;
+    for j in least..end {
+        unit[x + j] = greater_lifted(unit[x + j], lifted + unit[j]);
+    }
+}
+
+// The cell of width x: what the cell before has if it does not rise over that, else its width cuts as the larger part.
+fn push_cell(unit: &mut [u64], x: usize, least: usize, side: usize, before: u64)
+    requires { ⌜ CellReady x least side (now unit) ⌝ }
+    ensures { λ _. ⌜ Raised (CellPush (now (unit .entry)) x least side before) (now (unit .entry)) (now (unit .exit)) ⌝ }
+{
+    let v = unit[x];
+    if v <= before {
+        unit[x] = before;
+        return;
+    }
+    push(unit, x, least, smaller(x, side - x) + 1, v);
+}
+
+// The cells of a row take their width cuts, from the units of their widths.
+fn push_widths(
+    table: &mut [u64],
+    unit: &mut [u64],
+    start: usize,
+    normal_widths: &[u16],
+    columns: usize,
+    side: usize,
+)
+    requires { ⌜ WidthsReady (now «normal_widths») columns side start (now unit) (now table) ⌝ }
+    ensures { λ _. ⌜ Widened (now («normal_widths» .entry)) columns start (now (unit .entry)) (now (table .entry)) (now (table .exit)) × Capped (now (unit .exit)) ⌝ }
+{
+    for b in 1..columns {
+        let x = entry(normal_widths, b);
+        let before = table[start + (b - 1)];
+        level(unit, entry(normal_widths, b - 1) + 1, x, before);
+        push_cell(unit, x, entry(normal_widths, 1), side, before);
+        table[start + b] = unit[x];
+    }
+}
+
+// A row that has its length cuts takes its kinds and its width cuts. What its units held before does not matter.
+fn fill_row(
+    table: &mut [u64],
+    unit: &mut [u64],
+    kind_lengths: &[u16; 64],
+    kind_widths: &[u16; 64],
+    prices: &[u32; 64],
+    weights: &[u8],
+    normal_widths: &[u16],
+    row: Row,
+)
+    requires { ⌜ RowReady (each (now «kind_widths»)) (each (now prices)) (now weights) (row .count) (now «normal_widths») (row .columns) (row .width) (row .start) (now unit) (now table) ⌝ }
+    ensures { λ _. ⌜ WidthsTaken (Kinds (row .length) (row .width) (each (now («kind_lengths» .entry))) (each (now («kind_widths» .entry))) (each (now (weights .entry))) (each (now (prices .entry))) (row .count))
+        (now («normal_widths» .entry)) (row .columns) (row .start) (now (table .entry)) (now (table .exit)) × Capped (now (unit .exit)) ⌝ }
+{
+    let side = row.width as usize;
+    spread(
+        unit,
+        &table[..],
+        row.start,
+        normal_widths,
+        row.columns,
+        side,
+    );
+    place_kinds(unit, kind_lengths, kind_widths, prices, weights, row);
+    push_widths(table, unit, row.start, normal_widths, row.columns, side);
+}
+
+// The table of a job with one share a cell: its words are the figures, and the rest is as it was. The row of length 0 holds 0.
+pub fn fill(
+    extents: Extents,
+    kind_lengths: &[u16; 64],
+    kind_widths: &[u16; 64],
+    prices: &[u32; 64],
+    weights: &[u8],
+    normal_lengths: &[u16],
+    length_floors: &[u16],
+    normal_widths: &[u16],
+    table: &mut [u64],
+)
+    requires { ⌜ FillLent (kinds-job (extents .length) (extents .width) (extents .count) (now «kind_lengths») (now «kind_widths») (now prices)) (now weights)
+        (extents .«length_count») (now «normal_lengths») (now «length_floors») (extents .columns) (now «normal_widths») (now table) ⌝ }
+    ensures { λ _. ⌜ Figures (kinds-job (extents .length) (extents .width) (extents .count) (now («kind_lengths» .entry)) (now («kind_widths» .entry)) (now (prices .entry))) (each (now (weights .entry))) 0 (now (table .exit))
+        × Kept (words-needed (kinds-job (extents .length) (extents .width) (extents .count) (now («kind_lengths» .entry)) (now («kind_widths» .entry)) (now (prices .entry))) 0) (now (table .entry)) (now (table .exit)) ⌝ }
+{
+    let columns = extents.columns as usize;
+    let rows = extents.length_count as usize;
+    let mut unit = [0u64; 1001];
+    clear(table, 0, columns);
+    let mut start = columns;
+    let mut half_end: usize = 1;
+    for a in 1..rows {
+        half_end = half(normal_lengths, half_end, a);
+        cut_lengths(
+            table,
+            normal_lengths,
+            length_floors,
+            a,
+            half_end,
+            start,
+            columns,
+        );
+        let row = Row {
+            start: start,
+            columns: columns,
+            length: normal_lengths[a],
+            width: extents.width,
+            count: extents.count,
+        };
+        fill_row(
+            table,
+            &mut unit,
+            kind_lengths,
+            kind_widths,
+            prices,
+            weights,
+            normal_widths,
+            row,
+        );
+        start = start + columns;
+    }
+}
