@@ -27,7 +27,7 @@ or-false false b e = (refl, e)
 
 -- a report of the four figures
 pub report-is : {b b′ q q′ p p′ r r′ : ℕ} → b ≡ b′ → q ≡ q′ → p ≡ p′ → r ≡ r′
-    → _≡_ {A = BoundReport} (record { bound = b; capacity = q; lengths = p; widths = r }) (record { bound = b′; capacity = q′; lengths = p′; widths = r′ })
+    → _≡_ {A = BoundReport} (record { bound = b; capacity = q; «length_count» = p; columns = r }) (record { bound = b′; capacity = q′; «length_count» = p′; columns = r′ })
 report-is a b c d = cc
 
 -- lists that are long enough

@@ -35,7 +35,7 @@ storage-checks J q m n k = list-check J m n ∷ table-check J q k ∷ []
 
 -- what the bound call reports of a job and weights: the bound, Q, p and r
 abbrev pub report-of : Job → (ℕ → ℕ) → BoundReport
-report-of J weight = record { bound = bound-of J weight; capacity = capacity J weight; lengths = position-count J Length; widths = position-count J Width }
+report-of J weight = record { bound = bound-of J weight; capacity = capacity J weight; «length_count» = position-count J Length; columns = position-count J Width }
 
 -- the report, or the refusal
 abbrev pub answer-by : Checked → BoundReport → BoundAnswer
@@ -83,7 +83,7 @@ bound-answer s ws m = answer-by (bound-verdict s ws m) (report-of (block-job s) 
 
 -- a report's values: the bound, Q, p and r
 abbrev pub report-values : BoundReport → List ℕ
-report-values b = b .bound ∷ b .capacity ∷ b .lengths ∷ b .widths ∷ []
+report-values b = b .bound ∷ b .capacity ∷ b .«length_count» ∷ b .columns ∷ []
 
 -- an answer's number and values
 abbrev pub bound-outcome : BoundAnswer → Outcome

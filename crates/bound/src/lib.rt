@@ -22,8 +22,8 @@ ghost use Rattle.bound.specs.Contracts.{SidesMapped, size-job, Fillable,
 pub struct BoundReport {
     pub bound: u64,
     pub capacity: u16,
-    pub lengths: u16,
-    pub widths: u16,
+    pub length_count: u16,
+    pub columns: u16,
 }
 
 // What the bound call answers.
@@ -177,8 +177,8 @@ pub fn bound_of_job(
     BoundAnswer::Answered(BoundReport {
         bound: table[last],
         capacity: q,
-        lengths: p,
-        widths: r,
+        length_count: p,
+        columns: r,
     })
 }
 

@@ -50,15 +50,15 @@ fn put_four(a: u64, b: u64, c: u64, d: u64, answer: &mut [u64])
 }
 
 // A bound and three counts, into the first four words.
-fn put_bounds(bound: u64, capacity: u16, lengths: u16, widths: u16, answer: &mut [u64])
+fn put_bounds(bound: u64, capacity: u16, length_count: u16, columns: u16, answer: &mut [u64])
     requires { ⌜ 4 ≤ length (now answer) ⌝ }
-    ensures { λ _. ⌜ now (answer .exit) ≡ sets (now (answer .entry)) 0 (bound ∷ capacity ∷ lengths ∷ widths ∷ []) ⌝ }
+    ensures { λ _. ⌜ now (answer .exit) ≡ sets (now (answer .entry)) 0 (bound ∷ capacity ∷ «length_count» ∷ columns ∷ []) ⌝ }
 {
     put_four(
         bound,
         capacity as u64,
-        lengths as u64,
-        widths as u64,
+        length_count as u64,
+        columns as u64,
         answer,
     );
 }
@@ -71,7 +71,7 @@ pub fn put_bound(a: BoundAnswer, answer: &mut [u64]) -> u32
     match a {
         BoundAnswer::Refused(r) => refuse(r, answer),
         BoundAnswer::Answered(b) => {
-            put_bounds(b.bound, b.capacity, b.lengths, b.widths, answer);
+            put_bounds(b.bound, b.capacity, b.length_count, b.columns, answer);
             0
         }
     }
@@ -82,7 +82,7 @@ fn put_written(b: WriteReport, answer: &mut [u64])
     requires { ⌜ 5 ≤ length (now answer) ⌝ }
     ensures { λ _. ⌜ now (answer .exit) ≡ sets (now (answer .entry)) 0 (write-values b) ⌝ }
 {
-    put_bounds(b.bound, b.capacity, b.lengths, b.widths, answer);
+    put_bounds(b.bound, b.capacity, b.length_count, b.columns, answer);
     answer[4] = b.nodes;
 }
 

@@ -52,8 +52,8 @@ fn note_report(t: &mut Words, r: BoundReport) {
     put(t, ANSWER, 0, 0);
     put(t, ANSWER, 1, r.bound as usize);
     put(t, ANSWER, 2, widen(r.capacity));
-    put(t, ANSWER, 3, widen(r.lengths));
-    put(t, ANSWER, 4, widen(r.widths));
+    put(t, ANSWER, 3, widen(r.length_count));
+    put(t, ANSWER, 4, widen(r.columns));
 }
 
 fn note_answer(t: &mut Words, answer: BoundAnswer) {

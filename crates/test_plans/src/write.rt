@@ -23,8 +23,8 @@ fn print_report(r: WriteReport) {
         &[
             r.bound,
             widen(r.capacity),
-            widen(r.lengths),
-            widen(r.widths),
+            widen(r.length_count),
+            widen(r.columns),
             r.nodes,
         ],
     );

@@ -64,11 +64,11 @@ pub record Copyable (n : ℕ) (listed-kinds listed-operands kinds operands : Lis
 
 -- the dimensions of the table that a report is of
 abbrev pub table-of : BoundReport → Dimensions
-table-of report = record { columns = report .widths; capacity = report .capacity }
+table-of report = record { columns = report .columns; capacity = report .capacity }
 
 -- a bound's report with the number of the plan's nodes
 abbrev pub reported : BoundReport → ℕ → WriteReport
-reported b n = record { bound = b .bound; capacity = b .capacity; lengths = b .lengths; widths = b .widths; nodes = n }
+reported b n = record { bound = b .bound; capacity = b .capacity; «length_count» = b .«length_count»; columns = b .columns; nodes = n }
 
 -- the verdict of the checks that an accepted job is left to: 19, 20, then 21
 abbrev pub room-verdict : Job → (ℕ → ℕ) → Memory → List ℕ → List ℕ → Checked

@@ -31,8 +31,8 @@ abbrev pub write-report : Job → (ℕ → ℕ) → WriteReport
 write-report J weight = record {
   bound = bound-of J weight;
   capacity = capacity J weight;
-  lengths = position-count J Length;
-  widths = position-count J Width;
+  «length_count» = position-count J Length;
+  columns = position-count J Width;
   nodes = node-count (bound-plan J weight);
 }
 
@@ -42,7 +42,7 @@ write-answer-by v b = by-check v (answer.Written b) answer.Refused
 
 -- a report's values: the bound, Q, p, r and the node count
 abbrev pub write-values : WriteReport → List ℕ
-write-values b = b .bound ∷ b .capacity ∷ b .lengths ∷ b .widths ∷ b .nodes ∷ []
+write-values b = b .bound ∷ b .capacity ∷ b .«length_count» ∷ b .columns ∷ b .nodes ∷ []
 
 -- an answer's number and values
 abbrev pub write-outcome : WriteAnswer → Outcome

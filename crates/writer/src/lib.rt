@@ -27,8 +27,8 @@ ghost use Rattle.writer.specs.Write.{plan-verdict, block-plan, write-ans
 pub struct WriteReport {
     pub bound: u64,
     pub capacity: u16,
-    pub lengths: u16,
-    pub widths: u16,
+    pub length_count: u16,
+    pub columns: u16,
     pub nodes: u64,
 }
 
@@ -58,8 +58,8 @@ fn with_nodes(report: BoundReport, nodes: u64) -> WriteReport
     WriteReport {
         bound: report.bound,
         capacity: report.capacity,
-        lengths: report.lengths,
-        widths: report.widths,
+        length_count: report.length_count,
+        columns: report.columns,
         nodes: nodes,
     }
 }
@@ -81,7 +81,7 @@ fn plan_of_job(
         (now (kinds .entry)) (now (operands .entry)) (now (kinds .exit)) (now (operands .exit)) r ⌝ }
 {
     let g = Dimensions {
-        columns: report.widths,
+        columns: report.columns,
         capacity: report.capacity,
     };
     let mut own_kinds = [0u8; 4095];
