@@ -131,24 +131,38 @@ pub fn bound_of_job(
     job: JobRecord,
     weights: &[u8],
     q: u16,
-    lengths: &mut [u16],
-    widths: &mut [u16],
+    normal_lengths: &mut [u16],
+    normal_widths: &mut [u16],
     floors: &mut [u16],
     table: &mut [u64],
 ) -> BoundAnswer
     requires { ⌜ Weighed (job-of job) (now weights) q × (length (now floors) ≡ 2002) ⌝ }
     ensures { λ r. ⌜ Bounded (job-of job) (weight-in (now (weights .entry)))
-        (lent (now (lengths .entry)) (now (widths .entry)) (now (table .entry)))
-        (lent (now (lengths .exit)) (now (widths .exit)) (now (table .exit))) (now (floors .exit)) r ⌝ }
+        (lent (now («normal_lengths» .entry)) (now («normal_widths» .entry)) (now (table .entry)))
+        (lent (now («normal_lengths» .exit)) (now («normal_widths» .exit)) (now (table .exit))) (now (floors .exit)) r ⌝ }
 {
     let length = job.length;
     let width = job.width;
     let count = job.count;
-    if lists_short(lengths.len(), widths.len(), length, width) {
+    if lists_short(normal_lengths.len(), normal_widths.len(), length, width) {
         return BoundAnswer::Refused(Refusal::ListShort);
     }
-    let p = normal_positions(&job.lengths, &job.widths, count, length, width, lengths);
-    let r = normal_positions(&job.widths, &job.lengths, count, width, length, widths);
+    let p = normal_positions(
+        &job.lengths,
+        &job.widths,
+        count,
+        length,
+        width,
+        normal_lengths,
+    );
+    let r = normal_positions(
+        &job.widths,
+        &job.lengths,
+        count,
+        width,
+        length,
+        normal_widths,
+    );
     let needed = words(p, r, q);
     if (table.len() as u64) < needed {
         return BoundAnswer::Refused(Refusal::TableShort(needed));
@@ -161,15 +175,15 @@ pub fn bound_of_job(
         columns: r,
         capacity: q,
     };
-    map_sides(size, &lengths[..], &widths[..], floors);
+    map_sides(size, &normal_lengths[..], &normal_widths[..], floors);
     fill_table(
         size,
         &job.lengths,
         &job.widths,
         &job.prices,
         weights,
-        &lengths[..],
-        &widths[..],
+        &normal_lengths[..],
+        &normal_widths[..],
         &floors[..],
         table,
     );

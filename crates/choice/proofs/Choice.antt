@@ -99,15 +99,15 @@ or-none false r = r
 abbrev pair-of : List ℕ → ℕ → ℕ × ℕ → ℕ × (ℕ × ℕ)
 pair-of positions c u = (getD positions (u .0) 0, (u .1, c - u .1))
 
-searched : (lengths widths : List ℕ) (c : ℕ) (z : Bool) (o : Option ℕ) (i j : Option (ℕ × ℕ)) {p s : Option (ℕ × (ℕ × ℕ))} → p ≡ Option·map (pair-of lengths c) i → s ≡ Option·map (pair-of widths c) j
-    → chosen-of (or-zero z (or-piece o (or-length p (or-waste s)))) ≡ or-none z (or-kind (kind-found o) (or-length-cut (cut-found lengths i) (or-width-cut (cut-found widths j))))
-searched lengths widths c true o i j e f = refl
-searched lengths widths c false (some k) i j e f = refl
-searched lengths widths c false none (some u) j e f = rw e refl
-searched lengths widths c false none none (some v) e f = rw (e, f) refl
-searched lengths widths c false none none none e f = rw (e, f) refl
+searched : (normal-lengths normal-widths : List ℕ) (c : ℕ) (z : Bool) (o : Option ℕ) (i j : Option (ℕ × ℕ)) {p s : Option (ℕ × (ℕ × ℕ))} → p ≡ Option·map (pair-of normal-lengths c) i → s ≡ Option·map (pair-of normal-widths c) j
+    → chosen-of (or-zero z (or-piece o (or-length p (or-waste s)))) ≡ or-none z (or-kind (kind-found o) (or-length-cut (cut-found normal-lengths i) (or-width-cut (cut-found normal-widths j))))
+searched normal-lengths normal-widths c true o i j e f = refl
+searched normal-lengths normal-widths c false (some k) i j e f = refl
+searched normal-lengths normal-widths c false none (some u) j e f = rw e refl
+searched normal-lengths normal-widths c false none none (some v) e f = rw (e, f) refl
+searched normal-lengths normal-widths c false none none none e f = rw (e, f) refl
 
-module _ {J : Job} {weights : List ℕ} {columns q : ℕ} {lengths widths length-floors width-floors table : List ℕ} (t : Tabled J weights columns q lengths widths length-floors width-floors table)
+module _ {J : Job} {weights : List ℕ} {columns q : ℕ} {normal-lengths normal-widths length-floors width-floors table : List ℕ} (t : Tabled J weights columns q normal-lengths normal-widths length-floors width-floors table)
     (l w c : ℕ) (on-length : l ≤ J .plate .0) (on-width : w ≤ J .plate .1) (share : c ≤ q) where
   module _ (d : Direction) (positions floors : List ℕ) (listed : Listed J d positions) (mapped : Mapped J d floors) where
     on-side : side d (l, w) ≤ side d (J .plate)
@@ -159,7 +159,7 @@ pub waste-out : {f g : CutFound} → f ≡ found.Missing → g ≡ found.Missing
 waste-out e h = rw (e, h) refl
 
 -- the searches that the choice makes at a cell of a value
-module _ (J : Job) (weight : ℕ → ℕ) (g : Dimensions) (lengths widths floors table : List ℕ) (cell : Cell) (value : ℕ) where
+module _ (J : Job) (weight : ℕ → ℕ) (g : Dimensions) (normal-lengths normal-widths floors table : List ℕ) (cell : Cell) (value : ℕ) where
   -- the indexes of the tabled length and width
   abbrev pub row-of : ℕ
   row-of = getD floors (cell .sides .length) 0
@@ -171,29 +171,29 @@ module _ (J : Job) (weight : ℕ → ℕ) (g : Dimensions) (lengths widths floor
   kind-search = first (kind-test J weight cell value) (range 0 (J .count))
 
   abbrev pub length-search : Option (ℕ × ℕ)
-  length-search = first-index lengths floors table (cell .sides .length) row-of (g .columns * (g .capacity + 1)) (column-of * (g .capacity + 1)) (cell .share) value
+  length-search = first-index normal-lengths floors table (cell .sides .length) row-of (g .columns * (g .capacity + 1)) (column-of * (g .capacity + 1)) (cell .share) value
 
   abbrev pub width-search : Option (ℕ × ℕ)
-  width-search = first-index widths (drop 1001 floors) table (cell .sides .width) column-of (g .capacity + 1) (row-of * (g .columns * (g .capacity + 1))) (cell .share) value
+  width-search = first-index normal-widths (drop 1001 floors) table (cell .sides .width) column-of (g .capacity + 1) (row-of * (g .columns * (g .capacity + 1))) (cell .share) value
 
   -- a cut that they find, or waste
   abbrev pub cut-answer : Chosen
-  cut-answer = or-length-cut (cut-found lengths length-search) (or-width-cut (cut-found widths width-search))
+  cut-answer = or-length-cut (cut-found normal-lengths length-search) (or-width-cut (cut-found normal-widths width-search))
 
   -- their answer: waste where the value is 0, or the kind, or the length cut, or the width cut
   abbrev pub answer : Chosen
   answer = or-none (eqb value 0) (or-kind (kind-found kind-search) cut-answer)
 
 -- the answer is the choice
-module _ {J : Job} {weights : List ℕ} {g : Dimensions} {lengths widths floors table : List ℕ} (t : ChoiceInput J weights g lengths widths floors table) {cell : Cell} (at : Inside J g cell) where
-  answer-figure : answer J (weight-in weights) g lengths widths floors table cell (figure-of J (weight-in weights) (cell .sides .length) (cell .sides .width) (cell .share)) ≡ chosen-at J (weight-in weights) cell
+module _ {J : Job} {weights : List ℕ} {g : Dimensions} {normal-lengths normal-widths floors table : List ℕ} (t : ChoiceInput J weights g normal-lengths normal-widths floors table) {cell : Cell} (at : Inside J g cell) where
+  answer-figure : answer J (weight-in weights) g normal-lengths normal-widths floors table cell (figure-of J (weight-in weights) (cell .sides .length) (cell .sides .width) (cell .share)) ≡ chosen-at J (weight-in weights) cell
   unfolding plan-choice
   answer-figure =
       let v = figure-of J (weight-in weights) (cell .sides .length) (cell .sides .width) (cell .share) in
       let pairs-of : (d : Direction) (positions floors : List ℕ) → Listed J d positions → Mapped J d floors → _ = pair-index (t .tabled) (cell .sides .length) (cell .sides .width) (cell .share) (at .on-length) (at .on-width) (at .in-capacity) in
-      sym (searched lengths widths (cell .share) (eqb v 0) (kind-search J (weight-in weights) g lengths widths floors table cell v) (length-search J (weight-in weights) g lengths widths floors table cell v)
-      (width-search J (weight-in weights) g lengths widths floors table cell v)
-      (pairs-of Length lengths floors (t .tabled .lengths-are) (t .tabled .lengths-floored)) (pairs-of Width widths (drop 1001 floors) (t .tabled .widths-are) (t .tabled .widths-floored)))
+      sym (searched normal-lengths normal-widths (cell .share) (eqb v 0) (kind-search J (weight-in weights) g normal-lengths normal-widths floors table cell v) (length-search J (weight-in weights) g normal-lengths normal-widths floors table cell v)
+      (width-search J (weight-in weights) g normal-lengths normal-widths floors table cell v)
+      (pairs-of Length normal-lengths floors (t .tabled .lengths-are) (t .tabled .lengths-floored)) (pairs-of Width normal-widths (drop 1001 floors) (t .tabled .widths-are) (t .tabled .widths-floored)))
 
   -- what the code multiplies and reads is in reach
   pub sizes : (getD floors (cell .sides .length) 0 < 1002) × (getD (drop 1001 floors) (cell .sides .width) 0 < 1002) × (g .columns * (g .capacity + 1) ≤ 4100096)
@@ -204,19 +204,19 @@ module _ {J : Job} {weights : List ℕ} {g : Dimensions} {lengths widths floors 
   there = cell-there (t .tabled) (cell .sides .length) (cell .sides .width) (at .on-length) (at .on-width) (cell .share) (at .in-capacity)
 
   pub cuts-searchable : {a b : ℕ} → a ≡ getD floors (cell .sides .length) 0 → b ≡ getD (drop 1001 floors) (cell .sides .width) 0
-      → Searchable lengths floors table (cell .sides .length) a (g .columns * (g .capacity + 1)) (b * (g .capacity + 1)) (cell .share)
-      × Searchable widths (drop 1001 floors) table (cell .sides .width) b (g .capacity + 1) (a * (g .columns * (g .capacity + 1))) (cell .share)
+      → Searchable normal-lengths floors table (cell .sides .length) a (g .columns * (g .capacity + 1)) (b * (g .capacity + 1)) (cell .share)
+      × Searchable normal-widths (drop 1001 floors) table (cell .sides .width) b (g .capacity + 1) (a * (g .columns * (g .capacity + 1))) (cell .share)
   cuts-searchable e f = rw (e, f) (
-    searchable (t .tabled) (cell .sides .length) (cell .sides .width) (at .on-length) (at .on-width) Length lengths floors (t .tabled .lengths-are) (t .tabled .lengths-floored) (omega (arith, t .floors-there)) (cell .share) (at .in-capacity),
-    searchable (t .tabled) (cell .sides .length) (cell .sides .width) (at .on-length) (at .on-width) Width widths (drop 1001 floors) (t .tabled .widths-are) (t .tabled .widths-floored) (omega (arith, t .floors-there, length-drop 1001 floors)) (cell .share) (at .in-capacity),
+    searchable (t .tabled) (cell .sides .length) (cell .sides .width) (at .on-length) (at .on-width) Length normal-lengths floors (t .tabled .lengths-are) (t .tabled .lengths-floored) (omega (arith, t .floors-there)) (cell .share) (at .in-capacity),
+    searchable (t .tabled) (cell .sides .length) (cell .sides .width) (at .on-length) (at .on-width) Width normal-widths (drop 1001 floors) (t .tabled .widths-are) (t .tabled .widths-floored) (omega (arith, t .floors-there, length-drop 1001 floors)) (cell .share) (at .in-capacity),
   )
 
   -- the value of the cell
   abbrev pub word-at : ℕ
   word-at = getD table (getD floors (cell .sides .length) 0 * (g .columns * (g .capacity + 1)) + getD (drop 1001 floors) (cell .sides .width) 0 * (g .capacity + 1) + cell .share) 0
 
-  answer-choice : answer J (weight-in weights) g lengths widths floors table cell word-at ≡ chosen-at J (weight-in weights) cell
-  answer-choice = ap (λ v. answer J (weight-in weights) g lengths widths floors table cell v) (cell-figure (t .tabled) (cell .sides .length) (cell .sides .width) (at .on-length) (at .on-width) (cell .share) (at .in-capacity)) ∙ answer-figure
+  answer-choice : answer J (weight-in weights) g normal-lengths normal-widths floors table cell word-at ≡ chosen-at J (weight-in weights) cell
+  answer-choice = ap (λ v. answer J (weight-in weights) g normal-lengths normal-widths floors table cell v) (cell-figure (t .tabled) (cell .sides .length) (cell .sides .width) (at .on-length) (at .on-width) (cell .share) (at .in-capacity)) ∙ answer-figure
 
   -- each way out of the code answers the choice
   module _ {a b value : ℕ} (e : a ≡ getD floors (cell .sides .length) 0) (f : b ≡ getD (drop 1001 floors) (cell .sides .width) 0)
@@ -228,11 +228,11 @@ module _ {J : Job} {weights : List ℕ} {g : Dimensions} {lengths widths floors 
     none-chosen z = sym (exit-none _ _ (eq-eqb word-at 0 (sym word-is ∙ z))) ∙ answer-choice
 
     module _ (z : value ≡ 0 → ⊥) where
-      pub kind-chosen : {i : ℕ} → kind-found (kind-search J (weight-in weights) g lengths widths floors table cell value) ≡ kind.Kind i → record { node = Piece i; share = 0 } ≡ chosen-at J (weight-in weights) cell
-      kind-chosen k = sym (exit-kind _ _ _ (ne-eqb value 0 z) k) ∙ ap (λ v. answer J (weight-in weights) g lengths widths floors table cell v) word-is ∙ answer-choice
+      pub kind-chosen : {i : ℕ} → kind-found (kind-search J (weight-in weights) g normal-lengths normal-widths floors table cell value) ≡ kind.Kind i → record { node = Piece i; share = 0 } ≡ chosen-at J (weight-in weights) cell
+      kind-chosen k = sym (exit-kind _ _ _ (ne-eqb value 0 z) k) ∙ ap (λ v. answer J (weight-in weights) g normal-lengths normal-widths floors table cell v) word-is ∙ answer-choice
 
-      pub cut-chosen : {r : Chosen} → kind-found (kind-search J (weight-in weights) g lengths widths floors table cell value) ≡ kind.Missing
-          → r ≡ or-length-cut (cut-found lengths (first-index lengths floors table (cell .sides .length) a (g .columns * (g .capacity + 1)) (b * (g .capacity + 1)) (cell .share) value))
-          (or-width-cut (cut-found widths (first-index widths (drop 1001 floors) table (cell .sides .width) b (g .capacity + 1) (a * (g .columns * (g .capacity + 1))) (cell .share) value)))
+      pub cut-chosen : {r : Chosen} → kind-found (kind-search J (weight-in weights) g normal-lengths normal-widths floors table cell value) ≡ kind.Missing
+          → r ≡ or-length-cut (cut-found normal-lengths (first-index normal-lengths floors table (cell .sides .length) a (g .columns * (g .capacity + 1)) (b * (g .capacity + 1)) (cell .share) value))
+          (or-width-cut (cut-found normal-widths (first-index normal-widths (drop 1001 floors) table (cell .sides .width) b (g .capacity + 1) (a * (g .columns * (g .capacity + 1))) (cell .share) value)))
           → r ≡ chosen-at J (weight-in weights) cell
-      cut-chosen k c = rw (e, f) at c ∙ sym (exit-cut _ _ _ (ne-eqb value 0 z) k) ∙ ap (λ v. answer J (weight-in weights) g lengths widths floors table cell v) word-is ∙ answer-choice
+      cut-chosen k c = rw (e, f) at c ∙ sym (exit-cut _ _ _ (ne-eqb value 0 z) k) ∙ ap (λ v. answer J (weight-in weights) g normal-lengths normal-widths floors table cell v) word-is ∙ answer-choice

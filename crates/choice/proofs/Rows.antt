@@ -50,7 +50,7 @@ figure-most J weight h r c a b =
     let y : r .1 ≤ 1000 = omega (arith, h .plate-width) in
     omega (arith, figure-ceiling J weight h (r .0) (r .1) c, mul-le-mul x y)
 
-module _ {J : Job} {weights : List ℕ} {columns q : ℕ} {lengths widths length-floors width-floors table : List ℕ} (t : Tabled J weights columns q lengths widths length-floors width-floors table)
+module _ {J : Job} {weights : List ℕ} {columns q : ℕ} {normal-lengths normal-widths length-floors width-floors table : List ℕ} (t : Tabled J weights columns q normal-lengths normal-widths length-floors width-floors table)
     (l w : ℕ) (on-length : l ≤ J .plate .0) (on-width : w ≤ J .plate .1) where
   -- the indexes of the tabled length and width
   abbrev pub a-of : ℕ

@@ -16,22 +16,22 @@ use Rattle.choice.specs.declared.Chosen.{Chosen}
 use Rattle.choice.specs.declared.Dimensions.{Dimensions}
 
 -- a job in range with its weights, both lists of normal positions, the floors of both sides and the filled table
-pub record Tabled (J : Job) (weights : List ℕ) (columns q : ℕ) (lengths widths length-floors width-floors table : List ℕ) : Type 0 where
+pub record Tabled (J : Job) (weights : List ℕ) (columns q : ℕ) (normal-lengths normal-widths length-floors width-floors table : List ℕ) : Type 0 where
   pub in-range : InRange J
   pub weighed : J .count ≤ length weights
   pub columns-are : columns ≡ position-count J Width
   pub capacity-most : q ≤ 4095
-  pub lengths-are : Listed J Length lengths
-  pub widths-are : Listed J Width widths
+  pub lengths-are : Listed J Length normal-lengths
+  pub widths-are : Listed J Width normal-widths
   pub lengths-floored : Mapped J Length length-floors
   pub widths-floored : Mapped J Width width-floors
   pub words-there : words-needed J q ≤ length table
   pub figures : Figures J (weight-in weights) q table
 
 -- the same with the floors in one array: those of the lengths first, those of the widths from entry 1001 on
-pub record ChoiceInput (J : Job) (weights : List ℕ) (g : Dimensions) (lengths widths floors table : List ℕ) : Type 0 where
+pub record ChoiceInput (J : Job) (weights : List ℕ) (g : Dimensions) (normal-lengths normal-widths floors table : List ℕ) : Type 0 where
   pub floors-there : length floors ≡ 2002
-  pub tabled : Tabled J weights (g .columns) (g .capacity) lengths widths floors (drop 1001 floors) table
+  pub tabled : Tabled J weights (g .columns) (g .capacity) normal-lengths normal-widths floors (drop 1001 floors) table
 
 -- a cell whose rectangle lies on the plate, no side 0, with a share up to the capacity
 pub record Inside (J : Job) (g : Dimensions) (cell : Cell) : Type 0 where

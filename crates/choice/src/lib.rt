@@ -143,16 +143,16 @@ fn choose_cut(
     a: usize,
     b: usize,
     g: Dimensions,
-    lengths: &[u16],
-    widths: &[u16],
+    normal_lengths: &[u16],
+    normal_widths: &[u16],
     floors: &[u16],
     table: &[u64],
 ) -> Chosen
-    requires { ⌜ Searchable (now lengths) (now floors) (now table) (cell .sides .length) a (g .columns * (g .capacity + 1)) (b * (g .capacity + 1)) (cell .share)
-        × Searchable (now widths) (drop 1001 (now floors)) (now table) (cell .sides .width) b (g .capacity + 1) (a * (g .columns * (g .capacity + 1))) (cell .share) ⌝ }
+    requires { ⌜ Searchable (now «normal_lengths») (now floors) (now table) (cell .sides .length) a (g .columns * (g .capacity + 1)) (b * (g .capacity + 1)) (cell .share)
+        × Searchable (now «normal_widths») (drop 1001 (now floors)) (now table) (cell .sides .width) b (g .capacity + 1) (a * (g .columns * (g .capacity + 1))) (cell .share) ⌝ }
     ensures { λ r. ⌜ r ≡ or-length-cut
-        (cut-found (now (lengths .entry)) (first-index (now (lengths .entry)) (now (floors .entry)) (now (table .entry)) (cell .sides .length) a (g .columns * (g .capacity + 1)) (b * (g .capacity + 1)) (cell .share) value))
-        (or-width-cut (cut-found (now (widths .entry)) (first-index (now (widths .entry)) (drop 1001 (now (floors .entry))) (now (table .entry)) (cell .sides .width) b (g .capacity + 1) (a * (g .columns * (g .capacity + 1))) (cell .share) value))) ⌝ }
+        (cut-found (now («normal_lengths» .entry)) (first-index (now («normal_lengths» .entry)) (now (floors .entry)) (now (table .entry)) (cell .sides .length) a (g .columns * (g .capacity + 1)) (b * (g .capacity + 1)) (cell .share) value))
+        (or-width-cut (cut-found (now («normal_widths» .entry)) (first-index (now («normal_widths» .entry)) (drop 1001 (now (floors .entry))) (now (table .entry)) (cell .sides .width) b (g .capacity + 1) (a * (g .columns * (g .capacity + 1))) (cell .share) value))) ⌝ }
 {
     let l = cell.sides.length as usize;
     let w = cell.sides.width as usize;
@@ -162,11 +162,21 @@ fn choose_cut(
     let column = b * shares;
     let start = a * row;
     let width_floors = &floors[1001..];
-    let along = find_cut(lengths, floors, table, l, a, row, column, c, value);
+    let along = find_cut(normal_lengths, floors, table, l, a, row, column, c, value);
     if let CutFound::At(x, k) = along {
         return choice_of(Node::Cut(Direction::Length, x), k);
     }
-    let across = find_cut(widths, width_floors, table, w, b, shares, start, c, value);
+    let across = find_cut(
+        normal_widths,
+        width_floors,
+        table,
+        w,
+        b,
+        shares,
+        start,
+        c,
+        value,
+    );
     if let CutFound::At(x, k) = across {
         return choice_of(Node::Cut(Direction::Width, x), k);
     }
@@ -180,12 +190,12 @@ pub fn choose(
     job: JobRecord,
     weights: &[u8],
     g: Dimensions,
-    lengths: &[u16],
-    widths: &[u16],
+    normal_lengths: &[u16],
+    normal_widths: &[u16],
     floors: &[u16],
     table: &[u64],
 ) -> Chosen
-    requires { ⌜ ChoiceInput (job-of job) (now weights) g (now lengths) (now widths) (now floors) (now table) × Inside (job-of job) g cell ⌝ }
+    requires { ⌜ ChoiceInput (job-of job) (now weights) g (now «normal_lengths») (now «normal_widths») (now floors) (now table) × Inside (job-of job) g cell ⌝ }
     ensures { λ r. ⌜ r ≡ chosen-at (job-of job) (weight-in (now (weights .entry))) cell ⌝ }
 {
     let a = floors[cell.sides.length as usize] as usize;
@@ -200,5 +210,15 @@ pub fn choose(
     if let KindFound::Kind(i) = kind {
         return choice_of(Node::Piece(i), 0);
     }
-    choose_cut(cell, value, a, b, g, lengths, widths, floors, table)
+    choose_cut(
+        cell,
+        value,
+        a,
+        b,
+        g,
+        normal_lengths,
+        normal_widths,
+        floors,
+        table,
+    )
 }

@@ -49,22 +49,22 @@ pub record Listable (sides : List ℕ) (n side room : ℕ) : Type 0 where
 
 -- the first n entries of a list begin with 0 and rise
 abbrev pub Rising : List ℕ → ℕ → Type 0
-Rising list n = (getD list 0 0 ≡ 0) × ((i : ℕ) → i + 1 < n → getD list i 0 < getD list (i + 1) 0)
+Rising positions n = (getD positions 0 0 ≡ 0) × ((i : ℕ) → i + 1 < n → getD positions i 0 < getD positions (i + 1) 0)
 
 -- i is the last of the first n entries that is not above x
-pub record LastUpTo (list : List ℕ) (n x i : ℕ) : Type 0 where
+pub record LastUpTo (positions : List ℕ) (n x i : ℕ) : Type 0 where
   pub within : i < n
-  pub not-above : getD list i 0 ≤ x
-  pub next-above : i + 1 < n → x < getD list (i + 1) 0
+  pub not-above : getD positions i 0 ≤ x
+  pub next-above : i + 1 < n → x < getD positions (i + 1) 0
 
 -- a map that has, at each x below m, the last entry not above x
 abbrev pub Floors : List ℕ → ℕ → ℕ → List ℕ → Type 0
-Floors list n m floors = (x : ℕ) → x < m → LastUpTo list n x (getD floors x 0)
+Floors positions n m floors = (x : ℕ) → x < m → LastUpTo positions n x (getD floors x 0)
 
 -- what the map of a side asks: an entry at least, rising entries, and room for every length up to the side
-pub record Mappable (list : List ℕ) (n side room : ℕ) : Type 0 where
+pub record Mappable (positions : List ℕ) (n side room : ℕ) : Type 0 where
   pub some : 1 ≤ n
-  pub listed : n ≤ length list
-  pub rising : Rising list n
+  pub listed : n ≤ length positions
+  pub rising : Rising positions n
   pub most : side ≤ 1000
   pub room-there : side < room

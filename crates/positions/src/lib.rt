@@ -97,15 +97,15 @@ pub fn normal_positions<'a>(
 }
 
 // For each length up to `side` the index of the last position not above it, found in one pass; nothing is cleared first.
-pub fn map_floors(list: &[u16], count: u16, side: u16, floors: &mut [u16])
-    requires { ⌜ Mappable (now list) count side (length (now floors)) ⌝ }
-    ensures { λ _. ⌜ (length (now (floors .exit)) ≡ length (now (floors .entry))) × Floors (now (list .entry)) count (side + 1) (now (floors .exit)) ⌝ }
+pub fn map_floors(positions: &[u16], count: u16, side: u16, floors: &mut [u16])
+    requires { ⌜ Mappable (now positions) count side (length (now floors)) ⌝ }
+    ensures { λ _. ⌜ (length (now (floors .exit)) ≡ length (now (floors .entry))) × Floors (now (positions .entry)) count (side + 1) (now (floors .exit)) ⌝ }
 {
     let mut i: u16 = 0;
     for x in 0..side + 1 {
         let next = i + 1;
         if next < count {
-            if list[next as usize] <= x {
+            if positions[next as usize] <= x {
                 i = next;
             }
         }

@@ -69,14 +69,14 @@ fn plan_of_job(
     job: JobRecord,
     weights: &[u8],
     report: BoundReport,
-    lengths: &[u16],
-    widths: &[u16],
+    normal_lengths: &[u16],
+    normal_widths: &[u16],
     floors: &[u16],
     table: &[u64],
     kinds: &mut [u8],
     operands: &mut [u16],
 ) -> WriteAnswer
-    requires { ⌜ ChoiceInput (job-of job) (now weights) (table-of report) (now lengths) (now widths) (now floors) (now table) × (report ≡ report-of (job-of job) (weight-in (now weights))) ⌝ }
+    requires { ⌜ ChoiceInput (job-of job) (now weights) (table-of report) (now «normal_lengths») (now «normal_widths») (now floors) (now table) × (report ≡ report-of (job-of job) (weight-in (now weights))) ⌝ }
     ensures { λ r. ⌜ Planned (plan-verdict (job-of job) (weight-in (now (weights .entry))) (now (kinds .entry)) (now (operands .entry))) (job-of job) (weight-in (now (weights .entry)))
         (now (kinds .entry)) (now (operands .entry)) (now (kinds .exit)) (now (operands .exit)) r ⌝ }
 {
@@ -90,8 +90,8 @@ fn plan_of_job(
         job,
         weights,
         g,
-        lengths,
-        widths,
+        normal_lengths,
+        normal_widths,
         floors,
         table,
         &mut own_kinds[..],
@@ -111,28 +111,36 @@ fn write_accepted(
     job: JobRecord,
     weights: &[u8],
     q: u16,
-    lengths: &mut [u16],
-    widths: &mut [u16],
+    normal_lengths: &mut [u16],
+    normal_widths: &mut [u16],
     table: &mut [u64],
     kinds: &mut [u8],
     operands: &mut [u16],
 ) -> WriteAnswer
     requires { ⌜ Weighed (job-of job) (now weights) q ⌝ }
     ensures memory { λ _. ⌜ Leaves Passed (job-of job) (weight-in (now (weights .entry)))
-        (lent (now (lengths .entry)) (now (widths .entry)) (now (table .entry))) (lent (now (lengths .exit)) (now (widths .exit)) (now (table .exit))) ⌝ }
-    ensures plan { λ r. ⌜ Planned (room-verdict (job-of job) (weight-in (now (weights .entry))) (lent (now (lengths .entry)) (now (widths .entry)) (now (table .entry))) (now (kinds .entry)) (now (operands .entry)))
+        (lent (now («normal_lengths» .entry)) (now («normal_widths» .entry)) (now (table .entry))) (lent (now («normal_lengths» .exit)) (now («normal_widths» .exit)) (now (table .exit))) ⌝ }
+    ensures plan { λ r. ⌜ Planned (room-verdict (job-of job) (weight-in (now (weights .entry))) (lent (now («normal_lengths» .entry)) (now («normal_widths» .entry)) (now (table .entry))) (now (kinds .entry)) (now (operands .entry)))
         (job-of job) (weight-in (now (weights .entry))) (now (kinds .entry)) (now (operands .entry)) (now (kinds .exit)) (now (operands .exit)) r ⌝ }
 {
     let mut floors = [0u16; 2002];
-    let bounded = bound_of_job(job, weights, q, lengths, widths, &mut floors[..], table);
+    let bounded = bound_of_job(
+        job,
+        weights,
+        q,
+        normal_lengths,
+        normal_widths,
+        &mut floors[..],
+        table,
+    );
     match bounded {
         BoundAnswer::Refused(r) => WriteAnswer::Refused(r),
         BoundAnswer::Answered(report) => plan_of_job(
             job,
             weights,
             report,
-            &lengths[..],
-            &widths[..],
+            &normal_lengths[..],
+            &normal_widths[..],
             &floors[..],
             &table[..],
             kinds,

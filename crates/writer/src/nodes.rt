@@ -99,17 +99,26 @@ fn next_node(
     job: JobRecord,
     weights: &[u8],
     g: Dimensions,
-    lengths: &[u16],
-    widths: &[u16],
+    normal_lengths: &[u16],
+    normal_widths: &[u16],
     floors: &[u16],
     table: &[u64],
 ) -> Step
-    requires { ⌜ ChoiceInput (job-of job) (now weights) g (now lengths) (now widths) (now floors) (now table) × Waiting (job-of job) g (now waiting) depth × (0 < depth) ⌝ }
+    requires { ⌜ ChoiceInput (job-of job) (now weights) g (now «normal_lengths») (now «normal_widths») (now floors) (now table) × Waiting (job-of job) g (now waiting) depth × (0 < depth) ⌝ }
     ensures { λ r. ⌜ Stepped (job-of job) (weight-in (now (weights .entry))) g (now (waiting .entry)) (now (waiting .exit)) depth r ⌝ }
 {
     let top = depth - 1;
     let cell = waiting_cell(waiting, top);
-    let chosen = choose(cell, job, weights, g, lengths, widths, floors, table);
+    let chosen = choose(
+        cell,
+        job,
+        weights,
+        g,
+        normal_lengths,
+        normal_widths,
+        floors,
+        table,
+    );
     let node = chosen.node;
     let Node::Cut(d, x) = node else {
         return Step {
@@ -156,14 +165,14 @@ pub fn list_nodes(
     job: JobRecord,
     weights: &[u8],
     g: Dimensions,
-    lengths: &[u16],
-    widths: &[u16],
+    normal_lengths: &[u16],
+    normal_widths: &[u16],
     floors: &[u16],
     table: &[u64],
     kinds: &mut [u8],
     operands: &mut [u16],
 ) -> usize
-    requires { ⌜ ChoiceInput (job-of job) (now weights) g (now lengths) (now widths) (now floors) (now table) × (g .capacity ≡ capacity (job-of job) (weight-in (now weights))) ⌝ }
+    requires { ⌜ ChoiceInput (job-of job) (now weights) g (now «normal_lengths») (now «normal_widths») (now floors) (now table) × (g .capacity ≡ capacity (job-of job) (weight-in (now weights))) ⌝ }
     ensures { λ r. ⌜ NodesListed (bound-plan (job-of job) (weight-in (now (weights .entry)))) (now (kinds .entry)) (now (operands .entry)) (now (kinds .exit)) (now (operands .exit)) r ⌝ }
 {
     let mut waiting = [0u16; 6000];
@@ -178,8 +187,8 @@ pub fn list_nodes(
             job,
             weights,
             g,
-            lengths,
-            widths,
+            normal_lengths,
+            normal_widths,
             floors,
             table,
         );

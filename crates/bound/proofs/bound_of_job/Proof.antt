@@ -25,10 +25,10 @@ abbrev J : tie.After-slice-known6 → Job
 J k = job-of (start k .args .t1)
 
 -- both lists hold their normal positions
-lengths-hold : (k : tie.After-slice-known6) → Holds (normal-positions (J k) Length) (k .before .before .before .before .before .before .before .before .before .normal-positions .result) (now (start k .args .lengths)) (k .before .before .before .before .before .before .before .before .before .normal-positions .last .1 .1 .1 .1 .1 .0)
+lengths-hold : (k : tie.After-slice-known6) → Holds (normal-positions (J k) Length) (k .before .before .before .before .before .before .before .before .before .normal-positions .result) (now (start k .args .normal-lengths)) (k .before .before .before .before .before .before .before .before .before .normal-positions .last .1 .1 .1 .1 .1 .0)
 lengths-hold k = lengths-listed (start k .args .t1) (k .before .before .before .before .before .before .before .before .before .normal-positions .ensures)
 
-widths-hold : (k : tie.After-slice-known6) → Holds (normal-positions (J k) Width) (k .before .before .normal-positions2 .result) (now (start k .args .widths)) (k .before .before .normal-positions2 .last .1 .1 .1 .1 .1 .0)
+widths-hold : (k : tie.After-slice-known6) → Holds (normal-positions (J k) Width) (k .before .before .normal-positions2 .result) (now (start k .args .normal-widths)) (k .before .before .normal-positions2 .last .1 .1 .1 .1 .1 .0)
 widths-hold k = widths-listed (start k .args .t1) (k .before .before .normal-positions2 .ensures)
 
 -- the words counted are those needed
@@ -44,13 +44,13 @@ returns c = lists-short _ _ _ (sym (c .before .lists-short .ensures) ∙ c .if1 
 normal-positions-requires : tie.Need-normal-positions-requires
 normal-positions-requires c κs =
     let e = c .before .before .before .before .before .before .before .before .before .before .before in
-    let room = lists-long (length (now (e .args .lengths))) (length (now (e .args .widths))) (e .args .t1 .length) (e .args .t1 .width) (sym (c .before .before .before .before .before .lists-short .ensures) ∙ c .before .before .before .before .if1 .left) in
+    let room = lists-long (length (now (e .args .normal-lengths))) (length (now (e .args .normal-widths))) (e .args .t1 .length) (e .args .t1 .width) (sym (c .before .before .before .before .before .lists-short .ensures) ∙ c .before .before .before .before .if1 .left) in
     lengths-ready (e .args .t1) (e .pre .0 .in-range) (room .0)
 
 normal-positions-requires-2 : tie.Need-normal-positions-requires-2
 normal-positions-requires-2 c κs =
     let e = c .before .before .before .before .before .before .before .before .before .before .before .before .before .before .before .before .before .before in
-    let room = lists-long (length (now (e .args .lengths))) (length (now (e .args .widths))) (e .args .t1 .length) (e .args .t1 .width) (sym (c .before .before .before .before .before .before .before .before .before .before .before .before .lists-short .ensures) ∙ c .before .before .before .before .before .before .before .before .before .before .before .if1 .left) in
+    let room = lists-long (length (now (e .args .normal-lengths))) (length (now (e .args .normal-widths))) (e .args .t1 .length) (e .args .t1 .width) (sym (c .before .before .before .before .before .before .before .before .before .before .before .before .lists-short .ensures) ∙ c .before .before .before .before .before .before .before .before .before .before .before .if1 .left) in
     widths-ready (e .args .t1) (e .pre .0 .in-range) (room .1)
 
 words-requires : tie.Need-words-requires

@@ -12,7 +12,7 @@ use Rattle.choice.proofs.choose_cut.Statement.{statement}
 use Rattle.choice.proofs.choose_cut.Tie as tie
 
 -- the floors of the widths are a part of the floors, and searched by it
-width-searchable : (s : tie.Start) → Searchable (now (s .args .widths)) (take (length (now (s .args .floors)) - 1001) (drop 1001 (now (s .args .floors)))) (now (s .args .table)) (s .args .cell .sides .width) (s .args .b)
+width-searchable : (s : tie.Start) → Searchable (now (s .args .normal-widths)) (take (length (now (s .args .floors)) - 1001) (drop 1001 (now (s .args .floors)))) (now (s .args .table)) (s .args .cell .sides .width) (s .args .b)
     (s .args .g .capacity + 1) (s .args .a * (s .args .g .columns * (s .args .g .capacity + 1))) (s .args .cell .share)
 width-searchable s = rw (rest-part 1001 (now (s .args .floors))) (s .pre .1)
 

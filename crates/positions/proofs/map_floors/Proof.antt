@@ -13,10 +13,10 @@ use Rattle.positions.proofs.map_floors.Statement.{statement}
 use Rattle.positions.proofs.map_floors.Tie as tie
 
 abbrev Inv-loop : tie.InvT-loop
-Inv-loop list count side floors₀ i₀ x₀ x-end floors i x = (x ≤ x-end) × (x-end ≡ side + 1) × (length floors ≡ length floors₀) × (i < count) × (getD list i 0 ≤ x) × (i + 1 < count → x ≤ getD list (i + 1) 0) × Floors list count x floors
+Inv-loop positions count side floors₀ i₀ x₀ x-end floors i x = (x ≤ x-end) × (x-end ≡ side + 1) × (length floors ≡ length floors₀) × (i < count) × (getD positions i 0 ≤ x) × (i + 1 < count → x ≤ getD positions (i + 1) 0) × Floors positions count x floors
 
 abbrev μ-loop : tie.MeasureT-loop
-μ-loop list count side floors₀ i₀ x₀ x-end floors i x = x-end - x
+μ-loop positions count side floors₀ i₀ x₀ x-end floors i x = x-end - x
 
 add-x-end : tie.Need-add-x-end Inv-loop μ-loop
 add-x-end c = search needs
@@ -55,9 +55,9 @@ loop-again : tie.Need-loop-again Inv-loop μ-loop
 loop-again c =
     let start = c .before .before .before in
     let turn = c .before .before .loop in
-    let stays : (turn .i + 1 < start .args .count → turn .x < getD (now (start .args .list)) (turn .i + 1) 0) → LastUpTo (now (start .args .list)) (start .args .count) (turn .x) (turn .i) =
+    let stays : (turn .i + 1 < start .args .count → turn .x < getD (now (start .args .positions)) (turn .i + 1) 0) → LastUpTo (now (start .args .positions)) (start .args .count) (turn .x) (turn .i) =
     λ f. record { within = omega arith; not-above = omega arith; next-above = f } in
-    let last : LastUpTo (now (start .args .list)) (start .args .count) (turn .x) (c .if1 .i) =
+    let last : LastUpTo (now (start .args .positions)) (start .args .count) (turn .x) (c .if1 .i) =
     ⊎-elim
     (λ w. rw (w .3) (last-next _ _ _ _ (start .pre .rising) (omega arith) (w .2 .taken) (turn .inv .5 (omega arith))))
     (⊎-elim (λ w. rw (w .3) (stays (λ k. omega arith))) (λ w. rw (w .1) (stays (λ k. omega arith))))
@@ -68,7 +68,7 @@ loop-again c =
       last .within,
       omega (arith, last .not-above),
       λ k. omega (arith, last .next-above k),
-      entries-more (LastUpTo (now (start .args .list)) (start .args .count)) (turn .floors) (turn .x) (c .if1 .i) 0 (omega arith) (turn .inv .6) last,
+      entries-more (LastUpTo (now (start .args .positions)) (start .args .count)) (turn .floors) (turn .x) (c .if1 .i) 0 (omega arith) (turn .inv .6) last,
     )
 
 same-length : tie.Need-same-length Inv-loop μ-loop

@@ -18,14 +18,14 @@ use Rattle.writer.proofs.nodes.list_nodes.Statement.{statement}
 use Rattle.writer.proofs.nodes.list_nodes.Tie as tie
 
 abbrev Inv-loop : tie.InvT-loop
-Inv-loop job weights g lengths widths floors table kinds₀ operands₀ waiting₀ depth₀ nodes₀ kinds operands waiting depth nodes = Waiting (job-of job) g waiting depth
+Inv-loop job weights g normal-lengths normal-widths floors table kinds₀ operands₀ waiting₀ depth₀ nodes₀ kinds operands waiting depth nodes = Waiting (job-of job) g waiting depth
     × (nodes + length (nodes-left (job-of job) (weight-in weights) waiting depth) ≡ node-count (bound-plan (job-of job) (weight-in weights)))
     × (length kinds ≡ length kinds₀) × (length operands ≡ length operands₀)
     × (sets kinds nodes (map (λ n. kind-of n) (nodes-left (job-of job) (weight-in weights) waiting depth)) ≡ sets kinds₀ 0 (kinds-of (bound-plan (job-of job) (weight-in weights))))
     × (sets operands nodes (map (λ n. operand-of n) (nodes-left (job-of job) (weight-in weights) waiting depth)) ≡ sets operands₀ 0 (operands-of (bound-plan (job-of job) (weight-in weights))))
 
 abbrev μ-loop : tie.MeasureT-loop
-μ-loop job weights g lengths widths floors table kinds₀ operands₀ waiting₀ depth₀ nodes₀ kinds operands waiting depth nodes = length (nodes-left (job-of job) (weight-in weights) waiting depth)
+μ-loop job weights g normal-lengths normal-widths floors table kinds₀ operands₀ waiting₀ depth₀ nodes₀ kinds operands waiting depth nodes = length (nodes-left (job-of job) (weight-in weights) waiting depth)
 
 plate-cell-requires : tie.Need-plate-cell-requires Inv-loop μ-loop
 plate-cell-requires c κs = search needs
