@@ -16,7 +16,7 @@ use Rattle.job.specs.Weights.{block-job, weight-in, Accepted}
 use Rattle.job.proofs.Checks.{passed-both}
 use Rattle.job.proofs.Weights.{weights-passed, accepted-both, accepted-in-range}
 use Rattle.job.proofs.Taken.{Taken}
-use Rattle.bound.specs.Bound.{Memory, Leaves, answer-by, memory-checks, report-of, report-values, accept-verdict, bound-verdict, bound-answer, bound-outcome, bound-said, BoundSaid}
+use Rattle.bound.specs.Bound.{Memory, Leaves, answer-by, memory-checks, bound-report, report-values, accept-verdict, bound-verdict, bound-answer, bound-outcome, bound-said, BoundSaid}
 use Rattle.bound.specs.Contracts.{Weighed, Bounded}
 use Rattle.bound.specs.declared.BoundReport.{BoundReport}
 use Rattle.bound.specs.declared.BoundAnswer.{BoundAnswer}
@@ -46,7 +46,7 @@ said-by (Refused r) b = refl
 -- an answered bound is exact
 pub exact-by : (s ws : List ℕ) (m : Memory) → BoundSaid s ws (bound-answer s ws m)
 exact-by s ws m b e =
-    let w = answered-behind (bound-verdict s ws m) (report-of (block-job s) (weight-in ws)) (sym e) in
+    let w = answered-behind (bound-verdict s ws m) (bound-report (block-job s) (weight-in ws)) (sym e) in
     let v = passed-both (accept-verdict s ws) (first-refusal (memory-checks (block-job s) (weight-in ws) m)) (w .0) in
     rw (w .1) (bound-held (block-job s) (weight-in ws) (accepted-in-range s ws (v .0)))
 
@@ -59,18 +59,18 @@ module _ (s ws : List ℕ) (old : Memory) where
   -- the answer and the memory give the rest
   promised : {new : Memory} (r : BoundAnswer) → r ≡ bound-answer s ws old → Leaves (accept-verdict s ws) (block-job s) (weight-in ws) old new → Promised s ws old new r
   promised r e l =
-      let outcome = ap (λ x. bound-outcome x) e ∙ said-by (bound-verdict s ws old) (report-of (block-job s) (weight-in ws)) in
+      let outcome = ap (λ x. bound-outcome x) e ∙ said-by (bound-verdict s ws old) (bound-report (block-job s) (weight-in ws)) in
       let exact : BoundSaid s ws r = λ b f. exact-by s ws old b (sym e ∙ f) in
       let floor : Accepted s ws → FloorFigures (block-job s) (weight-in ws) = λ a. floor-figures (block-job s) (weight-in ws) (accepted-in-range s ws a) in
       (e, (outcome, (l, (exact, (recursion (block-job s) (weight-in ws), (normal-listed (block-job s), floor))))))
 
   -- the job or its weights are refused
   pub early : (r : Refusal) → accept-verdict s ws ≡ Refused r → Promised s ws old old (answer.Refused r)
-  early r v = let p = refused-before (block-job s) (weight-in ws) old (answer.Answered (report-of (block-job s) (weight-in ws))) answer.Refused v in promised (answer.Refused r) (p .0) (p .1)
+  early r v = let p = refused-before (block-job s) (weight-in ws) old (answer.Answered (bound-report (block-job s) (weight-in ws))) answer.Refused v in promised (answer.Refused r) (p .0) (p .1)
 
   -- both are accepted
   pub accepted : {j : JobRecord} {q : ℕ} → Taken s ws j q → {new : Memory} {floors : List ℕ} (r : BoundAnswer) → Bounded (job-of j) (weight-in ws) old new floors r → Promised s ws old new r
   accepted t {new} {floors} r h =
       let b : Bounded (block-job s) (weight-in ws) old new floors r = subst (λ j. Bounded (job-of j) (weight-in ws) old new floors r) (t .record-is) h in
       let v = t .accepted in
-      promised r (b .answer ∙ sym (ap (λ v. answer-by (next v (first-refusal (memory-checks (block-job s) (weight-in ws) old))) (report-of (block-job s) (weight-in ws))) v)) (rw v (b .memory))
+      promised r (b .answer ∙ sym (ap (λ v. answer-by (next v (first-refusal (memory-checks (block-job s) (weight-in ws) old))) (bound-report (block-job s) (weight-in ws))) v)) (rw v (b .memory))

@@ -15,7 +15,7 @@ use Rattle.refusal.specs.declared.Checked.the-variants.{Passed, Refused}
 use Rattle.refusal.specs.declared.Refusal.{Refusal}
 use Rattle.refusal.specs.declared.Refusal.the-variants.{ListShort, TableShort}
 use Rattle.table.specs.Table.{words-needed}
-use Rattle.bound.specs.Bound.{Memory, Leaves, list-check, list-after, TableAfter, memory-checks, answer-by, report-of}
+use Rattle.bound.specs.Bound.{Memory, Leaves, list-check, list-after, TableAfter, memory-checks, answer-by, bound-report}
 use Rattle.bound.specs.declared.BoundAnswer.the-variants as answer
 use Rattle.bound.specs.declared.BoundReport.{BoundReport}
 use Rattle.bound.specs.Contracts.{BothMapped, FilledBy, Bounded}
@@ -64,7 +64,7 @@ module _ (J : Job) (weight : ℕ → ℕ) (old : Memory) where
   -- a list is short: refusal 19, and nothing is changed
   pub lists-short : {floors : List ℕ} → short ≡ true → Bounded J weight old old floors (answer.Refused ListShort)
   lists-short e = record {
-    answer = sym (ap (λ v. answer-by v (report-of J weight)) (storage-by true small e refl));
+    answer = sym (ap (λ v. answer-by v (bound-report J weight)) (storage-by true small e refl));
     memory = record {
       lengths = sym (ap (λ v. list-after v (normal-positions J Length) (old .lengths)) (lists-by true e));
       widths = sym (ap (λ v. list-after v (normal-positions J Width) (old .widths)) (lists-by true e));
@@ -88,18 +88,18 @@ module _ (J : Job) (weight : ℕ → ℕ) (old : Memory) where
     table-short n e h t {floors} =
         let f : small ≡ true = lt-ltb (length (old .table)) (words-needed J (capacity J weight)) (omega arith) in
         record {
-          answer = ap (λ k. answer.Refused (TableShort k)) e ∙ sym (ap (λ v. answer-by v (report-of J weight)) (storage-by false true none-short f));
+          answer = ap (λ k. answer.Refused (TableShort k)) e ∙ sym (ap (λ v. answer-by v (bound-report J weight)) (storage-by false true none-short f));
           memory = leaves true f t;
           mapped = λ b e. unreported e;
         }
 
     -- there is room: the report and the figures
-    pub reported : (r : BoundReport) → r ≡ report-of J weight → words-needed J (capacity J weight) ≤ length (old .table) → FilledBy J weight (capacity J weight) (old .table) (new .table)
+    pub reported : (r : BoundReport) → r ≡ bound-report J weight → words-needed J (capacity J weight) ≤ length (old .table) → FilledBy J weight (capacity J weight) (old .table) (new .table)
         → {floors : List ℕ} → BothMapped J floors → Bounded J weight old new floors (answer.Answered r)
     reported r e h g {floors} m =
         let f : small ≡ false = le-ltb (length (old .table)) (words-needed J (capacity J weight)) h in
         record {
-          answer = ap (λ x. answer.Answered x) e ∙ sym (ap (λ v. answer-by v (report-of J weight)) (storage-by false false none-short f));
+          answer = ap (λ x. answer.Answered x) e ∙ sym (ap (λ v. answer-by v (bound-report J weight)) (storage-by false false none-short f));
           memory = leaves false f g;
           mapped = λ b e. m;
         }

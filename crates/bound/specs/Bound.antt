@@ -34,8 +34,8 @@ abbrev pub storage-checks : Job → ℕ → ℕ → ℕ → ℕ → List Check
 storage-checks J q m n k = list-check J m n ∷ table-check J q k ∷ []
 
 -- what the bound call reports of a job and weights: the bound, Q, p and r
-abbrev pub report-of : Job → (ℕ → ℕ) → BoundReport
-report-of J weight = record { bound = bound-of J weight; capacity = capacity J weight; «length_count» = position-count J Length; columns = position-count J Width }
+abbrev pub bound-report : Job → (ℕ → ℕ) → BoundReport
+bound-report J weight = record { bound = bound-of J weight; capacity = capacity J weight; «length_count» = position-count J Length; columns = position-count J Width }
 
 -- the report, or the refusal
 abbrev pub answer-by : Checked → BoundReport → BoundAnswer
@@ -79,7 +79,7 @@ bound-verdict s ws m = next (accept-verdict s ws) (first-refusal (memory-checks 
 
 -- what the bound call answers
 abbrev pub bound-answer : List ℕ → List ℕ → Memory → BoundAnswer
-bound-answer s ws m = answer-by (bound-verdict s ws m) (report-of (block-job s) (weight-in ws))
+bound-answer s ws m = answer-by (bound-verdict s ws m) (bound-report (block-job s) (weight-in ws))
 
 -- a report's values: the bound, Q, p and r
 abbrev pub report-values : BoundReport → List ℕ
@@ -92,7 +92,7 @@ bound-outcome (answer.Refused r) = refused-as r
 
 -- the number and values that the call answers
 abbrev pub bound-said : List ℕ → List ℕ → Memory → Outcome
-bound-said s ws m = outcome-by (bound-verdict s ws m) (report-values (report-of (block-job s) (weight-in ws)))
+bound-said s ws m = outcome-by (bound-verdict s ws m) (report-values (bound-report (block-job s) (weight-in ws)))
 
 -- what a bound n at the capacity q is: the most that a guillotine tree of weight at most q earns; no less than any tree that keeps the
 -- demands earns; at most 1,000,000,000,000; the recursion's figure at the plate and q

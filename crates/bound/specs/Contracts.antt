@@ -15,7 +15,7 @@ use Rattle.bound.specs.declared.TableSize.{TableSize}
 use Rattle.bound.specs.declared.BoundReport.{BoundReport}
 use Rattle.bound.specs.declared.BoundAnswer.{BoundAnswer}
 use Rattle.bound.specs.declared.BoundAnswer.the-variants.{Answered}
-use Rattle.bound.specs.Bound.{Memory, Leaves, memory-checks, answer-by, report-of}
+use Rattle.bound.specs.Bound.{Memory, Leaves, memory-checks, answer-by, bound-report}
 
 -- an array maps every length and every width of the plate to the last entry of a list that is not above it: the lengths first, the
 -- widths from entry 1,001 on
@@ -57,6 +57,6 @@ pub record Weighed (J : Job) (ws : List ℕ) (q : ℕ) : Type 0 where
 
 -- the answer of a job and weights that were accepted, what it leaves in lent memory, and where it has a report the floors of both sides
 pub record Bounded (J : Job) (weight : ℕ → ℕ) (old new : Memory) (floors : List ℕ) (r : BoundAnswer) : Type 0 where
-  pub answer : r ≡ answer-by (first-refusal (memory-checks J weight old)) (report-of J weight)
+  pub answer : r ≡ answer-by (first-refusal (memory-checks J weight old)) (bound-report J weight)
   pub memory : Leaves Passed J weight old new
   pub mapped : (b : BoundReport) → r ≡ Answered b → BothMapped J floors

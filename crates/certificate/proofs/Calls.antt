@@ -22,7 +22,7 @@ use Rattle.job.proofs.Weights.{refusal-answered, accepted-both}
 use Rattle.job.proofs.Taken.{Taken, both-by}
 use Rattle.plan.specs.declared.PlanAnswer.{PlanAnswer}
 use Rattle.plan.specs.Plan.{plan-answer}
-use Rattle.bound.specs.Bound.{Memory, Leaves, memory-checks, report-of, accept-verdict}
+use Rattle.bound.specs.Bound.{Memory, Leaves, memory-checks, bound-report, accept-verdict}
 use Rattle.bound.specs.Contracts.{Bounded}
 use Rattle.bound.proofs.Holds.{answered-behind, refused-behind}
 use Rattle.bound.proofs.Calls.{refused-before}
@@ -112,12 +112,12 @@ module _ (s ws kinds operands : List ℕ) (old : Memory) where
 
       pub storage-refused : {v : Checked} (r : Refusal) {c : Certificate} → found ≡ bound.Refused r → v ≡ storage-verdict found → c ≡ handed-on v (compared 0 0) → Promised s ws kinds operands old new c
       storage-refused r {c} e u h = promised c (h ∙ ap (λ v. handed-on v (compared 0 0)) (u ∙ ap (λ f. storage-verdict f) e)
-          ∙ sym (answer (refused-behind _ (report-of (block-job s) (weight-in ws)) (sym e ∙ whole .answer)))) left
+          ∙ sym (answer (refused-behind _ (bound-report (block-job s) (weight-in ws)) (sym e ∙ whole .answer)))) left
 
       module _ (x : BoundReport) (e : found ≡ bound.Answered x) where
         -- the report behind a bound that was answered
         reported : (first-refusal (memory-checks (block-job s) (weight-in ws) old) ≡ Passed) × (x .bound ≡ bound-of (block-job s) (weight-in ws))
-        reported = let v = answered-behind _ (report-of (block-job s) (weight-in ws)) (sym e ∙ whole .answer) in (v .0, ap (λ (y : BoundReport). y .bound) (v .1))
+        reported = let v = answered-behind _ (bound-report (block-job s) (weight-in ws)) (sym e ∙ whole .answer) in (v .0, ap (λ (y : BoundReport). y .bound) (v .1))
 
         pub certified : {c : Certificate} → c ≡ compared (a .report .profit) (x .bound) → Promised s ws kinds operands old new c
         certified {c} h = promised c (h ∙ ap₂ compared (ap (λ (x : PlanAnswer). x .report .profit) drawn-is) (reported .1) ∙ sym (answer (reported .0))) left

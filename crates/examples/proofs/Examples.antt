@@ -22,27 +22,27 @@ use Rattle.plan.specs.Plan.{walk, plan-answer}
 use Rattle.plan.specs.Calls.{JobPasses}
 use Rattle.writer.specs.Write.{block-plan}
 use Rattle.examples.specs.Examples as line
-use Rattle.examples.specs.Examples.{Example, RefusedAs, PassedTo, Holds, misfit-job, marked}
+use Rattle.examples.specs.Examples.{Example, RefusedAs, PassedTo, ExampleHolds, misfit-job, marked}
 use Rattle.examples.proofs.Calls as call
 use Rattle.examples.proofs.Calls.{words-in, values-in, certificate-in}
 use Rattle.examples.proofs.Plans.{first-verdict, begins-refused, begins-passed}
 
 -- what is left to compute of a line
 abbrev Computed : Example → Type 0
-Computed (line.positions s d xs) = Holds (line.positions s d xs)
+Computed (line.positions s d xs) = ExampleHolds (line.positions s d xs)
 Computed (line.bounds s ws words bound q p r) = Accepted s ws × (words-in s ws ≡ words) × (values-in s ws ≡ bound ∷ q ∷ p ∷ r ∷ [])
 Computed (line.writes s ws words bound q p r nodes kinds operands) =
     Accepted s ws × (words-in s ws ≡ words) × (values-in s ws ≡ bound ∷ q ∷ p ∷ r ∷ []) × (node-count (block-plan s ws) ≡ nodes) × (nodes ≤ 4095)
     × (kinds-of (block-plan s ws) ≡ kinds) × (operands-of (block-plan s ws) ≡ operands)
-Computed (line.passes s kinds operands profit copies pieces waste trim) = Holds (line.passes s kinds operands profit copies pieces waste trim)
-Computed (line.refused s kinds operands number place) = Holds (line.refused s kinds operands number place)
+Computed (line.passes s kinds operands profit copies pieces waste trim) = ExampleHolds (line.passes s kinds operands profit copies pieces waste trim)
+Computed (line.refused s kinds operands number place) = ExampleHolds (line.refused s kinds operands number place)
 Computed (line.first-refused s kind operand number place) = JobPasses s × RefusedAs number place (first-verdict (block-job s) kind operand)
 Computed (line.first-passes s kind operand) = JobPasses s × PassedTo 0 (first-verdict (block-job s) kind operand)
 Computed (line.certifies s ws kinds operands words gap bound profit) =
     Accepted s ws × (words-in s ws ≡ words) × (plan-answer (block-job s) kinds operands .verdict ≡ Passed) × (certificate-in s ws kinds operands ≡ gap ∷ bound ∷ profit ∷ [])
 
 -- a line holds from what is computed of it
-holds : (e : Example) → Computed e → Holds e
+holds : (e : Example) → Computed e → ExampleHolds e
 holds (line.positions s d xs) c = c
 holds (line.bounds s ws words bound q p r) c = (
   λ m h. call.bound-answered s ws (c .0) m (rw (c .1) h) ∙ ap (λ vs. (0, vs)) (c .2),
@@ -67,11 +67,11 @@ _and_ : {e : Example} {es : List Example} → Computed e → AllComputed es → 
 c and cs = more c cs
 
 -- every line so computed holds
-all-hold : {e : Example} (es : List Example) → AllComputed es → List·Memᴰ e es → Holds e
+all-hold : {e : Example} (es : List Example) → AllComputed es → List·Memᴰ e es → ExampleHolds e
 all-hold [] done m = absurd (List·Memᴰ·not-nil m)
 all-hold {e} (x ∷ xs) (more c cs) m = go (List·Memᴰ·cases-cons m) (λ (k : List·Memᴰ e xs). all-hold xs cs k)
   where
-    go : (e ≡ x) ⊎ List·Memᴰ e xs → (List·Memᴰ e xs → Holds e) → Holds e
+    go : (e ≡ x) ⊎ List·Memᴰ e xs → (List·Memᴰ e xs → ExampleHolds e) → ExampleHolds e
     go (inl i) f = rw i (holds x c)
     go (inr k) f = f k
 
@@ -113,5 +113,5 @@ module _ (pair ws : List ℕ) (good : Accepted (misfit-job pair) ws) where
       and done
 
   -- every marked example holds
-  pub marked-hold : (e : Example) → List·Memᴰ e (marked pair ws) → Holds e
+  pub marked-hold : (e : Example) → List·Memᴰ e (marked pair ws) → ExampleHolds e
   marked-hold e m = all-hold (marked pair ws) computed m

@@ -66,20 +66,20 @@ abbrev pub padded : List ℕ → List ℕ
 padded xs = xs ++ replicate (64 - length xs) 0
 
 -- what each line means; where the table is too short the call gives refusal 20 with the words needed
-abbrev pub Holds : Example → Type 0
-Holds (positions s d xs) = normal-positions (block-job s) d ≡ xs
-Holds (bounds s ws words bound q p r) =
+abbrev pub ExampleHolds : Example → Type 0
+ExampleHolds (positions s d xs) = normal-positions (block-job s) d ≡ xs
+ExampleHolds (bounds s ws words bound q p r) =
     ((m : Memory) → Enough s words m → bound-said s ws m ≡ (0, bound ∷ q ∷ p ∷ r ∷ []))
     × ((m : Memory) → TooShort s words m → bound-said s ws m ≡ (20, words ∷ []))
-Holds (writes s ws words bound q p r nodes kinds operands) =
+ExampleHolds (writes s ws words bound q p r nodes kinds operands) =
     ((m : Memory) (ks os : List ℕ) → Enough s words m → nodes ≤ length ks → nodes ≤ length os → write-said s ws m ks os ≡ (0, bound ∷ q ∷ p ∷ r ∷ nodes ∷ []))
     × (kinds-of (block-plan s ws) ≡ kinds) × (operands-of (block-plan s ws) ≡ operands)
-Holds (passes s kinds operands profit copies pieces waste trim) =
+ExampleHolds (passes s kinds operands profit copies pieces waste trim) =
     arrays-answer s kinds operands ≡ record { verdict = Passed; report = record { profit = profit; copies = padded copies; pieces = pieces; waste = waste; trim = trim } }
-Holds (refused s kinds operands number place) = RefusedAs number place (arrays-answer s kinds operands .verdict)
-Holds (first-refused s kind operand number place) = Beginning s kind operand (RefusedAs number place)
-Holds (first-passes s kind operand) = Beginning s kind operand (PassedTo 0)
-Holds (certifies s ws kinds operands words gap bound profit) = (m : Memory) → Enough s words m → certificate-said s ws kinds operands m ≡ (0, gap ∷ bound ∷ profit ∷ [])
+ExampleHolds (refused s kinds operands number place) = RefusedAs number place (arrays-answer s kinds operands .verdict)
+ExampleHolds (first-refused s kind operand number place) = Beginning s kind operand (RefusedAs number place)
+ExampleHolds (first-passes s kind operand) = Beginning s kind operand (PassedTo 0)
+ExampleHolds (certifies s ws kinds operands words gap bound profit) = (m : Memory) → Enough s words m → certificate-said s ws kinds operands m ≡ (0, gap ∷ bound ∷ profit ∷ [])
 
 -- job S: plate 5 by 3, three kinds; sizes 2 by 3, 3 by 1, 2 by 2; price 7, demand 1; price 4, demand 2; price 5, demand 1
 abbrev pub job-s : List ℕ

@@ -24,8 +24,8 @@ use Rattle.node.specs.Placed.{Sized, Placed}
 use Rattle.node.proofs.Nodes.{NodeFits, node-passed}
 use Rattle.plan.specs.declared.Report.{Report}
 use Rattle.plan.specs.declared.PlanAnswer.{PlanAnswer}
-use Rattle.plan.specs.Plan.{node-of, parts, counted, report-of, empty-report, passed, refused, unreported, proceed, walk, nodes-in}
-use Rattle.plan.specs.Walk.{waiting, no-sums, entry-at, Inside, Held, Opens}
+use Rattle.plan.specs.Plan.{node-of, parts, counted, plan-report, empty-report, passed, refused, unreported, proceed, walk, nodes-in}
+use Rattle.plan.specs.Walk.{waiting, no-sums, entry-at, CutInside, Held, Opens}
 
 -- two arrays of one length have as many nodes
 pub nodes-length : (kinds operands : List ℕ) → length kinds ≡ length operands → length (nodes-in kinds operands) ≡ length kinds
@@ -43,7 +43,7 @@ nodes-suc (a ∷ ks) (b ∷ os) (suc k) h l = nodes-suc ks os k (omega arith) (o
 module _ (J : Job) (kinds operands : List ℕ) (same : length kinds ≡ length operands) where
   -- the walk from node k on
   abbrev pub from : ℕ → List Rect → Tally → List ℕ → PlanAnswer
-  from k rs t copies = walk J k (drop k (nodes-in kinds operands)) rs (report-of t copies)
+  from k rs t copies = walk J k (drop k (nodes-in kinds operands)) rs (plan-report t copies)
 
   module _ (k : ℕ) (more : k < length kinds) where
     -- the node at a place
@@ -59,7 +59,7 @@ module _ (J : Job) (kinds operands : List ℕ) (same : length kinds ≡ length o
         (placed : Placed J k (getD kinds k 0) (getD operands k 0) r t copies a after) where
       -- what follows the node
       abbrev then : PlanAnswer
-      then = walk J (k + 1) (drop (k + 1) (nodes-in kinds operands)) (parts (node-of (getD kinds k 0) (getD operands k 0)) r ++ rs) (counted J (node-of (getD kinds k 0) (getD operands k 0)) r (report-of t copies))
+      then = walk J (k + 1) (drop (k + 1) (nodes-in kinds operands)) (parts (node-of (getD kinds k 0) (getD operands k 0)) r ++ rs) (counted J (node-of (getD kinds k 0) (getD operands k 0)) r (plan-report t copies))
 
       opens-to : from k (r ∷ rs) t copies ≡ proceed (a .verdict) then
       unfolding walk
@@ -75,7 +75,7 @@ module _ (J : Job) (kinds operands : List ℕ) (same : length kinds ≡ length o
           ∙ ap₂ (λ s c. from (k + 1) (parts (node-of (getD kinds k 0) (getD operands k 0)) r ++ rs) s c) (sym (placed .sums e)) (sym (placed .counts e))
 
 -- a cut that passed its checks has its position inside the side
-pub fits-inside : (J : Job) (copies : List ℕ) (r : Rect) (n : Node) → NodeFits J copies r n → Inside n r
+pub fits-inside : (J : Job) (copies : List ℕ) (r : Rect) (n : Node) → NodeFits J copies r n → CutInside n r
 fits-inside J copies r Waste h = tt
 fits-inside J copies r (Piece i) h = tt
 fits-inside J copies r (Cut d x) h = omega (arith, h .1)
@@ -142,7 +142,7 @@ pub record Walking (J : Job) (kinds operands copies lengths widths : List ℕ) (
   pub few : n ≤ k + 1
   pub held : Held lengths widths
   pub sized : Sized k t
-  pub walks : walk J 0 (nodes-in kinds operands) (J .plate ∷ []) empty-report ≡ walk J k (drop k (nodes-in kinds operands)) (waiting lengths widths n) (report-of t copies)
+  pub walks : walk J 0 (nodes-in kinds operands) (J .plate ∷ []) empty-report ≡ walk J k (drop k (nodes-in kinds operands)) (waiting lengths widths n) (plan-report t copies)
 
 -- it begins with the plate
 pub begins : (J : Job) (kinds operands : List ℕ) (t : Tally) → t ≡ no-sums → Walking J kinds operands (replicate 64 0) (replicate 4096 (J .plate .0)) (replicate 4096 (J .plate .1)) 1 t 0
@@ -161,11 +161,11 @@ module _ {J : Job} {kinds operands copies lengths widths : List ℕ} {n : ℕ} {
   answer = walk J 0 (nodes-in kinds operands) (J .plate ∷ []) empty-report
 
   -- after the last node
-  pub ends : length kinds ≤ k → (a : PlanAnswer) → a ≡ walk J (length kinds) [] (waiting lengths widths n) (report-of t copies) → a ≡ answer
+  pub ends : length kinds ≤ k → (a : PlanAnswer) → a ≡ walk J (length kinds) [] (waiting lengths widths n) (plan-report t copies) → a ≡ answer
   ends h a e = let m : length kinds ≡ k = omega (arith, given .nodes) in
       let l : length (nodes-in kinds operands) ≤ k = omega (arith, nodes-length kinds operands same) in
-      e ∙ ap (λ i. walk J i [] (waiting lengths widths n) (report-of t copies)) m
-      ∙ sym (given .walks ∙ ap (λ ns. walk J k ns (waiting lengths widths n) (report-of t copies)) (drop-of-length-le (nodes-in kinds operands) l))
+      e ∙ ap (λ i. walk J i [] (waiting lengths widths n) (plan-report t copies)) m
+      ∙ sym (given .walks ∙ ap (λ ns. walk J k ns (waiting lengths widths n) (plan-report t copies)) (drop-of-length-le (nodes-in kinds operands) l))
 
   module _ (more : k < length kinds) where
     -- no rectangle waits for node k

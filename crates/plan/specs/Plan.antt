@@ -25,12 +25,12 @@ abbrev pub sums-of : Report → Tally
 sums-of s = record { profit = s .profit; pieces = s .pieces; waste = s .waste; trim = s .trim }
 
 -- the report of sums and of the copies of each kind
-abbrev pub report-of : Tally → List ℕ → Report
-report-of t copies = record { profit = t .profit; copies = copies; pieces = t .pieces; waste = t .waste; trim = t .trim }
+abbrev pub plan-report : Tally → List ℕ → Report
+plan-report t copies = record { profit = t .profit; copies = copies; pieces = t .pieces; waste = t .waste; trim = t .trim }
 
 -- a report with one node more
 abbrev pub counted : Job → Node → Rect → Report → Report
-counted J n r s = report-of (tallied J n r (sums-of s)) (copied n (s .copies))
+counted J n r s = plan-report (tallied J n r (sums-of s)) (copied n (s .copies))
 
 -- the report before any node: the copies of 64 kinds, and every figure, are 0
 abbrev pub empty-report : Report

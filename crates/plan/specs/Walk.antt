@@ -23,10 +23,10 @@ abbrev pub entry-at : List ℕ → List ℕ → ℕ → NodeEntry
 entry-at kinds operands k = record { at = k; kind = getD kinds k 0; operand = getD operands k 0 }
 
 -- a cut's position is at most the side that it divides
-abbrev pub Inside : Node → Rect → Type 0
-Inside Waste r = Unit {0}
-Inside (Piece i) r = Unit {0}
-Inside (Cut d x) r = x ≤ side d r
+abbrev pub CutInside : Node → Rect → Type 0
+CutInside Waste r = Unit {0}
+CutInside (Piece i) r = Unit {0}
+CutInside (Cut d x) r = x ≤ side d r
 
 -- the two arrays of the rectangles that wait have 4,096 places
 abbrev pub Held : List ℕ → List ℕ → Type 0
@@ -36,7 +36,7 @@ Held lengths widths = (length lengths ≡ 4096) × (length widths ≡ 4096)
 pub record Opens (node : Node) (r : Rect) (lengths widths : List ℕ) (n : ℕ) : Type 0 where
   pub some : 1 ≤ n
   pub place : n < 4096
-  pub inside : Inside node r
+  pub inside : CutInside node r
   pub held : Held lengths widths
 
 -- two arrays of one length, of at most 4,095 nodes

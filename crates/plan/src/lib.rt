@@ -21,7 +21,7 @@ ghost use Rattle.cutting.specs.Sides.{rect-of, sides-of};
 ghost use Rattle.cutting.specs.Job.{Job, InRange};
 ghost use Rattle.job.specs.Block.{job-of};
 ghost use Rattle.job.specs.Weights.{block-job};
-ghost use Rattle.plan.specs.Plan.{parts, report-of, empty-report, unreported, nodes-in, walk, plan-answer};
+ghost use Rattle.plan.specs.Plan.{parts, plan-report, empty-report, unreported, nodes-in, walk, plan-answer};
 ghost use Rattle.plan.specs.Walk.{waiting, no-sums, entry-at, Held, Opens, Walkable};
 ghost use Rattle.plan.specs.Trees.{ChecksPlan};
 ghost use Rattle.plan.specs.Calls.{arrays-answer, plan-count, plan-kinds, plan-operands, plan-block-answer, block-answer, JobPasses, BlockPasses, plan-outcome, arrays-said, block-said};
@@ -123,7 +123,7 @@ fn leave_parts(
 
 // After the last node: a rectangle that waits has no node, and else the plan passes.
 fn finish(n: usize, k: u16, t: Tally, copies: [u16; 64]) -> PlanAnswer
-    ensures { λ r. ⌜ ((J : Job) (lengths widths : List ℕ) → r ≡ walk J k [] (waiting lengths widths n) (report-of t copies)) ⌝ }
+    ensures { λ r. ⌜ ((J : Job) (lengths widths : List ℕ) → r ≡ walk J k [] (waiting lengths widths n) (plan-report t copies)) ⌝ }
 {
     if 0 < n {
         return without_report(Checked::Refused(Refusal::NodeMissing(k)));

@@ -13,10 +13,10 @@ use Rattle.certificate.specs.declared.Certificate.{Certificate}
 use Rattle.certificate.specs.Certificate.{certificate-of}
 use Rattle.certificate.proofs.Comparison.{gap-passed, gap-differs}
 use Rattle.certificate.proofs.Promises.{behind, drawn-most}
-use Rattle.planner_c.specs.Exports.{Sums}
+use Rattle.planner_c.specs.Exports.{GapWithin}
 
 -- a gap is the bound less a profit that is at most the bound
-pub certificate-sums : (s ws kinds operands : List ℕ) (m : Memory) {r : Certificate} → r ≡ certificate-of s ws kinds operands m → Sums r
+pub certificate-sums : (s ws kinds operands : List ℕ) (m : Memory) {r : Certificate} → r ≡ certificate-of s ws kinds operands m → GapWithin r
 certificate-sums s ws kinds operands m e profit gap g =
     let a = gap-passed _ _ profit gap (sym e ∙ g) in
     let d = gap-differs (plan-answer (block-job s) kinds operands .report .profit) (bound-of (block-job s) (weight-in ws)) profit gap (a .1) in

@@ -25,13 +25,13 @@ use Rattle.certificate.specs.declared.Certificate.the-variants as certificate
 use Rattle.certificate.specs.Certificate.{certificate-outcome}
 use Rattle.certificate.specs.Promises.{BestSaid, GapSaid}
 use Rattle.plan.specs.Calls.{plan-values, plan-outcome}
-use Rattle.planner_c.specs.Exports.{Gives, word, PlanGiven, BoundGiven, TreeChecked, Certified, CertificateGiven, returned, answered}
+use Rattle.planner_c.specs.Exports.{Gives, answer-word, PlanGiven, BoundGiven, TreeChecked, Certified, CertificateGiven, returned, answered}
 use Rattle.planner_c.proofs.Exports.{short, enough}
 
 -- a bound
 pub bound-given : (s ws : List ℕ) {n : ℕ} (old : List ℕ) {new : List ℕ} (a : BoundAnswer) → BoundSaid s ws a → Gives (bound-outcome a) n old new
     → BoundGiven (block-job s) (weight-in ws) new n
-bound-given s ws old (bound.Answered b) said g e = subst (λ w. BoundHolds (block-job s) (weight-in ws) (word w 1) (word w 0)) (sym (g .1)) (said b refl)
+bound-given s ws old (bound.Answered b) said g e = subst (λ w. BoundHolds (block-job s) (weight-in ws) (answer-word w 1) (answer-word w 0)) (sym (g .1)) (said b refl)
 bound-given s ws old (bound.Refused r) said g e = absurd (omega (arith, number-some r, g .0, e))
 
 -- a written plan
@@ -50,10 +50,10 @@ module _ (J : Job) (kinds operands : List ℕ) {n : ℕ} (old : List ℕ) {new :
       → CertificateGiven J weight kinds operands new n
   certificate-given weight (certificate.Best profit) best gap g e =
       let b = best profit refl in
-      subst (λ w. Certified J weight kinds operands (word w 2) (word w 1) (word w 0)) (sym (g .1)) (record { earns = b .0; sum = omega arith; bound-is = b .1; none-above = b .2 })
+      subst (λ w. Certified J weight kinds operands (answer-word w 2) (answer-word w 1) (answer-word w 0)) (sym (g .1)) (record { earns = b .0; sum = omega arith; bound-is = b .1; none-above = b .2 })
   certificate-given weight (certificate.Gap profit more) best gap g e =
       let b = gap profit more refl in
-      subst (λ w. Certified J weight kinds operands (word w 2) (word w 1) (word w 0)) (sym (g .1)) (record { earns = b .0; sum = refl; bound-is = b .2; none-above = b .3 })
+      subst (λ w. Certified J weight kinds operands (answer-word w 2) (answer-word w 1) (answer-word w 0)) (sym (g .1)) (record { earns = b .0; sum = refl; bound-is = b .2; none-above = b .3 })
   certificate-given weight (certificate.Refused r) best gap g e = absurd (omega (arith, number-some r, g .0, e))
 
   -- a checked plan: 0 is returned exactly where the verdict is that it passes

@@ -55,12 +55,12 @@ PlanLeft s ws m old new =
     × (new .1 ≡ array-after s ws m (old .0) (old .1) (operands-of (block-plan s ws)) (old .1))
 
 -- a certificate's profit and gap sum to at most the bound's ceiling
-abbrev pub Sums : Certificate → Type 0
-Sums r = (profit gap : ℕ) → r ≡ Gap profit gap → profit + gap ≤ 1000000000000
+abbrev pub GapWithin : Certificate → Type 0
+GapWithin r = (profit gap : ℕ) → r ≡ Gap profit gap → profit + gap ≤ 1000000000000
 
 -- a word of the answer
-abbrev pub word : List ℕ → ℕ → ℕ
-word answer i = getD answer i 0
+abbrev pub answer-word : List ℕ → ℕ → ℕ
+answer-word answer i = getD answer i 0
 
 -- a plan's check returns 0 only for the preorder of a guillotine tree on the plate that keeps every demand, and its words are then that
 -- tree's own report; where the answer has words enough and what stands before the plan's checks holds, it returns 0 for every such plan
@@ -78,15 +78,15 @@ pub record Certified (J : Job) (weight : ℕ → ℕ) (kinds operands : List ℕ
 
 -- the certificate's words: gap, bound, profit
 abbrev pub CertificateGiven : Job → (ℕ → ℕ) → (kinds operands answer : List ℕ) → ℕ → Type 0
-CertificateGiven J weight kinds operands answer n = n ≡ 0 → Certified J weight kinds operands (word answer 2) (word answer 1) (word answer 0)
+CertificateGiven J weight kinds operands answer n = n ≡ 0 → Certified J weight kinds operands (answer-word answer 2) (answer-word answer 1) (answer-word answer 0)
 
 -- a bound's words where 0 is returned: the bound, word 0, holds at the capacity, word 1
 abbrev pub BoundGiven : Job → (ℕ → ℕ) → (answer : List ℕ) → ℕ → Type 0
-BoundGiven J weight answer n = n ≡ 0 → BoundHolds J weight (word answer 1) (word answer 0)
+BoundGiven J weight answer n = n ≡ 0 → BoundHolds J weight (answer-word answer 1) (answer-word answer 0)
 
 -- a written plan where 0 is returned: its bound, word 0, holds at its capacity, word 1; the arrays hold the preorder, over their old
 -- contents, of a tree that earns the bound within the capacity, with the nodes of word 4
 pub record PlanGiven (J : Job) (weight : ℕ → ℕ) (old new : List ℕ × List ℕ) (answer : List ℕ) : Type 0 where
-  pub bound : BoundHolds J weight (word answer 1) (word answer 0)
-  pub tree : (t : Tree ℕ) × EarnsWithin J weight (word answer 1) (word answer 0) t
-      × (new .0 ≡ over (kinds-of t) (old .0)) × (new .1 ≡ over (operands-of t) (old .1)) × (word answer 4 ≡ node-count t)
+  pub bound : BoundHolds J weight (answer-word answer 1) (answer-word answer 0)
+  pub tree : (t : Tree ℕ) × EarnsWithin J weight (answer-word answer 1) (answer-word answer 0) t
+      × (new .0 ≡ over (kinds-of t) (old .0)) × (new .1 ≡ over (operands-of t) (old .1)) × (answer-word answer 4 ≡ node-count t)

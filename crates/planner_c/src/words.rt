@@ -19,7 +19,7 @@ ghost use Rattle.plan.specs.Calls.{plan-values, plan-outcome};
 ghost use Rattle.bound.specs.Bound.{bound-outcome};
 ghost use Rattle.certificate.specs.Certificate.{certificate-outcome};
 ghost use Rattle.writer.specs.Write.{write-values, write-outcome};
-ghost use Rattle.planner_c.specs.Exports.{Gives, Sums};
+ghost use Rattle.planner_c.specs.Exports.{Gives, GapWithin};
 
 // A refusal: its number is returned, its place put in the first word.
 fn refuse(r: Refusal, answer: &mut [u64]) -> u32
@@ -102,7 +102,7 @@ pub fn put_write(a: WriteAnswer, answer: &mut [u64]) -> u32
 
 // What certify answers: the gap, 0 for best, the bound and the profit.
 pub fn put_certificate(a: Certificate, answer: &mut [u64]) -> u32
-    requires { ⌜ (3 ≤ length (now answer)) × Sums a ⌝ }
+    requires { ⌜ (3 ≤ length (now answer)) × GapWithin a ⌝ }
     ensures { λ n. ⌜ Gives (certificate-outcome a) n (now (answer .entry)) (now (answer .exit)) ⌝ }
 {
     match a {

@@ -22,7 +22,7 @@ use Rattle.bound.proofs.Holds.{bound-held}
 use Rattle.writer.specs.declared.WriteReport.{WriteReport}
 use Rattle.writer.specs.declared.WriteAnswer.{WriteAnswer}
 use Rattle.writer.specs.declared.WriteAnswer.the-variants as answer
-use Rattle.writer.specs.Write.{plan-check, write-report, write-answer-by, write-values, write-outcome, plan-verdict, block-plan, write-verdict, write-answer, write-said, array-after, PlanChosen, PlanWritten, BoundWritten}
+use Rattle.writer.specs.Write.{plan-check, write-report, write-answer-by, write-values, write-outcome, nodes-verdict, block-plan, write-verdict, write-answer, write-said, array-after, PlanChosen, PlanWritten, BoundWritten}
 use Rattle.writer.specs.Contracts.{room-verdict, Planned}
 use Rattle.writer.proofs.Write.{none-long, untouched}
 
@@ -54,7 +54,7 @@ module _ (s ws : List ℕ) (old : bound.Memory) (kinds operands : List ℕ) wher
 
       accepted-by : Accepted s ws
       accepted-by =
-          let stored = passed-both (bound.bound-verdict s ws old) (plan-verdict (block-job s) (weight-in ws) kinds operands) (reported .0) in
+          let stored = passed-both (bound.bound-verdict s ws old) (nodes-verdict (block-job s) (weight-in ws) kinds operands) (reported .0) in
           passed-both (bound.accept-verdict s ws) (first-refusal (bound.memory-checks (block-job s) (weight-in ws) old)) (stored .0) .0
 
     plan-kept : PlanWritten s ws kinds operands new-kinds new-operands r
@@ -75,7 +75,7 @@ module _ (s ws : List ℕ) (old : bound.Memory) (kinds operands : List ℕ) wher
 
   -- what a verdict before the storage's checks leads to
   abbrev after : Checked → Checked
-  after v = next (next v (first-refusal (bound.memory-checks (block-job s) (weight-in ws) old))) (plan-verdict (block-job s) (weight-in ws) kinds operands)
+  after v = next (next v (first-refusal (bound.memory-checks (block-job s) (weight-in ws) old))) (nodes-verdict (block-job s) (weight-in ws) kinds operands)
 
   -- the job or its weights are refused: nothing is changed
   pub unaccepted : {x : Refusal} → bound.accept-verdict s ws ≡ Refused x → Promised s ws old old kinds operands kinds operands (answer.Refused x)
@@ -96,6 +96,6 @@ pub written-fits : (s ws : List ℕ) (m : bound.Memory) (kinds operands : List �
     → (report .nodes ≤ 4095) × (report .nodes ≤ length kinds) × (report .nodes ≤ length operands)
 written-fits s ws m kinds operands e f =
     let w = written-by (write-verdict s ws m kinds operands) (write-report (block-job s) (weight-in ws)) (sym f ∙ e) in
-    let v = passed-both (bound.bound-verdict s ws m) (plan-verdict (block-job s) (weight-in ws) kinds operands) (w .0) in
+    let v = passed-both (bound.bound-verdict s ws m) (nodes-verdict (block-job s) (weight-in ws) kinds operands) (w .0) in
     let check = plan-check (block-plan s ws) (length kinds) (length operands) in
     rw (w .1) (none-long (node-count (block-plan s ws)) (length kinds) (length operands) (cons-passed (check .0) (check .1) [] (v .1) .0))

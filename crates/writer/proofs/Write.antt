@@ -33,7 +33,7 @@ use Rattle.choice.specs.Choice.{ChoiceInput}
 use Rattle.writer.specs.declared.WriteReport.{WriteReport}
 use Rattle.writer.specs.declared.WriteAnswer.{WriteAnswer}
 use Rattle.writer.specs.declared.WriteAnswer.the-variants as answer
-use Rattle.writer.specs.Write.{plan-verdict}
+use Rattle.writer.specs.Write.{nodes-verdict}
 use Rattle.writer.specs.Contracts.{NodesListed, Copyable, table-of, reported, room-verdict, Planned}
 use Rattle.writer.proofs.Listed.{copied-over}
 
@@ -70,12 +70,12 @@ module _ {J : Job} {ws : List ℕ} {q : ℕ} (given : Weighed J ws q) {old new :
   -- the bound is refused: so is the plan
   pub bound-refused : (kinds operands : List ℕ) {r : Refusal} → b ≡ bounded.Refused r → Planned (room-verdict J (weight-in ws) old kinds operands) J (weight-in ws) kinds operands kinds operands (answer.Refused r)
   bound-refused kinds operands {r} e =
-      let v = refused-behind storage (bound.report-of J (weight-in ws)) (sym e ∙ left .answer) in
-      subst (λ v. Planned (next v (plan-verdict J (weight-in ws) kinds operands)) J (weight-in ws) kinds operands kinds operands (answer.Refused r)) (sym v) (untouched J (weight-in ws) kinds operands r)
+      let v = refused-behind storage (bound.bound-report J (weight-in ws)) (sym e ∙ left .answer) in
+      subst (λ v. Planned (next v (nodes-verdict J (weight-in ws) kinds operands)) J (weight-in ws) kinds operands kinds operands (answer.Refused r)) (sym v) (untouched J (weight-in ws) kinds operands r)
 
   module _ {report : BoundReport} (e : b ≡ bounded.Answered report) where
-    behind : (storage ≡ Passed) × (report ≡ bound.report-of J (weight-in ws))
-    behind = answered-behind storage (bound.report-of J (weight-in ws)) (sym e ∙ left .answer)
+    behind : (storage ≡ Passed) × (report ≡ bound.bound-report J (weight-in ws))
+    behind = answered-behind storage (bound.bound-report J (weight-in ws)) (sym e ∙ left .answer)
 
     -- what the choice reads is there
     pub choice-input : ChoiceInput J ws (table-of report) (new .lengths) (new .widths) floors (new .table)
@@ -107,27 +107,27 @@ module _ {J : Job} {ws : List ℕ} {q : ℕ} (given : Weighed J ws q) {old new :
         }
 
     -- what planning asks
-    pub plan-ready : ChoiceInput J ws (table-of report) (new .lengths) (new .widths) floors (new .table) × (report ≡ bound.report-of J (weight-in ws))
+    pub plan-ready : ChoiceInput J ws (table-of report) (new .lengths) (new .widths) floors (new .table) × (report ≡ bound.bound-report J (weight-in ws))
     plan-ready = (choice-input, behind .1)
 
     -- check 21 alone is left
-    pub plan-made : {kinds operands new-kinds new-operands : List ℕ} {r : WriteAnswer} → Planned (plan-verdict J (weight-in ws) kinds operands) J (weight-in ws) kinds operands new-kinds new-operands r
+    pub plan-made : {kinds operands new-kinds new-operands : List ℕ} {r : WriteAnswer} → Planned (nodes-verdict J (weight-in ws) kinds operands) J (weight-in ws) kinds operands new-kinds new-operands r
         → Planned (room-verdict J (weight-in ws) old kinds operands) J (weight-in ws) kinds operands new-kinds new-operands r
     plan-made {kinds} {operands} {new-kinds} {new-operands} {r} p =
-        subst (λ v. Planned (next v (plan-verdict J (weight-in ws) kinds operands)) J (weight-in ws) kinds operands new-kinds new-operands r) (sym (behind .0)) p
+        subst (λ v. Planned (next v (nodes-verdict J (weight-in ws) kinds operands)) J (weight-in ws) kinds operands new-kinds new-operands r) (sym (behind .0)) p
 
 -- the plan by the number of its nodes
-module _ (J : Job) (weight : ℕ → ℕ) {report : BoundReport} (e : report ≡ bound.report-of J weight) where
+module _ (J : Job) (weight : ℕ → ℕ) {report : BoundReport} (e : report ≡ bound.bound-report J weight) where
   pub capacity-is : report .capacity ≡ capacity J weight
   capacity-is = ap (λ b. b .capacity) e
 
   module _ (kinds operands : List ℕ) {blank-kinds blank-operands listed-kinds listed-operands : List ℕ} {nodes : ℕ} (l : NodesListed (bound-plan J weight) blank-kinds blank-operands listed-kinds listed-operands nodes)
       {long : Bool} (t : long ≡ (ltb 4095 nodes || ltb (length kinds) nodes) || ltb (length operands) nodes) where
-    verdict : (b : Bool) → long ≡ b → plan-verdict J weight kinds operands ≡ first-refusal ((b, PlanLong nodes) ∷ [])
+    verdict : (b : Bool) → long ≡ b → nodes-verdict J weight kinds operands ≡ first-refusal ((b, PlanLong nodes) ∷ [])
     verdict b h = rw (sym (l .number)) (ap (λ x. first-refusal ((x, PlanLong nodes) ∷ [])) (sym t ∙ h))
 
     -- it is too long: refusal 21 with the nodes needed
-    pub plan-refused : long ≡ true → Planned (plan-verdict J weight kinds operands) J weight kinds operands kinds operands (answer.Refused (PlanLong nodes))
+    pub plan-refused : long ≡ true → Planned (nodes-verdict J weight kinds operands) J weight kinds operands kinds operands (answer.Refused (PlanLong nodes))
     unfolding first-refusal
     plan-refused h = subst (λ v. Planned v J weight kinds operands kinds operands (answer.Refused (PlanLong nodes))) (sym (verdict true h)) (untouched J weight kinds operands (PlanLong nodes))
 
@@ -144,7 +144,7 @@ module _ (J : Job) (weight : ℕ → ℕ) {report : BoundReport} (e : report ≡
 
       -- then the plan stands over the arrays' first entries, and is reported
       pub plan-written : {written : WriteReport} {new-kinds new-operands : List ℕ} → written ≡ reported report nodes → new-kinds ≡ paste kinds 0 listed-kinds nodes → new-operands ≡ paste operands 0 listed-operands nodes
-          → Planned (plan-verdict J weight kinds operands) J weight kinds operands new-kinds new-operands (answer.Written written)
+          → Planned (nodes-verdict J weight kinds operands) J weight kinds operands new-kinds new-operands (answer.Written written)
       unfolding first-refusal kinds-of operands-of node-count
       plan-written {written} {new-kinds} {new-operands} w p o =
           let T = bound-plan J weight in

@@ -19,7 +19,7 @@ use Rattle.choice.specs.Choice.{Inside}
 use Rattle.writer.specs.declared.nodes.Step.{Step}
 use Rattle.writer.specs.declared.WriteReport.{WriteReport}
 use Rattle.writer.specs.declared.WriteAnswer.{WriteAnswer}
-use Rattle.writer.specs.Write.{write-report, write-answer-by, plan-verdict}
+use Rattle.writer.specs.Write.{write-report, write-answer-by, nodes-verdict}
 
 -- the cell at place i: its length, width and share
 abbrev pub cell-at : List ℕ → ℕ → Cell
@@ -72,7 +72,7 @@ reported b n = record { bound = b .bound; capacity = b .capacity; «length_count
 
 -- the verdict of the checks that an accepted job is left to: 19, 20, then 21
 abbrev pub room-verdict : Job → (ℕ → ℕ) → Memory → List ℕ → List ℕ → Checked
-room-verdict J weight m kinds operands = next (first-refusal (memory-checks J weight m)) (plan-verdict J weight kinds operands)
+room-verdict J weight m kinds operands = next (first-refusal (memory-checks J weight m)) (nodes-verdict J weight kinds operands)
 
 -- what a verdict makes of the answer, and of the plan arrays: the plan over their old contents, or as they were
 pub record Planned (v : Checked) (J : Job) (weight : ℕ → ℕ) (kinds operands new-kinds new-operands : List ℕ) (r : WriteAnswer) : Type 0 where

@@ -50,8 +50,8 @@ write-outcome (answer.Written b) = (0, write-values b)
 write-outcome (answer.Refused r) = refused-as r
 
 -- the verdict of check 21 over the two plan arrays
-abbrev pub plan-verdict : Job → (ℕ → ℕ) → List ℕ → List ℕ → Checked
-plan-verdict J weight kinds operands = first-refusal (plan-check (bound-plan J weight) (length kinds) (length operands) ∷ [])
+abbrev pub nodes-verdict : Job → (ℕ → ℕ) → List ℕ → List ℕ → Checked
+nodes-verdict J weight kinds operands = first-refusal (plan-check (bound-plan J weight) (length kinds) (length operands) ∷ [])
 
 -- the plan behind the bound of a job block and weights
 abbrev pub block-plan : List ℕ → List ℕ → Tree ℕ
@@ -59,7 +59,7 @@ block-plan s ws = bound-plan (block-job s) (weight-in ws)
 
 -- the verdict of the writing call: 1 to 9, 19, 20, then 21
 abbrev pub write-verdict : List ℕ → List ℕ → Memory → List ℕ → List ℕ → Checked
-write-verdict s ws m kinds operands = next (bound-verdict s ws m) (plan-verdict (block-job s) (weight-in ws) kinds operands)
+write-verdict s ws m kinds operands = next (bound-verdict s ws m) (nodes-verdict (block-job s) (weight-in ws) kinds operands)
 
 -- what the writing call answers
 abbrev pub write-answer : List ℕ → List ℕ → Memory → List ℕ → List ℕ → WriteAnswer

@@ -17,11 +17,11 @@ ghost use Rattle.cutting.specs.Preorder.{kinds-of, operands-of};
 ghost use Rattle.job.specs.Block.{job-of};
 ghost use Rattle.job.specs.Weights.{block-job, weight-in};
 ghost use Rattle.refusal.specs.declared.Checked.the-variants.{Passed};
-ghost use Rattle.bound.specs.Bound.{report-of, lent, Leaves, accept-verdict};
+ghost use Rattle.bound.specs.Bound.{bound-report, lent, Leaves, accept-verdict};
 ghost use Rattle.bound.specs.Contracts.{Weighed};
 ghost use Rattle.choice.specs.Choice.{ChoiceInput};
 ghost use Rattle.writer.specs.Contracts.{table-of, reported, room-verdict, Planned};
-ghost use Rattle.writer.specs.Write.{plan-verdict, block-plan, write-answer, write-outcome, write-said, array-after, PlanChosen, PlanWritten, BoundWritten};
+ghost use Rattle.writer.specs.Write.{nodes-verdict, block-plan, write-answer, write-outcome, write-said, array-after, PlanChosen, PlanWritten, BoundWritten};
 
 // What the writing call reports: what the bound call does, and the number of the plan's nodes.
 pub struct WriteReport {
@@ -76,8 +76,8 @@ fn plan_of_job(
     kinds: &mut [u8],
     operands: &mut [u16],
 ) -> WriteAnswer
-    requires { ⌜ ChoiceInput (job-of job) (now weights) (table-of report) (now «normal_lengths») (now «normal_widths») (now floors) (now table) × (report ≡ report-of (job-of job) (weight-in (now weights))) ⌝ }
-    ensures { λ r. ⌜ Planned (plan-verdict (job-of job) (weight-in (now (weights .entry))) (now (kinds .entry)) (now (operands .entry))) (job-of job) (weight-in (now (weights .entry)))
+    requires { ⌜ ChoiceInput (job-of job) (now weights) (table-of report) (now «normal_lengths») (now «normal_widths») (now floors) (now table) × (report ≡ bound-report (job-of job) (weight-in (now weights))) ⌝ }
+    ensures { λ r. ⌜ Planned (nodes-verdict (job-of job) (weight-in (now (weights .entry))) (now (kinds .entry)) (now (operands .entry))) (job-of job) (weight-in (now (weights .entry)))
         (now (kinds .entry)) (now (operands .entry)) (now (kinds .exit)) (now (operands .exit)) r ⌝ }
 {
     let g = Dimensions {

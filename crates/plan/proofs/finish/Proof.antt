@@ -1,7 +1,7 @@
 -- `plan::finish` meets its contract: 17 where a rectangle waits, and else the report.
 use mathlib.Core.Path.{_∙_}
 use borrow.Author.Needs.{needs}
-use Rattle.plan.specs.Plan.{report-of}
+use Rattle.plan.specs.Plan.{plan-report}
 use Rattle.plan.proofs.Walk.{missing, filled}
 use Rattle.plan.proofs.finish.Statement.{statement}
 use Rattle.plan.proofs.finish.Tie as tie
@@ -11,10 +11,10 @@ without-report-requires c κs = search needs
 
 returns : tie.Need-returns
 returns c = let a = c .before .before .args in
-    λ J lengths widths. c .without-report .ensures ∙ missing J (a .k) lengths widths (report-of (a .t) (a .copies)) (a .n) (c .before .if1 .taken)
+    λ J lengths widths. c .without-report .ensures ∙ missing J (a .k) lengths widths (plan-report (a .t) (a .copies)) (a .n) (c .before .if1 .taken)
 
 returns-2 : tie.Need-returns-2
-returns-2 c = let a = c .before .args in λ J lengths widths. filled J (a .k) lengths widths (report-of (a .t) (a .copies)) (a .n) (c .if1 .left)
+returns-2 c = let a = c .before .args in λ J lengths widths. filled J (a .k) lengths widths (plan-report (a .t) (a .copies)) (a .n) (c .if1 .left)
 
 pub finish-spec : {M : Type 1} → statement M
 finish-spec = tie.close (tie.spec without-report-requires returns returns-2)
