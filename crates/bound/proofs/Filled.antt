@@ -16,9 +16,9 @@ use Rattle.positions.proofs.Lists.{holds-take, holds-length}
 use Rattle.positions.proofs.Fitting.{lengths-found, widths-found}
 use Rattle.positions.proofs.Positions.{positions-rising, floors-found}
 use Rattle.table.specs.Table.{words-needed}
-use Rattle.table.specs.Contracts.{kinds-job, Mapped, Positions}
-use Rattle.bound.specs.declared.TableSize.{TableSize}
-use Rattle.bound.specs.Contracts.{SidesMapped, BothMapped, Fillable, FilledBy, Weighed}
+use Rattle.table.specs.declared.TableSize.{TableSize}
+use Rattle.table.specs.Contracts.{kinds-job, Mapped, Positions, Fillable, FilledBy}
+use Rattle.bound.specs.Contracts.{SidesMapped, BothMapped, Weighed}
 
 side-most : (J : Job) → InRange J → (d : Direction) → side d (J .plate) ≤ 1000
 side-most J h Length = h .plate-length .1
@@ -95,11 +95,11 @@ module _ (j : JobRecord) where
         let most = given .in-range in
         record {
           in-range = bare-in-range (given .in-range);
-          weights = given .weights;
+          weighed = given .weights;
           most = given .most;
           floors-there = m .entries;
-          lengths-are = bare-positions Length a floors (omega (arith, most .plate-length .1, m .entries)) (both .lengths);
-          widths-are = bare-positions Width b (drop 1001 floors) (omega (arith, most .plate-width .1, m .entries, length-drop 1001 floors)) (both .widths);
+          lengths = bare-positions Length a floors (omega (arith, most .plate-length .1, m .entries)) (both .lengths);
+          widths = bare-positions Width b (drop 1001 floors) (omega (arith, most .plate-width .1, m .entries, length-drop 1001 floors)) (both .widths);
           room = room;
         }
 

@@ -4,14 +4,11 @@ use mathlib.Core.List.{List, _++_}
 use Prim.Native.Nat.{ℕ, _+_, _-_, _≤_, _<_}
 use native.Mathlib.Omega.{arith}
 use lib.ListN.{length, take, drop, length-drop, length-append, List·getD-append}
-use lib.Seq.{length-take-le, take-all, take-append-seam, drop-append-seam}
+use lib.Seq.{length-take-le, take-append-seam, drop-append-seam}
 use Rattle.positions.specs.Contracts.{Floors}
-use Rattle.bound.specs.declared.TableSize.{TableSize}
+use Rattle.table.specs.declared.TableSize.{TableSize}
+use Rattle.table.proofs.Words.{second-floors}
 use Rattle.bound.specs.Contracts.{SidesMapped}
-
--- the second part goes to the array's end
-pub to-end : (xs : List ℕ) → take (length xs - 1001) (drop 1001 xs) ≡ drop 1001 xs
-to-end xs = take-all (length xs - 1001) (drop 1001 xs) (omega (arith, length-drop 1001 xs))
 
 module _ (xs : List ℕ) (e : length xs ≡ 2002) where
   -- either part has 1,001 entries
@@ -19,7 +16,7 @@ module _ (xs : List ℕ) (e : length xs ≡ 2002) where
   first-part = length-take-le 1001 xs (omega (arith, e))
 
   pub second-part : length (take (length xs - 1001) (drop 1001 xs)) ≡ 1001
-  second-part = ap length (to-end xs) ∙ omega (arith, e, length-drop 1001 xs)
+  second-part = ap length (second-floors xs) ∙ omega (arith, e, length-drop 1001 xs)
 
 floors-front : (list : List ℕ) (n m : ℕ) (xs ys : List ℕ) → m ≤ length xs → Floors list n m xs → Floors list n m (xs ++ ys)
 floors-front list n m xs ys h f x l = rw (List·getD-append xs ys 0 x (omega arith)) (f x l)

@@ -15,10 +15,11 @@ use Rattle.refusal.specs.declared.Checked.the-variants.{Passed, Refused}
 use Rattle.refusal.specs.declared.Refusal.{Refusal}
 use Rattle.refusal.specs.declared.Refusal.the-variants.{ListShort, TableShort}
 use Rattle.table.specs.Table.{words-needed}
+use Rattle.table.specs.Contracts.{FilledBy}
 use Rattle.bound.specs.Bound.{Memory, Leaves, list-check, list-after, TableAfter, memory-checks, answer-by, bound-report}
 use Rattle.bound.specs.declared.BoundAnswer.the-variants as answer
 use Rattle.bound.specs.declared.BoundReport.{BoundReport}
-use Rattle.bound.specs.Contracts.{BothMapped, FilledBy, Bounded}
+use Rattle.bound.specs.Contracts.{BothMapped, Bounded}
 
 -- none of two tests passes
 or-false : (a b : Bool) → (a || b) ≡ false → (a ≡ false) × (b ≡ false)

@@ -1,4 +1,4 @@
--- What only the inner contracts of the bound call cite: what the bound of an accepted job asks and leaves, and what the table's fill does.
+-- What only the inner contracts of the bound call cite: what the bound of an accepted job asks and leaves, and the floors of both sides in one array.
 use mathlib.Core.Path.{_≡_}
 use mathlib.Core.List.{List}
 use Prim.Native.Nat.{ℕ, _+_, _≤_}
@@ -9,9 +9,8 @@ use Rattle.refusal.specs.Refusals.{first-refusal}
 use Rattle.refusal.specs.declared.Checked.the-variants.{Passed}
 use Rattle.job.specs.Weights.{weight-in}
 use Rattle.positions.specs.Contracts.{Floors}
-use Rattle.table.specs.Table.{words-needed, Figures, Kept}
-use Rattle.table.specs.Contracts.{kinds-job, Mapped, Positions}
-use Rattle.bound.specs.declared.TableSize.{TableSize}
+use Rattle.table.specs.declared.TableSize.{TableSize}
+use Rattle.table.specs.Contracts.{Mapped}
 use Rattle.bound.specs.declared.BoundReport.{BoundReport}
 use Rattle.bound.specs.declared.BoundAnswer.{BoundAnswer}
 use Rattle.bound.specs.declared.BoundAnswer.the-variants.{Answered}
@@ -19,34 +18,16 @@ use Rattle.bound.specs.Bound.{Memory, Leaves, memory-checks, answer-by, 
 
 -- an array maps every length and every width of the plate to the last entry of a list that is not above it: the lengths first, the
 -- widths from entry 1,001 on
-pub record SidesMapped (g : TableSize) (lengths widths floors : List ℕ) : Type 0 where
+pub record SidesMapped (size : TableSize) (normal-lengths normal-widths floors : List ℕ) : Type 0 where
   pub entries : length floors ≡ 2002
-  pub lengths-mapped : Floors lengths (g .rows) (g .length + 1) floors
-  pub widths-mapped : Floors widths (g .columns) (g .width + 1) (drop 1001 floors)
+  pub lengths-mapped : Floors normal-lengths (size .rows) (size .length + 1) floors
+  pub widths-mapped : Floors normal-widths (size .columns) (size .width + 1) (drop 1001 floors)
 
 -- one array has the floors of both sides: those of the lengths first, those of the widths from entry 1,001 on
 pub record BothMapped (J : Job) (floors : List ℕ) : Type 0 where
   pub entries : length floors ≡ 2002
   pub lengths : Mapped J Length floors
   pub widths : Mapped J Width (drop 1001 floors)
-
--- the job of a plate and of the arrays of its kinds
-abbrev pub size-job : TableSize → List ℕ → List ℕ → List ℕ → Job
-size-job g lengths widths prices = kinds-job (g .length) (g .width) (g .count) lengths widths prices
-
--- what the fill asks: a job in range, a weight for each of its kinds, the normal positions and floors of both sides, and a table with room
-pub record Fillable (J : Job) (ws : List ℕ) (g : TableSize) (lengths widths floors table : List ℕ) : Type 0 where
-  pub in-range : InRange J
-  pub weights : J .count ≤ length ws
-  pub most : g .capacity ≤ 4095
-  pub floors-there : length floors ≡ 2002
-  pub lengths-are : Positions J Length (g .rows) lengths floors
-  pub widths-are : Positions J Width (g .columns) widths (drop 1001 floors)
-  pub room : words-needed J (g .capacity) ≤ length table
-
--- what the fill leaves: the figures, and later words as they were
-abbrev pub FilledBy : Job → (ℕ → ℕ) → ℕ → List ℕ → List ℕ → Type 0
-FilledBy J weight q old new = Figures J weight q new × Kept (words-needed J q) old new
 
 -- a job that was read, and weights that were accepted for it with the capacity q
 pub record Weighed (J : Job) (ws : List ℕ) (q : ℕ) : Type 0 where

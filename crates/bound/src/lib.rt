@@ -5,7 +5,7 @@ use positions::map_floors;
 use positions::normal_positions;
 use refusal::Checked;
 use refusal::Refusal;
-use table::Extents;
+use table::TableSize;
 ghost use mathlib.Core.Path.{_≡_};
 ghost use mathlib.Core.Bool.{_||_};
 ghost use Prim.Native.Nat.{_+_, _*_, _≤_};
@@ -16,7 +16,8 @@ ghost use Rattle.job.specs.Block.{job-of};
 ghost use Rattle.job.specs.Weights.{block-job, weight-in, Accepted};
 ghost use Rattle.bound.specs.Bound.{lent, Leaves, accept-verdict, bound-answer, bound-outcome, bound-said, BoundSaid};
 ghost use Rattle.positions.specs.Contracts.{Mappable};
-ghost use Rattle.bound.specs.Contracts.{SidesMapped, size-job, Fillable, FilledBy, Weighed, Bounded};
+ghost use Rattle.table.specs.Contracts.{size-job, each, Fillable, FilledBy};
+ghost use Rattle.bound.specs.Contracts.{SidesMapped, Weighed, Bounded};
 
 // What the bound call reports: the bound, the capacity Q, and the numbers p and r of normal lengths and widths.
 pub struct BoundReport {
@@ -30,16 +31,6 @@ pub struct BoundReport {
 pub enum BoundAnswer {
     Answered(BoundReport),
     Refused(Refusal),
-}
-
-// What a table is made for: the plate's sides, the number of kinds, p rows and r columns of cells, and the capacity Q.
-pub struct TableSize {
-    pub length: u16,
-    pub width: u16,
-    pub count: u16,
-    pub rows: u16,
-    pub columns: u16,
-    pub capacity: u16,
 }
 
 // The words that a table needs.
@@ -76,51 +67,37 @@ fn fill_table<'a>(
     kind_widths: &'a [u16; 64],
     prices: &'a [u32; 64],
     weights: &[u8],
-    lengths: &[u16],
-    widths: &[u16],
+    normal_lengths: &[u16],
+    normal_widths: &[u16],
     floors: &[u16],
     table: &mut [u64],
 )
-    requires { ⌜ Fillable (size-job size (now «kind_lengths») (now «kind_widths») (now prices)) (now weights) size (now lengths) (now widths) (now floors) (now table) ⌝ }
-    ensures { λ _. ⌜ FilledBy (size-job size (now («kind_lengths» .entry)) (now («kind_widths» .entry)) (now (prices .entry))) (weight-in (now (weights .entry))) (size .capacity) (now (table .entry)) (now (table .exit)) ⌝ }
+    requires { ⌜ Fillable (size-job size (now «kind_lengths») (now «kind_widths») (now prices)) (now weights) size (now «normal_lengths») (now «normal_widths») (now floors) (now table) ⌝ }
+    ensures { λ _. ⌜ FilledBy (size-job size (now («kind_lengths» .entry)) (now («kind_widths» .entry)) (now (prices .entry))) (each (now (weights .entry))) (size .capacity) (now (table .entry)) (now (table .exit)) ⌝ }
 {
     if size.capacity == 0 {
-        let extents = Extents {
-            length: size.length,
-            width: size.width,
-            count: size.count,
-            length_count: size.rows,
-            columns: size.columns,
-        };
         row_fill::fill(
-            extents,
+            size,
             kind_lengths,
             kind_widths,
             prices,
             weights,
-            lengths,
+            normal_lengths,
+            normal_widths,
             floors,
-            widths,
             table,
         );
         return;
     }
-    let width_floors = &floors[1001..];
     state_fill::fill_weighed(
-        size.length,
-        size.width,
+        size,
         kind_lengths,
         kind_widths,
         prices,
         weights,
-        size.count,
-        lengths,
+        normal_lengths,
+        normal_widths,
         floors,
-        size.rows,
-        widths,
-        width_floors,
-        size.columns,
-        size.capacity,
         table,
     );
 }

@@ -7,24 +7,24 @@ use native.Mathlib.Nat.{mul-le-mul-right}
 use native.Mathlib.Decide.{ℕ-discrete, decLe}
 use native.Mathlib.Omega.{arith}
 use lib.Dec.{T, leb, leb→le, le→leb}
-use lib.ListN.{length, getD, replicate, length-replicate, getD-replicate, List·getD-eq-default}
+use lib.ListN.{length, getD, drop, replicate, length-replicate, getD-replicate, List·getD-eq-default}
 use Rattle.cutting.specs.declared.Direction.{Direction}
 use Rattle.cutting.specs.declared.Direction.the-variants.{Length, Width}
 use Rattle.cutting.specs.Tree.{side}
 use Rattle.cutting.specs.Job.{Job, InRange, figure-of}
 use Rattle.cutting.proofs.Table.{positions-first, positions-some, positions-length}
+use Rattle.table.specs.declared.TableSize.{TableSize}
 use Rattle.table.specs.Table.{words-needed, Figures, Kept}
-use Rattle.table.specs.Contracts.{Positions}
-use Rattle.table.specs.Words.{Outside, Run, Half, remainder, Axis}
+use Rattle.table.specs.Contracts.{each, Positions, Fillable, FilledBy}
+use Rattle.table.specs.Words.{Outside, Run, HalfReady, Half, remainder, Axis}
 use Rattle.table.specs.States.{Covers, figure-at}
 use Rattle.table.proofs.Words.{cell-before, words-past}
-use Rattle.table.proofs.Halves.{half-below, half-more, half-cuts, half-parts, half-next}
-use Rattle.table.proofs.Figures.{entry-is, entry-side, positions-axis, floors-exist}
+use Rattle.table.proofs.Halves.{half-below, half-more, half-cuts, half-parts, half-ready, half-next}
+use Rattle.table.proofs.Figures.{entry-is, entry-side, positions-axis}
 use Rattle.table.proofs.Weighed.{plain-order, figure-one}
 use Rattle.table.proofs.Across.{across, no-side, two-parts, more-side, kind-most, state-low}
 use Rattle.table.proofs.Complete.{side-covered, complete}
-use Rattle.row_fill.specs.Fill.{FillLent}
-use Rattle.row_fill.specs.Raised.{Kind, Kinds, each}
+use Rattle.row_fill.specs.Raised.{Kind, Kinds}
 use Rattle.row_fill.specs.Rows.{Entries, LengthsTaken, WidthsTaken, Rows}
 use Rattle.row_fill.specs.Ready.{ceiling, Capped, LengthsReady, RowReady}
 
@@ -99,30 +99,34 @@ pub record Filling (J : Job) (weight : ℕ → ℕ) (length-count : ℕ) (normal
   pub rows : Rows J weight normal-lengths normal-widths columns a table
   pub kept : (i : ℕ) → length-count * columns ≤ i → getD table i 0 ≡ getD old i 0
 
-module _ {J : Job} {weights : List ℕ} {length-count : ℕ} {normal-lengths length-floors : List ℕ} {columns : ℕ} {normal-widths lent : List ℕ}
-    (given : FillLent J weights length-count normal-lengths length-floors columns normal-widths lent) where
+module _ {J : Job} {weights : List ℕ} {size : TableSize} {normal-lengths normal-widths floors lent : List ℕ} (asked : Fillable J weights size normal-lengths normal-widths floors lent × (size .capacity ≡ 0)) where
+  abbrev given : Fillable J weights size normal-lengths normal-widths floors lent
+  given = asked .0
+
+  abbrev length-count : ℕ
+  length-count = size .rows
+
+  abbrev columns : ℕ
+  columns = size .columns
+
   fit : InRange J
-  fit = given .range
+  fit = given .in-range
 
   abbrev weight : ℕ → ℕ
   weight = each weights
 
   -- the floors of the normal widths, which the code does not read
-  width-floors : List ℕ
-  width-floors = floors-exist J Width columns normal-widths (given .widths) .0
+  abbrev width-floors : List ℕ
+  width-floors = drop 1001 floors
 
-  widths : Positions J Width columns normal-widths width-floors
-  unfolding width-floors
-  widths = floors-exist J Width columns normal-widths (given .widths) .1
-
-  length-axis : Axis normal-lengths length-floors length-count
-  length-axis = positions-axis J Length length-count normal-lengths length-floors fit (given .lengths)
+  length-axis : Axis normal-lengths floors length-count
+  length-axis = positions-axis J Length length-count normal-lengths floors fit (given .lengths)
 
   width-axis : Axis normal-widths width-floors columns
-  width-axis = positions-axis J Width columns normal-widths width-floors fit widths
+  width-axis = positions-axis J Width columns normal-widths width-floors fit (given .widths)
 
   pub width-entries : Entries normal-widths columns (J .plate .1)
-  width-entries = positions-entries J weight fit Width columns normal-widths width-floors widths
+  width-entries = positions-entries J weight fit Width columns normal-widths width-floors (given .widths)
 
   -- the figure of entry i of the lengths and entry b of the widths, with no share
   abbrev cell : ℕ → ℕ → ℕ
@@ -148,7 +152,7 @@ module _ {J : Job} {weights : List ℕ} {length-count : ℕ} {normal-lengths len
   first-row = omega (arith, cell-before 0 length-count columns some-rows)
 
   pub all-room : length-count * columns ≤ length lent
-  all-room = omega (arith, words-are, given .room)
+  all-room = omega (arith, words-are, rw (asked .1) at (given .room))
 
   -- the row of length 0
   pub fill-none : {old new unit : List ℕ} → Run (λ j. 0) 0 columns old new → length unit ≡ 1001 → Capped unit → Filling J weight length-count normal-lengths columns normal-widths 1 columns 1 unit new new
@@ -169,23 +173,27 @@ module _ {J : Job} {weights : List ℕ} {length-count : ℕ} {normal-lengths len
       first : (i b : ℕ) → i ≡ 0 → b < columns → getD new (i * columns + b) 0 ≡ cell i b
       first i b z l =
           let e : 0 + b ≡ i * columns + b = rw z (omega arith) in
-          let f : getD normal-lengths i 0 ≡ 0 = rw z (positions-entries J weight fit Length length-count normal-lengths length-floors (given .lengths) .first) in
+          let f : getD normal-lengths i 0 ≡ 0 = rw z (positions-entries J weight fit Length length-count normal-lengths floors (given .lengths) .first) in
           rw e at (cleared .here b l) ∙ sym (rw f (no-side J leb weight plain-order fit Length (getD normal-widths b 0) 0))
 
   -- all rows are the table
-  pub fill-all : {a start half-end : ℕ} {unit old table : List ℕ} → Filling J weight length-count normal-lengths columns normal-widths a start half-end unit old table → length-count ≤ a → Figures J weight 0 table
+  fill-all : {a start half-end : ℕ} {unit old table : List ℕ} → Filling J weight length-count normal-lengths columns normal-widths a start half-end unit old table → length-count ≤ a → Figures J weight 0 table
   fill-all fill end a b c h l m =
       let i : a < length-count = omega (arith, given .lengths .counted) in
       let j : b < columns = omega (arith, given .widths .counted) in
       let z : c ≡ 0 = omega arith in
       let e : a * columns + b ≡ (a * columns + b) * (0 + 1) + 0 = omega arith in
       rw (z, ← given .widths .counted) (rw e at (fill .rows a b (omega arith) j) ∙ (figure-one J weight (getD normal-lengths a 0) (getD normal-widths b 0) 0
-      ∙ ap₂ (λ u v. figure-of J weight u v 0) (entry-is J Length length-count normal-lengths length-floors fit (given .lengths) a i) (entry-is J Width columns normal-widths width-floors fit widths b j)))
+      ∙ ap₂ (λ u v. figure-of J weight u v 0) (entry-is J Length length-count normal-lengths floors fit (given .lengths) a i) (entry-is J Width columns normal-widths width-floors fit (given .widths) b j)))
 
-  pub fill-kept : {a start half-end : ℕ} {unit mid table : List ℕ} → Filling J weight length-count normal-lengths columns normal-widths a start half-end unit mid table → length mid ≡ length lent
+  fill-kept : {a start half-end : ℕ} {unit mid table : List ℕ} → Filling J weight length-count normal-lengths columns normal-widths a start half-end unit mid table → length mid ≡ length lent
       → Run (λ j. 0) 0 columns lent mid → Kept (words-needed J 0) lent table
   fill-kept {mid = mid} {table = table} fill same cleared = words-past (words-needed J 0) lent table (fill .same ∙ same)
       (λ i h. fill .kept i (omega (arith, words-are)) ∙ cleared .rest .after i (omega (arith, words-are, first-row)))
+
+  pub filled : {a start half-end : ℕ} {unit mid table : List ℕ} → Filling J weight length-count normal-lengths columns normal-widths a start half-end unit mid table → length-count ≤ a → length mid ≡ length lent
+      → Run (λ j. 0) 0 columns lent mid → FilledBy J weight (size .capacity) lent table
+  filled fill end same cleared = rw (asked .1) (fill-all fill end, fill-kept fill same cleared)
 
   -- row a
   module _ {a start from : ℕ} {unit old t0 : List ℕ} (fill : Filling J weight length-count normal-lengths columns normal-widths a start from unit old t0) (ha : a < length-count) where
@@ -196,20 +204,19 @@ module _ {J : Job} {weights : List ℕ} {length-count : ℕ} {normal-lengths len
     end-few = omega (arith, row-end, mul-le-mul-right {m = length-count} {n = 1001} columns few-rows, few-columns)
 
     -- what the search for the half asks
-    pub half-ready : (1 ≤ from) × (from ≤ a) × (a < length normal-lengths) × (0 < getD normal-lengths a 0)
-        × ((i : ℕ) → 1 ≤ i → i < from → 2 * getD normal-lengths i 0 ≤ getD normal-lengths a 0)
-    half-ready = (fill .half-from, fill .half-to, omega (arith, length-axis .listed), omega (arith, length-axis .rise 0 a (fill .from) ha), λ i l m. fill .halves i l m ha)
+    pub row-half : HalfReady normal-lengths from a
+    row-half = half-ready normal-lengths floors length-count length-axis from a (fill .half-from) (fill .half-to) ha (fill .halves)
 
     module _ {half-end : ℕ} (half : Half normal-lengths a half-end) where
-      pub lengths-ready : length old ≡ length lent → LengthsReady normal-lengths length-floors a half-end start columns t0
+      pub lengths-ready : length old ≡ length lent → LengthsReady normal-lengths floors a half-end start columns t0
       lengths-ready same = record {
-        cuts = half-cuts normal-lengths length-floors length-count length-axis a half-end ha half;
+        cuts = half-cuts normal-lengths floors length-count length-axis a half-end ha half;
         place = fill .place;
         room = omega (arith, row-end, all-room, fill .same);
         rows-low = λ i b l m. omega (arith, fill .rows i b l m, cell-low i b (omega arith), width-axis .side b m .0);
       }
 
-      module _ {t1 : List ℕ} (lengths : LengthsTaken normal-lengths length-floors a half-end start columns t0 t1) where
+      module _ {t1 : List ℕ} (lengths : LengthsTaken normal-lengths floors a half-end start columns t0 t1) where
         -- the row before
         above-is : (b : ℕ) → b < columns → getD t0 (start - columns + b) 0 ≡ cell (a - 1) b
         above-is b h =
@@ -222,8 +229,8 @@ module _ {J : Job} {weights : List ℕ} {length-count : ℕ} {normal-lengths len
         cut-low b h = lengths .low b (cell a b) h
             (omega (arith, above-is b h, more-side J leb weight plain-order fit Length (getD normal-widths b 0) (getD normal-lengths (a - 1) 0) (getD normal-lengths a 0) 0 (omega (arith, length-axis .rise (a - 1) a (omega (arith, fill .from)) ha))))
             (λ i l m e.
-            (let j = remainder normal-lengths length-floors a i in
-            let q = half-parts normal-lengths length-floors length-count length-axis a half-end i ha half l m in
+            (let j = remainder normal-lengths floors a i in
+            let q = half-parts normal-lengths floors length-count length-axis a half-end i ha half l m in
             omega (
               arith,
               fill .rows i b (omega (arith, half .most)) h,
@@ -263,7 +270,7 @@ module _ {J : Job} {weights : List ℕ} {length-count : ℕ} {normal-lengths len
             kind-taken i h e f m = taken .taken b (J .price i) hb
                 (record { index = i; inside = h; kind = record { long = e; fits = omega (arith, width-entries .within b hb); light = omega (arith, leb→le (weight i) 0 m); place = sym f; value = refl } })
 
-            length-taken : (i j : ℕ) → 1 ≤ i → i < half-end → j ≡ remainder normal-lengths length-floors a i → j < a → getD normal-lengths i 0 + getD normal-lengths j 0 ≡ getD normal-lengths a 0 → cell i b + cell j b ≤ g
+            length-taken : (i j : ℕ) → 1 ≤ i → i < half-end → j ≡ remainder normal-lengths floors a i → j < a → getD normal-lengths i 0 + getD normal-lengths j 0 ≡ getD normal-lengths a 0 → cell i b + cell j b ≤ g
             length-taken i j l m e h x = omega (
               arith,
               fill .rows i b (omega (arith, half .most)) hb,
@@ -286,9 +293,9 @@ module _ {J : Job} {weights : List ℕ} {length-count : ℕ} {normal-lengths len
                 omega (
                   arith,
                   row-low b hb,
-                  complete J leb weight plain-order fit length-count columns normal-lengths length-floors normal-widths width-floors (given .lengths) widths a b 0 g ha hb above before kind-taken half-end (f .0) half (f .1)
-                      (side-taken J weight fit Length length-count normal-lengths length-floors (given .lengths) (getD normal-widths b 0) a half-end g ha half above (λ i j l m e h n x u. length-taken i j l m e h x))
-                      (side-taken J weight fit Width columns normal-widths width-floors widths (getD normal-lengths a 0) b (f .0) g hb (f .1) before (λ i j l m e h n x u. width-taken i j l h n x u)),
+                  complete J leb weight plain-order fit length-count columns normal-lengths floors normal-widths width-floors (given .lengths) (given .widths) a b 0 g ha hb above before kind-taken half-end (f .0) half (f .1)
+                      (side-taken J weight fit Length length-count normal-lengths floors (given .lengths) (getD normal-widths b 0) a half-end g ha half above (λ i j l m e h n x u. length-taken i j l m e h x))
+                      (side-taken J weight fit Width columns normal-widths width-floors (given .widths) (getD normal-lengths a 0) b (f .0) g hb (f .1) before (λ i j l m e h n x u. width-taken i j l h n x u)),
                 )
 
           row-below : (m b : ℕ) → b < m → b < columns → getD t2 (start + b) 0 ≡ cell a b
@@ -320,7 +327,7 @@ module _ {J : Job} {weights : List ℕ} {length-count : ℕ} {normal-lengths len
             place = omega (arith, fill .place);
             half-from = half .least;
             half-to = omega (arith, half .most);
-            halves = half-next normal-lengths length-floors length-count length-axis a half-end half;
+            halves = half-next normal-lengths floors length-count length-axis a half-end half;
             same = same ∙ fill .same;
             units = units ∙ fill .units;
             capped = capped;

@@ -1,4 +1,3 @@
-pub mod Fill
 pub mod Raised
 pub mod Rows
 pub mod Ready

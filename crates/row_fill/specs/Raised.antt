@@ -46,10 +46,6 @@ pub record Kinds (l w : ℕ) (kind-lengths kind-widths weights prices : ℕ → 
   pub inside : index < count
   pub kind : Kind l w (kind-lengths index) (kind-widths index) (weights index) (prices index) i v
 
--- an array, entry by entry
-abbrev pub each : List ℕ → ℕ → ℕ
-each xs i = getD xs i 0
-
 -- the units past x are offered v together with what the units from `least` to `end` less 1 have
 pub record Pushed (xs : List ℕ) (x least end v i u : ℕ) : Type 0 where
   pub index : ℕ

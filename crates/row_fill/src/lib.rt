@@ -1,7 +1,7 @@
 // The table of figures where the capacity is 0: a cell is one word.
 // A row starts as the row before and takes its length cuts as sums of two earlier rows. Its words are then laid out over the units of
 // the width, where the kinds of exactly its length are placed and each cell that rises over the one before pushes its width cuts.
-use table::Extents;
+use table::TableSize;
 use table::clear;
 use table::copy;
 use table::entry;
@@ -11,11 +11,9 @@ use table::half;
 ghost use mathlib.Core.Path.{_≡_};
 ghost use Prim.Native.Nat.{ℕ, _+_, _-_, _≤_, _<_, min};
 ghost use lib.ListN.{length};
-ghost use Rattle.table.specs.Table.{words-needed, Figures, Kept};
-ghost use Rattle.table.specs.Contracts.{kinds-job};
+ghost use Rattle.table.specs.Contracts.{size-job, each, Fillable, FilledBy};
 ghost use Rattle.table.specs.Words.{Run};
-ghost use Rattle.row_fill.specs.Fill.{FillLent};
-ghost use Rattle.row_fill.specs.Raised.{Raised, Sums, Kind, Kinds, each, Pushed, CellPush};
+ghost use Rattle.row_fill.specs.Raised.{Raised, Sums, Kind, Kinds, Pushed, CellPush};
 ghost use Rattle.row_fill.specs.Rows.{Entries, Spread, LengthsTaken, Widened, WidthsTaken};
 ghost use Rattle.row_fill.specs.Ready.{Capped, SumsReady, LengthsReady, KindsReady, PushReady, CellReady, WidthsReady, RowReady};
 
@@ -227,44 +225,34 @@ fn fill_row(
 
 // The table of a job with one share a cell: its words are the figures, and the rest is as it was. The row of length 0 holds 0.
 pub fn fill(
-    extents: Extents,
+    size: TableSize,
     kind_lengths: &[u16; 64],
     kind_widths: &[u16; 64],
     prices: &[u32; 64],
     weights: &[u8],
     normal_lengths: &[u16],
-    length_floors: &[u16],
     normal_widths: &[u16],
+    floors: &[u16],
     table: &mut [u64],
 )
-    requires { ⌜ FillLent (kinds-job (extents .length) (extents .width) (extents .count) (now «kind_lengths») (now «kind_widths») (now prices)) (now weights)
-        (extents .«length_count») (now «normal_lengths») (now «length_floors») (extents .columns) (now «normal_widths») (now table) ⌝ }
-    ensures { λ _. ⌜ Figures (kinds-job (extents .length) (extents .width) (extents .count) (now («kind_lengths» .entry)) (now («kind_widths» .entry)) (now (prices .entry))) (each (now (weights .entry))) 0 (now (table .exit))
-        × Kept (words-needed (kinds-job (extents .length) (extents .width) (extents .count) (now («kind_lengths» .entry)) (now («kind_widths» .entry)) (now (prices .entry))) 0) (now (table .entry)) (now (table .exit)) ⌝ }
+    requires { ⌜ Fillable (size-job size (now «kind_lengths») (now «kind_widths») (now prices)) (now weights) size (now «normal_lengths») (now «normal_widths») (now floors) (now table) × (size .capacity ≡ 0) ⌝ }
+    ensures { λ _. ⌜ FilledBy (size-job size (now («kind_lengths» .entry)) (now («kind_widths» .entry)) (now (prices .entry))) (each (now (weights .entry))) (size .capacity) (now (table .entry)) (now (table .exit)) ⌝ }
 {
-    let columns = extents.columns as usize;
-    let rows = extents.length_count as usize;
+    let columns = size.columns as usize;
+    let rows = size.rows as usize;
     let mut unit = [0u64; 1001];
     clear(table, 0, columns);
     let mut start = columns;
     let mut half_end: usize = 1;
     for a in 1..rows {
         half_end = half(normal_lengths, half_end, a);
-        cut_lengths(
-            table,
-            normal_lengths,
-            length_floors,
-            a,
-            half_end,
-            start,
-            columns,
-        );
+        cut_lengths(table, normal_lengths, floors, a, half_end, start, columns);
         let row = Row {
             start: start,
             columns: columns,
             length: normal_lengths[a],
-            width: extents.width,
-            count: extents.count,
+            width: size.width,
+            count: size.count,
         };
         fill_row(
             table,

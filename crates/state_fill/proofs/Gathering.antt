@@ -86,8 +86,8 @@ module _ (i a b c d : ℕ) (kinds : List ℕ) where
 
 -- the job that is read off the list is that of the arrays, and the states are the weights
 module _ {kind-lengths kind-widths prices weights : List ℕ} {count : ℕ} {kinds : List ℕ} (whole : Whole kind-lengths kind-widths prices kinds) (gathered : Gathered kind-lengths kind-widths prices weights count 64 kinds) where
-  pub job-same : (l w n : ℕ) → kinds-job l w n (part kinds 0) (part kinds 64) (part kinds 128) ≡ kinds-job l w n kind-lengths kind-widths prices
-  job-same l w n =
+  pub job-same : (l w kind-count : ℕ) → kinds-job l w kind-count (part kinds 0) (part kinds 64) (part kinds 128) ≡ kinds-job l w kind-count kind-lengths kind-widths prices
+  job-same l w kind-count =
       let p = part-is kinds kind-lengths 0 (whole .all) (whole .lengths) (omega arith) (λ i h. (let e : 0 + i ≡ i = omega arith in ap (λ k. getD kinds k 0) e ∙ gathered .lengths i h)) in
       let q = part-is kinds kind-widths 64 (whole .all) (whole .widths) (omega arith) (gathered .widths) in
       let r = part-is kinds prices 128 (whole .all) (whole .priced) (omega arith) (gathered .priced) in
@@ -97,16 +97,16 @@ module _ {kind-lengths kind-widths prices weights : List ℕ} {count : ℕ} {kin
   states-same few i h = part-entry kinds 192 i (omega arith) ∙ gathered .states i (omega arith) h
 
 -- what the fill is lent, as the code counts the positions, for a job that is equal
-pub lent-of : {J K : Job} {long longmap wide widemap blocks : List ℕ} {d n p r row : ℕ} {t0 : List ℕ} → K ≡ J → InRange J → Digits blocks d n → Positions J Length p long longmap → Positions J Width r wide widemap
-    → position-count J Length * position-count J Width * n ≤ length t0 → row ≡ r * n → CellsLent K long longmap wide widemap blocks d n t0 × Counted K n p r row
-lent-of {J} {K} {long} {longmap} {wide} {widemap} {blocks} {d} {n} {p} {r} {row} {t0} same range digits lengths widths room stride =
-    subst (λ J. CellsLent J long longmap wide widemap blocks d n t0 × Counted J n p r row) (sym same) (
+pub lent-of : {J K : Job} {normal-lengths length-floors normal-widths width-floors blocks : List ℕ} {d words length-count columns stride : ℕ} {t0 : List ℕ} → K ≡ J → InRange J → Digits blocks d words → Positions J Length length-count normal-lengths length-floors → Positions J Width columns normal-widths width-floors
+    → position-count J Length * position-count J Width * words ≤ length t0 → stride ≡ columns * words → CellsLent K normal-lengths length-floors normal-widths width-floors blocks d words t0 × Counted K words length-count columns stride
+lent-of {J} {K} {normal-lengths} {length-floors} {normal-widths} {width-floors} {blocks} {d} {words} {length-count} {columns} {stride} {t0} same range digits lengths widths room stride-is =
+    subst (λ J. CellsLent J normal-lengths length-floors normal-widths width-floors blocks d words t0 × Counted J words length-count columns stride) (sym same) (
       record {
         range = range;
         digits = digits;
-        lengths = subst (λ k. Positions J Length k long longmap) (lengths .counted) lengths;
-        widths = subst (λ k. Positions J Width k wide widemap) (widths .counted) widths;
+        lengths = subst (λ k. Positions J Length k normal-lengths length-floors) (lengths .counted) lengths;
+        widths = subst (λ k. Positions J Width k normal-widths width-floors) (widths .counted) widths;
         room = room;
       },
-      record { lengths = lengths .counted; widths = widths .counted; stride = stride },
+      record { lengths = lengths .counted; widths = widths .counted; stride-is = stride-is },
     )

@@ -34,7 +34,7 @@ module _ (le : ℕ → ℕ → Bool) (at m t v : ℕ) where
   -- nothing is left to raise
   pub partly-stop : (x : ℕ) (old new : List ℕ) → ((s : ℕ) → s < m → x ≤ s → T (le t s) → v ≤ held old at s) → Partly le at m t v x old new → Lifted le at m t v old new
   partly-stop x old new h p = record {
-    words = λ s l. go s l (decLe x s);
+    lifts = λ s l. go s l (decLe x s);
     rest = p .rest;
   }
     where
@@ -177,7 +177,7 @@ module _ (blocks : List ℕ) (e at t v : ℕ) (digits : Blocks (λ i. getD block
       go s l k (yes h) =
           let y : j * size + (s - j * size) ≡ s = omega arith in
           let f : at + j * size + (s - j * size) ≡ at + s = omega arith in
-          let q = w .words (s - j * size) (omega arith) in
+          let q = w .lifts (s - j * size) (omega arith) in
           let o = p .left s l h in
           rw (y, o) at (here (s - j * size) _ _ (omega arith) (rw f at q))
 

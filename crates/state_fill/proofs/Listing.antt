@@ -16,29 +16,29 @@ use Rattle.state_fill.proofs.Joining.{held-kept, note-kept}
 pub run-held : (f : ℕ → ℕ) (at m : ℕ) (old new : List ℕ) (x s : ℕ) → x + s < at → Run f at m old new → held new x s ≡ held old x s
 run-held f at m old new x s h w = ap figure-in (w .rest .before (x + s) h)
 
--- the first k entries of the list of the cell from x on are inherited
-pub record Inherit (x y at n k : ℕ) (old new : List ℕ) : Type 0 where
-  pub same : (s : ℕ) → s < n → held new at s ≡ held old at s
-  pub kept : (s : ℕ) → s < n → Flagged old at s → Flagged new at s
-  pub flags : (i t : ℕ) → i < k → note old x i ≡ t + 1 → held old y t < held old x t → Flagged new at t
-  pub rest : Outside at (at + n) old new
+-- the first k entries of the list of the cell from `first` on are inherited
+pub record Inherit (first second at words k : ℕ) (old new : List ℕ) : Type 0 where
+  pub same : (s : ℕ) → s < words → held new at s ≡ held old at s
+  pub kept : (s : ℕ) → s < words → Flagged old at s → Flagged new at s
+  pub flags : (i t : ℕ) → i < k → note old first i ≡ t + 1 → held old second t < held old first t → Flagged new at t
+  pub rest : Outside at (at + words) old new
 
-module _ (x y at n : ℕ) (rx : x + n ≤ at) (ry : y + n ≤ at) where
-  pub inherit-none : (xs : List ℕ) → Inherit x y at n 0 xs xs
-  inherit-none xs = record { same = λ s h. refl; kept = λ s h f. f; flags = λ i t h. absurd (omega arith); rest = outside-same at (at + n) xs }
+module _ (first second at words : ℕ) (rx : first + words ≤ at) (ry : second + words ≤ at) where
+  pub inherit-none : (xs : List ℕ) → Inherit first second at words 0 xs xs
+  inherit-none xs = record { same = λ s h. refl; kept = λ s h f. f; flags = λ i t h. absurd (omega arith); rest = outside-same at (at + words) xs }
 
   -- the entry is not above
-  pub inherit-passed : (k t : ℕ) (old xs : List ℕ) → k < n → t < n → note xs x k ≡ t + 1 → held xs x t ≤ held xs y t → Inherit x y at n k old xs → Inherit x y at n (k + 1) old xs
+  pub inherit-passed : (k t : ℕ) (old xs : List ℕ) → k < words → t < words → note xs first k ≡ t + 1 → held xs first t ≤ held xs second t → Inherit first second at words k old xs → Inherit first second at words (k + 1) old xs
   inherit-passed k t old xs hk ht e h p = record { same = p .same; kept = p .kept; flags = λ i u l m f. go i u l m f (ℕ-discrete i k); rest = p .rest }
     where
-      go : (i u : ℕ) → i < k + 1 → note old x i ≡ u + 1 → held old y u < held old x u → Dec (i ≡ k) → Flagged xs at u
+      go : (i u : ℕ) → i < k + 1 → note old first i ≡ u + 1 → held old second u < held old first u → Dec (i ≡ k) → Flagged xs at u
       go i u l m f (no z) = p .flags i u (omega arith) m f
       go i u l m f (yes z) =
-          let o : t ≡ u = omega (arith, ap (λ i. note old x i) z, note-kept at (at + n) old xs (p .rest) x k (omega arith)) in
-          absurd (omega (arith, ap (λ u. held old x u) o, ap (λ u. held old y u) o, held-kept at (at + n) old xs (p .rest) x t (omega arith), held-kept at (at + n) old xs (p .rest) y t (omega arith)))
+          let o : t ≡ u = omega (arith, ap (λ i. note old first i) z, note-kept at (at + words) old xs (p .rest) first k (omega arith)) in
+          absurd (omega (arith, ap (λ u. held old first u) o, ap (λ u. held old second u) o, held-kept at (at + words) old xs (p .rest) first t (omega arith), held-kept at (at + words) old xs (p .rest) second t (omega arith)))
 
   -- it is, and its state is flagged
-  pub inherit-more : (k t w : ℕ) (old xs : List ℕ) → at + n ≤ length xs → k < n → t < n → note xs x k ≡ t + 1 → w ≡ held xs at t → Inherit x y at n k old xs → Inherit x y at n (k + 1) old (set xs (at + t) (w + 2199023255552))
+  pub inherit-more : (k t w : ℕ) (old xs : List ℕ) → at + words ≤ length xs → k < words → t < words → note xs first k ≡ t + 1 → w ≡ held xs at t → Inherit first second at words k old xs → Inherit first second at words (k + 1) old (set xs (at + t) (w + 2199023255552))
   inherit-more k t w old xs room hk ht e v p = record {
     same = λ s h. same s h (ℕ-discrete s t);
     kept = λ s h f. kept s h f (ℕ-discrete s t);
@@ -61,34 +61,34 @@ module _ (x y at n : ℕ) (rx : x + n ≤ at) (ry : y + n ≤ at) where
       other : (s : ℕ) → (s ≡ t → ⊥) → getD (set xs (at + t) (w + 2199023255552)) (at + s) 0 ≡ getD xs (at + s) 0
       other s h = getD-set-other xs (at + t) (at + s) (w + 2199023255552) 0 (λ z. h (omega arith))
 
-      same : (s : ℕ) → s < n → Dec (s ≡ t) → held (set xs (at + t) (w + 2199023255552)) at s ≡ held old at s
+      same : (s : ℕ) → s < words → Dec (s ≡ t) → held (set xs (at + t) (w + 2199023255552)) at s ≡ held old at s
       same s h (yes z) = rw z (ap figure-in here ∙ (figure-flagged w small ∙ (v ∙ p .same t ht)))
       same s h (no z) = ap figure-in (other s z) ∙ p .same s h
 
-      kept : (s : ℕ) → s < n → Flagged old at s → Dec (s ≡ t) → Flagged (set xs (at + t) (w + 2199023255552)) at s
+      kept : (s : ℕ) → s < words → Flagged old at s → Dec (s ≡ t) → Flagged (set xs (at + t) (w + 2199023255552)) at s
       kept s h f (yes z) = rw z flag
       kept s h f (no z) = omega (arith, ap note-in (other s z), p .kept s h f)
 
-      go : (i u : ℕ) → i < k + 1 → note old x i ≡ u + 1 → held old y u < held old x u → Dec (i ≡ k) → Dec (u ≡ t) → Flagged (set xs (at + t) (w + 2199023255552)) at u
+      go : (i u : ℕ) → i < k + 1 → note old first i ≡ u + 1 → held old second u < held old first u → Dec (i ≡ k) → Dec (u ≡ t) → Flagged (set xs (at + t) (w + 2199023255552)) at u
       go i u l m f z (yes o) = rw o flag
       go i u l m f (no z) (no o) = omega (arith, ap note-in (other u o), p .flags i u (omega arith) m f)
-      go i u l m f (yes z) (no o) = absurd (o (omega (arith, ap (λ i. note old x i) z, note-kept at (at + n) old xs (p .rest) x k (omega arith))))
+      go i u l m f (yes z) (no o) = absurd (o (omega (arith, ap (λ i. note old first i) z, note-kept at (at + words) old xs (p .rest) first k (omega arith))))
 
-  pub inherit-end : (k : ℕ) (old new : List ℕ) → ((i u : ℕ) → i < n → note old x i ≡ u + 1 → i < k) → Inherit x y at n k old new → Inherited x y at n old new
+  pub inherit-end : (k : ℕ) (old new : List ℕ) → ((i u : ℕ) → i < words → note old first i ≡ u + 1 → i < k) → Inherit first second at words k old new → Inherited first second at words old new
   inherit-end k old new done p = record { same = p .same; kept = p .kept; flags = λ t l f. p .flags (l .0) t (done (l .0) t (l .1) (l .2)) (l .2) f; rest = p .rest }
 
 -- the flags of the first s words are off, and their states are the first k entries of the list
-pub record Listing (at n s k : ℕ) (old new : List ℕ) : Type 0 where
+pub record Listing (at words s k : ℕ) (old new : List ℕ) : Type 0 where
   pub most : k ≤ s
-  pub same : (j : ℕ) → j < n → held new at j ≡ held old at j
-  pub some : (j : ℕ) → j < k → (1 ≤ note new at j) × (note new at j ≤ n)
+  pub same : (j : ℕ) → j < words → held new at j ≡ held old at j
+  pub some : (j : ℕ) → j < k → (1 ≤ note new at j) × (note new at j ≤ words)
   pub none : (j : ℕ) → k ≤ j → j < s → note new at j ≡ 0
-  pub left : (j : ℕ) → s ≤ j → j < n → getD new (at + j) 0 ≡ getD old (at + j) 0
+  pub left : (j : ℕ) → s ≤ j → j < words → getD new (at + j) 0 ≡ getD old (at + j) 0
   pub found : (t : ℕ) → t < s → Flagged old at t → (i : ℕ) × (i < k) × (note new at i ≡ t + 1)
-  pub rest : Outside at (at + n) old new
+  pub rest : Outside at (at + words) old new
 
-module _ (at n : ℕ) where
-  pub listing-none : (xs : List ℕ) → Listing at n 0 0 xs xs
+module _ (at words : ℕ) where
+  pub listing-none : (xs : List ℕ) → Listing at words 0 0 xs xs
   listing-none xs = record {
     most = omega arith;
     same = λ j h. refl;
@@ -96,11 +96,11 @@ module _ (at n : ℕ) where
     none = λ j h l. absurd (omega arith);
     left = λ j h l. refl;
     found = λ t h. absurd (omega arith);
-    rest = outside-same at (at + n) xs;
+    rest = outside-same at (at + words) xs;
   }
 
   -- a word without a flag
-  pub listing-passed : (s k : ℕ) (old xs : List ℕ) → s < n → note xs at s ≡ 0 → Listing at n s k old xs → Listing at n (s + 1) k old xs
+  pub listing-passed : (s k : ℕ) (old xs : List ℕ) → s < words → note xs at s ≡ 0 → Listing at words s k old xs → Listing at words (s + 1) k old xs
   listing-passed s k old xs hs z p = record {
     most = omega (arith, p .most);
     same = p .same;
@@ -120,7 +120,7 @@ module _ (at n : ℕ) where
       found t h f (no e) = p .found t (omega arith) f
 
   -- a flagged word
-  module _ (s k w v : ℕ) (old xs : List ℕ) (room : at + n ≤ length xs) (hs : s < n) (hw : w ≡ held xs at s) (hv : v ≡ held (set xs (at + s) w) at k) (p : Listing at n s k old xs) where
+  module _ (s k w v : ℕ) (old xs : List ℕ) (room : at + words ≤ length xs) (hs : s < words) (hw : w ≡ held xs at s) (hv : v ≡ held (set xs (at + s) w) at k) (p : Listing at words s k old xs) where
     abbrev ys : List ℕ
     ys = set xs (at + s) w
 
@@ -145,11 +145,11 @@ module _ (at n : ℕ) where
     older : (j : ℕ) → (j ≡ s → ⊥) → getD ys (at + j) 0 ≡ getD xs (at + j) 0
     older j h = getD-set-other xs (at + s) (at + j) w 0 (λ z. h (omega arith))
 
-    figures : (j : ℕ) → j < n → Dec (j ≡ s) → held ys at j ≡ held old at j
+    figures : (j : ℕ) → j < words → Dec (j ≡ s) → held ys at j ≡ held old at j
     figures j h (yes e) = rw e (ap figure-in put ∙ (figure-plain w low ∙ (hw ∙ p .same s hs)))
     figures j h (no e) = ap figure-in (older j e) ∙ p .same j h
 
-    same : (j : ℕ) → j < n → Dec (j ≡ k) → held zs at j ≡ held old at j
+    same : (j : ℕ) → j < words → Dec (j ≡ k) → held zs at j ≡ held old at j
     same j h (yes e) = rw e (ap figure-in here ∙ (figure-noted v (s + 1) small ∙ (hv ∙ figures k (omega (arith, p .most)) (ℕ-discrete k s))))
     same j h (no e) = ap figure-in (before j e) ∙ figures j h (ℕ-discrete j s)
 
@@ -160,7 +160,7 @@ module _ (at n : ℕ) where
     earlier : (j : ℕ) → j < k → note zs at j ≡ note xs at j
     earlier j h = ap note-in (before j (λ z. omega arith) ∙ older j (λ z. omega (arith, p .most)))
 
-    some : (j : ℕ) → j < k + 1 → Dec (j ≡ k) → (1 ≤ note zs at j) × (note zs at j ≤ n)
+    some : (j : ℕ) → j < k + 1 → Dec (j ≡ k) → (1 ≤ note zs at j) × (note zs at j ≤ words)
     some j h (yes e) = rw e (omega (arith, own), omega (arith, own))
     some j h (no e) = let q = p .some j (omega arith) in omega (arith, earlier j (omega arith))
 
@@ -172,7 +172,7 @@ module _ (at n : ℕ) where
     found t h f (yes e) = (k, omega arith, own ∙ ap (λ t. t + 1) (sym e))
     found t h f (no e) = let q = p .found t (omega arith) f in (q .0, omega (arith, q .1), earlier (q .0) (q .1) ∙ q .2)
 
-    pub listing-more : Listing at n (s + 1) (k + 1) old zs
+    pub listing-more : Listing at words (s + 1) (k + 1) old zs
     listing-more = record {
       most = omega (arith, p .most);
       same = λ j h. same j h (ℕ-discrete j k);
@@ -187,7 +187,7 @@ module _ (at n : ℕ) where
     }
 
   -- all flagged states are listed
-  pub listing-end : (s k : ℕ) (old new : List ℕ) → FlaggedBelow at n s old → Listing at n s k old new → Finished at n old new
+  pub listing-end : (s k : ℕ) (old new : List ℕ) → FlaggedBelow at words s old → Listing at words s k old new → Finished at words old new
   listing-end s k old new below p = record {
     same = p .same;
     listed = λ t h f. (let q = p .found t (below .flags t h f) f in (q .0, omega (arith, q .1, p .most, below .most), q .2));
@@ -196,7 +196,7 @@ module _ (at n : ℕ) where
     rest = p .rest;
   }
     where
-      none : (j : ℕ) → j < n → k ≤ j → note new at j ≡ 0
+      none : (j : ℕ) → j < words → k ≤ j → note new at j ≡ 0
       none j h l = go (decLe s j) (decLe 1 (note old at j))
         where
           go : Dec (s ≤ j) → Dec (1 ≤ note old at j) → note new at j ≡ 0
@@ -204,7 +204,7 @@ module _ (at n : ℕ) where
           go (yes m) (yes f) = absurd (omega (arith, below .flags j h f))
           go (yes m) (no f) = omega (arith, ap note-in (p .left j m h))
 
-      notes : (j : ℕ) → j < n → Dec (k ≤ j) → note new at j ≤ n
+      notes : (j : ℕ) → j < words → Dec (k ≤ j) → note new at j ≤ words
       notes j h (yes l) = omega (arith, none j h l)
       notes j h (no l) = p .some j (omega arith) .1
 

@@ -1,5 +1,6 @@
--- Inner definitions, cited by the contracts of this crate alone. The words of a cell while the table is filled: a figure below 2^41, and a note above it. While the cell is made, a note other than 0 is
--- a flag: the state stands for a rise. In a finished cell the notes of the first words are its list of states, each plus 1, ended by 0.
+-- Inner definitions, cited by the contracts of this crate alone. The words of a cell while the table is filled: a figure below 2^41, and a
+-- note above it. While the cell is made, a note other than 0 is a flag: the state stands for a rise. In a finished cell the notes of the
+-- first words are its list of states, each plus 1, ended by 0.
 use mathlib.Core.Path.{_≡_}
 use mathlib.Core.Logic.{_⊎_}
 use mathlib.Core.Bool.{Bool}
@@ -29,22 +30,22 @@ note xs x s = note-in (getD xs (x + s) 0)
 abbrev pub under : List ℕ → ℕ → ℕ → ℕ → Bool
 under blocks d = below (λ i. getD blocks i 0) d
 
--- a list of numbers of states up to digit d; n is the number of all
-pub record Digits (blocks : List ℕ) (d n : ℕ) : Type 0 where
+-- a list of numbers of states up to digit d; a cell has as many words as there are states
+pub record Digits (blocks : List ℕ) (d words : ℕ) : Type 0 where
   pub digits : Blocks (λ i. getD blocks i 0) d
   pub listed : d < length blocks
-  pub states : n ≡ getD blocks d 0
-  pub most : n ≤ 65536
+  pub states : words ≡ getD blocks d 0
+  pub most : words ≤ 65536
 
 -- figures do not fall from a state to one above
 abbrev pub Rises : (ℕ → ℕ → Bool) → ℕ → (ℕ → ℕ) → Type 0
-Rises le n f = (t s : ℕ) → s < n → T (le t s) → f t ≤ f s
+Rises le words f = (t s : ℕ) → s < words → T (le t s) → f t ≤ f s
 
 -- a cell that is made, from `at` on: the digits of its states, its room in the table, and figures that rise with the states
-pub record Growing (blocks : List ℕ) (d n at : ℕ) (xs : List ℕ) : Type 0 where
-  pub digits : Digits blocks d n
-  pub room : at + n ≤ length xs
-  pub rises : Rises (under blocks d) n (held xs at)
+pub record Growing (blocks : List ℕ) (d words at : ℕ) (xs : List ℕ) : Type 0 where
+  pub digits : Digits blocks d words
+  pub room : at + words ≤ length xs
+  pub rises : Rises (under blocks d) words (held xs at)
 
 -- a word of state s when all states from t on were raised to v: it is v where it was less, and else as it was
 abbrev pub Lift : (ℕ → ℕ → Bool) → ℕ → ℕ → ℕ → ℕ → ℕ → Type 0
@@ -52,114 +53,114 @@ Lift le t v s w w′ = ((w′ ≡ w) × (T (le t s) → v ≤ figure-in w)) ⊎ 
 
 -- the m words from `at` on are raised to v at the states from t on
 pub record Lifted (le : ℕ → ℕ → Bool) (at m t v : ℕ) (old new : List ℕ) : Type 0 where
-  pub words : (s : ℕ) → s < m → Lift le t v s (getD old (at + s) 0) (getD new (at + s) 0)
+  pub lifts : (s : ℕ) → s < m → Lift le t v s (getD old (at + s) 0) (getD new (at + s) 0)
   pub rest : Outside at (at + m) old new
 
 -- the same, and state t is flagged
-pub record Raised (le : ℕ → ℕ → Bool) (at n t v : ℕ) (old new : List ℕ) : Type 0 where
-  pub words : (s : ℕ) → s < n → (s ≡ t → ⊥) → Lift le t v s (getD old (at + s) 0) (getD new (at + s) 0)
+pub record Raised (le : ℕ → ℕ → Bool) (at words t v : ℕ) (old new : List ℕ) : Type 0 where
+  pub lifts : (s : ℕ) → s < words → (s ≡ t → ⊥) → Lift le t v s (getD old (at + s) 0) (getD new (at + s) 0)
   pub own : getD new (at + t) 0 ≡ v + 2199023255552
-  pub rest : Outside at (at + n) old new
+  pub rest : Outside at (at + words) old new
 
 -- state t of the cell from x on is flagged, or is on its list
 abbrev pub Flagged : List ℕ → ℕ → ℕ → Type 0
 Flagged xs x t = 1 ≤ note xs x t
 
 abbrev pub Listed : List ℕ → ℕ → ℕ → ℕ → Type 0
-Listed xs x n t = (k : ℕ) × (k < n) × (note xs x k ≡ t + 1)
+Listed xs x words t = (k : ℕ) × (k < words) × (note xs x k ≡ t + 1)
 
 -- no figure of the cell is above f
 abbrev pub Low : (ℕ → ℕ) → ℕ → ℕ → List ℕ → Type 0
-Low f x n xs = (s : ℕ) → s < n → held xs x s ≤ f s
+Low f x words xs = (s : ℕ) → s < words → held xs x s ≤ f s
 
 -- states flagged since lie below `high`, a number of states no less than `top`
-pub record Topped (at n top high : ℕ) (old new : List ℕ) : Type 0 where
+pub record Topped (at words top high : ℕ) (old new : List ℕ) : Type 0 where
   pub more : top ≤ high
-  pub most : top ≤ n → high ≤ n
-  pub flags : (t : ℕ) → t < n → Flagged new at t → Flagged old at t ⊎ (t < high)
+  pub most : top ≤ words → high ≤ words
+  pub flags : (t : ℕ) → t < words → Flagged new at t → Flagged old at t ⊎ (t < high)
 
 -- all flagged states lie below `top`, a number of states
-pub record FlaggedBelow (at n top : ℕ) (xs : List ℕ) : Type 0 where
-  pub most : top ≤ n
-  pub flags : (t : ℕ) → t < n → Flagged xs at t → t < top
+pub record FlaggedBelow (at words top : ℕ) (xs : List ℕ) : Type 0 where
+  pub most : top ≤ words
+  pub flags : (t : ℕ) → t < words → Flagged xs at t → t < top
 
 -- a cell that is made grows: its figures do not fall, keep rising with the states, and stay covered by its flags
-pub record Grown (le : ℕ → ℕ → Bool) (at n : ℕ) (old new : List ℕ) : Type 0 where
-  pub more : (s : ℕ) → s < n → held old at s ≤ held new at s
-  pub rises : Rises le n (held old at) → Rises le n (held new at)
-  pub covers : (g : ℕ → ℕ) → Rises le n (held old at) → Covers le n (Flagged old at) (held old at) g → Covers le n (Flagged new at) (held new at) g
-  pub rest : Outside at (at + n) old new
+pub record Grown (le : ℕ → ℕ → Bool) (at words : ℕ) (old new : List ℕ) : Type 0 where
+  pub more : (s : ℕ) → s < words → held old at s ≤ held new at s
+  pub rises : Rises le words (held old at) → Rises le words (held new at)
+  pub covers : (g : ℕ → ℕ) → Rises le words (held old at) → Covers le words (Flagged old at) (held old at) g → Covers le words (Flagged new at) (held new at) g
+  pub rest : Outside at (at + words) old new
 
 -- the cell has taken v at state t + u, where that is a state and no digit carries
-pub record Taken (le : ℕ → ℕ → Bool) (at n t u v : ℕ) (old new : List ℕ) : Type 0 where
-  pub grown : Grown le at n old new
-  pub taken : t + u < n → T (le t (t + u)) → v ≤ held new at (t + u)
-  pub low : (f : ℕ → ℕ) → Rises le n f → (t + u < n → T (le t (t + u)) → v ≤ f (t + u)) → Low f at n old → Low f at n new
+pub record Taken (le : ℕ → ℕ → Bool) (at words t u v : ℕ) (old new : List ℕ) : Type 0 where
+  pub grown : Grown le at words old new
+  pub taken : t + u < words → T (le t (t + u)) → v ≤ held new at (t + u)
+  pub low : (f : ℕ → ℕ) → Rises le words f → (t + u < words → T (le t (t + u)) → v ≤ f (t + u)) → Low f at words old → Low f at words new
 
 -- a finished cell that can be read while the one from `at` on is made: it lies before that one, two figures can be added, the last state
 -- has the greatest one, the list has states only, and nothing is noted past its end
-pub record Ready (xs : List ℕ) (x n at : ℕ) : Type 0 where
-  pub before : x + n ≤ at
-  pub small : (s : ℕ) → s < n → held xs x s ≤ 1000000000000
-  pub most : (s : ℕ) → s < n → held xs x s ≤ held xs x (n - 1)
-  pub notes : (k : ℕ) → k < n → note xs x k ≤ n
-  pub ended : (j k : ℕ) → j ≤ k → k < n → note xs x j ≡ 0 → note xs x k ≡ 0
+pub record Ready (xs : List ℕ) (x words at : ℕ) : Type 0 where
+  pub before : x + words ≤ at
+  pub small : (s : ℕ) → s < words → held xs x s ≤ 1000000000000
+  pub most : (s : ℕ) → s < words → held xs x s ≤ held xs x (words - 1)
+  pub notes : (k : ℕ) → k < words → note xs x k ≤ words
+  pub ended : (j k : ℕ) → j ≤ k → k < words → note xs x j ≡ 0 → note xs x k ≡ 0
 
--- what is needed to take v at state t with the figures of the cell from y on
-pub record Joinable (blocks : List ℕ) (d n at y t v : ℕ) (xs : List ℕ) : Type 0 where
-  pub growing : Growing blocks d n at xs
-  pub ready : Ready xs y n at
-  pub state : t < n
+-- what is needed to take v at state t with the figures of the cell from `second` on
+pub record Joinable (blocks : List ℕ) (d words at second t v : ℕ) (xs : List ℕ) : Type 0 where
+  pub growing : Growing blocks d words at xs
+  pub ready : Ready xs second words at
+  pub state : t < words
   pub small : v ≤ 1000000000000
 
--- the cell has taken v at state t with the figure of each state on the list of the cell from y on
-pub record JoinedWith (le : ℕ → ℕ → Bool) (at n t v y : ℕ) (old new : List ℕ) : Type 0 where
-  pub grown : Grown le at n old new
-  pub sums : (u : ℕ) → Listed old y n u → t + u < n → T (le t (t + u)) → v + held old y u ≤ held new at (t + u)
-  pub low : (f : ℕ → ℕ) → Rises le n f → ((u : ℕ) → u < n → t + u < n → T (le t (t + u)) → v + held old y u ≤ f (t + u)) → Low f at n old → Low f at n new
+-- the cell has taken v at state t with the figure of each state on the list of the cell from `second` on
+pub record JoinedWith (le : ℕ → ℕ → Bool) (at words t v second : ℕ) (old new : List ℕ) : Type 0 where
+  pub grown : Grown le at words old new
+  pub sums : (u : ℕ) → Listed old second words u → t + u < words → T (le t (t + u)) → v + held old second u ≤ held new at (t + u)
+  pub low : (f : ℕ → ℕ) → Rises le words f → ((u : ℕ) → u < words → t + u < words → T (le t (t + u)) → v + held old second u ≤ f (t + u)) → Low f at words old → Low f at words new
 
--- the cell has taken the sums of the listed states of the cells from x and y on
-pub record Joined (le : ℕ → ℕ → Bool) (at n x y : ℕ) (old new : List ℕ) : Type 0 where
-  pub grown : Grown le at n old new
-  pub sums : (t u : ℕ) → Listed old x n t → Listed old y n u → t + u < n → T (le t (t + u)) → held old x t + held old y u ≤ held new at (t + u)
-  pub low : (f : ℕ → ℕ) → Rises le n f → ((t u : ℕ) → t < n → u < n → t + u < n → T (le t (t + u)) → held old x t + held old y u ≤ f (t + u)) → Low f at n old → Low f at n new
+-- the cell has taken the sums of the listed states of the cells from `first` and `second` on
+pub record Joined (le : ℕ → ℕ → Bool) (at words first second : ℕ) (old new : List ℕ) : Type 0 where
+  pub grown : Grown le at words old new
+  pub sums : (t u : ℕ) → Listed old first words t → Listed old second words u → t + u < words → T (le t (t + u)) → held old first t + held old second u ≤ held new at (t + u)
+  pub low : (f : ℕ → ℕ) → Rises le words f → ((t u : ℕ) → t < words → u < words → t + u < words → T (le t (t + u)) → held old first t + held old second u ≤ f (t + u)) → Low f at words old → Low f at words new
 
 -- what is needed to take the cuts of entry a at the entries from `from` to `end` less 1, where the cell of entry i begins at word
--- base + i · step: all cells of earlier entries can be read
-pub record Cuttable (blocks list map : List ℕ) (d n a from end base step at : ℕ) (xs : List ℕ) : Type 0 where
-  pub growing : Growing blocks d n at xs
+-- base + i · stride: all cells of earlier entries can be read
+pub record Cuttable (blocks positions floors : List ℕ) (d words a from end base stride at : ℕ) (xs : List ℕ) : Type 0 where
+  pub growing : Growing blocks d words at xs
   pub first : 1 ≤ from
-  pub cuts : Cuts list map a end
-  pub ready : (j : ℕ) → j < a → Ready xs (base + j * step) n at
+  pub cuts : Cuts positions floors a end
+  pub ready : (j : ℕ) → j < a → Ready xs (base + j * stride) words at
 
 -- the cell has taken the cuts of entry a at the entries from `from` to `end` less 1 whose parts make up the whole, where the cell of
--- entry i begins at word base + i · step
-pub record CutAt (le : ℕ → ℕ → Bool) (list map : List ℕ) (a from end base step at n : ℕ) (old new : List ℕ) : Type 0 where
-  pub grown : Grown le at n old new
-  pub sums : (i t u : ℕ) → from ≤ i → i < end → getD list i 0 + getD list (remainder list map a i) 0 ≡ getD list a 0
-      → Listed old (base + i * step) n t → Listed old (base + remainder list map a i * step) n u → t + u < n → T (le t (t + u))
-      → held old (base + i * step) t + held old (base + remainder list map a i * step) u ≤ held new at (t + u)
-  pub low : (f : ℕ → ℕ) → Rises le n f
-      → ((i t u : ℕ) → from ≤ i → i < end → t < n → u < n → t + u < n → T (le t (t + u)) → held old (base + i * step) t + held old (base + remainder list map a i * step) u ≤ f (t + u))
-      → Low f at n old → Low f at n new
+-- entry i begins at word base + i · stride
+pub record CutAt (le : ℕ → ℕ → Bool) (positions floors : List ℕ) (a from end base stride at words : ℕ) (old new : List ℕ) : Type 0 where
+  pub grown : Grown le at words old new
+  pub sums : (i t u : ℕ) → from ≤ i → i < end → getD positions i 0 + getD positions (remainder positions floors a i) 0 ≡ getD positions a 0
+      → Listed old (base + i * stride) words t → Listed old (base + remainder positions floors a i * stride) words u → t + u < words → T (le t (t + u))
+      → held old (base + i * stride) t + held old (base + remainder positions floors a i * stride) u ≤ held new at (t + u)
+  pub low : (f : ℕ → ℕ) → Rises le words f
+      → ((i t u : ℕ) → from ≤ i → i < end → t < words → u < words → t + u < words → T (le t (t + u)) → held old (base + i * stride) t + held old (base + remainder positions floors a i * stride) u ≤ f (t + u))
+      → Low f at words old → Low f at words new
 
 -- the cell has taken the price of every kind below `count` of exactly the size l by w at the kind's state
-pub record Placed (le : ℕ → ℕ → Bool) (J : Job) (own : ℕ → ℕ) (count l w at n : ℕ) (old new : List ℕ) : Type 0 where
-  pub grown : Grown le at n old new
-  pub taken : (i : ℕ) → i < count → J .size i .0 ≡ l → J .size i .1 ≡ w → own i < n → J .price i ≤ held new at (own i)
-  pub low : (f : ℕ → ℕ) → Rises le n f → ((i : ℕ) → i < count → J .size i .0 ≡ l → J .size i .1 ≡ w → own i < n → J .price i ≤ f (own i)) → Low f at n old → Low f at n new
+pub record Placed (le : ℕ → ℕ → Bool) (J : Job) (own : ℕ → ℕ) (count l w at words : ℕ) (old new : List ℕ) : Type 0 where
+  pub grown : Grown le at words old new
+  pub taken : (i : ℕ) → i < count → J .size i .0 ≡ l → J .size i .1 ≡ w → own i < words → J .price i ≤ held new at (own i)
+  pub low : (f : ℕ → ℕ) → Rises le words f → ((i : ℕ) → i < count → J .size i .0 ≡ l → J .size i .1 ≡ w → own i < words → J .price i ≤ f (own i)) → Low f at words old → Low f at words new
 
--- the cell has inherited, from the list of the cell from x on, the states at which that cell is above the one from y on
-pub record Inherited (x y at n : ℕ) (old new : List ℕ) : Type 0 where
-  pub same : (s : ℕ) → s < n → held new at s ≡ held old at s
-  pub kept : (s : ℕ) → s < n → Flagged old at s → Flagged new at s
-  pub flags : (t : ℕ) → Listed old x n t → held old y t < held old x t → Flagged new at t
-  pub rest : Outside at (at + n) old new
+-- the cell has inherited, from the list of the cell from `first` on, the states at which that cell is above the one from `second` on
+pub record Inherited (first second at words : ℕ) (old new : List ℕ) : Type 0 where
+  pub same : (s : ℕ) → s < words → held new at s ≡ held old at s
+  pub kept : (s : ℕ) → s < words → Flagged old at s → Flagged new at s
+  pub flags : (t : ℕ) → Listed old first words t → held old second t < held old first t → Flagged new at t
+  pub rest : Outside at (at + words) old new
 
 -- the flagged states of the cell have become its list
-pub record Finished (at n : ℕ) (old new : List ℕ) : Type 0 where
-  pub same : (s : ℕ) → s < n → held new at s ≡ held old at s
-  pub listed : (t : ℕ) → t < n → Flagged old at t → Listed new at n t
-  pub notes : (k : ℕ) → k < n → note new at k ≤ n
-  pub ended : (j k : ℕ) → j ≤ k → k < n → note new at j ≡ 0 → note new at k ≡ 0
-  pub rest : Outside at (at + n) old new
+pub record Finished (at words : ℕ) (old new : List ℕ) : Type 0 where
+  pub same : (s : ℕ) → s < words → held new at s ≡ held old at s
+  pub listed : (t : ℕ) → t < words → Flagged old at t → Listed new at words t
+  pub notes : (k : ℕ) → k < words → note new at k ≤ words
+  pub ended : (j k : ℕ) → j ≤ k → k < words → note new at j ≡ 0 → note new at k ≡ 0
+  pub rest : Outside at (at + words) old new

@@ -12,7 +12,16 @@ use Rattle.table.specs.Contracts.{kinds-job, Positions}
 use Rattle.table.specs.Words.{Half}
 use Rattle.table.specs.States.{figure-at, Covers}
 use Rattle.state_fill.specs.declared.shape.Shape.{Shape}
+use Rattle.state_fill.specs.declared.cells.Place.{Place}
+use Rattle.state_fill.specs.declared.parts.Line.{Line}
 use Rattle.state_fill.specs.Cells.{held, note, under, Digits, Listed}
+
+-- the cells of a cell's width, along the lengths, and those of its length, along the widths
+abbrev pub length-line : Shape → Place → Line
+length-line shape place = record { index = place .a; «half_end» = place .«length_half_end»; at = place .at; base = place .column; stride = shape .stride }
+
+abbrev pub width-line : Shape → Place → Line
+width-line shape place = record { index = place .b; «half_end» = place .«width_half_end»; at = place .at; base = place .at - place .column; stride = shape .words }
 
 -- 64 numbers of a list
 abbrev pub part : List ℕ → ℕ → List ℕ
@@ -20,7 +29,7 @@ part kinds from = take 64 (drop from kinds)
 
 -- the job of a plate and of one list of its kinds: their lengths, from 64 on their widths, from 128 on their prices
 abbrev pub job-in : Shape → List ℕ → Job
-job-in shape kinds = kinds-job (shape .l) (shape .w) (shape .count) (part kinds 0) (part kinds 64) (part kinds 128)
+job-in shape kinds = kinds-job (shape .length) (shape .width) (shape .count) (part kinds 0) (part kinds 64) (part kinds 128)
 
 -- the state of each kind, in the same list from 192 on
 abbrev pub owns : List ℕ → ℕ → ℕ
@@ -42,75 +51,75 @@ pub record Gathered (kind-lengths kind-widths prices weights : List ℕ) (count 
 
 -- the figure of the a-th normal length, the b-th normal width and state s
 abbrev pub tabled : Job → (ℕ → ℕ → Bool) → (ℕ → ℕ) → List ℕ → List ℕ → ℕ → ℕ → ℕ → ℕ
-tabled J le own long wide a b s = figure-at J le own (getD long a 0) (getD wide b 0) s
+tabled J le own normal-lengths normal-widths a b s = figure-at J le own (getD normal-lengths a 0) (getD normal-widths b 0) s
 
--- the word at which the cell of the a-th normal length and the b-th normal width begins, where a cell has n words
+-- the word at which the cell of the a-th normal length and the b-th normal width begins, where a cell has so many words
 abbrev pub cell : Job → ℕ → ℕ → ℕ → ℕ
-cell J n a b = (a * position-count J Width + b) * n
+cell J words a b = (a * position-count J Width + b) * words
 
 -- the cell is made: its words hold its figures, its list has states only and nothing is noted past its end, and the list covers the figures
 -- over those of the cells before it
-pub record Made (J : Job) (le : ℕ → ℕ → Bool) (own : ℕ → ℕ) (long wide : List ℕ) (n a b : ℕ) (xs : List ℕ) : Type 0 where
-  pub figures : (s : ℕ) → s < n → held xs (cell J n a b) s ≡ tabled J le own long wide a b s
-  pub notes : (k : ℕ) → k < n → note xs (cell J n a b) k ≤ n
-  pub ended : (j k : ℕ) → j ≤ k → k < n → note xs (cell J n a b) j ≡ 0 → note xs (cell J n a b) k ≡ 0
-  pub longer : Covers le n (Listed xs (cell J n a b) n) (tabled J le own long wide a b) (tabled J le own long wide (a - 1) b)
-  pub wider : Covers le n (Listed xs (cell J n a b) n) (tabled J le own long wide a b) (tabled J le own long wide a (b - 1))
+pub record Made (J : Job) (le : ℕ → ℕ → Bool) (own : ℕ → ℕ) (normal-lengths normal-widths : List ℕ) (words a b : ℕ) (xs : List ℕ) : Type 0 where
+  pub figures : (s : ℕ) → s < words → held xs (cell J words a b) s ≡ tabled J le own normal-lengths normal-widths a b s
+  pub notes : (k : ℕ) → k < words → note xs (cell J words a b) k ≤ words
+  pub ended : (j k : ℕ) → j ≤ k → k < words → note xs (cell J words a b) j ≡ 0 → note xs (cell J words a b) k ≡ 0
+  pub longer : Covers le words (Listed xs (cell J words a b) words) (tabled J le own normal-lengths normal-widths a b) (tabled J le own normal-lengths normal-widths (a - 1) b)
+  pub wider : Covers le words (Listed xs (cell J words a b) words) (tabled J le own normal-lengths normal-widths a b) (tabled J le own normal-lengths normal-widths a (b - 1))
 
 -- the cells of the rows below a are made
 abbrev pub Rows : Job → (ℕ → ℕ → Bool) → (ℕ → ℕ) → List ℕ → List ℕ → ℕ → ℕ → List ℕ → Type 0
-Rows J le own long wide n a xs = (i j : ℕ) → i < a → j < position-count J Width → Made J le own long wide n i j xs
+Rows J le own normal-lengths normal-widths words a xs = (i j : ℕ) → i < a → j < position-count J Width → Made J le own normal-lengths normal-widths words i j xs
 
 -- the cells of row a below cell b are made
 abbrev pub Cells : Job → (ℕ → ℕ → Bool) → (ℕ → ℕ) → List ℕ → List ℕ → ℕ → ℕ → ℕ → List ℕ → Type 0
-Cells J le own long wide n a b xs = (j : ℕ) → j < b → Made J le own long wide n a j xs
+Cells J le own normal-lengths normal-widths words a b xs = (j : ℕ) → j < b → Made J le own normal-lengths normal-widths words a j xs
 
 -- what the fill is lent: a job in range, the digits of the states, the normal positions with their floors, and a table that is long enough
-pub record CellsLent (J : Job) (long longmap wide widemap blocks : List ℕ) (d n : ℕ) (table : List ℕ) : Type 0 where
+pub record CellsLent (J : Job) (normal-lengths length-floors normal-widths width-floors blocks : List ℕ) (d words : ℕ) (table : List ℕ) : Type 0 where
   pub range : InRange J
-  pub digits : Digits blocks d n
-  pub lengths : Positions J Length (position-count J Length) long longmap
-  pub widths : Positions J Width (position-count J Width) wide widemap
-  pub room : position-count J Length * position-count J Width * n ≤ length table
+  pub digits : Digits blocks d words
+  pub lengths : Positions J Length (position-count J Length) normal-lengths length-floors
+  pub widths : Positions J Width (position-count J Width) normal-widths width-floors
+  pub room : position-count J Length * position-count J Width * words ≤ length table
 
--- the numbers that the code counts cells and rows by: p and r, and the words of a row
-pub record Counted (J : Job) (n p r row : ℕ) : Type 0 where
-  pub lengths : p ≡ position-count J Length
-  pub widths : r ≡ position-count J Width
-  pub stride : row ≡ r * n
+-- the numbers that the code counts cells and rows by: those of normal lengths and widths, and the words of a row
+pub record Counted (J : Job) (words length-count columns stride : ℕ) : Type 0 where
+  pub lengths : length-count ≡ position-count J Length
+  pub widths : columns ≡ position-count J Width
+  pub stride-is : stride ≡ columns * words
 
 -- the place of a row that is to be made: all rows before it are
-pub record RowSpot (J : Job) (own : ℕ → ℕ) (long longmap wide widemap blocks : List ℕ) (d n p r row a ka at : ℕ) (table : List ℕ) : Type 0 where
-  pub lent : CellsLent J long longmap wide widemap blocks d n table
-  pub counted : Counted J n p r row
-  pub long-in : (1 ≤ a) × (a < p)
-  pub half-a : Half long a ka
-  pub at-is : at ≡ cell J n a 0
-  pub rows : Rows J (under blocks d) own long wide n a table
+pub record RowSpot (J : Job) (own : ℕ → ℕ) (normal-lengths length-floors normal-widths width-floors blocks : List ℕ) (d words length-count columns stride a length-half-end at : ℕ) (table : List ℕ) : Type 0 where
+  pub lent : CellsLent J normal-lengths length-floors normal-widths width-floors blocks d words table
+  pub counted : Counted J words length-count columns stride
+  pub long-in : (1 ≤ a) × (a < length-count)
+  pub half-a : Half normal-lengths a length-half-end
+  pub at-is : at ≡ cell J words a 0
+  pub rows : Rows J (under blocks d) own normal-lengths normal-widths words a table
 
 -- the place of a cell that is to be made: all cells before it are
-pub record Spot (J : Job) (own : ℕ → ℕ) (long longmap wide widemap blocks : List ℕ) (d n row a b ka kb at column : ℕ) (table : List ℕ) : Type 0 where
-  pub lent : CellsLent J long longmap wide widemap blocks d n table
+pub record Spot (J : Job) (own : ℕ → ℕ) (normal-lengths length-floors normal-widths width-floors blocks : List ℕ) (d words stride a b length-half-end width-half-end at column : ℕ) (table : List ℕ) : Type 0 where
+  pub lent : CellsLent J normal-lengths length-floors normal-widths width-floors blocks d words table
   pub long-in : (1 ≤ a) × (a < position-count J Length)
   pub wide-in : (1 ≤ b) × (b < position-count J Width)
-  pub half-a : Half long a ka
-  pub half-b : Half wide b kb
-  pub row-is : row ≡ position-count J Width * n
-  pub at-is : at ≡ cell J n a b
-  pub column-is : column ≡ b * n
-  pub rows : Rows J (under blocks d) own long wide n a table
-  pub cells : Cells J (under blocks d) own long wide n a b table
+  pub half-a : Half normal-lengths a length-half-end
+  pub half-b : Half normal-widths b width-half-end
+  pub stride-is : stride ≡ position-count J Width * words
+  pub at-is : at ≡ cell J words a b
+  pub column-is : column ≡ b * words
+  pub rows : Rows J (under blocks d) own normal-lengths normal-widths words a table
+  pub cells : Cells J (under blocks d) own normal-lengths normal-widths words a b table
 
 -- each word holds the figure of its normal length, normal width and state
 abbrev pub Figures : Job → (ℕ → ℕ → Bool) → (ℕ → ℕ) → ℕ → List ℕ → Type 0
-Figures J le own n xs = (a b s : ℕ) → a < position-count J Length → b < position-count J Width → s < n
-    → getD xs (cell J n a b + s) 0 ≡ figure-at J le own (position J Length a) (position J Width b) s
+Figures J le own words xs = (a b s : ℕ) → a < position-count J Length → b < position-count J Width → s < words
+    → getD xs (cell J words a b + s) 0 ≡ figure-at J le own (position J Length a) (position J Width b) s
 
--- in each of s cells of n words nothing is noted past the end of its list
+-- in each of s cells of so many words nothing is noted past the end of its list
 abbrev pub Bare : ℕ → ℕ → List ℕ → Type 0
-Bare s n xs = (i j k : ℕ) → i < s → j ≤ k → k < n → note xs (i * n) j ≡ 0 → note xs (i * n) k ≡ 0
+Bare s words xs = (i j k : ℕ) → i < s → j ≤ k → k < words → note xs (i * words) j ≡ 0 → note xs (i * words) k ≡ 0
 
--- the lists are off: s cells of n words each hold their figures alone, and the rest is as it was
-pub record Plain (s n : ℕ) (old new : List ℕ) : Type 0 where
-  pub plain : (i c : ℕ) → i < s → c < n → getD new (i * n + c) 0 ≡ held old (i * n) c
-  pub rest : (i : ℕ) → s * n ≤ i → getD new i 0 ≡ getD old i 0
+-- the lists are off: s cells of so many words each hold their figures alone, and the rest is as it was
+pub record Plain (s words : ℕ) (old new : List ℕ) : Type 0 where
+  pub plain : (i c : ℕ) → i < s → c < words → getD new (i * words + c) 0 ≡ held old (i * words) c
+  pub rest : (i : ℕ) → s * words ≤ i → getD new i 0 ≡ getD old i 0

@@ -14,31 +14,38 @@ ghost use Prim.Native.Nat.{_+_, _≤_, max};
 ghost use lib.ListN.{length};
 ghost use Rattle.table.specs.Words.{Outside, Run};
 ghost use Rattle.state_fill.specs.Cells.{held, note, under, Growing, Taken, Ready, Inherited, Placed, Finished, FlaggedBelow, Topped};
-ghost use Rattle.state_fill.specs.Tables.{job-in, owns, Made, Spot};
+ghost use Rattle.state_fill.specs.Tables.{job-in, owns, length-line, width-line, Made, Spot};
 
 // The cell's words become the greater of the figures of the cells before it.
-fn start(table: &mut [u64], at: usize, above: usize, before: usize, words: usize)
-    requires { ⌜ (above + words ≤ at) × (before + words ≤ at) × (at + words ≤ length (now table)) ⌝ }
-    ensures { λ _. ⌜ Run (λ s. max (held (now (table .entry)) above s) (held (now (table .entry)) before s)) at words (now (table .entry)) (now (table .exit)) ⌝ }
+fn start(table: &mut [u64], at: usize, first: usize, second: usize, words: usize)
+    requires { ⌜ (first + words ≤ at) × (second + words ≤ at) × (at + words ≤ length (now table)) ⌝ }
+    ensures { λ _. ⌜ Run (λ s. max (held (now (table .entry)) first s) (held (now (table .entry)) second s)) at words (now (table .entry)) (now (table .exit)) ⌝ }
 {
     for s in 0..words {
-        table[at + s] = greater(figure(table[above + s]), figure(table[before + s]));
+        table[at + s] = greater(figure(table[first + s]), figure(table[second + s]));
     }
 }
 
-// The states that the cell from x on lists, and at which it is above the cell from y on, are flagged.
-fn inherit(table: &mut [u64], at: usize, x: usize, y: usize, words: usize, top: usize) -> usize
-    requires { ⌜ Ready (now table) x words at × (y + words ≤ at) × (at + words ≤ length (now table)) ⌝ }
-    ensures { λ r. ⌜ Inherited x y at words (now (table .entry)) (now (table .exit)) × Topped at words top r (now (table .entry)) (now (table .exit)) ⌝ }
+// The states that the cell from `first` on lists, and at which it is above the cell from `second` on, are flagged.
+fn inherit(
+    table: &mut [u64],
+    at: usize,
+    first: usize,
+    second: usize,
+    words: usize,
+    top: usize,
+) -> usize
+    requires { ⌜ Ready (now table) first words at × (second + words ≤ at) × (at + words ≤ length (now table)) ⌝ }
+    ensures { λ r. ⌜ Inherited first second at words (now (table .entry)) (now (table .exit)) × Topped at words top r (now (table .entry)) (now (table .exit)) ⌝ }
 {
     let mut high = top;
     for k in 0..words {
-        let listed = note(table[x + k]);
+        let listed = note(table[first + k]);
         if listed == 0 {
             return high;
         }
         let t = listed - 1;
-        if figure(table[y + t]) < figure(table[x + t]) {
+        if figure(table[second + t]) < figure(table[first + t]) {
             table[at + t] = figure(table[at + t]) + 2199023255552;
             high = past(high, t);
         }
@@ -122,6 +129,32 @@ pub struct Place {
     pub column: usize,
 }
 
+// The cells that the cell's cuts read: those of its width, along the lengths, and those of its length, along the widths.
+fn length_line(shape: Shape, place: Place) -> Line
+    ensures { λ r. ⌜ r ≡ length-line shape place ⌝ }
+{
+    Line {
+        index: place.a,
+        half_end: place.length_half_end,
+        at: place.at,
+        base: place.column,
+        stride: shape.stride,
+    }
+}
+
+fn width_line(shape: Shape, place: Place) -> Line
+    requires { ⌜ place .column ≤ place .at ⌝ }
+    ensures { λ r. ⌜ r ≡ width-line shape place ⌝ }
+{
+    Line {
+        index: place.b,
+        half_end: place.width_half_end,
+        at: place.at,
+        base: place.at - place.column,
+        stride: shape.words,
+    }
+}
+
 // A cell of the table from the cells before it in length and width, those that its cuts read among them.
 pub fn make_cell(
     table: &mut [u64],
@@ -143,21 +176,15 @@ pub fn make_cell(
     let words = shape.words;
     let a = place.a;
     let b = place.b;
-    let above = at - shape.stride;
-    let before = at - words;
-    start(table, at, above, before, words);
-    let mut top = inherit(table, at, before, above, words, 0);
-    top = inherit(table, at, above, before, words, top);
+    let shorter = at - shape.stride;
+    let narrower = at - words;
+    start(table, at, shorter, narrower, words);
+    let mut top = inherit(table, at, narrower, shorter, words, 0);
+    top = inherit(table, at, shorter, narrower, words, top);
     let l = widen(normal_lengths[a]);
     let w = widen(normal_widths[b]);
     top = place_kinds(table, kinds, blocks, shape, at, l, w, top);
-    let longer = Line {
-        index: a,
-        at: at,
-        base: place.column,
-        stride: shape.stride,
-    };
-    let half_a = place.length_half_end;
+    let by_length = length_line(shape, place);
     top = cut(
         table,
         normal_lengths,
@@ -165,17 +192,10 @@ pub fn make_cell(
         blocks,
         shape.d,
         words,
-        longer,
-        half_a,
+        by_length,
         top,
     );
-    let wider = Line {
-        index: b,
-        at: at,
-        base: at - place.column,
-        stride: words,
-    };
-    let half_b = place.width_half_end;
+    let by_width = width_line(shape, place);
     top = cut(
         table,
         normal_widths,
@@ -183,8 +203,7 @@ pub fn make_cell(
         blocks,
         shape.d,
         words,
-        wider,
-        half_b,
+        by_width,
         top,
     );
     finish(table, at, words, top);

@@ -2,11 +2,11 @@
 // prices and states.
 ghost use mathlib.Core.Path.{_≡_};
 
-// The plate l by w and the number of its kinds, the numbers of normal lengths and of normal widths, the last digit d of the states, the
+// The plate's length and width and the number of its kinds, the numbers of normal lengths and of normal widths, the last digit d of the states, the
 // words of a cell, and those from a cell to the one of the next normal length.
 pub struct Shape {
-    pub l: u16,
-    pub w: u16,
+    pub length: u16,
+    pub width: u16,
     pub count: usize,
     pub length_count: usize,
     pub columns: usize,

@@ -2,13 +2,11 @@
 use crate::rows::fill;
 use crate::shape::Shape;
 use crate::shape::widen;
+use table::TableSize;
 ghost use mathlib.Core.Path.{_≡_};
 ghost use Prim.Native.Nat.{_≤_, _<_};
 ghost use lib.ListN.{length, getD};
-ghost use Rattle.cutting.specs.declared.Direction.the-variants.{Length, Width};
-ghost use Rattle.cutting.specs.Job.{InRange};
-ghost use Rattle.table.specs.Table.{words-needed, Figures, Kept};
-ghost use Rattle.table.specs.Contracts.{kinds-job, Positions};
+ghost use Rattle.table.specs.Contracts.{size-job, each, Fillable, FilledBy};
 ghost use Rattle.state_fill.specs.Tables.{Whole, Gathered};
 
 // The weight of kind i, where there is such a kind.
@@ -40,55 +38,42 @@ fn gather(
     kinds
 }
 
-// The table of a job, weights and a capacity q: its words are the figures, and the rest is as it was.
+// The table of a job, weights and a capacity: its words are the figures, and the rest is as it was.
 pub fn fill_weighed(
-    l: u16,
-    w: u16,
+    size: TableSize,
     kind_lengths: &[u16; 64],
     kind_widths: &[u16; 64],
     prices: &[u32; 64],
     weights: &[u8],
-    count: u16,
     normal_lengths: &[u16],
-    length_floors: &[u16],
-    length_count: u16,
     normal_widths: &[u16],
-    width_floors: &[u16],
-    columns: u16,
-    q: u16,
+    floors: &[u16],
     table: &mut [u64],
 )
-    requires { ⌜ InRange (kinds-job l w count (now «kind_lengths») (now «kind_widths») (now prices)) × (count ≤ length (now weights)) × (q ≤ 4095)
-        × Positions (kinds-job l w count (now «kind_lengths») (now «kind_widths») (now prices)) Length «length_count» (now «normal_lengths») (now «length_floors»)
-        × Positions (kinds-job l w count (now «kind_lengths») (now «kind_widths») (now prices)) Width columns (now «normal_widths») (now «width_floors»)
-        × (words-needed (kinds-job l w count (now «kind_lengths») (now «kind_widths») (now prices)) q ≤ length (now table)) ⌝ }
-    ensures { λ _. ⌜ Figures (kinds-job l w count (now («kind_lengths» .entry)) (now («kind_widths» .entry)) (now (prices .entry))) (λ i. getD (now (weights .entry)) i 0) q (now (table .exit))
-        × Kept (words-needed (kinds-job l w count (now («kind_lengths» .entry)) (now («kind_widths» .entry)) (now (prices .entry))) q) (now (table .entry)) (now (table .exit)) ⌝ }
+    requires { ⌜ Fillable (size-job size (now «kind_lengths») (now «kind_widths») (now prices)) (now weights) size (now «normal_lengths») (now «normal_widths») (now floors) (now table) ⌝ }
+    ensures { λ _. ⌜ FilledBy (size-job size (now («kind_lengths» .entry)) (now («kind_widths» .entry)) (now (prices .entry))) (each (now (weights .entry))) (size .capacity) (now (table .entry)) (now (table .exit)) ⌝ }
 {
-    let kinds = gather(
-        *kind_lengths,
-        *kind_widths,
-        *prices,
-        weights,
-        count as usize,
-    );
-    let words = (q as usize) + 1;
+    let count = size.count as usize;
+    let columns = size.columns as usize;
+    let words = (size.capacity as usize) + 1;
+    let kinds = gather(*kind_lengths, *kind_widths, *prices, weights, count);
     let blocks = [words as u32; 1];
     let shape = Shape {
-        l: l,
-        w: w,
-        count: count as usize,
-        length_count: length_count as usize,
-        columns: columns as usize,
+        length: size.length,
+        width: size.width,
+        count: count,
+        length_count: size.rows as usize,
+        columns: columns,
         d: 0,
         words: words,
-        stride: (columns as usize) * words,
+        stride: columns * words,
     };
+    let width_floors = &floors[1001..];
     fill(
         table,
         &kinds,
         normal_lengths,
-        length_floors,
+        floors,
         normal_widths,
         width_floors,
         &blocks,

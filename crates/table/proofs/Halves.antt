@@ -6,7 +6,7 @@ use native.Mathlib.Decide.{ℕ-discrete, decLe}
 use native.Mathlib.Omega.{arith}
 use borrow.Author.Count.{below-more}
 use lib.ListN.{getD}
-use Rattle.table.specs.Words.{Half, remainder, Cuts, Axis}
+use Rattle.table.specs.Words.{HalfReady, Half, remainder, Cuts, Axis}
 use Rattle.table.proofs.Words.{cell-before}
 
 -- an entry up to half of entry b is not entry b
@@ -54,6 +54,10 @@ module _ (positions floors : List ℕ) (count : ℕ) (axis : Axis positions floo
   -- and no more than the entry together
   pub half-parts : (b half-end i : ℕ) → b < count → Half positions b half-end → 1 ≤ i → i < half-end → (remainder positions floors b i < b) × (getD positions i 0 + getD positions (remainder positions floors b i) 0 ≤ getD positions b 0)
   half-parts b half-end i h half l m = (half-cuts b half-end h half .earlier i l m, parts-fit b half-end i h half l m .1)
+
+  -- what the search for the half of an entry asks
+  pub half-ready : (from b : ℕ) → 1 ≤ from → from ≤ b → b < count → ((i : ℕ) → 1 ≤ i → i < from → b < count → 2 * getD positions i 0 ≤ getD positions b 0) → HalfReady positions from b
+  half-ready from b h l m w = record { least = h; most = l; listed = omega (arith, axis .listed); some = omega (arith, axis .rise 0 b (omega arith) m); within = λ i u v. w i u v m }
 
   -- the half found for one entry serves the next
   pub half-next : (b half-end : ℕ) → Half positions b half-end → (i : ℕ) → 1 ≤ i → i < half-end → b + 1 < count → 2 * getD positions i 0 ≤ getD positions (b + 1) 0

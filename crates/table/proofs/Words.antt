@@ -1,12 +1,13 @@
--- Laws of written runs: nothing written yet, one word more; of the words past the table; and of cells that lie one after the other.
+-- Laws of written runs: nothing written yet, one word more; of the words past the table; of cells that lie one after the other; and of
+-- the array with the floors of both sides.
 use mathlib.Core.Path.{_≡_, refl, sym, _∙_}
 use mathlib.Core.List.{List}
-use Prim.Native.Nat.{ℕ, _+_, _*_, _≤_, _<_}
+use Prim.Native.Nat.{ℕ, _+_, _-_, _*_, _≤_, _<_}
 use native.Mathlib.Nat.{not-suc-le-zero, mul-le-mul-right}
 use native.Mathlib.Omega.{arith}
 use borrow.Author.Count.{below-more}
-use lib.ListN.{length, getD, set, drop, length-drop}
-use lib.Seq.{getD-set-same, getD-set-other, getD-drop, ext-getD}
+use lib.ListN.{length, getD, set, take, drop, length-drop}
+use lib.Seq.{getD-set-same, getD-set-other, getD-drop, ext-getD, take-all}
 use Rattle.table.specs.Table.{Kept}
 use Rattle.table.specs.Words.{Outside, Run}
 
@@ -45,3 +46,7 @@ words-past m old new l f = (
   l,
   ext-getD 0 (drop m new) (drop m old) (omega (arith, length-drop m new, length-drop m old)) (λ i h. getD-drop m new i 0 ∙ f (m + i) (omega arith) ∙ sym (getD-drop m old i 0)),
 )
+
+-- the floors of the widths, from entry 1,001 to the array's end
+pub second-floors : (xs : List ℕ) → take (length xs - 1001) (drop 1001 xs) ≡ drop 1001 xs
+second-floors xs = take-all (length xs - 1001) (drop 1001 xs) (omega (arith, length-drop 1001 xs))

@@ -1,12 +1,14 @@
--- What the steps of a fill, and the reading of a filled table, ask of the lists and floors that they are lent.
+-- What a fill asks and leaves, and what its steps and the reading of a filled table ask of the lists and floors that they are lent.
 use mathlib.Core.Path.{_≡_}
 use mathlib.Core.List.{List}
 use Prim.Native.Nat.{ℕ, _≤_, _<_}
-use lib.ListN.{length, getD, take}
+use lib.ListN.{length, getD, take, drop}
 use Rattle.cutting.specs.declared.Direction.{Direction}
+use Rattle.cutting.specs.declared.Direction.the-variants.{Length, Width}
 use Rattle.cutting.specs.Tree.{side}
-use Rattle.cutting.specs.Job.{Job, normal-positions, normal-floor}
-use Rattle.table.specs.Table.{position-count, position}
+use Rattle.cutting.specs.Job.{Job, InRange, normal-positions, normal-floor}
+use Rattle.table.specs.declared.TableSize.{TableSize}
+use Rattle.table.specs.Table.{position-count, position, words-needed, Figures, Kept}
 
 -- a list holds the normal positions of a side
 abbrev pub Listed : Job → Direction → List ℕ → Type 0
@@ -26,14 +28,31 @@ kinds-job l w count kind-lengths kind-widths prices = record {
   demand = λ i. 0;
 }
 
--- a list begins with the normal positions of one side of a job, so many
-pub record NormalList (J : Job) (d : Direction) (count : ℕ) (positions : List ℕ) : Type 0 where
-  pub counted : count ≡ position-count J d
-  pub listed : take count positions ≡ normal-positions J d
+-- the job of a table's size and of the arrays of its kinds
+abbrev pub size-job : TableSize → List ℕ → List ℕ → List ℕ → Job
+size-job size kind-lengths kind-widths prices = kinds-job (size .length) (size .width) (size .count) kind-lengths kind-widths prices
 
--- such a list, and the floors of its side
+-- an array, entry by entry
+abbrev pub each : List ℕ → ℕ → ℕ
+each xs i = getD xs i 0
+
+-- a list begins with the normal positions of one side of a job, so many; and the floors of that side
 pub record Positions (J : Job) (d : Direction) (count : ℕ) (positions floors : List ℕ) : Type 0 where
   pub counted : count ≡ position-count J d
   pub listed : take count positions ≡ normal-positions J d
   pub mapped : side d (J .plate) < length floors
   pub floored : Mapped J d floors
+
+-- what a fill asks: a job in range, a weight for each of its kinds, the normal positions and floors of both sides, and a table with room
+pub record Fillable (J : Job) (weights : List ℕ) (size : TableSize) (normal-lengths normal-widths floors table : List ℕ) : Type 0 where
+  pub in-range : InRange J
+  pub weighed : J .count ≤ length weights
+  pub most : size .capacity ≤ 4095
+  pub floors-there : length floors ≡ 2002
+  pub lengths : Positions J Length (size .rows) normal-lengths floors
+  pub widths : Positions J Width (size .columns) normal-widths (drop 1001 floors)
+  pub room : words-needed J (size .capacity) ≤ length table
+
+-- what a fill leaves: the figures, and later words as they were
+abbrev pub FilledBy : Job → (ℕ → ℕ) → ℕ → List ℕ → List ℕ → Type 0
+FilledBy J weight q old new = Figures J weight q new × Kept (words-needed J q) old new

@@ -15,6 +15,14 @@ pub record Run (f : ℕ → ℕ) (at m : ℕ) (old new : List ℕ) : Type 0 wher
   pub here : (j : ℕ) → j < m → getD new (at + j) 0 ≡ f j
   pub rest : Outside at (at + m) old new
 
+-- what the search for the half of entry b asks: the entries before `from` are not past it
+pub record HalfReady (positions : List ℕ) (from b : ℕ) : Type 0 where
+  pub least : 1 ≤ from
+  pub most : from ≤ b
+  pub listed : b < length positions
+  pub some : 0 < getD positions b 0
+  pub within : (i : ℕ) → 1 ≤ i → i < from → 2 * getD positions i 0 ≤ getD positions b 0
+
 -- the first index from 1 on whose entry is past half of entry b: where the first half of the cuts ends
 pub record Half (positions : List ℕ) (b half-end : ℕ) : Type 0 where
   pub least : 1 ≤ half-end

@@ -1,18 +1,19 @@
-// What the fills of the table share: reading a list of positions, the half of a side, the greater of two figures, and runs of words.
+// What the fills of the table share: what a table is made for, reading a list of positions, the half of a side, the greater of two figures, and runs of words.
 // The definitions of the table's contents stand in specs/Table, what a fill asks in specs/Contracts; which cuts can give a cell more, and
 // what makes a cell complete, is proved in proofs/Covered and proofs/Complete.
 ghost use mathlib.Core.Path.{_≡_};
 ghost use Prim.Native.Nat.{ℕ, _+_, _-_, _*_, _≤_, _<_, max};
 ghost use lib.ListN.{length, getD};
-ghost use Rattle.table.specs.Words.{Run, Half};
+ghost use Rattle.table.specs.Words.{Run, HalfReady, Half};
 
-// What a table is of: the plate's sides, the number of kinds, and the numbers of normal lengths and normal widths.
-pub struct Extents {
+// What a table is made for: the plate's sides, the number of kinds, p rows and r columns of cells, and the capacity Q.
+pub struct TableSize {
     pub length: u16,
     pub width: u16,
     pub count: u16,
-    pub length_count: u16,
+    pub rows: u16,
     pub columns: u16,
+    pub capacity: u16,
 }
 
 // An entry of a list of positions, or of floors.
@@ -25,8 +26,7 @@ pub fn entry(list: &[u16], i: usize) -> usize
 
 // The first index from 1 on whose entry is past half of entry b: those before `from` are known not to be.
 pub fn half(positions: &[u16], from: usize, b: usize) -> usize
-    requires { ⌜ (1 ≤ from) × (from ≤ b) × (b < length (now positions)) × (0 < getD (now positions) b 0)
-        × ((i : ℕ) → 1 ≤ i → i < from → 2 * getD (now positions) i 0 ≤ getD (now positions) b 0) ⌝ }
+    requires { ⌜ HalfReady (now positions) from b ⌝ }
     ensures { λ r. ⌜ Half (now (positions .entry)) b r ⌝ }
 {
     let whole = entry(positions, b);

@@ -3,18 +3,17 @@ use borrow.Author.Needs.{needs}
 use native.Mathlib.Omega.{arith}
 use mathlib.Core.Path.{_∙_, refl, sym}
 use Prim.Native.Nat.{_-_}
-use Rattle.table.specs.Contracts.{kinds-job}
-use Rattle.row_fill.specs.Raised.{each}
-use Rattle.row_fill.proofs.Filling.{Filling, zeros-capped, first-row, all-room, few-rows, fill-none, fill-all, fill-kept, end-few, half-ready, lengths-ready, row-ready, fill-more}
+use Rattle.table.specs.Contracts.{size-job, each}
+use Rattle.row_fill.proofs.Filling.{Filling, zeros-capped, first-row, all-room, few-rows, fill-none, filled, end-few, row-half, lengths-ready, row-ready, fill-more}
 use Rattle.row_fill.proofs.fill.Statement.{statement}
 use Rattle.row_fill.proofs.fill.Tie as tie
 
 abbrev Inv-loop : tie.InvT-loop
-Inv-loop extents kind-lengths kind-widths prices weights normal-lengths length-floors normal-widths table₀ columns rows unit₀ start₀ half-end₀ a₀ table unit start half-end a =
-    Filling (kinds-job (extents .length) (extents .width) (extents .count) kind-lengths kind-widths prices) (each weights) (extents .«length_count») normal-lengths (extents .columns) normal-widths a start half-end unit table₀ table
+Inv-loop size kind-lengths kind-widths prices weights normal-lengths normal-widths floors table₀ columns rows unit₀ start₀ half-end₀ a₀ table unit start half-end a =
+    Filling (size-job size kind-lengths kind-widths prices) (each weights) (size .rows) normal-lengths (size .columns) normal-widths a start half-end unit table₀ table
 
 abbrev μ-loop : tie.MeasureT-loop
-μ-loop extents kind-lengths kind-widths prices weights normal-lengths length-floors normal-widths table₀ columns rows unit₀ start₀ half-end₀ a₀ table unit start half-end a = extents .«length_count» - a
+μ-loop size kind-lengths kind-widths prices weights normal-lengths normal-widths floors table₀ columns rows unit₀ start₀ half-end₀ a₀ table unit start half-end a = size .rows - a
 
 clear-requires : tie.Need-clear-requires Inv-loop μ-loop
 clear-requires c κs = let given = c .before .before .before .before .before .before .before .before .pre in omega (arith, all-room given, first-row given)
@@ -23,7 +22,7 @@ loop-holds : tie.Need-loop-holds Inv-loop μ-loop
 loop-holds c = fill-none (c .before .before .before .before .before .before .before .before .before .before .before .pre) (c .before .before .clear .ensures) refl (zeros-capped 1001)
 
 half-requires : tie.Need-half-requires Inv-loop μ-loop
-half-requires c κs = half-ready (c .before .before .before .before .before .before .before .before .before .before .before .before .before .pre) (c .before .loop .inv) (c .loop-test .taken)
+half-requires c κs = row-half (c .before .before .before .before .before .before .before .before .before .before .before .before .before .pre) (c .before .loop .inv) (c .loop-test .taken)
 
 cut-lengths-requires : tie.Need-cut-lengths-requires Inv-loop μ-loop
 cut-lengths-requires c κs = lengths-ready (c .before .before .before .before .before .before .before .before .before .before .before .before .before .before .before .pre) (c .before .before .before .loop .inv) (c .before .before .loop-test .taken) (c .before .half .ensures) (c .before .before .before .before .before .before .clear .kept .0)
@@ -32,7 +31,7 @@ mul-t24 : tie.Need-mul-t24 Inv-loop μ-loop
 mul-t24 c = omega (arith, few-rows (c .before .before .before .before .before .before .before .before .before .before .before .before .before .before .before .before .before .before .pre), c .before .before .before .before .before .loop-test .taken)
 
 shared-slice-read-t26 : tie.Need-shared-slice-read-t26 Inv-loop μ-loop
-shared-slice-read-t26 c = half-ready (c .before .before .before .before .before .before .before .before .before .before .before .before .before .before .before .before .before .before .before .pre) (c .before .before .before .before .before .before .before .loop .inv) (c .before .before .before .before .before .before .loop-test .taken) .2
+shared-slice-read-t26 c = row-half (c .before .before .before .before .before .before .before .before .before .before .before .before .before .before .before .before .before .before .before .pre) (c .before .before .before .before .before .before .before .loop .inv) (c .before .before .before .before .before .before .loop-test .taken) .listed
 
 slice-aggregate-fill-row : tie.Need-slice-aggregate-fill-row Inv-loop μ-loop
 slice-aggregate-fill-row c = sym (c .before .before .before .before .before .before .before .before .before .loop .inv .units)
@@ -66,7 +65,7 @@ returns c =
     let given = c .before .before .before .before .before .before .before .before .before .before .before .before .before .pre in
     let l = c .before .loop .inv in
     let cleared = c .before .before .before .before .clear in
-    (fill-all given l (omega (arith, c .loop-test .left)), fill-kept given l (cleared .kept .0) (cleared .ensures))
+    filled given l (omega (arith, c .loop-test .left)) (cleared .kept .0) (cleared .ensures)
 
 pub fill-spec : {M : Type 1} → statement M
 fill-spec =

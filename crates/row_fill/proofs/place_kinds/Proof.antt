@@ -4,7 +4,8 @@ use native.Mathlib.Omega.{arith}
 use mathlib.Core.Path.{_≡_, _∙_, refl}
 use Prim.Native.Nat.{_-_, _≤_}
 use lib.ListN.{length}
-use Rattle.row_fill.specs.Raised.{Raised, Kinds, each}
+use Rattle.table.specs.Contracts.{each}
+use Rattle.row_fill.specs.Raised.{Raised, Kinds}
 use Rattle.row_fill.proofs.Raising.{kinds-none, kinds-next}
 use Rattle.row_fill.proofs.place_kinds.Statement.{statement}
 use Rattle.row_fill.proofs.place_kinds.Tie as tie

@@ -17,10 +17,10 @@ abbrev μ-loop : tie.MeasureT-loop
 μ-loop positions from b whole half-end₀ half-end = b - half-end
 
 entry-requires : tie.Need-entry-requires Inv-loop μ-loop
-entry-requires c κs = search needs
+entry-requires c κs = c .before .pre .listed
 
 loop-holds : tie.Need-loop-holds Inv-loop μ-loop
-loop-holds c = search needs
+loop-holds c = (c .before .before .pre .least, c .before .before .pre .most, c .entry .ensures .0, c .entry .ensures .1, c .before .before .pre .within)
 
 entry-requires-2 : tie.Need-entry-requires-2 Inv-loop μ-loop
 entry-requires-2 c κs = search needs
@@ -35,13 +35,13 @@ loop-less : tie.Need-loop-less Inv-loop μ-loop
 loop-less c =
     let e = c .before .before .before .before .before in
     let l = c .before .before .loop in
-    omega (arith, half-below (now (e .args .positions)) (e .args .b) (l .half-end) (l .inv .1) (e .pre .3) (omega arith))
+    omega (arith, half-below (now (e .args .positions)) (e .args .b) (l .half-end) (l .inv .1) (e .pre .some) (omega arith))
 
 loop-again : tie.Need-loop-again Inv-loop μ-loop
 loop-again c =
     let e = c .before .before .before .before .before in
     let l = c .before .before .loop in
-    let below = half-below (now (e .args .positions)) (e .args .b) (l .half-end) (l .inv .1) (e .pre .3) (omega arith) in
+    let below = half-below (now (e .args .positions)) (e .args .b) (l .half-end) (l .inv .1) (e .pre .some) (omega arith) in
     (omega arith, omega arith, l .inv .2, l .inv .3, half-more (now (e .args .positions)) (e .args .b) (l .half-end) (l .inv .4) (omega arith))
 
 returns : tie.Need-returns Inv-loop μ-loop

@@ -11,10 +11,10 @@ use Rattle.state_fill.proofs.cells.finish.Statement.{statement}
 use Rattle.state_fill.proofs.cells.finish.Tie as tie
 
 abbrev Inv-loop : tie.InvT-loop
-Inv-loop table₀ at n top k₀ s₀ table k s = (s ≤ top) × (length table ≡ length table₀) × Listing at n s k table₀ table
+Inv-loop table₀ at words top k₀ s₀ table k s = (s ≤ top) × (length table ≡ length table₀) × Listing at words s k table₀ table
 
 abbrev μ-loop : tie.MeasureT-loop
-μ-loop table₀ at n top k₀ s₀ table k s = top - s
+μ-loop table₀ at words top k₀ s₀ table k s = top - s
 
 loop-holds : tie.Need-loop-holds Inv-loop μ-loop
 loop-holds c = (omega arith, refl, listing-none _ _ _)

@@ -13,10 +13,10 @@ use Rattle.state_fill.proofs.cells.inherit.Statement.{statement}
 use Rattle.state_fill.proofs.cells.inherit.Tie as tie
 
 abbrev Inv-loop : tie.InvT-loop
-Inv-loop table₀ at x y n top high₀ k₀ table high k = (k ≤ n) × (length table ≡ length table₀) × Inherit x y at n k table₀ table × Topped at n top high table₀ table
+Inv-loop table₀ at first second words top high₀ k₀ table high k = (k ≤ words) × (length table ≡ length table₀) × Inherit first second at words k table₀ table × Topped at words top high table₀ table
 
 abbrev μ-loop : tie.MeasureT-loop
-μ-loop table₀ at x y n top high₀ k₀ table high k = n - k
+μ-loop table₀ at first second words top high₀ k₀ table high k = words - k
 
 loop-holds : tie.Need-loop-holds Inv-loop μ-loop
 loop-holds c = (omega arith, refl, inherit-none _ _ _ _ (c .before .pre .0 .before) (c .before .pre .1) _, topped-none _ _ _ _)
@@ -40,7 +40,7 @@ returns : tie.Need-returns Inv-loop μ-loop
 returns c =
     let given = c .before .before .before .before .before .before .pre in
     let loop = c .before .before .before .before .loop in
-    (inherit-end _ _ _ _ (given .0 .before) (given .1) _ _ _ (λ i u h e. past-end _ _ _ _ _ _ _ (given .0) h (sym (note-kept _ _ _ _ (loop .inv .2 .rest) (c .before .before .before .before .before .before .args .x) (loop .k) (omega (arith, given .0 .before))) ∙ (sym (c .before .note .ensures .0) ∙ c .if1 .taken)) e) (loop .inv .2), loop .inv .3)
+    (inherit-end _ _ _ _ (given .0 .before) (given .1) _ _ _ (λ i u h e. past-end _ _ _ _ _ _ _ (given .0) h (sym (note-kept _ _ _ _ (loop .inv .2 .rest) (c .before .before .before .before .before .before .args .first) (loop .k) (omega (arith, given .0 .before))) ∙ (sym (c .before .note .ensures .0) ∙ c .if1 .taken)) e) (loop .inv .2), loop .inv .3)
 
 sub-t : tie.Need-sub-t Inv-loop μ-loop
 sub-t c = search needs

@@ -4,24 +4,24 @@ use mathlib.Core.Path.{_∙_}
 use Rattle.state_fill.proofs.Growing.{outside-same, outside-chain}
 use Rattle.state_fill.proofs.Topping.{topped-then}
 use Rattle.state_fill.proofs.Joining.{growing-kept}
-use Rattle.state_fill.proofs.Making.{room, row-fits, cell-fits, few, long-cuts-are, wide-cuts-are, above-ready, before-ready, long-cuttable, wide-cuttable, start-topped, inherited-rest, inherited-growing, made, made-rest}
+use Rattle.state_fill.proofs.Making.{room, row-fits, cell-fits, few, long-cuts-are, wide-cuts-are, shorter-ready, narrower-ready, long-cuttable, wide-cuttable, start-topped, inherited-rest, inherited-growing, made, made-rest}
 use Rattle.state_fill.proofs.cells.make_cell.Statement.{statement}
 use Rattle.state_fill.proofs.cells.make_cell.Tie as tie
 
-sub-above : tie.Need-sub-above
-sub-above c = row-fits (c .before .before .before .before .before .before .before .pre)
+sub-shorter : tie.Need-sub-shorter
+sub-shorter c = row-fits (c .before .before .before .before .before .before .before .pre)
 
-sub-before : tie.Need-sub-before
-sub-before c = omega (arith, row-fits (c .before .before .before .before .before .before .before .pre), cell-fits (c .before .before .before .before .before .before .before .pre) .0)
+sub-narrower : tie.Need-sub-narrower
+sub-narrower c = omega (arith, row-fits (c .before .before .before .before .before .before .before .pre), cell-fits (c .before .before .before .before .before .before .before .pre) .0)
 
 start-requires : tie.Need-start-requires
-start-requires c κs = (above-ready (c .before .before .before .before .before .before .before .before .pre) _ (outside-same _ _ _) .before, before-ready (c .before .before .before .before .before .before .before .before .pre) _ (outside-same _ _ _) .before, room (c .before .before .before .before .before .before .before .before .pre))
+start-requires c κs = (shorter-ready (c .before .before .before .before .before .before .before .before .pre) _ (outside-same _ _ _) .before, narrower-ready (c .before .before .before .before .before .before .before .before .pre) _ (outside-same _ _ _) .before, room (c .before .before .before .before .before .before .before .before .pre))
 
 inherit-requires : tie.Need-inherit-requires
 inherit-requires c κs =
     let spot = c .before .before .before .before .before .before .before .before .before .before .before .before .pre in
     let started = c .before .before .before .start in
-    (before-ready spot _ (started .ensures .rest), above-ready spot _ (started .ensures .rest) .before, omega (arith, room spot, started .kept .0))
+    (narrower-ready spot _ (started .ensures .rest), shorter-ready spot _ (started .ensures .rest) .before, omega (arith, room spot, started .kept .0))
 
 inherit-requires-2 : tie.Need-inherit-requires-2
 inherit-requires-2 c κs =
@@ -29,7 +29,7 @@ inherit-requires-2 c κs =
     let started = c .before .before .before .before .before .before .before .start in
     let first = c .before .before .before .inherit in
     let rest = outside-chain _ _ _ _ _ (started .ensures .rest) (first .ensures .0 .rest) in
-    (above-ready spot _ rest, before-ready spot _ rest .before, omega (arith, room spot, started .kept .0, first .kept .0))
+    (shorter-ready spot _ rest, narrower-ready spot _ rest .before, omega (arith, room spot, started .kept .0, first .kept .0))
 
 mul-widen : tie.Need-mul-widen
 mul-widen c = omega (arith, few (c .before .before .before .before .before .before .before .before .before .before .before .before .before .before .before .before .before .before .before .pre))
@@ -58,66 +58,69 @@ place-kinds-requires c κs =
     let growing = inherited-growing spot _ (started .ensures) _ _ (first .ensures .0) (second .ensures .0) (second .kept .0 ∙ (first .kept .0 ∙ started .kept .0)) in
     (growing, spot .lent .range .kinds .1)
 
+length-line-requires : tie.Need-length-line-requires
+length-line-requires c κs = tt
+
 cut-requires : tie.Need-cut-requires
 cut-requires c κs =
-    let spot = c .before .before .before .before .before .before .before .before .before .before .before .before .before .before .before .before .before .before .before .before .before .before .before .before .before .before .before .before .pre in
-    let started = c .before .before .before .before .before .before .before .before .before .before .before .before .before .before .before .before .before .before .before .start in
-    let first = c .before .before .before .before .before .before .before .before .before .before .before .before .before .before .before .inherit in
-    let second = c .before .before .before .before .before .before .before .before .before .before .before .inherit2 in
-    let kinds = c .before .before .before .place-kinds in
+    let spot = c .before .before .before .before .before .before .before .before .before .before .before .before .before .before .before .before .before .before .before .before .before .before .before .before .before .before .before .before .before .pre in
+    let started = c .before .before .before .before .before .before .before .before .before .before .before .before .before .before .before .before .before .before .before .before .start in
+    let first = c .before .before .before .before .before .before .before .before .before .before .before .before .before .before .before .before .inherit in
+    let second = c .before .before .before .before .before .before .before .before .before .before .before .before .inherit2 in
+    let kinds = c .before .before .before .before .place-kinds in
+    let line = c .before .length-line .ensures in
     let growing = inherited-growing spot _ (started .ensures) _ _ (first .ensures .0) (second .ensures .0) (second .kept .0 ∙ (first .kept .0 ∙ started .kept .0)) in
     let rest = inherited-rest spot _ (started .ensures) _ _ (first .ensures .0) (second .ensures .0) in
-    long-cuttable spot _ (outside-chain _ _ _ _ _ rest (kinds .ensures .0 .grown .rest)) (growing-kept growing (kinds .kept .0) (kinds .ensures .0 .grown))
+    rw line (long-cuttable spot _ (outside-chain _ _ _ _ _ rest (kinds .ensures .0 .grown .rest)) (growing-kept growing (kinds .kept .0) (kinds .ensures .0 .grown)))
 
-sub-t30 : tie.Need-sub-t30
-sub-t30 c = cell-fits (c .before .before .before .before .before .before .before .before .before .before .before .before .before .before .before .before .before .before .before .before .before .before .before .before .before .before .before .before .before .before .before .before .pre) .1
+width-line-requires : tie.Need-width-line-requires
+width-line-requires c κs = cell-fits (c .before .before .before .before .before .before .before .before .before .before .before .before .before .before .before .before .before .before .before .before .before .before .before .before .before .before .before .before .before .before .before .before .pre) .1
 
 cut-requires-2 : tie.Need-cut-requires-2
 cut-requires-2 c κs =
-    let spot = c .before .before .before .before .before .before .before .before .before .before .before .before .before .before .before .before .before .before .before .before .before .before .before .before .before .before .before .before .before .before .before .before .before .pre in
-    let started = c .before .before .before .before .before .before .before .before .before .before .before .before .before .before .before .before .before .before .before .before .before .before .before .before .start in
-    let first = c .before .before .before .before .before .before .before .before .before .before .before .before .before .before .before .before .before .before .before .before .inherit in
-    let second = c .before .before .before .before .before .before .before .before .before .before .before .before .before .before .before .before .inherit2 in
-    let kinds = c .before .before .before .before .before .before .before .before .place-kinds in
-    let by-length = c .before .before .before .before .cut in
+    let spot = c .before .before .before .before .before .before .before .before .before .before .before .before .before .before .before .before .before .before .before .before .before .before .before .before .before .before .before .before .before .before .before .before .before .before .pre in
+    let started = c .before .before .before .before .before .before .before .before .before .before .before .before .before .before .before .before .before .before .before .before .before .before .before .before .before .start in
+    let first = c .before .before .before .before .before .before .before .before .before .before .before .before .before .before .before .before .before .before .before .before .before .inherit in
+    let second = c .before .before .before .before .before .before .before .before .before .before .before .before .before .before .before .before .before .inherit2 in
+    let kinds = c .before .before .before .before .before .before .before .before .before .place-kinds in
+    let by-length = rw (c .before .before .before .before .before .before .length-line .ensures) at (c .before .before .before .before .cut .ensures .0) in
+    let line = c .before .width-line .ensures in
     let growing = inherited-growing spot _ (started .ensures) _ _ (first .ensures .0) (second .ensures .0) (second .kept .0 ∙ (first .kept .0 ∙ started .kept .0)) in
     let rest = inherited-rest spot _ (started .ensures) _ _ (first .ensures .0) (second .ensures .0) in
-    wide-cuttable spot _ (outside-chain _ _ _ _ _ (outside-chain _ _ _ _ _ rest (kinds .ensures .0 .grown .rest)) (by-length .ensures .0 .grown .rest)) (growing-kept (growing-kept growing (kinds .kept .0) (kinds .ensures .0 .grown)) (by-length .kept .0) (by-length .ensures .0 .grown))
+    rw line (wide-cuttable spot _ (outside-chain _ _ _ _ _ (outside-chain _ _ _ _ _ rest (kinds .ensures .0 .grown .rest)) (by-length .grown .rest)) (growing-kept (growing-kept growing (kinds .kept .0) (kinds .ensures .0 .grown)) (c .before .before .before .before .cut .kept .0) (by-length .grown)))
 
 finish-requires : tie.Need-finish-requires
 finish-requires c κs =
-    let spot = c .before .before .before .before .before .before .before .before .before .before .before .before .before .before .before .before .before .before .before .before .before .before .before .before .before .before .before .before .before .before .before .before .before .before .before .before .before .pre in
-    let started = c .before .before .before .before .before .before .before .before .before .before .before .before .before .before .before .before .before .before .before .before .before .before .before .before .before .before .before .before .start in
-    let first = c .before .before .before .before .before .before .before .before .before .before .before .before .before .before .before .before .before .before .before .before .before .before .before .before .inherit in
-    let second = c .before .before .before .before .before .before .before .before .before .before .before .before .before .before .before .before .before .before .before .before .inherit2 in
-    let kinds = c .before .before .before .before .before .before .before .before .before .before .before .before .place-kinds in
-    let by-length = c .before .before .before .before .before .before .before .before .cut in
-    let by-width = c .before .before .before .cut2 in
-    (omega (arith, room spot, started .kept .0, first .kept .0, second .kept .0, kinds .kept .0, by-length .kept .0, by-width .kept .0), spot .lent .digits .most, start-topped spot _ (started .ensures) _ _ (topped-then _ _ _ _ _ _ _ _ (first .ensures .1) (topped-then _ _ _ _ _ _ _ _ (second .ensures .1) (topped-then _ _ _ _ _ _ _ _ (kinds .ensures .1) (topped-then _ _ _ _ _ _ _ _ (by-length .ensures .1) (by-width .ensures .1))))))
+    let spot = c .before .before .before .before .before .before .before .before .before .before .before .before .before .before .before .before .before .before .before .before .before .before .before .before .before .before .before .before .before .before .before .before .before .before .before .before .before .before .pre in
+    let started = c .before .before .before .before .before .before .before .before .before .before .before .before .before .before .before .before .before .before .before .before .before .before .before .before .before .before .before .before .before .start in
+    let first = c .before .before .before .before .before .before .before .before .before .before .before .before .before .before .before .before .before .before .before .before .before .before .before .before .before .inherit in
+    let second = c .before .before .before .before .before .before .before .before .before .before .before .before .before .before .before .before .before .before .before .before .before .inherit2 in
+    let kinds = c .before .before .before .before .before .before .before .before .before .before .before .before .before .place-kinds in
+    let by-length = rw (c .before .before .before .before .before .before .before .before .before .before .length-line .ensures) at (c .before .before .before .before .before .before .before .before .cut .ensures .1) in
+    let by-width = rw (c .before .before .before .before .before .width-line .ensures) at (c .before .before .before .cut2 .ensures .1) in
+    (omega (arith, room spot, started .kept .0, first .kept .0, second .kept .0, kinds .kept .0, c .before .before .before .before .before .before .before .before .cut .kept .0, c .before .before .before .cut2 .kept .0), spot .lent .digits .most, start-topped spot _ (started .ensures) _ _ (topped-then _ _ _ _ _ _ _ _ (first .ensures .1) (topped-then _ _ _ _ _ _ _ _ (second .ensures .1) (topped-then _ _ _ _ _ _ _ _ (kinds .ensures .1) (topped-then _ _ _ _ _ _ _ _ by-length by-width)))))
 
 same-length : tie.Need-same-length
-same-length c = c .before .before .finish .kept .0 ∙ (c .before .before .before .before .before .before .cut2 .kept .0 ∙ (c .before .before .before .before .before .before .before .before .before .before .before .cut .kept .0 ∙ (c .before .before .before .before .before .before .before .before .before .before .before .before .before .before .before .place-kinds .kept .0 ∙ (c .before .before .before .before .before .before .before .before .before .before .before .before .before .before .before .before .before .before .before .before .before .before .before .inherit2 .kept .0 ∙ (c .before .before .before .before .before .before .before .before .before .before .before .before .before .before .before .before .before .before .before .before .before .before .before .before .before .before .before .inherit .kept .0 ∙ c .before .before .before .before .before .before .before .before .before .before .before .before .before .before .before .before .before .before .before .before .before .before .before .before .before .before .before .before .before .before .before .start .kept .0)))))
+same-length c = c .before .before .finish .kept .0 ∙ (c .before .before .before .before .before .before .cut2 .kept .0 ∙ (c .before .before .before .before .before .before .before .before .before .before .before .cut .kept .0 ∙ (c .before .before .before .before .before .before .before .before .before .before .before .before .before .before .before .before .place-kinds .kept .0 ∙ (c .before .before .before .before .before .before .before .before .before .before .before .before .before .before .before .before .before .before .before .before .before .before .before .before .inherit2 .kept .0 ∙ (c .before .before .before .before .before .before .before .before .before .before .before .before .before .before .before .before .before .before .before .before .before .before .before .before .before .before .before .before .inherit .kept .0 ∙ c .before .before .before .before .before .before .before .before .before .before .before .before .before .before .before .before .before .before .before .before .before .before .before .before .before .before .before .before .before .before .before .before .start .kept .0)))))
 
 returns : tie.Need-returns
 returns c =
-    let spot = c .before .before .before .before .before .before .before .before .before .before .before .before .before .before .before .before .before .before .before .before .before .before .before .before .before .before .before .before .before .before .before .before .before .before .before .before .before .before .before .before .pre in
-    let started = c .before .before .before .before .before .before .before .before .before .before .before .before .before .before .before .before .before .before .before .before .before .before .before .before .before .before .before .before .before .before .before .start in
-    let first = c .before .before .before .before .before .before .before .before .before .before .before .before .before .before .before .before .before .before .before .before .before .before .before .before .before .before .before .inherit in
-    let second = c .before .before .before .before .before .before .before .before .before .before .before .before .before .before .before .before .before .before .before .before .before .before .before .inherit2 in
-    let length = c .before .before .before .before .before .before .before .before .before .before .before .before .before .before .before .before .before .before .before .widen in
-    let width = c .before .before .before .before .before .before .before .before .before .before .before .before .before .before .before .before .before .widen2 in
-    let kinds = c .before .before .before .before .before .before .before .before .before .before .before .before .before .before .before .place-kinds in
-    let by-length = c .before .before .before .before .before .before .before .before .before .before .before .cut in
-    let by-width = c .before .before .before .before .before .before .cut2 in
-    let kinds-are = rw (length .ensures, width .ensures) at (kinds .ensures .0) in
-    (made spot _ (started .ensures) _ _ (first .ensures .0) (second .ensures .0) _ _ _ _ kinds-are (by-length .ensures .0) (by-width .ensures .0) (c .before .before .finish .ensures), made-rest spot _ (started .ensures) _ _ (first .ensures .0) (second .ensures .0) _ _ _ _ kinds-are (by-length .ensures .0) (by-width .ensures .0) (c .before .before .finish .ensures))
+    let spot = c .before .before .before .before .before .before .before .before .before .before .before .before .before .before .before .before .before .before .before .before .before .before .before .before .before .before .before .before .before .before .before .before .before .before .before .before .before .before .before .before .before .pre in
+    let started = c .before .before .before .before .before .before .before .before .before .before .before .before .before .before .before .before .before .before .before .before .before .before .before .before .before .before .before .before .before .before .before .before .start .ensures in
+    let first = c .before .before .before .before .before .before .before .before .before .before .before .before .before .before .before .before .before .before .before .before .before .before .before .before .before .before .before .before .inherit .ensures .0 in
+    let second = c .before .before .before .before .before .before .before .before .before .before .before .before .before .before .before .before .before .before .before .before .before .before .before .before .inherit2 .ensures .0 in
+    let kinds = rw (c .before .before .before .before .before .before .before .before .before .before .before .before .before .before .before .before .before .before .before .before .widen .ensures, c .before .before .before .before .before .before .before .before .before .before .before .before .before .before .before .before .before .before .widen2 .ensures) at (c .before .before .before .before .before .before .before .before .before .before .before .before .before .before .before .before .place-kinds .ensures .0) in
+    let by-length = rw (c .before .before .before .before .before .before .before .before .before .before .before .before .before .length-line .ensures) at (c .before .before .before .before .before .before .before .before .before .before .before .cut .ensures .0) in
+    let by-width = rw (c .before .before .before .before .before .before .before .before .width-line .ensures) at (c .before .before .before .before .before .before .cut2 .ensures .0) in
+    let done = c .before .before .finish .ensures in
+    (made spot _ started _ _ first second _ _ _ _ kinds by-length by-width done, made-rest spot _ started _ _ first second _ _ _ _ kinds by-length by-width done)
 
 pub make-cell-spec : {M : Type 1} → statement M
 make-cell-spec =
     tie.close
     (tie.spec
-    sub-above
-    sub-before
+    sub-shorter
+    sub-narrower
     start-requires
     inherit-requires
     inherit-requires-2
@@ -128,8 +131,9 @@ make-cell-spec =
     shared-slice-read-widen-2
     widen-requires-2
     place-kinds-requires
+    length-line-requires
     cut-requires
-    sub-t30
+    width-line-requires
     cut-requires-2
     finish-requires
     same-length

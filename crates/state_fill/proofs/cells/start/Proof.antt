@@ -12,10 +12,10 @@ use Rattle.state_fill.proofs.cells.start.Statement.{statement}
 use Rattle.state_fill.proofs.cells.start.Tie as tie
 
 abbrev Inv-loop : tie.InvT-loop
-Inv-loop table₀ at above before n s₀ table s = (s ≤ n) × (length table ≡ length table₀) × Run (λ s. max (held table₀ above s) (held table₀ before s)) at s table₀ table
+Inv-loop table₀ at first second words s₀ table s = (s ≤ words) × (length table ≡ length table₀) × Run (λ s. max (held table₀ first s) (held table₀ second s)) at s table₀ table
 
 abbrev μ-loop : tie.MeasureT-loop
-μ-loop table₀ at above before n s₀ table s = n - s
+μ-loop table₀ at first second words s₀ table s = words - s
 
 loop-holds : tie.Need-loop-holds Inv-loop μ-loop
 loop-holds c = (omega arith, refl, run-none _ _ _)
@@ -66,7 +66,7 @@ loop-again : tie.Need-loop-again Inv-loop μ-loop
 loop-again c =
     let e = c .before .before .before .before .before .before .before .before in
     let inv = c .before .before .before .before .before .before .loop .inv in
-    (omega arith, simp length-set (inv .1), run-more _ _ _ _ _ _ (omega (arith, inv .1)) (c .greater .ensures ∙ ap₂ max (c .before .before .before .figure .ensures .0 ∙ run-held _ _ _ _ _ (e .args .above) (c .before .before .before .before .before .before .loop .s) (omega arith) (inv .2)) (c .before .figure2 .ensures .0 ∙ run-held _ _ _ _ _ (e .args .before) (c .before .before .before .before .before .before .loop .s) (omega arith) (inv .2))) (inv .2))
+    (omega arith, simp length-set (inv .1), run-more _ _ _ _ _ _ (omega (arith, inv .1)) (c .greater .ensures ∙ ap₂ max (c .before .before .before .figure .ensures .0 ∙ run-held _ _ _ _ _ (e .args .first) (c .before .before .before .before .before .before .loop .s) (omega arith) (inv .2)) (c .before .figure2 .ensures .0 ∙ run-held _ _ _ _ _ (e .args .second) (c .before .before .before .before .before .before .loop .s) (omega arith) (inv .2))) (inv .2))
 
 same-length : tie.Need-same-length Inv-loop μ-loop
 same-length c = c .before .loop .inv .1

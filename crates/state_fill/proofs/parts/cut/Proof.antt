@@ -11,23 +11,23 @@ use Rattle.state_fill.proofs.parts.cut.Statement.{statement}
 use Rattle.state_fill.proofs.parts.cut.Tie as tie
 
 abbrev Inv-loop : tie.InvT-loop
-Inv-loop table₀ list floors blocks d words line half-end top high₀ i₀ table high i = (1 ≤ i) × (i ≤ half-end) × (length table ≡ length table₀) × CutAt (under blocks d) list floors (line .index) 1 i (line .base) (line .stride) (line .at) words table₀ table × Topped (line .at) words top high table₀ table
+Inv-loop table₀ positions floors blocks d words line top high₀ i₀ i-end table high i = (i-end ≡ line .«half_end») × (1 ≤ i) × (i ≤ i-end) × (length table ≡ length table₀) × CutAt (under blocks d) positions floors (line .index) 1 i (line .base) (line .stride) (line .at) words table₀ table × Topped (line .at) words top high table₀ table
 
 abbrev μ-loop : tie.MeasureT-loop
-μ-loop table₀ list floors blocks d words line half-end top high₀ i₀ table high i = half-end - i
+μ-loop table₀ positions floors blocks d words line top high₀ i₀ i-end table high i = i-end - i
 
 loop-holds : tie.Need-loop-holds Inv-loop μ-loop
-loop-holds c = (omega arith, c .before .before .before .before .pre .cuts .least, refl, cut-none _ _ _ _ _ _ _ _ 1 _, topped-none _ _ _ _)
+loop-holds c = (refl, omega arith, c .before .before .before .before .pre .cuts .least, refl, cut-none _ _ _ _ _ _ _ _ 1 _, topped-none _ _ _ _)
 
 cut-at-requires : tie.Need-cut-at-requires Inv-loop μ-loop
 cut-at-requires c κs =
     let given = c .before .before .before .before .before .before .before .pre in
     let inv = c .before .before .loop .inv in
     record {
-      growing = growing-kept (given .growing) (inv .2) (inv .3 .grown);
-      first = inv .0;
+      growing = growing-kept (given .growing) (inv .3) (inv .4 .grown);
+      first = inv .1;
       cuts = cuts-fewer _ _ _ _ _ (omega arith) (omega arith) (given .cuts);
-      ready = λ j h. ready-kept _ _ _ _ (inv .3 .grown .rest) _ _ (given .ready j h);
+      ready = λ j h. ready-kept _ _ _ _ (inv .4 .grown .rest) _ _ (given .ready j h);
     }
 
 add-i : tie.Need-add-i Inv-loop μ-loop
@@ -40,13 +40,13 @@ loop-again : tie.Need-loop-again Inv-loop μ-loop
 loop-again c =
     let given = c .before .before .before .before .before .before .before .before .before .before .pre in
     let inv = c .before .before .before .before .before .loop .inv in
-    (omega arith, omega arith, c .before .before .cut-at .kept .0 ∙ inv .2, cut-then _ _ _ _ _ _ _ _ 1 _ _ _ _ _ (λ j l m. (given .ready j (omega (arith, given .cuts .most)) .before, given .ready _ (given .cuts .earlier j l (omega arith)) .before)) (inv .0) (omega arith) (inv .3) (c .before .before .cut-at .ensures .0), topped-then _ _ _ _ _ _ _ _ (inv .4) (c .before .before .cut-at .ensures .1))
+    (refl, omega arith, omega arith, c .before .before .cut-at .kept .0 ∙ inv .3, cut-then _ _ _ _ _ _ _ _ 1 _ _ _ _ _ (λ j l m. (given .ready j (omega (arith, given .cuts .most)) .before, given .ready _ (given .cuts .earlier j l (omega arith)) .before)) (inv .1) (omega arith) (inv .4) (c .before .before .cut-at .ensures .0), topped-then _ _ _ _ _ _ _ _ (inv .5) (c .before .before .cut-at .ensures .1))
 
 same-length : tie.Need-same-length Inv-loop μ-loop
-same-length c = c .before .loop .inv .2
+same-length c = c .before .loop .inv .3
 
 returns : tie.Need-returns Inv-loop μ-loop
-returns c = let e : c .before .loop .i ≡ c .before .before .before .before .before .before .args .half-end = omega (arith, c .before .before .before .before .before .before .pre .cuts .least) in (rw e at (c .before .loop .inv .3), c .before .loop .inv .4)
+returns c = let e : c .before .loop .i ≡ c .before .before .before .before .before .before .args .line .«half_end» = omega (arith, c .before .before .before .before .before .before .pre .cuts .least) in (rw e at (c .before .loop .inv .4), c .before .loop .inv .5)
 
 pub cut-spec : {M : Type 1} → statement M
 cut-spec =

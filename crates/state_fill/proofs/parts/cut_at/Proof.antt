@@ -26,19 +26,19 @@ entry-requires-4 c κs =
     let given = c .before .before .before .before .before .before .before .pre in
     omega (arith, second-entry given _ _ _ (c .before .before .entry .ensures .0) (c .before .entry2 .ensures .0) (c .entry3 .ensures .0) .1, given .cuts .listed)
 
-mul-x : tie.Need-mul-x
-mul-x c = omega (arith, first-part (c .before .before .before .before .before .before .before .before .before .before .pre) .before)
+mul-first : tie.Need-mul-first
+mul-first c = omega (arith, first-part (c .before .before .before .before .before .before .before .before .before .before .pre) .before)
 
-add-x : tie.Need-add-x
-add-x c = omega (arith, first-part (c .before .before .before .before .before .before .before .before .before .before .before .pre) .before)
+add-first : tie.Need-add-first
+add-first c = omega (arith, first-part (c .before .before .before .before .before .before .before .before .before .before .before .pre) .before)
 
-mul-y : tie.Need-mul-y
-mul-y c =
+mul-second : tie.Need-mul-second
+mul-second c =
     let given = c .before .before .before .before .before .before .before .before .before .before .before .before .pre in
     omega (arith, given .ready _ (second-entry given _ _ _ (c .before .before .before .before .before .before .before .entry .ensures .0) (c .before .before .before .before .before .before .entry2 .ensures .0) (c .before .before .before .before .before .entry3 .ensures .0) .1) .before)
 
-add-y : tie.Need-add-y
-add-y c =
+add-second : tie.Need-add-second
+add-second c =
     let given = c .before .before .before .before .before .before .before .before .before .before .before .before .before .pre in
     omega (arith, given .ready _ (second-entry given _ _ _ (c .before .before .before .before .before .before .before .before .entry .ensures .0) (c .before .before .before .before .before .before .before .entry2 .ensures .0) (c .before .before .before .before .before .before .entry3 .ensures .0) .1) .before)
 
@@ -59,7 +59,7 @@ returns-2 : tie.Need-returns-2
 returns-2 c =
     let given = c .before .before .before .before .before .before .before .before .before .pre in
     let other = second-entry given _ _ _ (c .before .before .before .before .entry .ensures .0) (c .before .before .before .entry2 .ensures .0) (c .before .before .entry3 .ensures .0) .0 in
-    (cut-passed _ _ _ _ _ _ _ _ _ _ (λ e. c .if1 .left (omega (arith, ap (λ k. getD (now (c .before .before .before .before .before .before .before .before .before .args .list)) k 0) other, c .before .entry4 .ensures .0, c .before .before .before .before .entry .ensures .0, c .before .before .before .entry2 .ensures .0))), topped-none _ _ _ _)
+    (cut-passed _ _ _ _ _ _ _ _ _ _ (λ e. c .if1 .left (omega (arith, ap (λ k. getD (now (c .before .before .before .before .before .before .before .before .before .args .positions)) k 0) other, c .before .entry4 .ensures .0, c .before .before .before .before .entry .ensures .0, c .before .before .before .entry2 .ensures .0))), topped-none _ _ _ _)
 
 pub cut-at-spec : {M : Type 1} → statement M
 cut-at-spec =
@@ -70,10 +70,10 @@ cut-at-spec =
     sub-left
     entry-requires-3
     entry-requires-4
-    mul-x
-    add-x
-    mul-y
-    add-y
+    mul-first
+    add-first
+    mul-second
+    add-second
     join-requires
     same-length
     returns

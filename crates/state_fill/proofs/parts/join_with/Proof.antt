@@ -11,10 +11,10 @@ use Rattle.state_fill.proofs.parts.join_with.Statement.{statement}
 use Rattle.state_fill.proofs.parts.join_with.Tie as tie
 
 abbrev Inv-loop : tie.InvT-loop
-Inv-loop table₀ blocks d n at y t v top most high₀ k₀ table high k = (k ≤ n) × (length table ≡ length table₀) × With (under blocks d) at n t v y k table₀ table × Topped at n top high table₀ table
+Inv-loop table₀ blocks d words at second t v top most high₀ k₀ table high k = (k ≤ words) × (length table ≡ length table₀) × With (under blocks d) at words t v second k table₀ table × Topped at words top high table₀ table
 
 abbrev μ-loop : tie.MeasureT-loop
-μ-loop table₀ blocks d n at y t v top most high₀ k₀ table high k = n - k
+μ-loop table₀ blocks d words at second t v top most high₀ k₀ table high k = words - k
 
 sub-figure : tie.Need-sub-figure Inv-loop μ-loop
 sub-figure c = search needs
@@ -73,7 +73,7 @@ returns-2 : tie.Need-returns-2 Inv-loop μ-loop
 returns-2 c =
     let given = c .before .before .before .before .before .before .before .before .before .before .before .before .pre in
     let loop = c .before .before .before .before .loop in
-    (with-end _ _ _ _ _ _ _ _ _ (λ i u h e. past-end _ _ _ _ _ _ _ (given .ready) h (sym (note-kept _ _ _ _ (loop .inv .2 .grown .rest) (c .before .before .before .before .before .before .before .before .before .before .before .before .args .y) (loop .k) (omega (arith, given .ready .before))) ∙ (sym (c .before .note .ensures .0) ∙ c .if2 .taken)) e) (loop .inv .2), loop .inv .3)
+    (with-end _ _ _ _ _ _ _ _ _ (λ i u h e. past-end _ _ _ _ _ _ _ (given .ready) h (sym (note-kept _ _ _ _ (loop .inv .2 .grown .rest) (c .before .before .before .before .before .before .before .before .before .before .before .before .args .second) (loop .k) (omega (arith, given .ready .before))) ∙ (sym (c .before .note .ensures .0) ∙ c .if2 .taken)) e) (loop .inv .2), loop .inv .3)
 
 sub-u : tie.Need-sub-u Inv-loop μ-loop
 sub-u c = search needs

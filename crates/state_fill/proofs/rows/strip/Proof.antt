@@ -12,10 +12,10 @@ use Rattle.state_fill.proofs.rows.strip.Statement.{statement}
 use Rattle.state_fill.proofs.rows.strip.Tie as tie
 
 abbrev Inv-loop : tie.InvT-loop
-Inv-loop table₀ x n k₀ table k = (k ≤ n) × (length table ≡ length table₀) × Run (λ s. held table₀ x s) x k table₀ table
+Inv-loop table₀ x words k₀ table k = (k ≤ words) × (length table ≡ length table₀) × Run (λ s. held table₀ x s) x k table₀ table
 
 abbrev μ-loop : tie.MeasureT-loop
-μ-loop table₀ x n k₀ table k = n - k
+μ-loop table₀ x words k₀ table k = words - k
 
 loop-holds : tie.Need-loop-holds Inv-loop μ-loop
 loop-holds c = (omega arith, refl, run-none _ _ _)

@@ -11,10 +11,10 @@ use Rattle.state_fill.proofs.rows.strip_all.Statement.{statement}
 use Rattle.state_fill.proofs.rows.strip_all.Tie as tie
 
 abbrev Inv-loop : tie.InvT-loop
-Inv-loop table₀ s n x₀ i₀ table x i = (i ≤ s) × (x ≡ i * n) × (length table ≡ length table₀) × Plain i n table₀ table
+Inv-loop table₀ s words x₀ i₀ table x i = (i ≤ s) × (x ≡ i * words) × (length table ≡ length table₀) × Plain i words table₀ table
 
 abbrev μ-loop : tie.MeasureT-loop
-μ-loop table₀ s n x₀ i₀ table x i = s - i
+μ-loop table₀ s words x₀ i₀ table x i = s - i
 
 loop-holds : tie.Need-loop-holds Inv-loop μ-loop
 loop-holds c = (omega arith, omega arith, refl, plain-none _ _)

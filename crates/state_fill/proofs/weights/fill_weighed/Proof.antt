@@ -5,51 +5,58 @@ use mathlib.Core.Path.{refl}
 use native.Mathlib.Nat.{mul-le-mul-right}
 use Prim.Native.Nat.{_+_}
 use denote.Ref.{now}
+use Rattle.table.proofs.Words.{second-floors}
 use Rattle.state_fill.proofs.Gathering.{job-same, states-same, lent-of}
 use Rattle.state_fill.proofs.Ties.{one-digit, figures-one}
 use Rattle.state_fill.proofs.weights.fill_weighed.Statement.{statement}
 use Rattle.state_fill.proofs.weights.fill_weighed.Tie as tie
 
 gather-requires : tie.Need-gather-requires
-gather-requires c κs = search needs
+gather-requires c κs = c .before .before .before .before .before .before .before .before .before .before .before .pre .weighed
 
-add-words : tie.Need-add-words
-add-words c = search needs
+cast-t22 : tie.Need-cast-t22
+cast-t22 c = search needs
 
-cast-t25 : tie.Need-cast-t25
-cast-t25 c = search needs
+mul-t23 : tie.Need-mul-t23
+mul-t23 c = omega (arith, mul-le-mul-right {m = c .before .before .before .before .before .before .before .before .before .before .before .before .before .args .size .capacity + 1} {n = 65536} (c .before .before .before .before .before .before .before .before .before .before .before .before .before .args .size .columns) (omega arith))
 
-mul-t29 : tie.Need-mul-t29
-mul-t29 c = omega (arith, mul-le-mul-right {m = c .before .before .before .before .before .before .before .before .before .before .args .q + 1} {n = 65536} (c .before .before .before .before .before .before .before .before .before .before .args .columns) (omega arith))
+sub-width-floors : tie.Need-sub-width-floors
+sub-width-floors c = omega (arith, c .before .before .before .before .before .before .before .before .before .before .before .before .before .pre .floors-there)
 
-slice-aggregate-fill : tie.Need-slice-aggregate-fill
-slice-aggregate-fill c = search needs
+part-width-floors-start : tie.Need-part-width-floors-start
+part-width-floors-start c = omega (arith, c .before .before .before .before .before .before .before .before .before .before .before .before .before .pre .floors-there)
+
+part-width-floors-end : tie.Need-part-width-floors-end
+part-width-floors-end c = omega (arith, c .before .before .before .before .before .before .before .before .before .before .before .before .before .pre .floors-there)
 
 fill-requires : tie.Need-fill-requires
 fill-requires c κs =
-    let given = c .before .before .before .before .before .before .before .before .before .before .before .before .before .pre in
-    let kinds = c .before .before .before .gather in
-    lent-of (job-same (kinds .ensures .0) (kinds .ensures .1) _ _ _) (given .0) (one-digit _ (omega arith) (omega (arith, given .2))) (given .3) (given .4) (given .5) refl
-
-same-length : tie.Need-same-length
-same-length c = search needs
+    let given = c .before .before .before .before .before .before .before .before .before .before .before .before .before .before .before .before .before .pre in
+    let kinds = c .before .before .before .before .before .gather in
+    lent-of (job-same (kinds .ensures .0) (kinds .ensures .1) _ _ _) (given .in-range) (one-digit _ (omega arith) (omega (arith, given .most))) (given .lengths) (rw (second-floors (now (c .before .before .before .before .before .before .before .before .before .before .before .before .before .before .before .before .before .args .floors))) (given .widths)) (given .room) refl
 
 returns : tie.Need-returns
 returns c =
-    let start = c .before .before .before .before .before .before .before .before .before .before .before .before .before .before .before .before in
-    let kinds = c .before .before .before .before .before .before .gather in
+    let kinds = c .before .before .before .before .before .before .before .before .gather in
     let filled = c .before .before .fill in
-    figures-one (kinds .result) (now (start .args .weights)) (now (start .args .table)) (filled .last .0) (start .args .q) (job-same (kinds .ensures .0) (kinds .ensures .1) _ _ _) (states-same (kinds .ensures .0) (kinds .ensures .1) (start .pre .0 .kinds .1)) (filled .ensures)
+    figures-one (kinds .result) (now (c .before .before .before .before .before .before .before .before .before .before .before .before .before .before .before .before .before .before .before .before .args .weights)) (now (c .before .before .before .before .before .before .before .before .before .before .before .before .before .before .before .before .before .before .before .before .args .table)) (filled .last .0) (c .before .before .before .before .before .before .before .before .before .before .before .before .before .before .before .before .before .before .before .before .args .size .capacity) (job-same (kinds .ensures .0) (kinds .ensures .1) _ _ _) (states-same (kinds .ensures .0) (kinds .ensures .1) (c .before .before .before .before .before .before .before .before .before .before .before .before .before .before .before .before .before .before .before .before .pre .in-range .kinds .1)) (filled .ensures)
 
 pub fill-weighed-spec : {M : Type 1} → statement M
 fill-weighed-spec =
     tie.close
     (tie.spec
+    (λ c. search needs)
+    (λ c. search needs)
+    (λ c. search needs)
+    (λ c. search needs)
     gather-requires
-    add-words
-    cast-t25
-    mul-t29
-    slice-aggregate-fill
+    cast-t22
+    (λ c. search needs)
+    mul-t23
+    sub-width-floors
+    part-width-floors-start
+    part-width-floors-end
+    (λ c. search needs)
     fill-requires
-    same-length
+    (λ c. search needs)
     returns)
