@@ -2,7 +2,7 @@
 -- that keep every demand, the ceiling, and the three areas.
 use mathlib.Core.Path.{_≡_, _∙_}
 use mathlib.Core.Bool.{_&&_}
-use Prim.Native.Nat.{ℕ, suc, _+_, _-_, _*_, _≤_, max}
+use Prim.Native.Nat.{ℕ, suc, _+_, _-_, _*_, _≤_, _<_, max}
 use native.Mathlib.Nat.{sub-zero, mul-le-mul}
 use native.Mathlib.Omega.{arith}
 use lib.Dec.{leb}
@@ -11,12 +11,11 @@ use Rattle.cutting.specs.Limits.{most-figure}
 use Rattle.cutting.specs.Lists.{range, only, greatest}
 use Rattle.cutting.specs.Tree.{Rect, Tree, waste, piece, cut, Guillotine}
 use Rattle.cutting.specs.Figure.{leaf, best, step}
-use Rattle.cutting.specs.Pieces.{fits-in, sized, Solid}
+use Rattle.cutting.specs.Pieces.{Piece, kind, fits-in, sized}
 use Rattle.cutting.specs.Saws.{saw}
 use Rattle.cutting.specs.Shares.{by-weight}
 use Rattle.cutting.specs.Areas.{waste-area, trim-area}
-use Rattle.cutting.specs.Job.{Job, GuillotineTree, OnPlate, profit, weight-of, KeepsDemands, capacity, pieces, figure-of, bound-of, pieces-area-of, waste-area-of, trim-area-of, InRange}
-use Rattle.cutting.proofs.Lists.{range-mem, mem-range}
+use Rattle.cutting.specs.Job.{Job, laid, GuillotineTree, OnPlate, profit, weight-of, KeepsDemands, capacity, members, pieces, by-kind, figure-of, bound-of, pieces-area-of, waste-area-of, trim-area-of, SolidKinds, InRange}
 use Rattle.cutting.proofs.Greatest.{greatest-map}
 use Rattle.cutting.proofs.Recursion.{figure-eq}
 use Rattle.cutting.proofs.Exact.{figure-upper, figure-attained}
@@ -26,13 +25,14 @@ use Rattle.cutting.proofs.Weights.{within-weight, weight-within}
 use Rattle.cutting.proofs.Demands.{keeps-weight}
 use Rattle.cutting.proofs.Areas.{areas}
 use Rattle.cutting.proofs.Ceiling.{figure-area}
+use Rattle.cutting.proofs.Members.{lie-member, member-lies, member-kind, members-solid, range-solid}
 
 module _ (J : Job) where
   -- the plain trees are those of the theory, both ways
-  pub guillotine-plain : (t : Tree ℕ) (r : Rect) → Guillotine (pieces J) (saw 0) r t → GuillotineTree J (r .0) (r .1) t
+  pub guillotine-plain : (t : Tree Piece) (r : Rect) → Guillotine (pieces J) (saw 0) r t → GuillotineTree J (r .0) (r .1) t
   unfolding pieces sized saw
   guillotine-plain waste r g = tt
-  guillotine-plain (piece i) r g = let h = mem-range 0 (J .count) i (g .0) in let l = true-fits-in (J .size i) r (g .1) in (omega arith, l .0, l .1)
+  guillotine-plain (piece p) r g = let l = true-fits-in (laid J p) r (g .1) in (member-lies J p (g .0), l .0, l .1)
   guillotine-plain (cut Length x a b) r g =
       let h = cut-saw 0 Length (r .0) x (g .0) in
       (omega arith, omega arith, guillotine-plain a (x, r .1) (g .1), rw sub-zero at (guillotine-plain b (r .0 - x - 0, r .1) (g .2)))
@@ -40,10 +40,10 @@ module _ (J : Job) where
       let h = cut-saw 0 Width (r .1) x (g .0) in
       (omega arith, omega arith, guillotine-plain a (r .0, x) (g .1), rw sub-zero at (guillotine-plain b (r .0, r .1 - x - 0) (g .2)))
 
-  pub plain-guillotine : (t : Tree ℕ) (r : Rect) → GuillotineTree J (r .0) (r .1) t → Guillotine (pieces J) (saw 0) r t
+  pub plain-guillotine : (t : Tree Piece) (r : Rect) → GuillotineTree J (r .0) (r .1) t → Guillotine (pieces J) (saw 0) r t
   unfolding pieces sized saw
   plain-guillotine waste r g = tt
-  plain-guillotine (piece i) r g = (range-mem 0 (J .count) i (omega arith) (omega arith), fits-in-true (J .size i) r (g .1, g .2))
+  plain-guillotine (piece p) r g = (lie-member J p (g .0), fits-in-true (laid J p) r (g .1, g .2))
   plain-guillotine (cut Length x a b) r g =
       (saw-cut 0 Length (r .0) x (g .0) (omega arith), plain-guillotine a (x, r .1) (g .2), plain-guillotine b (r .0 - x - 0, r .1) (rw sub-zero (g .3)))
   plain-guillotine (cut Width x a b) r g =
@@ -52,71 +52,61 @@ module _ (J : Job) where
 module _ (J : Job) (weight : ℕ → ℕ) where
   -- the recursion, as the scope has it
   pub figure-recursion : (l w c : ℕ) → figure-of J weight l w c ≡
-      max (greatest (λ i. only (fits-in (J .size i) (l, w) && leb (weight i) c) (J .price i)) (range 0 (J .count)))
+      max (greatest (λ p. only (fits-in (laid J p) (l, w) && leb (weight (kind p)) c) (J .price (kind p))) (members J))
       (max (greatest (λ x. greatest (λ a. figure-of J weight x w a + figure-of J weight (l - x) w (c - a)) (range 0 (suc c))) (range 1 (l - 1)))
       (greatest (λ x. greatest (λ a. figure-of J weight l x a + figure-of J weight l (w - x) (c - a)) (range 0 (suc c))) (range 1 (w - 1))))
   unfolding figure-of step leaf best pieces sized saw by-weight
-  figure-recursion l w c = figure-eq (pieces J) (saw 0) (by-weight weight) (saw-proper 0) (l, w) c ∙ simp (greatest-map, sub-zero)
+  figure-recursion l w c = figure-eq (pieces J) (saw 0) (by-kind weight) (saw-proper 0) (l, w) c ∙ simp (greatest-map, sub-zero)
 
   -- no tree of weight at most the share earns more
-  pub figure-most : (t : Tree ℕ) (l w c : ℕ) → GuillotineTree J l w t → weight-of weight t ≤ c → profit J t ≤ figure-of J weight l w c
+  pub figure-most : (t : Tree Piece) (l w c : ℕ) → GuillotineTree J l w t → weight-of weight t ≤ c → profit J t ≤ figure-of J weight l w c
   unfolding figure-of pieces sized
-  figure-most t l w c g h = figure-upper (pieces J) (saw 0) (by-weight weight) (saw-proper 0) t (l, w) c (plain-guillotine J t (l, w) g) (weight-within weight t c h)
+  figure-most t l w c g h = figure-upper (pieces J) (saw 0) (by-kind weight) (saw-proper 0) t (l, w) c (plain-guillotine J t (l, w) g) (weight-within (λ p. weight (kind p)) t c h)
 
   -- and some such tree earns it
-  pub figure-earned : (l w c : ℕ) → (t : Tree ℕ) × GuillotineTree J l w t × (weight-of weight t ≤ c) × (profit J t ≡ figure-of J weight l w c)
+  pub figure-earned : (l w c : ℕ) → (t : Tree Piece) × GuillotineTree J l w t × (weight-of weight t ≤ c) × (profit J t ≡ figure-of J weight l w c)
   unfolding figure-of pieces sized
   figure-earned l w c =
-      let e = figure-attained (pieces J) (saw 0) (by-weight weight) (saw-proper 0) (l, w) c in
-      (e .0, guillotine-plain J (e .0) (l, w) (e .1), within-weight weight (e .0) c (e .2), e .3)
+      let e = figure-attained (pieces J) (saw 0) (by-kind weight) (saw-proper 0) (l, w) c in
+      (e .0, guillotine-plain J (e .0) (l, w) (e .1), within-weight (λ p. weight (kind p)) (e .0) c (e .2), e .3)
 
   -- the same of the bound: no tree on the plate of weight at most the capacity earns more
-  pub bound-most : (t : Tree ℕ) → OnPlate J t → weight-of weight t ≤ capacity J weight → profit J t ≤ bound-of J weight
+  pub bound-most : (t : Tree Piece) → OnPlate J t → weight-of weight t ≤ capacity J weight → profit J t ≤ bound-of J weight
   bound-most t g h = figure-most t (J .plate .0) (J .plate .1) (capacity J weight) g h
 
   -- and some such tree earns it
-  pub bound-earned : (t : Tree ℕ) × OnPlate J t × (weight-of weight t ≤ capacity J weight) × (profit J t ≡ bound-of J weight)
+  pub bound-earned : (t : Tree Piece) × OnPlate J t × (weight-of weight t ≤ capacity J weight) × (profit J t ≡ bound-of J weight)
   bound-earned = figure-earned (J .plate .0) (J .plate .1) (capacity J weight)
 
   -- a tree on the plate that keeps every demand weighs at most the capacity
-  pub demands-weight : (t : Tree ℕ) → OnPlate J t → KeepsDemands J t → weight-of weight t ≤ capacity J weight
+  pub demands-weight : (t : Tree Piece) → OnPlate J t → KeepsDemands J t → weight-of weight t ≤ capacity J weight
   unfolding pieces sized
-  demands-weight t g k = keeps-weight (λ i. i) (pieces J) (saw 0) (J .count) (λ i m. (let h = mem-range 0 (J .count) i m in omega arith)) weight (J .demand)
+  demands-weight t g k = keeps-weight kind (pieces J) (saw 0) (J .count) (member-kind J) weight (J .demand)
       t (J .plate) (plain-guillotine J t (J .plate) g) k
 
   -- so it earns at most the bound
-  pub bound-holds : (t : Tree ℕ) → OnPlate J t → KeepsDemands J t → profit J t ≤ bound-of J weight
+  pub bound-holds : (t : Tree Piece) → OnPlate J t → KeepsDemands J t → profit J t ≤ bound-of J weight
   bound-holds t g k = bound-most t g (demands-weight t g k)
 
--- a job in range has no kind with a side of 0
-pub kinds-solid : (J : Job) → InRange J → Solid (range 0 (J .count)) (J .size)
-kinds-solid J h i m = let l = mem-range 0 (J .count) i m in (h .lengths i (omega arith) .0, h .widths i (omega arith) .0)
-
-module _ (J : Job) (weight : ℕ → ℕ) (h : InRange J) where
+module _ (J : Job) (weight : ℕ → ℕ) (solid : SolidKinds J) (priced : (i : ℕ) → i < J .count → J .price i ≤ 1000000) where
   -- no figure is above the area times the greatest price
   pub figure-ceiling : (l w c : ℕ) → figure-of J weight l w c ≤ l * w * 1000000
   unfolding figure-of pieces
-  figure-ceiling l w c = figure-area (range 0 (J .count)) (J .price) (J .size) (kinds-solid J h) (by-weight weight) 1000000
-      (λ i m. (let l = mem-range 0 (J .count) i m in h .prices i (omega arith))) (l, w) c
+  figure-ceiling l w c = figure-area (members J) (λ p. J .price (kind p)) (laid J) (members-solid J solid) (by-kind weight) 1000000
+      (λ p m. priced (kind p) (member-kind J p m)) (l, w) c
 
-  -- so the bound is at most 1,000,000,000,000
-  pub bound-ceiling : bound-of J weight ≤ most-figure
-  bound-ceiling = omega (arith, figure-ceiling (J .plate .0) (J .plate .1) (capacity J weight), mul-le-mul (h .plate-length .1) (h .plate-width .1))
-
-  -- a rectangle without length or without width has figure 0
-  pub figure-no-length : (w c : ℕ) → figure-of J weight 0 w c ≡ 0
-  figure-no-length w c = omega (arith, figure-ceiling 0 w c)
-
-  pub figure-no-width : (l c : ℕ) → figure-of J weight l 0 c ≡ 0
-  figure-no-width l c = omega (arith, figure-ceiling l 0 c)
+-- so the bound is at most 1,000,000,000,000
+pub bound-ceiling : (J : Job) (weight : ℕ → ℕ) → InRange J → bound-of J weight ≤ most-figure
+bound-ceiling J weight h =
+    omega (arith, figure-ceiling J weight (range-solid J h) (h .prices) (J .plate .0) (J .plate .1) (capacity J weight), mul-le-mul (h .plate-length .1) (h .plate-width .1))
 
 -- the three areas of a tree sum to the rectangle's
-pub areas-sum : (J : Job) (t : Tree ℕ) (l w : ℕ) → GuillotineTree J l w t → pieces-area-of J t + waste-area-of l w t + trim-area-of J l w t ≡ l * w
+pub areas-sum : (J : Job) (t : Tree Piece) (l w : ℕ) → GuillotineTree J l w t → pieces-area-of J t + waste-area-of l w t + trim-area-of J l w t ≡ l * w
 unfolding pieces
-areas-sum J t l w g = areas (range 0 (J .count)) (J .price) (J .size) t (l, w) (plain-guillotine J t (l, w) g)
+areas-sum J t l w g = areas (members J) (λ p. J .price (kind p)) (laid J) t (l, w) (plain-guillotine J t (l, w) g)
 
 -- the areas of the waste and of the trim of a cut are those of its parts
-module _ (J : Job) (l w x : ℕ) (a b : Tree ℕ) where
+module _ (J : Job) (l w x : ℕ) (a b : Tree Piece) where
   pub waste-area-length : waste-area-of l w (cut Length x a b) ≡ waste-area-of x w a + waste-area-of (l - x) w b
   unfolding waste-area saw
   waste-area-length = simp sub-zero

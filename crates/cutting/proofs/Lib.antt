@@ -20,7 +20,10 @@ pub mod Normal
 pub mod Positions
 pub mod Areas
 pub mod Ceiling
+pub mod Members
 pub mod Job
 pub mod Table
+pub mod Laws
+pub mod Listed
 pub mod Plan
 pub mod Promises

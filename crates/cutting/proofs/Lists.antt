@@ -3,15 +3,20 @@
 use mathlib.Core.Path.{_≡_, refl, sym, _∙_, ap, ap₂, subst}
 use mathlib.Core.Logic.{_⊎_, inl, inr}
 use mathlib.Core.Bool.{Bool, true, false, _||_}
-use mathlib.Core.Option.{some}
-use mathlib.Core.List.{List, [], _∷_, map, List·Memᴰ, List·Memᴰ·head, List·Memᴰ·tail, List·Memᴰ·not-nil, List·Memᴰ·cases-cons, List·Memᴰ·append-cases, Memᴰ·append-left, Memᴰ·append-right, Memᴰ·cast}
-use Prim.Native.Nat.{ℕ, zero, suc, _+_, _≤_, _<_}
+use mathlib.Core.Option.{Option, none, some}
+use mathlib.Core.List.{List, [], _∷_, _++_, map, List·Memᴰ, List·Memᴰ·head, List·Memᴰ·tail, List·Memᴰ·not-nil, List·Memᴰ·cases-cons, List·Memᴰ·append-cases, Memᴰ·append-left, Memᴰ·append-right, Memᴰ·cast}
+use Prim.Native.Nat.{ℕ, zero, suc, _+_, _*_, _≤_, _<_}
 use native.Mathlib.Decide.{ℕ-discrete}
 use native.Mathlib.Omega.{arith}
 use lib.Dec.{T}
-use lib.ListN.{length, getD}
+use lib.ListN.{length, getD, length-append}
 use lib.Seq.{sets, sets-eq}
-use Rattle.cutting.specs.Lists.{range, keep, filter, any, first, pairs, over}
+use Rattle.cutting.specs.Lists.{range, keep, filter, any, first, each, pairs, over}
+
+-- a function on what is found
+abbrev pub through : {A B : Type 0} → (A → B) → Option A → Option B
+through g none = none
+through g (some x) = some (g x)
 
 pub range-mem : (a n x : ℕ) → a ≤ x → x < a + n → List·Memᴰ x (range a n)
 unfolding range
@@ -133,3 +138,68 @@ module _ {A B : Type 0} where
 -- entries written from the first on stand over the old contents
 pub over-sets : {A : Type 0} (values old : List A) → length values ≤ length old → sets old 0 values ≡ over values old
 over-sets values old h = let e : 0 + length values ≡ length values = omega arith in rw e at (sets-eq values old 0 (omega arith))
+
+module _ {A B : Type 0} where
+  pub each-length : (f : A → List B) (n : ℕ) → ((x : A) → length (f x) ≤ n) → (xs : List A) → length (each f xs) ≤ n * length xs
+  unfolding each
+  each-length f n h [] = omega arith
+  each-length f n h (x ∷ xs) = omega (arith, length-append (f x) (each f xs), h x, each-length f n h xs)
+
+  pub each-mem : (f : A → List B) {x : A} {y : B} (xs : List A) → List·Memᴰ x xs → List·Memᴰ y (f x) → List·Memᴰ y (each f xs)
+  unfolding each
+  each-mem f {x} {y} [] m k = absurd (List·Memᴰ·not-nil m)
+  each-mem f {x} {y} (z ∷ zs) m k = go (List·Memᴰ·cases-cons m) (λ (i : List·Memᴰ x zs). each-mem f zs i k)
+    where
+      go : (x ≡ z) ⊎ List·Memᴰ x zs → (List·Memᴰ x zs → List·Memᴰ y (each f zs)) → List·Memᴰ y (f z ++ each f zs)
+      go (inl e) h = Memᴰ·append-left (each f zs) (subst (λ u. List·Memᴰ y (f u)) e k)
+      go (inr i) h = Memᴰ·append-right (f z) (h i)
+
+  pub mem-each : (f : A → List B) (y : B) (xs : List A) → List·Memᴰ y (each f xs) → (x : A) × List·Memᴰ x xs × List·Memᴰ y (f x)
+  unfolding each
+  mem-each f y [] m = absurd (List·Memᴰ·not-nil m)
+  mem-each f y (z ∷ zs) m = go (List·Memᴰ·append-cases (f z) m) (λ (k : List·Memᴰ y (each f zs)). mem-each f y zs k)
+    where
+      go : List·Memᴰ y (f z) ⊎ List·Memᴰ y (each f zs) → (List·Memᴰ y (each f zs) → (x : A) × List·Memᴰ x zs × List·Memᴰ y (f x))
+          → (x : A) × List·Memᴰ x (z ∷ zs) × List·Memᴰ y (f x)
+      go (inl k) h = (z, List·Memᴰ·head refl, k)
+      go (inr k) h = let t = h k in (t .0, List·Memᴰ·tail (t .1), t .2)
+
+module _ {A : Type 0} where
+  entries-from : (xs : List A) (d : A) (a : ℕ) (f : ℕ → A) → ((i : ℕ) → f (a + i) ≡ getD xs i d) → xs ≡ map f (range a (length xs))
+  unfolding range
+  entries-from [] d a f h = refl
+  entries-from (x ∷ xs) d a f h = ap₂ _∷_ (sym (ap f start ∙ h 0)) (entries-from xs d (suc a) f (λ i. ap f (later i) ∙ h (suc i)))
+    where
+      start : a ≡ a + 0
+      start = omega arith
+
+      later : (i : ℕ) → suc a + i ≡ a + suc i
+      later i = omega arith
+
+  -- a list is its entries in order
+  pub entries : (xs : List A) (d : A) → xs ≡ map (λ i. getD xs i d) (range 0 (length xs))
+  entries xs d = entries-from xs d 0 (λ i. getD xs i d) (λ i. ap (λ k. getD xs k d) (whole i))
+    where
+      whole : (i : ℕ) → 0 + i ≡ i
+      whole i = omega arith
+
+module _ {A B : Type 0} where
+  pub filter-map : (f : B → Bool) (g : A → B) (xs : List A) → filter f (map g xs) ≡ map g (filter (λ x. f (g x)) xs)
+  unfolding filter
+  filter-map f g [] = refl
+  filter-map f g (x ∷ xs) = go (f (g x)) (filter-map f g xs)
+    where
+      go : (b : Bool) → filter f (map g xs) ≡ map g (filter (λ x. f (g x)) xs) → keep b (g x) (filter f (map g xs)) ≡ map g (keep b x (filter (λ x. f (g x)) xs))
+      go true e = ap (λ ys. g x ∷ ys) e
+      go false e = e
+
+  -- what is found first in a list that a function gives
+  pub first-map : (f : B → Bool) (g : A → B) (xs : List A) → first f (map g xs) ≡ through g (first (λ x. f (g x)) xs)
+  unfolding first
+  first-map f g [] = refl
+  first-map f g (x ∷ xs) = go (f (g x)) (first-map f g xs)
+    where
+      go : (b : Bool) → first f (map g xs) ≡ through g (first (λ x. f (g x)) xs)
+          → elim b [ true ↦ some (g x) | false ↦ first f (map g xs) ] ≡ through g (elim b [ true ↦ some x | false ↦ first (λ x. f (g x)) xs ])
+      go true e = refl
+      go false e = e

@@ -9,6 +9,7 @@ use Rattle.cutting.specs.Lists.{range}
 use Rattle.cutting.specs.Job.{Job, InRange, capacity, bound-of, normal-positions, normal-side}
 use Rattle.cutting.specs.Promises.{NoneAbove, MostWithin, Recursion, NormalSums, FloorFigures, PlanFollows}
 use Rattle.cutting.proofs.Lists.{range-mem, mem-range, filter-mem, mem-filter}
+use Rattle.cutting.proofs.Members.{range-solid}
 use Rattle.cutting.proofs.Job.{figure-recursion, bound-most, bound-earned, bound-holds}
 use Rattle.cutting.proofs.Table.{normal-sums, figure-floor}
 use Rattle.cutting.proofs.Plan.{plan-recursion}
@@ -35,7 +36,7 @@ module _ (J : Job) (weight : ℕ → ℕ) where
 
   module _ (h : InRange J) where
     pub floor-figures : FloorFigures J weight
-    floor-figures l w c on-length on-width = figure-floor J weight h l w c on-length on-width
+    floor-figures l w c on-length on-width = figure-floor J weight (range-solid J h) l w c on-length on-width
 
     pub plan-follows : PlanFollows J weight
     plan-follows l w c on-length on-width = plan-recursion J weight h l w c on-length on-width

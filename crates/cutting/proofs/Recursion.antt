@@ -1,10 +1,11 @@
 -- The recursion is well defined: its equation, by induction over the half perimeter.
-use mathlib.Core.Path.{_≡_, ap₂}
+use mathlib.Core.Path.{_≡_, refl, _∙_, ap, ap₂}
 use mathlib.Core.List.{List·Memᴰ}
 use Prim.Native.Nat.{ℕ, zero, suc, _+_, _<_, max}
 use native.Mathlib.Omega.{arith}
 use Rattle.cutting.specs.declared.Direction.{Direction}
 use Rattle.cutting.specs.declared.Direction.the-variants.{Length, Width}
+use Rattle.cutting.specs.Lists.{greatest}
 use Rattle.cutting.specs.Tree.{Rect, side, part, Pieces, Saw, Shares, beyond, Proper}
 use Rattle.cutting.specs.Figure.{half-perimeter, leaf, best, step, after, figure}
 use Rattle.cutting.proofs.Greatest.{greatest-cong}
@@ -38,3 +39,22 @@ module _ {P S : Type 0} (K : Pieces P) (C : Saw) (H : Shares P S) (proper : Prop
   unfolding figure after
   figure-eq r s = step-cong (after K C H (half-perimeter r)) (figure K C H) r s
       (λ q u c. enough (half-perimeter r) (suc (half-perimeter q)) q u c (omega arith))
+
+-- the figure reads of the pieces what one alone gives, and of the shares how they are divided
+module _ {P P′ S : Type 0} (K : Pieces P) (K′ : Pieces P′) (C : Saw) (H : Shares P S) (H′ : Shares P′ S) (leaves : (r : Rect) (s : S) → leaf K H r s ≡ leaf K′ H′ r s)
+    (splits : (d : Direction) (s : S) → H .splits d s ≡ H′ .splits d s) where
+  best-same : (F G : Rect → S → ℕ) → ((r : Rect) (s : S) → F r s ≡ G r s) → (d : Direction) (r : Rect) (s : S) → best C H F d r s ≡ best C H′ G d r s
+  unfolding best
+  best-same F G h d r s = greatest-cong _ _ (C .cuts d (side d r))
+      (λ x m. (greatest-cong _ _ (H .splits d s) (λ q k. ap₂ _+_ (h (part d x r) (q .0)) (h (beyond C d x r) (q .1)))
+      ∙ ap (greatest (λ q. G (part d x r) (q .0) + G (beyond C d x r) (q .1))) (splits d s)))
+
+  after-same : (n : ℕ) (r : Rect) (s : S) → after K C H n r s ≡ after K′ C H′ n r s
+  unfolding after step
+  after-same zero r s = refl
+  after-same (suc n) r s = ap₂ max (leaves r s) (ap₂ max (best-same (after K C H n) (after K′ C H′ n) (after-same n) Length r s)
+      (best-same (after K C H n) (after K′ C H′ n) (after-same n) Width r s))
+
+  pub figure-same : (r : Rect) (s : S) → figure K C H r s ≡ figure K′ C H′ r s
+  unfolding figure
+  figure-same r s = after-same (suc (half-perimeter r)) r s

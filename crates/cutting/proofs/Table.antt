@@ -12,27 +12,27 @@ use Rattle.cutting.specs.declared.Direction.the-variants.{Length, Width}
 use Rattle.cutting.specs.Lists.{range, only, filter, greatest}
 use Rattle.cutting.specs.Tree.{Rect, side, Saw}
 use Rattle.cutting.specs.Figure.{leaf, best, step, figure}
-use Rattle.cutting.specs.Pieces.{_⊑_, fits-in, sized}
+use Rattle.cutting.specs.Pieces.{kind, _⊑_, fits-in, sized}
 use Rattle.cutting.specs.Saws.{saw-normal, saw-half}
 use Rattle.cutting.specs.Shares.{by-weight}
 use Rattle.cutting.specs.Normal.{Sum, sides}
-use Rattle.cutting.specs.Job.{Job, pieces, figure-of, normal-side, normal-positions, normal-floor, InRange}
+use Rattle.cutting.specs.Job.{Job, laid, members, pieces, by-kind, figure-of, normal-side, normal-positions, normal-floor, SolidKinds}
 use Rattle.cutting.proofs.Greatest.{greatest-map, most}
 use Rattle.cutting.proofs.Weights.{by-weight-monotone, by-weight-symmetric}
 use Rattle.cutting.proofs.Reduction.{Sufficient, CutsAt, saw-normal-cuts, saw-figure, floor-figure}
 use Rattle.cutting.proofs.Half.{half-figure}
 use Rattle.cutting.proofs.Normal.{normal-sum, normal-sufficient}
 use Rattle.cutting.proofs.Positions.{rising, entry-passes, passes-entry, passing-length, first-zero, floor-at, greatest-half}
-use Rattle.cutting.proofs.Job.{kinds-solid}
+use Rattle.cutting.proofs.Members.{members-solid}
 
--- the normal lengths and widths of a job suffice for its kinds
-pub sides-suffice : (J : Job) → Sufficient (range 0 (J .count)) (J .size) (J .plate) (normal-side J)
-sides-suffice J = normal-sufficient (range 0 (J .count)) (J .size) (J .plate)
+-- the normal lengths and widths of a job suffice for its pieces
+pub sides-suffice : (J : Job) → Sufficient (members J) (laid J) (J .plate) (normal-side J)
+sides-suffice J = normal-sufficient (members J) (laid J) (J .plate)
 
 module _ (J : Job) (d : Direction) where
-  -- a number is normal exactly if it is a sum, with repetition, of sides of kinds that fit the plate
-  pub normal-sums : (n : ℕ) → T (normal-side J d n) ↔ Sum (sides (range 0 (J .count)) (J .size) (J .plate) d) n
-  normal-sums n = normal-sum (sides (range 0 (J .count)) (J .size) (J .plate) d) n
+  -- a number is normal exactly if it is a sum, with repetition, of sides of pieces that fit the plate as they lie
+  pub normal-sums : (n : ℕ) → T (normal-side J d n) ↔ Sum (sides (members J) (laid J) (J .plate) d) n
+  normal-sums n = normal-sum (sides (members J) (laid J) (J .plate) d) n
 
   -- 0 is a normal position
   pub normal-zero : T (normal-side J d 0)
@@ -82,31 +82,31 @@ module _ (J : Job) (d : Direction) where
   unfolding normal-positions
   positions-half l k f h p q below above = greatest-half (normal-side J d) normal-zero (suc (side d (J .plate))) l k f (omega arith) p q below above
 
-module _ (J : Job) (weight : ℕ → ℕ) (h : InRange J) where
+module _ (J : Job) (weight : ℕ → ℕ) (h : SolidKinds J) where
   -- a saw at the normal positions gives the same figures on the plate
-  pub figure-saw : (C : Saw) → CutsAt (normal-side J) C → (r : Rect) (c : ℕ) → r ⊑ J .plate → figure-of J weight (r .0) (r .1) c ≡ figure (pieces J) C (by-weight weight) r c
+  pub figure-saw : (C : Saw) → CutsAt (normal-side J) C → (r : Rect) (c : ℕ) → r ⊑ J .plate → figure-of J weight (r .0) (r .1) c ≡ figure (pieces J) C (by-kind weight) r c
   unfolding figure-of pieces
-  figure-saw C cuts r c on = saw-figure (range 0 (J .count)) (J .price) (J .size) (kinds-solid J h) (by-weight weight) (by-weight-monotone weight)
+  figure-saw C cuts r c on = saw-figure (members J) (λ p. J .price (kind p)) (laid J) (members-solid J h) (by-kind weight) (by-weight-monotone _)
       (J .plate) (normal-side J) (sides-suffice J) C cuts r c on
 
   module _ (l w c : ℕ) (on-length : l ≤ J .plate .0) (on-width : w ≤ J .plate .1) where
     -- cuts at normal positions alone, the remainder counted down to one, give the same figure
-    pub figure-normal : figure-of J weight l w c ≡ figure (pieces J) (saw-normal (normal-side J)) (by-weight weight) (l, w) c
+    pub figure-normal : figure-of J weight l w c ≡ figure (pieces J) (saw-normal (normal-side J)) (by-kind weight) (l, w) c
     figure-normal = figure-saw (saw-normal (normal-side J)) (saw-normal-cuts (normal-side J) (sides-suffice J .additive)) (l, w) c (on-length, on-width)
 
     -- the figure of a rectangle on the plate is that of the largest normal length and width not above its sides
     pub figure-floor : figure-of J weight l w c ≡ figure-of J weight (normal-floor J Length l) (normal-floor J Width w) c
     unfolding figure-of pieces
-    figure-floor = floor-figure (range 0 (J .count)) (J .price) (J .size) (kinds-solid J h) (by-weight weight) (by-weight-monotone weight)
+    figure-floor = floor-figure (members J) (λ p. J .price (kind p)) (laid J) (members-solid J h) (by-kind weight) (by-weight-monotone _)
         (J .plate) (normal-side J) (sides-suffice J) (l, w) c (on-length, on-width)
 
     -- the recursion over cuts at normal positions up to half of a side, the remainder counted down to a normal position
     pub figure-half : figure-of J weight l w c ≡
-        max (greatest (λ i. only (fits-in (J .size i) (l, w) && leb (weight i) c) (J .price i)) (range 0 (J .count)))
+        max (greatest (λ p. only (fits-in (laid J p) (l, w) && leb (weight (kind p)) c) (J .price (kind p))) (members J))
         (max (greatest (λ x. greatest (λ k. figure-of J weight x w k + figure-of J weight (normal-floor J Length (l - x)) w (c - k)) (range 0 (suc c)))
         (filter (normal-side J Length) (range 1 (l / 2))))
         (greatest (λ x. greatest (λ k. figure-of J weight l x k + figure-of J weight l (normal-floor J Width (w - x)) (c - k)) (range 0 (suc c)))
         (filter (normal-side J Width) (range 1 (w / 2)))))
     unfolding figure-of step leaf best pieces sized saw-half by-weight
-    figure-half = half-figure (range 0 (J .count)) (J .price) (J .size) (kinds-solid J h) (by-weight weight) (by-weight-monotone weight)
-        (J .plate) (normal-side J) (sides-suffice J) (by-weight-symmetric weight) (l, w) c (on-length, on-width) ∙ simp greatest-map
+    figure-half = half-figure (members J) (λ p. J .price (kind p)) (laid J) (members-solid J h) (by-kind weight) (by-weight-monotone _)
+        (J .plate) (normal-side J) (sides-suffice J) (by-weight-symmetric (λ p. weight (kind p))) (l, w) c (on-length, on-width) ∙ simp greatest-map

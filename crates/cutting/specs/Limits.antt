@@ -9,6 +9,10 @@ most-side = 1000
 abbrev pub most-kinds : ℕ
 most-kinds = 64
 
+-- the most pieces that may lie, each kind in two ways
+abbrev pub most-pieces : ℕ
+most-pieces = 128
+
 -- the greatest price
 abbrev pub most-price : ℕ
 most-price = 1000000

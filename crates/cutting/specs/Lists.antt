@@ -46,6 +46,11 @@ module _ {A : Type 0} where
   greatest f [] = 0
   greatest f (x ∷ xs) = max (f x) (greatest f xs)
 
+-- the lists that the members give, one after another
+unfoldable pub each : {A B : Type 0} → (A → List B) → List A → List B
+each f [] = []
+each f (x ∷ xs) = f x ++ each f xs
+
 -- all pairs, the second member running fastest
 unfoldable pub pairs : {A B : Type 0} → List A → List B → List (A × B)
 pairs [] ys = []

@@ -1,9 +1,28 @@
--- Pieces with a size, and when one fits a rectangle.
-use mathlib.Core.Bool.{Bool, _&&_}
-use mathlib.Core.List.{List, List·Memᴰ}
+-- A piece of a plan, and pieces with a size: when one fits a rectangle.
+use mathlib.Core.Bool.{Bool, true, false, _&&_}
+use mathlib.Core.List.{List, [], _∷_, List·Memᴰ}
 use Prim.Native.Nat.{ℕ, _≤_, _<_}
 use lib.Dec.{leb}
 use Rattle.cutting.specs.Tree.{Rect, Pieces}
+
+-- a piece of a tree: a kind that lies upright, or turned by a quarter
+pub data Piece : Type 0 where
+  upright turned : ℕ → Piece
+
+-- the kind of a piece
+abbrev pub kind : Piece → ℕ
+kind (upright i) = i
+kind (turned i) = i
+
+-- the ways in which a kind may lie: upright, and then turned where pieces may be turned
+abbrev pub ways : Bool → ℕ → List Piece
+ways false i = upright i ∷ []
+ways true i = upright i ∷ turned i ∷ []
+
+-- the size of a piece as it lies, where size gives the kinds' sizes: length and width change places where it is turned
+abbrev pub lying : (ℕ → Rect) → Piece → Rect
+lying size (upright i) = size i
+lying size (turned i) = (size i .1, size i .0)
 
 infix 30 _⊑_
 -- a rectangle no larger than another

@@ -10,33 +10,34 @@ use Rattle.cutting.specs.declared.Direction.{Direction}
 use Rattle.cutting.specs.declared.Direction.the-variants.{Length, Width}
 use Rattle.cutting.specs.Lists.{range, only, greatest}
 use Rattle.cutting.specs.Tree.{side, Tree}
-use Rattle.cutting.specs.Pieces.{fits-in}
+use Rattle.cutting.specs.Pieces.{Piece, kind, fits-in}
 use Rattle.cutting.specs.Normal.{Sum, sides}
-use Rattle.cutting.specs.Job.{Job, OnPlate, KeepsDemands, profit, weight-of, figure-of, normal-positions, normal-floor, plan-of, plan-choice, plan-after}
+use Rattle.cutting.specs.Job.{Job, laid, members, OnPlate, KeepsDemands, profit, weight-of, figure-of, normal-positions, normal-floor, plan-of, plan-choice, plan-after}
 
 -- no guillotine tree on the plate that keeps every demand earns more than n
 abbrev pub NoneAbove : Job → ℕ → Type 0
-NoneAbove J n = (t : Tree ℕ) → OnPlate J t → KeepsDemands J t → profit J t ≤ n
+NoneAbove J n = (t : Tree Piece) → OnPlate J t → KeepsDemands J t → profit J t ≤ n
 
 -- a guillotine tree on the plate of weight at most q that earns n
-abbrev pub EarnsWithin : Job → (ℕ → ℕ) → ℕ → ℕ → Tree ℕ → Type 0
+abbrev pub EarnsWithin : Job → (ℕ → ℕ) → ℕ → ℕ → Tree Piece → Type 0
 EarnsWithin J weight q n t = OnPlate J t × (weight-of weight t ≤ q) × (profit J t ≡ n)
 
 -- n is the most that a guillotine tree on the plate of weight at most q earns: none earns more, and one earns it
 abbrev pub MostWithin : Job → (ℕ → ℕ) → ℕ → ℕ → Type 0
-MostWithin J weight q n = ((t : Tree ℕ) → OnPlate J t → weight-of weight t ≤ q → profit J t ≤ n) × ((t : Tree ℕ) × EarnsWithin J weight q n t)
+MostWithin J weight q n = ((t : Tree Piece) → OnPlate J t → weight-of weight t ≤ q → profit J t ≤ n) × ((t : Tree Piece) × EarnsWithin J weight q n t)
 
--- the recursion: a figure is the greatest of 0; the price of any kind that fits and weighs at most the share; for each length cut, at
--- every whole unit, and each first share, the first part's figure plus the second part's; the same for width cuts
+-- the recursion: a figure is the greatest of 0; the price of any piece that may lie, fits and weighs at most the share; for each length
+-- cut, at every whole unit, and each first share, the first part's figure plus the second part's; the same for width cuts
 abbrev pub Recursion : Job → (ℕ → ℕ) → Type 0
 Recursion J weight = (l w c : ℕ) → figure-of J weight l w c ≡
-    max (greatest (λ i. only (fits-in (J .size i) (l, w) && leb (weight i) c) (J .price i)) (range 0 (J .count)))
+    max (greatest (λ p. only (fits-in (laid J p) (l, w) && leb (weight (kind p)) c) (J .price (kind p))) (members J))
     (max (greatest (λ x. greatest (λ a. figure-of J weight x w a + figure-of J weight (l - x) w (c - a)) (range 0 (suc c))) (range 1 (l - 1)))
     (greatest (λ x. greatest (λ a. figure-of J weight l x a + figure-of J weight l (w - x) (c - a)) (range 0 (suc c))) (range 1 (w - 1))))
 
--- the normal positions of a side are exactly 0 and the sums, repetition allowed, of that side of the kinds that fit the plate, up to it
+-- the normal positions of a side are exactly 0 and the sums, repetition allowed, of that side of the pieces that fit the plate as
+-- they lie, up to it
 abbrev pub NormalSums : Job → Type 0
-NormalSums J = (d : Direction) (n : ℕ) → List·Memᴰ n (normal-positions J d) ↔ ((n ≤ side d (J .plate)) × Sum (sides (range 0 (J .count)) (J .size) (J .plate) d) n)
+NormalSums J = (d : Direction) (n : ℕ) → List·Memᴰ n (normal-positions J d) ↔ ((n ≤ side d (J .plate)) × Sum (sides (members J) (laid J) (J .plate) d) n)
 
 -- the figure of a rectangle on the plate is that of the largest normal length and width not above its sides
 abbrev pub FloorFigures : Job → (ℕ → ℕ) → Type 0

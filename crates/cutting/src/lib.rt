@@ -13,10 +13,11 @@ pub enum Direction {
     Width,
 }
 
-// A node of a plan: a piece carries its kind's number, a cut its direction and its position.
+// A node of a plan: a piece, upright or turned, carries its kind's number, a cut its direction and its position.
 pub enum Node {
     Waste,
     Piece(u16),
+    Turned(u16),
     Cut(Direction, u16),
 }
 
