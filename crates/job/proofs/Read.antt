@@ -14,6 +14,7 @@ use Rattle.refusal.specs.declared.Checked.the-variants.{Passed, Refused}
 use Rattle.refusal.specs.declared.Refusal.{Refusal}
 use Rattle.job.specs.Block.{plate-length-at, plate-width-at, count-at, length-at, width-at, price-at, demand-at, outside, header-checks, size-check, pair-checks, each-kind, job-checks, record-of, empty-record, read-of, job-values, job-outcome, job-said, job-of}
 use Rattle.job.specs.Contracts.{HoldsKinds}
+use Rattle.job.specs.declared.Choices.{Choices}
 use Rattle.job.specs.declared.JobAnswer.{JobAnswer}
 use Rattle.job.specs.declared.JobRecord.{JobRecord}
 use Rattle.job.proofs.Checks.{passed-both, first-append, cons-passed, each-passed}
@@ -85,9 +86,9 @@ pair-passed s p i h =
     (ltb-false 1000000 (price-at s i) (q .0), ltb-false 255 (demand-at s i) (cons-passed _ _ _ (q .1) .0))
 
 -- the job that was read from a block that passed is in the scope's ranges
-pub read-in-range : (s : List ℕ) → first-refusal (job-checks s) ≡ Passed → InRange (job-of (record-of s))
+pub read-in-range : (s : List ℕ) (choices : Choices) → first-refusal (job-checks s) ≡ Passed → InRange (job-of (record-of s choices))
 unfolding record-of
-read-in-range s p =
+read-in-range s choices p =
     let h = header-passed s (job-passed s p .0) in
     record {
       plate-length = h .plate-length;
@@ -100,55 +101,55 @@ read-in-range s p =
     }
 
 -- the fields of a block's record
-pub record-length : (s : List ℕ) → record-of s .length ≡ plate-length-at s
+pub record-length : (s : List ℕ) (choices : Choices) → record-of s choices .length ≡ plate-length-at s
 unfolding record-of
-record-length s = refl
+record-length s choices = refl
 
-pub record-width : (s : List ℕ) → record-of s .width ≡ plate-width-at s
+pub record-width : (s : List ℕ) (choices : Choices) → record-of s choices .width ≡ plate-width-at s
 unfolding record-of
-record-width s = refl
+record-width s choices = refl
 
-pub record-count : (s : List ℕ) → record-of s .count ≡ count-at s
+pub record-count : (s : List ℕ) (choices : Choices) → record-of s choices .count ≡ count-at s
 unfolding record-of
-record-count s = refl
+record-count s choices = refl
 
 -- the record's arrays have 64 entries
-pub record-arrays : (s : List ℕ) → (length (record-of s .lengths) ≡ 64) × (length (record-of s .widths) ≡ 64) × (length (record-of s .prices) ≡ 64) × (length (record-of s .demands) ≡ 64)
+pub record-arrays : (s : List ℕ) (choices : Choices) → (length (record-of s choices .lengths) ≡ 64) × (length (record-of s choices .widths) ≡ 64) × (length (record-of s choices .prices) ≡ 64) × (length (record-of s choices .demands) ≡ 64)
 unfolding record-of
-record-arrays s = (entries-length (length-at s) (count-at s), entries-length (width-at s) (count-at s), entries-length (price-at s) (count-at s), entries-length (demand-at s) (count-at s))
+record-arrays s choices = (entries-length (length-at s) (count-at s), entries-length (width-at s) (count-at s), entries-length (price-at s) (count-at s), entries-length (demand-at s) (count-at s))
 
 -- the answer of a verdict
-abbrev read-by : List ℕ → Checked → JobAnswer
-read-by s v = by-check v (record { verdict = Passed; job = record-of s }) (λ r. record { verdict = Refused r; job = empty-record })
+abbrev read-by : List ℕ → Choices → Checked → JobAnswer
+read-by s choices v = by-check v (record { verdict = Passed; job = record-of s choices }) (λ r. record { verdict = Refused r; job = empty-record })
 
 -- the answer's verdict is the first refusal
-pub read-verdict : (s : List ℕ) → read-of s .verdict ≡ first-refusal (job-checks s)
-read-verdict s = go (first-refusal (job-checks s))
+pub read-verdict : (s : List ℕ) (choices : Choices) → read-of s choices .verdict ≡ first-refusal (job-checks s)
+read-verdict s choices = go (first-refusal (job-checks s))
   where
-    go : (v : Checked) → read-by s v .verdict ≡ v
+    go : (v : Checked) → read-by s choices v .verdict ≡ v
     go Passed = refl
     go (Refused r) = refl
 
 -- an answer's number and values are those of its verdict
-pub read-said : (s : List ℕ) {r : JobAnswer} → r ≡ read-of s → (r ≡ read-of s) × (job-outcome r ≡ job-said s)
-read-said s e = (e, ap (λ a. job-outcome a) e ∙ go (first-refusal (job-checks s)))
+pub read-said : (s : List ℕ) (choices : Choices) {r : JobAnswer} → r ≡ read-of s choices → (r ≡ read-of s choices) × (job-outcome r ≡ job-said s choices)
+read-said s choices e = (e, ap (λ a. job-outcome a) e ∙ go (first-refusal (job-checks s)))
   where
-    go : (v : Checked) → job-outcome (read-by s v) ≡ outcome-by v (job-values (record-of s))
+    go : (v : Checked) → job-outcome (read-by s choices v) ≡ outcome-by v (job-values (record-of s choices))
     go Passed = refl
     go (Refused r) = refl
 
 -- the answer where the block passed
-pub read-passed : (s : List ℕ) → first-refusal (job-checks s) ≡ Passed → read-of s ≡ record { verdict = Passed; job = record-of s }
-read-passed s p = ap (read-by s) p
+pub read-passed : (s : List ℕ) (choices : Choices) → first-refusal (job-checks s) ≡ Passed → read-of s choices ≡ record { verdict = Passed; job = record-of s choices }
+read-passed s choices p = ap (read-by s choices) p
 
 -- what a caller knows from an answer that the block passed
-pub answered : (s : List ℕ) {r : JobAnswer} → r ≡ read-of s → r .verdict ≡ Passed → (first-refusal (job-checks s) ≡ Passed) × (r .job ≡ record-of s)
-answered s e p = let q = sym (read-verdict s) ∙ sym (ap (λ a. a .verdict) e) ∙ p in (q, ap (λ a. a .job) (e ∙ read-passed s q))
+pub answered : (s : List ℕ) (choices : Choices) {r : JobAnswer} → r ≡ read-of s choices → r .verdict ≡ Passed → (first-refusal (job-checks s) ≡ Passed) × (r .job ≡ record-of s choices)
+answered s choices e p = let q = sym (read-verdict s choices) ∙ sym (ap (λ a. a .verdict) e) ∙ p in (q, ap (λ a. a .job) (e ∙ read-passed s choices q))
 
 -- and from an answer that it was refused
-pub refused : (s : List ℕ) {r : JobAnswer} {x : Refusal} → r ≡ read-of s → r .verdict ≡ Refused x → first-refusal (job-checks s) ≡ Refused x
-refused s e p = sym (read-verdict s) ∙ sym (ap (λ a. a .verdict) e) ∙ p
+pub refused : (s : List ℕ) (choices : Choices) {r : JobAnswer} {x : Refusal} → r ≡ read-of s choices → r .verdict ≡ Refused x → first-refusal (job-checks s) ≡ Refused x
+refused s choices e p = sym (read-verdict s choices) ∙ sym (ap (λ a. a .verdict) e) ∙ p
 
 -- the answer where the block was refused
-pub read-refused : (s : List ℕ) {a : Checked} {r : Refusal} {j : JobRecord} → a ≡ first-refusal (job-checks s) → a ≡ Refused r → j ≡ empty-record → _≡_ {A = JobAnswer} (record { verdict = a; job = j }) (read-of s)
-read-refused s e p q = ap₂ (λ a j. record { verdict = a; job = j }) p q ∙ sym (ap (read-by s) (sym e ∙ p))
+pub read-refused : (s : List ℕ) (choices : Choices) {a : Checked} {r : Refusal} {j : JobRecord} → a ≡ first-refusal (job-checks s) → a ≡ Refused r → j ≡ empty-record → _≡_ {A = JobAnswer} (record { verdict = a; job = j }) (read-of s choices)
+read-refused s choices e p q = ap₂ (λ a j. record { verdict = a; job = j }) p q ∙ sym (ap (read-by s choices) (sym e ∙ p))

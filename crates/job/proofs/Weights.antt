@@ -16,6 +16,7 @@ use Rattle.refusal.specs.declared.Refusal.{Refusal}
 use Rattle.refusal.specs.declared.Refusal.the-variants as refusal
 use Rattle.job.specs.Block.{count-at, job-checks, record-of}
 use Rattle.job.specs.Weights.{weight-in, weight-checks, weights-answer, weights-outcome, weights-said, block-job, Accepted}
+use Rattle.job.specs.declared.Choices.{Choices}
 use Rattle.job.specs.declared.WeightsAnswer.{WeightsAnswer}
 use Rattle.job.specs.declared.WeightsAnswer.the-variants as answer
 use Rattle.job.proofs.Checks.{cons-passed, append-passed, passed-append}
@@ -82,17 +83,17 @@ refusal-answered J ws r e = go (first-refusal (weight-checks J ws)) e
     go (Refused x) e = cc
 
 -- a job block and weights are accepted where both pass
-pub accepted-both : (s ws : List ℕ) → Accepted s ws → (first-refusal (job-checks s) ≡ Passed) × (first-refusal (weight-checks (block-job s) ws) ≡ Passed)
-accepted-both s ws p = append-passed (job-checks s) (weight-checks (block-job s) ws) p
+pub accepted-both : (s : List ℕ) (choices : Choices) (ws : List ℕ) → Accepted s choices ws → (first-refusal (job-checks s) ≡ Passed) × (first-refusal (weight-checks (block-job s choices) ws) ≡ Passed)
+accepted-both s choices ws p = append-passed (job-checks s) (weight-checks (block-job s choices) ws) p
 
-pub both-accepted : (s ws : List ℕ) → first-refusal (job-checks s) ≡ Passed → first-refusal (weight-checks (block-job s) ws) ≡ Passed → Accepted s ws
-both-accepted s ws p q = passed-append (job-checks s) (weight-checks (block-job s) ws) p q
+pub both-accepted : (s : List ℕ) (choices : Choices) (ws : List ℕ) → first-refusal (job-checks s) ≡ Passed → first-refusal (weight-checks (block-job s choices) ws) ≡ Passed → Accepted s choices ws
+both-accepted s choices ws p q = passed-append (job-checks s) (weight-checks (block-job s choices) ws) p q
 
 -- accepted weights are as many as the kinds, and their capacity is at most 4,095
-pub accepted-weights : (s ws : List ℕ) → Accepted s ws → (length ws ≡ count-at s) × (capacity (block-job s) (weight-in ws) ≤ 4095)
+pub accepted-weights : (s : List ℕ) (choices : Choices) (ws : List ℕ) → Accepted s choices ws → (length ws ≡ count-at s) × (capacity (block-job s choices) (weight-in ws) ≤ 4095)
 unfolding record-of
-accepted-weights s ws p = weights-passed (block-job s) ws (accepted-both s ws p .1)
+accepted-weights s choices ws p = weights-passed (block-job s choices) ws (accepted-both s choices ws p .1)
 
 -- the job of an accepted block is in the scope's ranges
-pub accepted-in-range : (s ws : List ℕ) → Accepted s ws → InRange (block-job s)
-accepted-in-range s ws p = read-in-range s (accepted-both s ws p .0)
+pub accepted-in-range : (s : List ℕ) (choices : Choices) (ws : List ℕ) → Accepted s choices ws → InRange (block-job s choices)
+accepted-in-range s choices ws p = read-in-range s choices (accepted-both s choices ws p .0)

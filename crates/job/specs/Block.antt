@@ -1,6 +1,6 @@
 -- The job block: where each field stands, when a block is refused, the record that a good one gives with its job, and the number and
 -- values of what reading it answers.
-use mathlib.Core.Bool.{Bool, _||_, not}
+use mathlib.Core.Bool.{Bool, false, _||_, not}
 use mathlib.Core.List.{List, [], _∷_, _++_, map}
 use Prim.Native.Nat.{ℕ, zero, suc, _+_, _*_}
 use lib.Dec.{ltb, eqb}
@@ -11,6 +11,7 @@ use Rattle.cutting.specs.Job.{Job}
 use Rattle.refusal.specs.Refusals.{Check, Outcome, first-refusal, by-check, outcome-by}
 use Rattle.refusal.specs.declared.Checked.the-variants.{Passed, Refused}
 use Rattle.refusal.specs.declared.Refusal.the-variants.{ShortHeader, PlateSide, KindCount, BlockLength, KindSide, Price, Demand}
+use Rattle.job.specs.declared.Choices.{Choices}
 use Rattle.job.specs.declared.JobRecord.{JobRecord}
 use Rattle.job.specs.declared.JobAnswer.{JobAnswer}
 
@@ -80,12 +81,13 @@ job-checks s = header-checks s ++ each-kind (λ i. size-check s i ∷ []) 0 (cou
 unfoldable pub entries : (ℕ → ℕ) → ℕ → List ℕ
 entries f n = map (λ i. only (ltb i n) (f i)) (range 0 64)
 
--- the record of a block
-unfoldable pub record-of : List ℕ → JobRecord
-record-of s = record {
+-- the record of a block, with the choices that it keeps
+unfoldable pub record-of : List ℕ → Choices → JobRecord
+record-of s choices = record {
   length = plate-length-at s;
   width = plate-width-at s;
   count = count-at s;
+  turning = choices .turning;
   lengths = entries (length-at s) (count-at s);
   widths = entries (width-at s) (count-at s);
   prices = entries (price-at s) (count-at s);
@@ -94,28 +96,30 @@ record-of s = record {
 
 -- the record where a block is refused
 abbrev pub empty-record : JobRecord
-empty-record = record { length = 0; width = 0; count = 0; lengths = entries (λ i. 0) 0; widths = entries (λ i. 0) 0; prices = entries (λ i. 0) 0; demands = entries (λ i. 0) 0 }
+empty-record = record { length = 0; width = 0; count = 0; turning = false; lengths = entries (λ i. 0) 0; widths = entries (λ i. 0) 0; prices = entries (λ i. 0) 0; demands = entries (λ i. 0) 0 }
 
 -- what reading a block answers: its record, or the first refusal of its checks
-abbrev pub read-of : List ℕ → JobAnswer
-read-of s = by-check (first-refusal (job-checks s)) (record { verdict = Passed; job = record-of s }) (λ r. record { verdict = Refused r; job = empty-record })
+abbrev pub read-of : List ℕ → Choices → JobAnswer
+read-of s choices = by-check (first-refusal (job-checks s)) (record { verdict = Passed; job = record-of s choices }) (λ r. record { verdict = Refused r; job = empty-record })
 
--- a record's values: the plate's sides, the number of kinds, then the lengths, widths, prices and demands of 64 kinds
+-- a record's values: the plate's sides, the number of kinds, whether pieces may be turned (1 or 0), then the lengths, widths, prices and
+-- demands of 64 kinds
 abbrev pub job-values : JobRecord → List ℕ
-job-values j = j .length ∷ j .width ∷ j .count ∷ (j .lengths ++ j .widths ++ j .prices ++ j .demands)
+job-values j = j .length ∷ j .width ∷ j .count ∷ only (j .turning) 1 ∷ (j .lengths ++ j .widths ++ j .prices ++ j .demands)
 
 -- an answer's number and values
 abbrev pub job-outcome : JobAnswer → Outcome
 job-outcome a = outcome-by (a .verdict) (job-values (a .job))
 
 -- the number and values that reading a block answers
-abbrev pub job-said : List ℕ → Outcome
-job-said s = outcome-by (first-refusal (job-checks s)) (job-values (record-of s))
+abbrev pub job-said : List ℕ → Choices → Outcome
+job-said s choices = outcome-by (first-refusal (job-checks s)) (job-values (record-of s choices))
 
 -- the job of lent arrays
-abbrev pub job-from : ℕ → ℕ → ℕ → List ℕ → List ℕ → List ℕ → List ℕ → Job
-job-from l w n lengths widths prices demands = record {
+abbrev pub job-from : ℕ → ℕ → Bool → ℕ → List ℕ → List ℕ → List ℕ → List ℕ → Job
+job-from l w turning n lengths widths prices demands = record {
   plate = (l, w);
+  turning = turning;
   count = n;
   size = λ i. (getD lengths i 0, getD widths i 0);
   price = λ i. getD prices i 0;
@@ -124,4 +128,4 @@ job-from l w n lengths widths prices demands = record {
 
 -- the job of a record
 abbrev pub job-of : JobRecord → Job
-job-of j = job-from (j .length) (j .width) (j .count) (j .lengths) (j .widths) (j .prices) (j .demands)
+job-of j = job-from (j .length) (j .width) (j .turning) (j .count) (j .lengths) (j .widths) (j .prices) (j .demands)

@@ -1,5 +1,6 @@
 -- What only the inner contracts of the job cite: a block with room for its kinds, and demands that can be weighed.
 use mathlib.Core.Path.{_≡_}
+use mathlib.Core.Bool.{false}
 use mathlib.Core.List.{List, []}
 use Prim.Native.Nat.{ℕ, _+_, _*_, _≤_, _<_}
 use lib.ListN.{length, getD}
@@ -16,4 +17,4 @@ Weighable demands n = (n ≤ 64) × ((i : ℕ) → i < n → getD demands i 0 �
 
 -- a job of which only the demands and the number of kinds count
 abbrev pub demands-job : List ℕ → ℕ → Job
-demands-job demands n = job-from 0 0 n [] [] [] demands
+demands-job demands n = job-from 0 0 false n [] [] [] demands

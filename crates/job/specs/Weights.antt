@@ -12,6 +12,7 @@ use Rattle.refusal.specs.Refusals.{Check, Outcome, first-refusal, by-check, ref
 use Rattle.refusal.specs.declared.Checked.the-variants.{Passed, Refused}
 use Rattle.refusal.specs.declared.Refusal.the-variants as refusal
 use Rattle.job.specs.Block.{job-checks, record-of, empty-record, job-values, job-of}
+use Rattle.job.specs.declared.Choices.{Choices}
 use Rattle.job.specs.declared.Acceptance.{Acceptance}
 use Rattle.job.specs.declared.WeightsAnswer.{WeightsAnswer}
 use Rattle.job.specs.declared.WeightsAnswer.the-variants as answer
@@ -37,18 +38,18 @@ weights-outcome (answer.Refused r) = refused-as r
 abbrev pub weights-said : Job → List ℕ → Outcome
 weights-said J ws = outcome-by (first-refusal (weight-checks J ws)) (capacity J (weight-in ws) ∷ [])
 
--- the job of a block
-abbrev pub block-job : List ℕ → Job
-block-job s = job-of (record-of s)
+-- the job of a block, with the choices of a call
+abbrev pub block-job : List ℕ → Choices → Job
+block-job s choices = job-of (record-of s choices)
 
 -- a job block and weights that no check before the plan's refuses
-abbrev pub Accepted : List ℕ → List ℕ → Type 0
-Accepted s ws = first-refusal (job-checks s ++ weight-checks (block-job s) ws) ≡ Passed
+abbrev pub Accepted : List ℕ → Choices → List ℕ → Type 0
+Accepted s choices ws = first-refusal (job-checks s ++ weight-checks (block-job s choices) ws) ≡ Passed
 
 -- what a job block and weights answer: the record and the capacity, or the first refusal
-abbrev pub acceptance-of : List ℕ → List ℕ → Acceptance
-acceptance-of s ws =
-    by-check (first-refusal (job-checks s ++ weight-checks (block-job s) ws)) (record { verdict = Passed; job = record-of s; capacity = capacity (block-job s) (weight-in ws) })
+abbrev pub acceptance-of : List ℕ → Choices → List ℕ → Acceptance
+acceptance-of s choices ws =
+    by-check (first-refusal (job-checks s ++ weight-checks (block-job s choices) ws)) (record { verdict = Passed; job = record-of s choices; capacity = capacity (block-job s choices) (weight-in ws) })
     (λ r. record { verdict = Refused r; job = empty-record; capacity = 0 })
 
 -- an answer's number and values: the record's, then the capacity
@@ -56,5 +57,5 @@ abbrev pub acceptance-outcome : Acceptance → Outcome
 acceptance-outcome a = outcome-by (a .verdict) (job-values (a .job) ++ (a .capacity ∷ []))
 
 -- the number and values that a job block and weights answer
-abbrev pub acceptance-said : List ℕ → List ℕ → Outcome
-acceptance-said s ws = outcome-by (first-refusal (job-checks s ++ weight-checks (block-job s) ws)) (job-values (record-of s) ++ (capacity (block-job s) (weight-in ws) ∷ []))
+abbrev pub acceptance-said : List ℕ → Choices → List ℕ → Outcome
+acceptance-said s choices ws = outcome-by (first-refusal (job-checks s ++ weight-checks (block-job s choices) ws)) (job-values (record-of s choices) ++ (capacity (block-job s choices) (weight-in ws) ∷ []))

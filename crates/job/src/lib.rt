@@ -14,11 +14,18 @@ ghost use Rattle.job.specs.Block.{u16-at, u32-at, count-at, price-at, ou
 ghost use Rattle.job.specs.Weights.{weight-in, weights-answer, weights-outcome, weights-said, acceptance-of, acceptance-outcome, acceptance-said};
 ghost use Rattle.job.specs.Contracts.{HoldsKinds, Weighable, demands-job};
 
-// The job record: the plate's sides, the number of kinds, and for each kind its sides, price and demand; 0 past the last kind.
+// What a call chooses beside the job: whether pieces may be turned.
+pub struct Choices {
+    pub turning: bool,
+}
+
+// The job record: the plate's sides, the number of kinds, whether they may be turned, and for each kind its sides, price and demand; 0 past
+// the last kind.
 pub struct JobRecord {
     pub length: u16,
     pub width: u16,
     pub count: u16,
+    pub turning: bool,
     pub lengths: [u16; 64],
     pub widths: [u16; 64],
     pub prices: [u32; 64],
@@ -218,9 +225,9 @@ fn read_prices(block: &[u8], n: u16) -> [u32; 64]
 }
 
 // The record of a block that passed its checks.
-fn read_record(block: &[u8]) -> JobRecord
+fn read_record(block: &[u8], choices: Choices) -> JobRecord
     requires { ⌜ HoldsKinds (now block) (count-at (now block)) ⌝ }
-    ensures { λ r. ⌜ r ≡ record-of (now (block .entry)) ⌝ }
+    ensures { λ r. ⌜ r ≡ record-of (now (block .entry)) choices ⌝ }
 {
     let length = read_u16(block, 0);
     let width = read_u16(block, 2);
@@ -233,6 +240,7 @@ fn read_record(block: &[u8]) -> JobRecord
         length: length,
         width: width,
         count: n,
+        turning: choices.turning,
         lengths: lengths,
         widths: widths,
         prices: prices,
@@ -248,6 +256,7 @@ fn empty_record() -> JobRecord
         length: 0,
         width: 0,
         count: 0,
+        turning: false,
         lengths: [0u16; 64],
         widths: [0u16; 64],
         prices: [0u32; 64],
@@ -255,10 +264,10 @@ fn empty_record() -> JobRecord
     }
 }
 
-// A job block, read or refused.
-pub fn read_job(block: &[u8]) -> JobAnswer
-    ensures answers { λ r. ⌜ r ≡ read-of (now (block .entry)) ⌝ }
-    ensures outcome { λ r. ⌜ job-outcome r ≡ job-said (now (block .entry)) ⌝ }
+// A job block, read or refused; the record keeps the choices.
+pub fn read_job(block: &[u8], choices: Choices) -> JobAnswer
+    ensures answers { λ r. ⌜ r ≡ read-of (now (block .entry)) choices ⌝ }
+    ensures outcome { λ r. ⌜ job-outcome r ≡ job-said (now (block .entry)) choices ⌝ }
 {
     let verdict = check_job(block);
     let Checked::Passed = verdict else {
@@ -269,7 +278,7 @@ pub fn read_job(block: &[u8]) -> JobAnswer
     };
     JobAnswer {
         verdict: Checked::Passed,
-        job: read_record(block),
+        job: read_record(block, choices),
     }
 }
 
@@ -332,15 +341,15 @@ fn unaccepted(verdict: Checked) -> Acceptance
 }
 
 // A job block and weights, accepted or refused: one reading of the block for all calls that need its weights.
-pub fn accept(block: &[u8], weights: &[u8]) -> Acceptance
-    ensures answers { λ r. ⌜ r ≡ acceptance-of (now (block .entry)) (now (weights .entry)) ⌝ }
-    ensures outcome { λ r. ⌜ acceptance-outcome r ≡ acceptance-said (now (block .entry)) (now (weights .entry)) ⌝ }
+pub fn accept(block: &[u8], choices: Choices, weights: &[u8]) -> Acceptance
+    ensures answers { λ r. ⌜ r ≡ acceptance-of (now (block .entry)) choices (now (weights .entry)) ⌝ }
+    ensures outcome { λ r. ⌜ acceptance-outcome r ≡ acceptance-said (now (block .entry)) choices (now (weights .entry)) ⌝ }
 {
     let read = check_job(block);
     let Checked::Passed = read else {
         return unaccepted(read);
     };
-    let job = read_record(block);
+    let job = read_record(block, choices);
     let count = job.count;
     let weighed = weigh_demands(&job.demands, count, weights);
     match weighed {

@@ -22,7 +22,7 @@ unaccepted-requires c κs = search needs
 returns : tie.Need-returns
 returns c =
     let e = c .before .before .before .before .before .before .args in
-    job-refused (now (e .block)) (now (e .weights)) (c .before .before .before .check-job .ensures) (c .before .enum-told2 .given .1) (c .unaccepted .ensures)
+    job-refused (now (e .block)) (e .choices) (now (e .weights)) (c .before .before .before .check-job .ensures) (c .before .enum-told2 .given .1) (c .unaccepted .ensures)
 
 read-record-requires : tie.Need-read-record-requires
 read-record-requires c κs =
@@ -31,7 +31,8 @@ read-record-requires c κs =
 
 weigh-demands-requires : tie.Need-weigh-demands-requires
 weigh-demands-requires c κs =
-    let h = read-in-range (now (c .before .before .before .before .before .before .before .before .args .block)) (sym (c .before .before .before .before .before .check-job .ensures) ∙ c .before .before .before .enum-told .given .1) in
+    let e = c .before .before .before .before .before .before .before .before .args in
+    let h = read-in-range (now (e .block)) (e .choices) (sym (c .before .before .before .before .before .check-job .ensures) ∙ c .before .before .before .enum-told .given .1) in
     rw (c .before .before .read-record .ensures) (h .kinds .1, h .demands)
 
 enum-known-weighed : tie.Need-enum-known-weighed
@@ -46,13 +47,13 @@ enum-known-weighed-2 c = search needs
 returns-2 : tie.Need-returns-2
 returns-2 c =
     let e = c .before .before .before .before .before .before .before .before .before .before .before .before .before .args in
-    weights-refused (now (e .block)) (now (e .weights)) (c .before .before .before .before .before .before .before .before .before .before .check-job .ensures) (c .before .before .before .before .before .before .before .before .enum-told .given .1) (c .before .before .before .before .before .before .before .read-record .ensures) (c .before .before .before .before .weigh-demands .ensures)
+    weights-refused (now (e .block)) (e .choices) (now (e .weights)) (c .before .before .before .before .before .before .before .before .before .before .check-job .ensures) (c .before .before .before .before .before .before .before .before .enum-told .given .1) (c .before .before .before .before .before .before .before .read-record .ensures) (c .before .before .before .before .weigh-demands .ensures)
     _ (c .before .before .weighed .given .1) (c .unaccepted2 .ensures)
 
 returns-3 : tie.Need-returns-3
 returns-3 c =
     let e = c .before .before .before .before .before .before .before .before .before .before .before .before .args in
-    both-taken (now (e .block)) (now (e .weights)) (c .before .before .before .before .before .before .before .before .before .check-job .ensures) (c .before .before .before .before .before .before .before .enum-told .given .1) (c .before .before .before .before .before .before .read-record .ensures) (c .before .before .before .weigh-demands .ensures)
+    both-taken (now (e .block)) (e .choices) (now (e .weights)) (c .before .before .before .before .before .before .before .before .before .check-job .ensures) (c .before .before .before .before .before .before .before .enum-told .given .1) (c .before .before .before .before .before .before .read-record .ensures) (c .before .before .before .weigh-demands .ensures)
     _ (c .before .weighed2 .given .1)
 
 pub accept-spec : {M : Type 1} → statement M

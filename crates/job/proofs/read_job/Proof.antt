@@ -22,7 +22,7 @@ empty-record-requires c κs = search needs
 returns : tie.Need-returns
 returns c =
     let start = c .before .before .before .before .before in
-    read-said (now (start .args .block)) (read-refused (now (start .args .block)) (c .before .before .before .check-job .ensures) (c .before .enum-told2 .given .1) (c .empty-record .ensures))
+    read-said (now (start .args .block)) (start .args .choices) (read-refused (now (start .args .block)) (start .args .choices) (c .before .before .before .check-job .ensures) (c .before .enum-told2 .given .1) (c .empty-record .ensures))
 
 read-record-requires : tie.Need-read-record-requires
 read-record-requires c κs =
@@ -32,7 +32,7 @@ read-record-requires c κs =
 returns-2 : tie.Need-returns-2
 returns-2 c =
     let start = c .before .before .before .before .before in
-    read-said (now (start .args .block)) (ap (λ j. record { verdict = Passed; job = j }) (c .read-record .ensures) ∙ sym (read-passed (now (start .args .block)) (sym (c .before .before .before .check-job .ensures) ∙ c .before .enum-told .given .1)))
+    read-said (now (start .args .block)) (start .args .choices) (ap (λ j. record { verdict = Passed; job = j }) (c .read-record .ensures) ∙ sym (read-passed (now (start .args .block)) (start .args .choices) (sym (c .before .before .before .check-job .ensures) ∙ c .before .enum-told .given .1)))
 
 pub read-job-spec : {M : Type 1} → statement M
 read-job-spec =
