@@ -1,9 +1,9 @@
--- The pieces that may lie as kinds of their own: the job that lists them has the same normal positions, figures and choices. So code that
+-- The pieces that may lie as kinds of a plain job, by their numbers: it has the same normal positions, figures and choices. So code that
 -- knows no turned pieces serves every job.
 use mathlib.Core.Path.{_≡_, refl, sym, _∙_, ap, ap₂}
 use mathlib.Core.Bool.{Bool, true, false, _&&_}
 use mathlib.Core.Option.{Option, none, some}
-use mathlib.Core.List.{List, [], _∷_, map}
+use mathlib.Core.List.{List, [], _∷_, map, List·Memᴰ}
 use Prim.Native.Nat.{ℕ, zero, suc, _+_, _-_, _/_, _≤_, _<_, max}
 use native.Mathlib.Omega.{arith}
 use lib.Dec.{leb, eqb}
@@ -18,8 +18,8 @@ use Rattle.cutting.specs.Saws.{saw, floor}
 use Rattle.cutting.specs.Shares.{by-weight}
 use Rattle.cutting.specs.Normal.{sides, normal?, normal}
 use Rattle.cutting.specs.Choice.{Choice, as-waste, as-piece, as-cut, or-waste, or-length, or-piece, or-zero}
-use Rattle.cutting.specs.Job.{Job, laid, members, pieces, plain, member-at, listed, listed-weight, by-kind, figure-of, normal-side, normal-positions, normal-floor, laid-earns, pair-earns, first-pair, plan-choice, SolidKinds, InRange, InTableRange}
-use Rattle.cutting.proofs.Lists.{through, first-cong, entries, filter-map, first-map}
+use Rattle.cutting.specs.Job.{Job, laid, members, pieces, plain, member-at, Listing, by-kind, figure-of, normal-side, normal-positions, normal-floor, laid-earns, pair-earns, first-pair, plan-choice, SolidKinds, InRange, InTableRange}
+use Rattle.cutting.proofs.Lists.{mem-range, through, first-cong, entries, filter-map, first-map, filter-map-cong}
 use Rattle.cutting.proofs.Greatest.{greatest-map, greatest-cong}
 use Rattle.cutting.proofs.Recursion.{figure-same}
 use Rattle.cutting.proofs.Positions.{getD-mem}
@@ -40,6 +40,11 @@ map-map f g (x ∷ xs) = ap (λ ys. f (g x) ∷ ys) (map-map f g xs)
 sides-map : {P Q : Type 0} (g : P → Q) (ps : List P) (size : Q → Rect) (plate : Rect) (d : Direction) → sides (map g ps) size plate d ≡ sides ps (λ p. size (g p)) plate d
 unfolding sides
 sides-map g ps size plate d = ap (map (λ q. side d (size q))) (filter-map (λ q. fits-in (size q) plate) g ps) ∙ map-map (λ q. side d (size q)) g (filter (λ p. fits-in (size (g p)) plate) ps)
+
+-- the sides of pieces whose sizes agree
+sides-cong : {P : Type 0} (ps : List P) (size size′ : P → Rect) (plate : Rect) (d : Direction) → ((p : P) → List·Memᴰ p ps → size p ≡ size′ p) → sides ps size plate d ≡ sides ps size′ plate d
+unfolding sides
+sides-cong ps size size′ plate d h = filter-map-cong _ _ _ _ ps (λ p m. (let e = h p m in (ap (λ r. fits-in r plate) e, ap (side d) e)))
 
 -- a choice with other names for its pieces
 abbrev pub renamed : {P Q S : Type 0} → (P → Q) → Choice P S → Choice Q S
@@ -86,90 +91,95 @@ module _ (r : Rect) (n : ℕ) (size : ℕ → Rect) (price : ℕ → ℕ) where
   plain-half weight solid l w c a b = figure-half N weight solid l w c a b
       ∙ ap₂ max (plain-greatest (λ p. only (fits-in (laid N p) (l, w) && leb (weight (kind p)) c) (price (kind p)))) refl
 
-module _ (J : Job) where
-  -- the pieces that may lie are their list's entries
-  members-listed : members J ≡ map (member-at J) (range 0 (length (members J)))
-  members-listed = entries (members J) (upright 0)
+-- the pieces that may lie are their list's entries
+members-listed : (J : Job) → members J ≡ map (member-at J) (range 0 (length (members J)))
+members-listed J = entries (members J) (upright 0)
 
-  -- the greatest over either is that over the numbers
-  greatest-listed : (f g : Piece → ℕ) → ((j : ℕ) → f (upright j) ≡ g (member-at J j)) → greatest f (members (listed J)) ≡ greatest g (members J)
-  greatest-listed f g h =
-      plain-greatest (J .plate) (length (members J)) (listed J .size) (listed J .price) f ∙ (greatest-cong _ _ (range 0 (length (members J))) (λ j m. h j)
-      ∙ (sym (greatest-map g (member-at J) (range 0 (length (members J)))) ∙ sym (ap (greatest g) members-listed)))
+module _ (J : Job) (weight : ℕ → ℕ) (n : ℕ) (size : ℕ → Rect) (price heavy : ℕ → ℕ) (given : Listing J weight n size price heavy) where
+  -- the plain job of the numbers
+  abbrev L : Job
+  L = plain (J .plate) n size price
+
+  -- a number of the list is below n
+  below : (j : ℕ) → List·Memᴰ j (range 0 n) → j < n
+  below j m = let l = mem-range 0 n j m in omega arith
+
+  numbered : members J ≡ map (member-at J) (range 0 n)
+  numbered = members-listed J ∙ ap (λ n. map (member-at J) (range 0 n)) (sym (given .number))
+
+  -- the greatest over the pieces is that over the numbers
+  greatest-listed : (f g : Piece → ℕ) → ((j : ℕ) → j < n → f (upright j) ≡ g (member-at J j)) → greatest f (members L) ≡ greatest g (members J)
+  greatest-listed f g h = plain-greatest (J .plate) n size price f ∙ (greatest-cong _ _ (range 0 n) (λ j m. h j (below j m))
+      ∙ (sym (greatest-map g (member-at J) (range 0 n)) ∙ sym (ap (greatest g) numbered)))
 
   -- and so is the first that passes
-  first-listed : (f g : Piece → Bool) → ((j : ℕ) → f (upright j) ≡ g (member-at J j)) → first g (members J) ≡ through (λ p. member-at J (kind p)) (first f (members (listed J)))
+  first-listed : (f g : Piece → Bool) → ((j : ℕ) → j < n → f (upright j) ≡ g (member-at J j)) → first g (members J) ≡ through (λ p. member-at J (kind p)) (first f (members L))
   first-listed f g h =
-      ap (first g) members-listed ∙ (first-map g (member-at J) (range 0 (length (members J)))
-      ∙ (ap (through (member-at J)) (sym (first-cong _ _ (range 0 (length (members J))) (λ j m. h j)))
-      ∙ (twice (first (λ j. f (upright j)) (range 0 (length (members J)))) ∙ ap (through (λ p. member-at J (kind p))) (sym (plain-first (J .plate) (length (members J)) (listed J .size) (listed J .price) f)))))
+      ap (first g) numbered ∙ (first-map g (member-at J) (range 0 n) ∙ (ap (through (member-at J)) (sym (first-cong _ _ (range 0 n) (λ j m. h j (below j m))))
+      ∙ (twice (first (λ j. f (upright j)) (range 0 n)) ∙ ap (through (λ p. member-at J (kind p))) (sym (plain-first (J .plate) n size price f)))))
     where
       twice : (o : Option ℕ) → through (member-at J) o ≡ through (λ p. member-at J (kind p)) (through upright o)
       twice none = refl
       twice (some j) = refl
 
-  -- the listed job has the same sides, so the same normal positions
-  listed-sides : (d : Direction) → sides (members (listed J)) (laid (listed J)) (J .plate) d ≡ sides (members J) (laid J) (J .plate) d
-  listed-sides d = plain-sides (J .plate) (length (members J)) (listed J .size) (listed J .price) d
-      ∙ (sym (sides-map (member-at J) (range 0 (length (members J))) (laid J) (J .plate) d) ∙ sym (ap (λ ps. sides ps (laid J) (J .plate) d) members-listed))
+  -- the numbers have the same sides, so the same normal positions
+  listed-sides : (d : Direction) → sides (members L) (laid L) (J .plate) d ≡ sides (members J) (laid J) (J .plate) d
+  listed-sides d = plain-sides (J .plate) n size price d ∙ (sides-cong (range 0 n) size (λ j. laid J (member-at J j)) (J .plate) d (λ j m. given .sizes j (below j m))
+      ∙ (sym (sides-map (member-at J) (range 0 n) (laid J) (J .plate) d) ∙ sym (ap (λ ps. sides ps (laid J) (J .plate) d) numbered)))
 
-  pub listed-normal : (d : Direction) → normal-side (listed J) d ≡ normal-side J d
+  pub listed-normal : (d : Direction) → normal-side L d ≡ normal-side J d
   listed-normal d = ap normal? (listed-sides d)
 
-  pub listed-positions : (d : Direction) → normal-positions (listed J) d ≡ normal-positions J d
+  pub listed-positions : (d : Direction) → normal-positions L d ≡ normal-positions J d
   unfolding normal-positions
   listed-positions d = ap (λ N. filter N (range 0 (suc (side d (J .plate))))) (listed-normal d)
 
-  module _ (weight : ℕ → ℕ) where
-    -- the same figures
-    pub listed-figure : (l w c : ℕ) → figure-of (listed J) (listed-weight J weight) l w c ≡ figure-of J weight l w c
-    unfolding figure-of leaf pieces sized by-weight
-    listed-figure l w c = figure-same (pieces (listed J)) (pieces J) (saw 0) (by-kind (listed-weight J weight)) (by-kind weight)
-        (λ r s. greatest-listed _ _ (λ j. refl)) (λ d s. refl) (l, w) c
+  -- the same figures
+  pub listed-figure : (l w c : ℕ) → figure-of L heavy l w c ≡ figure-of J weight l w c
+  unfolding figure-of leaf pieces sized by-weight
+  listed-figure l w c = figure-same (pieces L) (pieces J) (saw 0) (by-kind heavy) (by-kind weight)
+      (λ r s. greatest-listed _ _ (λ j h. rw (given .sizes j h, given .prices j h, given .weights j h) refl)) (λ d s. refl) (l, w) c
 
-    module _ (l w c : ℕ) where
-      listed-pair : (d : Direction) → first-pair (listed J) (listed-weight J weight) d l w c ≡ first-pair J weight d l w c
-      unfolding first-pair
-      listed-pair d = first-cong _ _ _ (λ u m. test d u)
-          ∙ ap (λ N. first (pair-earns J weight d l w c) (pairs (filter N (range 1 (floor N (side d (l, w)) - 1))) (map (λ k. (k, c - k)) (range 0 (suc c))))) (listed-normal d)
-        where
-          test : (d : Direction) (u : ℕ × (ℕ × ℕ)) → pair-earns (listed J) (listed-weight J weight) d l w c u ≡ pair-earns J weight d l w c u
-          test Length u = ap₂ eqb (ap₂ _+_ (listed-figure (u .0) w (u .1 .0)) (listed-figure (l - u .0) w (u .1 .1))) (listed-figure l w c)
-          test Width u = ap₂ eqb (ap₂ _+_ (listed-figure l (u .0) (u .1 .0)) (listed-figure l (w - u .0) (u .1 .1))) (listed-figure l w c)
+  module _ (l w c : ℕ) where
+    listed-pair : (d : Direction) → first-pair L heavy d l w c ≡ first-pair J weight d l w c
+    unfolding first-pair
+    listed-pair d = first-cong _ _ _ (λ u m. test d u)
+        ∙ ap (λ N. first (pair-earns J weight d l w c) (pairs (filter N (range 1 (floor N (side d (l, w)) - 1))) (map (λ k. (k, c - k)) (range 0 (suc c))))) (listed-normal d)
+      where
+        test : (d : Direction) (u : ℕ × (ℕ × ℕ)) → pair-earns L heavy d l w c u ≡ pair-earns J weight d l w c u
+        test Length u = ap₂ eqb (ap₂ _+_ (listed-figure (u .0) w (u .1 .0)) (listed-figure (l - u .0) w (u .1 .1))) (listed-figure l w c)
+        test Width u = ap₂ eqb (ap₂ _+_ (listed-figure l (u .0) (u .1 .0)) (listed-figure l (w - u .0) (u .1 .1))) (listed-figure l w c)
 
-      -- and the same choices, by the pieces' numbers
-      pub listed-choice : plan-choice J weight l w c ≡ renamed (λ p. member-at J (kind p)) (plan-choice (listed J) (listed-weight J weight) l w c)
-      unfolding plan-choice
-      listed-choice = (λ i. or-zero (eqb (sym (listed-figure l w c) i) 0) (or-piece (alone i) (or-length (sym (listed-pair Length) i) (or-waste (sym (listed-pair Width) i)))))
-          ∙ sym (renamed-choice (λ p. member-at J (kind p)) (eqb (figure-of (listed J) (listed-weight J weight) l w c) 0)
-          (first (laid-earns (listed J) (listed-weight J weight) l w c) (members (listed J)))
-          (first-pair (listed J) (listed-weight J weight) Length l w c) (first-pair (listed J) (listed-weight J weight) Width l w c))
-        where
-          alone : first (laid-earns J weight l w c) (members J)
-              ≡ through (λ p. member-at J (kind p)) (first (laid-earns (listed J) (listed-weight J weight) l w c) (members (listed J)))
-          alone = first-listed (laid-earns (listed J) (listed-weight J weight) l w c) (laid-earns J weight l w c)
-              (λ j. ap (λ n. (fits-in (laid J (member-at J j)) (l, w) && leb (weight (kind (member-at J j))) c) && eqb (J .price (kind (member-at J j))) n) (listed-figure l w c))
+    -- and the same choices, by the pieces' numbers
+    pub listed-choice : plan-choice J weight l w c ≡ renamed (λ p. member-at J (kind p)) (plan-choice L heavy l w c)
+    unfolding plan-choice
+    listed-choice = (λ i. or-zero (eqb (sym (listed-figure l w c) i) 0) (or-piece (alone i) (or-length (sym (listed-pair Length) i) (or-waste (sym (listed-pair Width) i)))))
+        ∙ sym (renamed-choice (λ p. member-at J (kind p)) (eqb (figure-of L heavy l w c) 0)
+        (first (laid-earns L heavy l w c) (members L)) (first-pair L heavy Length l w c) (first-pair L heavy Width l w c))
+      where
+        alone : first (laid-earns J weight l w c) (members J) ≡ through (λ p. member-at J (kind p)) (first (laid-earns L heavy l w c) (members L))
+        alone = first-listed (laid-earns L heavy l w c) (laid-earns J weight l w c)
+            (λ j h. rw (given .sizes j h, given .prices j h, given .weights j h, listed-figure l w c) refl)
 
--- the pieces of a job in range are in the table's ranges
-pub listed-range : (J : Job) → InRange J → InTableRange (listed J)
-unfolding members
-listed-range J h = record {
-  fixed = refl;
-  plate-length = h .plate-length;
-  plate-width = h .plate-width;
-  kinds = omega (arith, members-count J, h .kinds);
-  lengths = λ j l. length-range (member-at J j) (known j l);
-  widths = λ j l. width-range (member-at J j) (known j l);
-  prices = λ j l. h .prices (kind (member-at J j)) (known j l);
-}
-  where
-    known : (j : ℕ) → j < length (members J) → kind (member-at J j) < J .count
-    known j l = member-kind J (member-at J j) (getD-mem (members J) j (upright 0) l)
+  -- the numbers of a job in range are in the table's ranges
+  pub listed-range : InRange J → InTableRange L
+  listed-range h = record {
+    fixed = refl;
+    plate-length = h .plate-length;
+    plate-width = h .plate-width;
+    kinds = omega (arith, given .number, members-count J, h .kinds);
+    lengths = λ j l. rw (given .sizes j l) (length-range (member-at J j) (known j l));
+    widths = λ j l. rw (given .sizes j l) (width-range (member-at J j) (known j l));
+    prices = λ j l. rw (given .prices j l) (h .prices (kind (member-at J j)) (known j l));
+  }
+    where
+      known : (j : ℕ) → j < n → kind (member-at J j) < J .count
+      known j l = member-kind J (member-at J j) (getD-mem (members J) j (upright 0) (omega (arith, given .number)))
 
-    length-range : (p : Piece) → kind p < J .count → (1 ≤ laid J p .0) × (laid J p .0 ≤ 1000)
-    length-range (upright i) l = h .lengths i l
-    length-range (turned i) l = h .widths i l
+      length-range : (p : Piece) → kind p < J .count → (1 ≤ laid J p .0) × (laid J p .0 ≤ 1000)
+      length-range (upright i) l = h .lengths i l
+      length-range (turned i) l = h .widths i l
 
-    width-range : (p : Piece) → kind p < J .count → (1 ≤ laid J p .1) × (laid J p .1 ≤ 1000)
-    width-range (upright i) l = h .widths i l
-    width-range (turned i) l = h .lengths i l
+      width-range : (p : Piece) → kind p < J .count → (1 ≤ laid J p .1) × (laid J p .1 ≤ 1000)
+      width-range (upright i) l = h .widths i l
+      width-range (turned i) l = h .lengths i l

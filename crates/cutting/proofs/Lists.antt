@@ -203,3 +203,15 @@ module _ {A B : Type 0} where
           → elim b [ true ↦ some (g x) | false ↦ first f (map g xs) ] ≡ through g (elim b [ true ↦ some x | false ↦ first (λ x. f (g x)) xs ])
       go true e = refl
       go false e = e
+
+  -- a filtered and mapped list depends on the answers at the members only
+  pub filter-map-cong : (f g : A → Bool) (p q : A → B) (xs : List A) → ((x : A) → List·Memᴰ x xs → (f x ≡ g x) × (p x ≡ q x)) → map p (filter f xs) ≡ map q (filter g xs)
+  unfolding filter
+  filter-map-cong f g p q [] h = refl
+  filter-map-cong f g p q (x ∷ xs) h =
+      let e = h x (List·Memᴰ·head refl) in
+      rw (e .0) (go (g x) (e .1) (filter-map-cong f g p q xs (λ y m. h y (List·Memᴰ·tail m))))
+    where
+      go : (b : Bool) → p x ≡ q x → map p (filter f xs) ≡ map q (filter g xs) → map p (keep b x (filter f xs)) ≡ map q (keep b x (filter g xs))
+      go true u v = ap₂ (λ y ys. y ∷ ys) u v
+      go false u v = v

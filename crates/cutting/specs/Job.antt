@@ -82,17 +82,17 @@ pieces J = sized (members J) (λ p. J .price (kind p)) (laid J)
 abbrev pub plain : Rect → ℕ → (ℕ → Rect) → (ℕ → ℕ) → Job
 plain r n size price = record { plate = r; turning = false; count = n; size = size; price = price; demand = λ i. 1 }
 
--- the pieces that may lie, numbered in order and each of its size as it lies: lists, figures and choices of a job are
--- those of this one (proofs/Listed)
+-- the pieces that may lie are numbered in order
 abbrev pub member-at : Job → ℕ → Piece
 member-at J j = getD (members J) j (upright 0)
 
-abbrev pub listed : Job → Job
-listed J = plain (J .plate) (length (members J)) (λ j. laid J (member-at J j)) (λ j. J .price (kind (member-at J j)))
-
--- the weights of the pieces that may lie
-abbrev pub listed-weight : Job → (ℕ → ℕ) → ℕ → ℕ
-listed-weight J weight j = weight (kind (member-at J j))
+-- numbers that stand for the pieces that may lie: each has its piece's size as it lies, its price and its weight. Lists, figures and choices
+-- of the job are those of the plain job of these numbers (proofs/Listed)
+pub record Listing (J : Job) (weight : ℕ → ℕ) (n : ℕ) (size : ℕ → Rect) (price heavy : ℕ → ℕ) : Type 0 where
+  pub number : n ≡ length (members J)
+  pub sizes : (j : ℕ) → j < n → size j ≡ laid J (member-at J j)
+  pub prices : (j : ℕ) → j < n → price j ≡ J .price (kind (member-at J j))
+  pub weights : (j : ℕ) → j < n → heavy j ≡ weight (kind (member-at J j))
 
 -- shares by the weights of the kinds
 abbrev pub by-kind : (ℕ → ℕ) → Shares Piece ℕ
@@ -177,7 +177,7 @@ pub record InRange (J : Job) : Type 0 where
   pub prices : (i : ℕ) → i < J .count → J .price i ≤ most-price
   pub demands : (i : ℕ) → i < J .count → J .demand i ≤ most-demand
 
--- numbered pieces in the ranges that lists and table read, each kind in either way (listed-range of proofs/Listed)
+-- numbered pieces in the ranges that lists and table read, those of a job in range among them (listed-range of proofs/Listed)
 pub record InTableRange (J : Job) : Type 0 where
   pub fixed : J .turning ≡ false
   pub plate-length : (1 ≤ J .plate .0) × (J .plate .0 ≤ most-side)

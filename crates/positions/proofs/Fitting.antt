@@ -54,19 +54,6 @@ module _ (ss os : List ℕ) (l o : ℕ) where
       let r = mem-range 0 n (j .0) (mem-filter (kind-fits ss os l o) (range 0 n) (j .1) .0) in
       rw (w .contents, List·getD-append (fitting ss os n l o) _ 0 i b, j .2) (h (j .0) (omega arith))
 
-module _ {A B : Type 0} where
-  -- a filtered and mapped list depends on the answers at the members only
-  filter-map-cong : (f g : A → Bool) (p q : A → B) (xs : List A) → ((x : A) → List·Memᴰ x xs → (f x ≡ g x) × (p x ≡ q x)) → map p (filter f xs) ≡ map q (filter g xs)
-  unfolding filter
-  filter-map-cong f g p q [] h = refl
-  filter-map-cong f g p q (x ∷ xs) h =
-      let e = h x (List·Memᴰ·head refl) in
-      rw (e .0) (go (g x) (e .1) (filter-map-cong f g p q xs (λ y m. h y (List·Memᴰ·tail m))))
-    where
-      go : (b : Bool) → p x ≡ q x → map p (filter f xs) ≡ map q (filter g xs) → map p (keep b x (filter f xs)) ≡ map q (keep b x (filter g xs))
-      go true u v = ap₂ (λ y ys. y ∷ ys) u v
-      go false u v = v
-
 module _ (J : Job) where
   found : (d : Direction) (ss os : List ℕ) (o : ℕ)
       → ((i : ℕ) → i < J .count → (kind-fits ss os (side d (J .plate)) o i ≡ fits-in (J .size i) (J .plate)) × (getD ss i 0 ≡ side d (J .size i)))
