@@ -18,7 +18,8 @@ use Rattle.cutting.specs.Saws.{saw, floor}
 use Rattle.cutting.specs.Shares.{by-weight}
 use Rattle.cutting.specs.Normal.{sides, normal?, normal}
 use Rattle.cutting.specs.Choice.{Choice, as-waste, as-piece, as-cut, or-waste, or-length, or-piece, or-zero}
-use Rattle.cutting.specs.Job.{Job, laid, members, pieces, plain, member-at, Listing, by-kind, figure-of, normal-side, normal-positions, normal-floor, laid-earns, pair-earns, first-pair, plan-choice, SolidKinds, InRange, InTableRange}
+use Rattle.cutting.specs.Job.{Job, laid, members, pieces, by-kind, figure-of, normal-side, normal-positions, normal-floor, laid-earns, pair-earns, first-pair, plan-choice, SolidKinds, InRange}
+use Rattle.cutting.specs.Listed.{plain, member-at, Listing, InTableRange}
 use Rattle.cutting.proofs.Lists.{mem-range, through, first-cong, entries, filter-map, first-map, filter-map-cong}
 use Rattle.cutting.proofs.Greatest.{greatest-map, greatest-cong}
 use Rattle.cutting.proofs.Recursion.{figure-same}

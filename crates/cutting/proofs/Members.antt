@@ -9,7 +9,8 @@ use lib.Dec.{T}
 use lib.ListN.{length}
 use Rattle.cutting.specs.Lists.{range}
 use Rattle.cutting.specs.Pieces.{Piece, upright, turned, kind, ways, Solid}
-use Rattle.cutting.specs.Job.{Job, laid, MayLie, members, SolidKinds, InRange, InTableRange}
+use Rattle.cutting.specs.Job.{Job, laid, MayLie, members, SolidKinds, InRange}
+use Rattle.cutting.specs.Listed.{InTableRange}
 use Rattle.cutting.proofs.Lists.{range-mem, mem-range, range-length, each-length, each-mem, mem-each}
 
 upright-way : (b : Bool) (i : ℕ) → List·Memᴰ (upright i) (ways b i)
@@ -78,7 +79,7 @@ pub range-solid : (J : Job) → InRange J → SolidKinds J
 range-solid J h i l = (h .lengths i l .0, h .widths i l .0)
 
 -- there are at most two pieces a kind
-ways-count : (b : Bool) (i : ℕ) → length (ways b i) ≤ 2
+pub ways-count : (b : Bool) (i : ℕ) → length (ways b i) ≤ 2
 ways-count true i = omega arith
 ways-count false i = omega arith
 

@@ -1,15 +1,13 @@
 -- The scope as definitions: a job, its guillotine trees and what they earn, the figure and the bound, the normal positions and the plan
 -- behind the bound. The general definitions stand in the other modules; proofs/Job, Table and Plan have what is proved of these.
-use mathlib.Core.Path.{_≡_}
-use mathlib.Core.Bool.{Bool, false, _&&_}
+use mathlib.Core.Bool.{Bool, _&&_}
 use mathlib.Core.Option.{Option}
 use mathlib.Core.List.{List, map}
 use Prim.Native.Nat.{ℕ, suc, _+_, _-_, _*_, _≤_, _<_}
 use lib.Dec.{T, leb, eqb}
-use lib.ListN.{length, getD}
 use Rattle.cutting.specs.declared.Direction.{Direction}
 use Rattle.cutting.specs.declared.Direction.the-variants.{Length, Width}
-use Rattle.cutting.specs.Limits.{most-side, most-kinds, most-price, most-demand, most-pieces}
+use Rattle.cutting.specs.Limits.{most-side, most-kinds, most-price, most-demand}
 use Rattle.cutting.specs.Lists.{range, sum, filter, first, each, pairs}
 use Rattle.cutting.specs.Tree.{Rect, side, Tree, waste, piece, cut, Pieces, Shares, total, copies}
 use Rattle.cutting.specs.Figure.{figure}
@@ -77,22 +75,6 @@ members J = each (ways (J .turning)) (range 0 (J .count))
 -- a piece may lie where neither side is greater than the rectangle's, and earns its kind's price
 unfoldable pub pieces : Job → Pieces Piece
 pieces J = sized (members J) (λ p. J .price (kind p)) (laid J)
-
--- numbered pieces as a job: n of them, each ordered once and not to be turned
-abbrev pub plain : Rect → ℕ → (ℕ → Rect) → (ℕ → ℕ) → Job
-plain r n size price = record { plate = r; turning = false; count = n; size = size; price = price; demand = λ i. 1 }
-
--- the pieces that may lie are numbered in order
-abbrev pub member-at : Job → ℕ → Piece
-member-at J j = getD (members J) j (upright 0)
-
--- numbers that stand for the pieces that may lie: each has its piece's size as it lies, its price and its weight. Lists, figures and choices
--- of the job are those of the plain job of these numbers (proofs/Listed)
-pub record Listing (J : Job) (weight : ℕ → ℕ) (n : ℕ) (size : ℕ → Rect) (price heavy : ℕ → ℕ) : Type 0 where
-  pub number : n ≡ length (members J)
-  pub sizes : (j : ℕ) → j < n → size j ≡ laid J (member-at J j)
-  pub prices : (j : ℕ) → j < n → price j ≡ J .price (kind (member-at J j))
-  pub weights : (j : ℕ) → j < n → heavy j ≡ weight (kind (member-at J j))
 
 -- shares by the weights of the kinds
 abbrev pub by-kind : (ℕ → ℕ) → Shares Piece ℕ
@@ -176,13 +158,3 @@ pub record InRange (J : Job) : Type 0 where
   pub widths : (i : ℕ) → i < J .count → (1 ≤ J .size i .1) × (J .size i .1 ≤ most-side)
   pub prices : (i : ℕ) → i < J .count → J .price i ≤ most-price
   pub demands : (i : ℕ) → i < J .count → J .demand i ≤ most-demand
-
--- numbered pieces in the ranges that lists and table read, those of a job in range among them (listed-range of proofs/Listed)
-pub record InTableRange (J : Job) : Type 0 where
-  pub fixed : J .turning ≡ false
-  pub plate-length : (1 ≤ J .plate .0) × (J .plate .0 ≤ most-side)
-  pub plate-width : (1 ≤ J .plate .1) × (J .plate .1 ≤ most-side)
-  pub kinds : J .count ≤ most-pieces
-  pub lengths : (i : ℕ) → i < J .count → (1 ≤ J .size i .0) × (J .size i .0 ≤ most-side)
-  pub widths : (i : ℕ) → i < J .count → (1 ≤ J .size i .1) × (J .size i .1 ≤ most-side)
-  pub prices : (i : ℕ) → i < J .count → J .price i ≤ most-price

@@ -1,0 +1,64 @@
+-- The pieces that may lie as the inner functions read them, by their numbers and from one array. They then are the kinds of a plain job,
+-- and code that knows no turned pieces serves every job (proofs/Listed). Only inner contracts cite this file.
+use mathlib.Core.Path.{_≡_}
+use mathlib.Core.Bool.{false}
+use mathlib.Core.List.{List}
+use Prim.Native.Nat.{ℕ, _+_, _*_, _≤_, _<_}
+use lib.ListN.{length, getD}
+use Rattle.cutting.specs.Limits.{most-side, most-pieces, most-price}
+use Rattle.cutting.specs.Tree.{Rect}
+use Rattle.cutting.specs.Pieces.{Piece, upright, turned, kind}
+use Rattle.cutting.specs.Job.{Job, laid, members}
+
+-- numbered pieces as a job: n of them, each ordered once and not to be turned
+abbrev pub plain : Rect → ℕ → (ℕ → Rect) → (ℕ → ℕ) → Job
+plain r n size price = record { plate = r; turning = false; count = n; size = size; price = price; demand = λ i. 1 }
+
+-- a plain job in the ranges that lists and table read, as that of a job in range is
+pub record InTableRange (J : Job) : Type 0 where
+  pub fixed : J .turning ≡ false
+  pub plate-length : (1 ≤ J .plate .0) × (J .plate .0 ≤ most-side)
+  pub plate-width : (1 ≤ J .plate .1) × (J .plate .1 ≤ most-side)
+  pub kinds : J .count ≤ most-pieces
+  pub lengths : (i : ℕ) → i < J .count → (1 ≤ J .size i .0) × (J .size i .0 ≤ most-side)
+  pub widths : (i : ℕ) → i < J .count → (1 ≤ J .size i .1) × (J .size i .1 ≤ most-side)
+  pub prices : (i : ℕ) → i < J .count → J .price i ≤ most-price
+
+-- the pieces that may lie are numbered in order
+abbrev pub member-at : Job → ℕ → Piece
+member-at J j = getD (members J) j (upright 0)
+
+-- numbers that stand for the pieces of a job: each has its piece's size as it lies, its price and its weight
+pub record Listing (J : Job) (weight : ℕ → ℕ) (n : ℕ) (size : ℕ → Rect) (price heavy : ℕ → ℕ) : Type 0 where
+  pub number : n ≡ length (members J)
+  pub sizes : (j : ℕ) → j < n → size j ≡ laid J (member-at J j)
+  pub prices : (j : ℕ) → j < n → price j ≡ J .price (kind (member-at J j))
+  pub weights : (j : ℕ) → j < n → heavy j ≡ weight (kind (member-at J j))
+
+-- the array has five entries a piece: its size as it lies, its price, its weight and its node
+abbrev pub size-in : List ℕ → ℕ → Rect
+size-in pieces j = (getD pieces (5 * j) 0, getD pieces (5 * j + 1) 0)
+
+abbrev pub price-in : List ℕ → ℕ → ℕ
+price-in pieces j = getD pieces (5 * j + 2) 0
+
+abbrev pub heavy-in : List ℕ → ℕ → ℕ
+heavy-in pieces j = getD pieces (5 * j + 3) 0
+
+abbrev pub node-in : List ℕ → ℕ → ℕ
+node-in pieces j = getD pieces (5 * j + 4) 0
+
+-- the number of a piece's node: twice its kind's, and 1 more where it is turned
+abbrev pub node-number : Piece → ℕ
+node-number (upright i) = 2 * i
+node-number (turned i) = 2 * i + 1
+
+-- the plain job of an array of n pieces on a plate
+abbrev pub pieces-job : Rect → ℕ → List ℕ → Job
+pieces-job r n pieces = plain r n (size-in pieces) (price-in pieces)
+
+-- an array that holds the pieces of a job with their weights
+pub record PieceArray (J : Job) (weight : ℕ → ℕ) (n : ℕ) (pieces : List ℕ) : Type 0 where
+  pub entries : length pieces ≡ 5 * most-pieces
+  pub listing : Listing J weight n (size-in pieces) (price-in pieces) (heavy-in pieces)
+  pub nodes : (j : ℕ) → j < n → node-in pieces j ≡ node-number (member-at J j)

@@ -1,0 +1,54 @@
+-- `pieces::put_kind` meets its contract.
+use mathlib.Core.Path.{_∙_, ap}
+use native.Mathlib.Omega.{arith}
+use borrow.Author.Needs.{needs}
+use denote.Ref.{now}
+use lib.ListN.{length}
+use Rattle.cutting.specs.Pieces.{upright}
+use Rattle.pieces.proofs.Growing.{put-length, listed-more, listed-twice}
+use Rattle.pieces.proofs.put_kind.Statement.{statement}
+use Rattle.pieces.proofs.put_kind.Tie as tie
+
+put-piece-requires : tie.Need-put-piece-requires
+put-piece-requires c κs = search needs
+
+add-put-piece : tie.Need-add-put-piece
+add-put-piece c = search needs
+
+turn-requires : tie.Need-turn-requires
+turn-requires c κs = search needs
+
+put-piece-requires-2 : tie.Need-put-piece-requires-2
+put-piece-requires-2 c κs =
+    let start = c .before .before .before .before .before in
+    (omega (arith, start .pre .0), ap length (c .before .before .before .put-piece .ensures) ∙ put-length (now (start .args .pieces)) (start .args .n) (start .args .piece) ∙ start .pre .1)
+
+add-result : tie.Need-add-result
+add-result c = search needs
+
+returns : tie.Need-returns
+returns c J weight ps i w e =
+    let start = c .before .before .before .before .before .before in
+    rw (c .before .before .before .if1 .taken)
+    (listed-twice J weight ps i (start .args .n) (now (start .args .pieces)) _ _ (start .args .piece) _ (omega (arith, start .pre .0)) w e (c .before .before .before .before .put-piece .ensures) (c .before .turn .ensures) (c .put-piece2 .ensures))
+
+add-result-2 : tie.Need-add-result-2
+add-result-2 c = search needs
+
+returns-2 : tie.Need-returns-2
+returns-2 c J weight ps i w e =
+    let start = c .before .before .before in
+    rw (c .if1 .left) (listed-more J weight ps (upright i) (start .args .n) (now (start .args .pieces)) _ (start .args .piece) (omega (arith, start .pre .0)) w e (c .before .put-piece .ensures))
+
+pub put-kind-spec : {M : Type 1} → statement M
+put-kind-spec =
+    tie.close
+    (tie.spec
+    put-piece-requires
+    add-put-piece
+    turn-requires
+    put-piece-requires-2
+    add-result
+    returns
+    add-result-2
+    returns-2)
