@@ -19,10 +19,14 @@ abbrev pub ways : Bool → ℕ → List Piece
 ways false i = upright i ∷ []
 ways true i = upright i ∷ turned i ∷ []
 
--- the size of a piece as it lies, where size gives the kinds' sizes: length and width change places where it is turned
+-- a rectangle turned by a quarter: length and width change places
+abbrev pub quarter : Rect → Rect
+quarter r = (r .1, r .0)
+
+-- the size of a piece as it lies, where size gives the kinds' sizes
 abbrev pub lying : (ℕ → Rect) → Piece → Rect
 lying size (upright i) = size i
-lying size (turned i) = (size i .1, size i .0)
+lying size (turned i) = quarter (size i)
 
 infix 30 _⊑_
 -- a rectangle no larger than another

@@ -4,7 +4,7 @@
 ghost use mathlib.Core.Path.{_≡_};
 ghost use Prim.Native.Nat.{_-_, _≤_};
 ghost use Rattle.cutting.specs.Tree.{side, part};
-ghost use Rattle.cutting.specs.Pieces.{fits-in};
+ghost use Rattle.cutting.specs.Pieces.{quarter, fits-in};
 ghost use Rattle.cutting.specs.Sides.{rect-of, sides-of};
 
 // What a cut divides: the length or the width.
@@ -25,6 +25,16 @@ pub enum Node {
 pub struct Sides {
     pub length: u16,
     pub width: u16,
+}
+
+// A rectangle turned by a quarter.
+pub fn turn(upright: Sides) -> Sides
+    ensures { λ r. ⌜ r ≡ sides-of (quarter (rect-of upright)) ⌝ }
+{
+    Sides {
+        length: upright.width,
+        width: upright.length,
+    }
 }
 
 // Whether a piece fits a rectangle: neither side is greater.

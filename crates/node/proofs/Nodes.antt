@@ -12,84 +12,98 @@ use Rattle.cutting.specs.Tree.{Rect, side}
 use Rattle.cutting.specs.declared.Direction.{Direction}
 use Rattle.cutting.specs.declared.Direction.the-variants.{Length, Width}
 use Rattle.cutting.specs.declared.Node.{Node}
-use Rattle.cutting.specs.declared.Node.the-variants.{Waste, Piece, Cut}
+use Rattle.cutting.specs.declared.Node.the-variants.{Waste, Piece, Turned, Cut}
 use Rattle.cutting.specs.Preorder.{kind-of, operand-of}
+use Rattle.cutting.specs.Pieces as laid
 use Rattle.cutting.specs.Pieces.{fits-in}
-use Rattle.cutting.specs.Job.{Job}
+use Rattle.cutting.specs.Job.{Job, laid, MayLie}
 use Rattle.cutting.proofs.Pieces.{true-fits-in}
-use Rattle.refusal.specs.Refusals.{first-refusal, refuse-when}
+use Rattle.refusal.specs.Refusals.{next, first-refusal, refuse-when}
 use Rattle.refusal.specs.declared.Refusal.the-variants.{NodeKind, PieceNumber, Operand, Misfit, Excess}
 use Rattle.refusal.specs.declared.Checked.the-variants.{Passed, Refused}
 use Rattle.job.specs.Block.{outside}
 use Rattle.job.proofs.Checks.{next-passed, cons-passed}
-use Rattle.node.specs.Nodes.{node-of, unnumbered, misplaced, misfit, excess, node-checks}
+use Rattle.node.specs.Nodes.{node-of, most-kind, unnumbered, misplaced, misfit, excess, node-checks}
+use Rattle.node.specs.Placed.{lying-as, piece-as, laying}
 
 -- a kind and an operand by the node that they are
 data Read (k o : ℕ) : Node → Type 0 where
   is-waste : k ≡ 0 → Read k o Waste
   is-piece : k ≡ 1 → Read k o (Piece o)
   is-length : k ≡ 2 → Read k o (Cut Length o)
-  is-width : 3 ≤ k → Read k o (Cut Width o)
+  is-width : k ≡ 3 → Read k o (Cut Width o)
+  is-turned : 4 ≤ k → Read k o (Turned o)
 
 read : (k o : ℕ) → Read k o (node-of k o)
-read k o = go (eqb k 0) refl (eqb k 1) refl (eqb k 2) refl
+read k o = go (eqb k 0) refl (eqb k 1) refl (eqb k 2) refl (eqb k 3) refl
   where
-    go : (x : Bool) → eqb k 0 ≡ x → (y : Bool) → eqb k 1 ≡ y → (z : Bool) → eqb k 2 ≡ z → Read k o (node-of k o)
-    go true e y f z g = rw e (is-waste (eqb-true k 0 e))
-    go false e true f z g = rw (e, f) (is-piece (eqb-true k 1 f))
-    go false e false f true g = rw (e, f, g) (is-length (eqb-true k 2 g))
-    go false e false f false g = let a = eqb-false k 0 e in let b = eqb-false k 1 f in let c = eqb-false k 2 g in rw (e, f, g) (is-width (omega arith))
+    go : (x : Bool) → eqb k 0 ≡ x → (y : Bool) → eqb k 1 ≡ y → (z : Bool) → eqb k 2 ≡ z → (u : Bool) → eqb k 3 ≡ u → Read k o (node-of k o)
+    go true e y f z g u h = rw e (is-waste (eqb-true k 0 e))
+    go false e true f z g u h = rw (e, f) (is-piece (eqb-true k 1 f))
+    go false e false f true g u h = rw (e, f, g) (is-length (eqb-true k 2 g))
+    go false e false f false g true h = rw (e, f, g, h) (is-width (eqb-true k 3 h))
+    go false e false f false g false h = let a = eqb-false k 0 e in let b = eqb-false k 1 f in let c = eqb-false k 2 g in let d = eqb-false k 3 h in rw (e, f, g, h) (is-turned (omega arith))
 
 waste-read : {k o : ℕ} {n : Node} → Read k o n → n ≡ Waste → k ≡ 0
 waste-read (is-waste e) p = e
 waste-read (is-piece e) p = cc
 waste-read (is-length e) p = cc
-waste-read (is-width h) p = cc
+waste-read (is-width e) p = cc
+waste-read (is-turned h) p = cc
 
-piece-read : {k o i : ℕ} {n : Node} → Read k o n → n ≡ Piece i → k ≡ 1
-piece-read (is-waste e) p = cc
-piece-read (is-piece e) p = e
-piece-read (is-length e) p = cc
-piece-read (is-width h) p = cc
-
--- kind 0 is waste, kind 1 a piece
+-- kind 0 is waste
 pub waste-kind : (k o : ℕ) → node-of k o ≡ Waste → k ≡ 0
 waste-kind k o p = waste-read (read k o) p
 
-pub piece-kind : (k o i : ℕ) → node-of k o ≡ Piece i → k ≡ 1
-piece-kind k o i p = piece-read {i = i} (read k o) p
+-- a piece of a kind's number
+pub number-of-piece : (b : Bool) (i : ℕ) → laid.kind (piece-as b i) ≡ i
+number-of-piece false i = refl
+number-of-piece true i = refl
+
+pub size-of-piece : (J : Job) (b : Bool) (i : ℕ) → laid J (piece-as b i) ≡ lying-as b (J .size i)
+size-of-piece J false i = refl
+size-of-piece J true i = refl
 
 module _ (J : Job) (c : List ℕ) (r : Rect) (k : ℕ) where
-  pub kind-refused : (kind o : ℕ) → 3 < kind → first-refusal (node-checks J c r k kind o) ≡ Refused (NodeKind k)
+  pub kind-refused : (kind o : ℕ) → most-kind (J .turning) < kind → first-refusal (node-checks J c r k kind o) ≡ Refused (NodeKind k)
   unfolding first-refusal
-  kind-refused kind o h = let e : ltb 3 kind ≡ true = le-leb 4 kind (omega arith) in simp e
+  kind-refused kind o h = let e : ltb (most-kind (J .turning)) kind ≡ true = lt-ltb (most-kind (J .turning)) kind h in simp e
 
   -- waste has check 14 alone
   pub waste-checks : (o : ℕ) → first-refusal (node-checks J c r k 0 o) ≡ refuse-when (not (eqb o 0)) (Operand k)
   unfolding first-refusal
-  waste-checks o = sym (next-passed _)
+  waste-checks o = let e : ltb (most-kind (J .turning)) 0 ≡ false = le-ltb (most-kind (J .turning)) 0 (omega arith) in simp e (sym (next-passed _))
 
-  pub number-refused : (i : ℕ) → J .count ≤ i → first-refusal (node-checks J c r k 1 i) ≡ Refused (PieceNumber k)
-  unfolding first-refusal
-  number-refused i h = simp (le-leb (J .count) i h)
+  module _ (kind o : ℕ) (h : kind ≤ most-kind (J .turning)) where
+    known : ltb (most-kind (J .turning)) kind ≡ false
+    known = le-ltb (most-kind (J .turning)) kind h
 
-  pub misfit-refused : (i : ℕ) → i < J .count → fits-in (J .size i) r ≡ false → first-refusal (node-checks J c r k 1 i) ≡ Refused (Misfit k)
-  unfolding first-refusal
-  misfit-refused i h f = simp (lt-leb (J .count) i h, f)
+    -- a cut has check 14 alone
+    pub cut-checks : (d : Direction) (x : ℕ) → node-of kind o ≡ Cut d x → first-refusal (node-checks J c r k kind o) ≡ refuse-when (outside 1 (side d r - 1) x) (Operand k)
+    unfolding first-refusal
+    cut-checks d x e = simp (known, e) (sym (next-passed _))
 
-  pub excess-refused : (i : ℕ) → i < J .count → fits-in (J .size i) r ≡ true → J .demand i ≤ getD c i 0 → first-refusal (node-checks J c r k 1 i) ≡ Refused (Excess k)
-  unfolding first-refusal
-  excess-refused i h f e = simp (lt-leb (J .count) i h, f, le-leb (J .demand i) (getD c i 0) e)
+    -- a piece has 13, 15 and 16
+    piece-checks : (b : Bool) (i : ℕ) → node-of kind o ≡ laying b i → first-refusal (node-checks J c r k kind o)
+        ≡ next (refuse-when (leb (J .count) i) (PieceNumber k)) (next (refuse-when (not (fits-in (lying-as b (J .size i)) r)) (Misfit k)) (refuse-when (leb (J .demand i) (getD c i 0)) (Excess k)))
+    unfolding first-refusal
+    piece-checks false i e = simp (known, e)
+        (ap (λ v. next (refuse-when (leb (J .count) i) (PieceNumber k)) (next (refuse-when (not (fits-in (J .size i) r)) (Misfit k)) v)) (sym (next-passed (refuse-when (leb (J .demand i) (getD c i 0)) (Excess k)))))
+    piece-checks true i e = simp (known, e)
+        (ap (λ v. next (refuse-when (leb (J .count) i) (PieceNumber k)) (next (refuse-when (not (fits-in (laid.quarter (J .size i)) r)) (Misfit k)) v)) (sym (next-passed (refuse-when (leb (J .demand i) (getD c i 0)) (Excess k)))))
 
-  pub piece-passes : (i : ℕ) → i < J .count → fits-in (J .size i) r ≡ true → getD c i 0 < J .demand i → first-refusal (node-checks J c r k 1 i) ≡ Passed
-  unfolding first-refusal
-  piece-passes i h f e = simp (lt-leb (J .count) i h, f, lt-leb (J .demand i) (getD c i 0) e)
+    module _ (b : Bool) (i : ℕ) (e : node-of kind o ≡ laying b i) where
+      pub number-refused : J .count ≤ i → first-refusal (node-checks J c r k kind o) ≡ Refused (PieceNumber k)
+      number-refused n = piece-checks b i e ∙ simp (le-leb (J .count) i n)
 
-  -- a cut has check 14 alone
-  pub cut-checks : (kind o : ℕ) (d : Direction) (x : ℕ) → kind ≤ 3 → node-of kind o ≡ Cut d x →
-      first-refusal (node-checks J c r k kind o) ≡ refuse-when (outside 1 (side d r - 1) x) (Operand k)
-  unfolding first-refusal
-  cut-checks kind o d x h e = let f : ltb 3 kind ≡ false = le-ltb 3 kind h in simp (f, e) (sym (next-passed _))
+      pub misfit-refused : i < J .count → fits-in (lying-as b (J .size i)) r ≡ false → first-refusal (node-checks J c r k kind o) ≡ Refused (Misfit k)
+      misfit-refused n f = piece-checks b i e ∙ simp (lt-leb (J .count) i n, f)
+
+      pub excess-refused : i < J .count → fits-in (lying-as b (J .size i)) r ≡ true → J .demand i ≤ getD c i 0 → first-refusal (node-checks J c r k kind o) ≡ Refused (Excess k)
+      excess-refused n f d = piece-checks b i e ∙ simp (lt-leb (J .count) i n, f, le-leb (J .demand i) (getD c i 0) d)
+
+      pub piece-passes : i < J .count → fits-in (lying-as b (J .size i)) r ≡ true → getD c i 0 < J .demand i → first-refusal (node-checks J c r k kind o) ≡ Passed
+      piece-passes n f d = piece-checks b i e ∙ simp (lt-leb (J .count) i n, f, lt-leb (J .demand i) (getD c i 0) d)
 
 -- a piece takes no more than the rectangle that it fits
 pub fits-area : (q r : Rect) → fits-in q r ≡ true → q .0 * q .1 ≤ r .0 * r .1
@@ -119,6 +133,7 @@ inside-range s x e = go (ltb x 1) refl (ltb (s - 1) x) refl e
 pub node-back : (n : Node) → node-of (kind-of n) (operand-of n) ≡ n
 node-back Waste = refl
 node-back (Piece i) = refl
+node-back (Turned i) = refl
 node-back (Cut Length x) = refl
 node-back (Cut Width x) = refl
 
@@ -126,30 +141,52 @@ node-back (Cut Width x) = refl
 abbrev pub pair-of : Node → ℕ × ℕ
 pair-of n = (kind-of n, operand-of n)
 
--- what the checks ask of a node
+-- what the checks ask of a piece: it may lie, it fits as it lies, and its kind has a copy left
+abbrev pub PieceFits : Job → List ℕ → Rect → laid.Piece → Type 0
+PieceFits J c r p = MayLie J p × (fits-in (laid J p) r ≡ true) × (getD c (laid.kind p) 0 < J .demand (laid.kind p))
+
+-- what they ask of a node
 abbrev pub NodeFits : Job → List ℕ → Rect → Node → Type 0
 NodeFits J c r Waste = Unit {0}
-NodeFits J c r (Piece i) = (i < J .count) × (fits-in (J .size i) r ≡ true) × (getD c i 0 < J .demand i)
+NodeFits J c r (Piece i) = PieceFits J c r (laid.upright i)
+NodeFits J c r (Turned i) = PieceFits J c r (laid.turned i)
 NodeFits J c r (Cut d x) = (1 ≤ x) × (x < side d r)
 
-known : (d : Direction) (x : ℕ) → kind-of (Cut d x) ≤ 3
-known Length x = omega arith
-known Width x = omega arith
+-- a turned piece is a kind of node only where pieces may be turned
+turned-kind : (b : Bool) → T b → 4 ≤ most-kind b
+turned-kind true t = omega arith
+turned-kind false t = absurd t
+
+kind-turned : (b : Bool) (k : ℕ) → 4 ≤ k → k ≤ most-kind b → (k ≡ 4) × T b
+kind-turned true k h l = (omega arith, tt)
+kind-turned false k h l = absurd (omega arith)
+
+least-kind : (b : Bool) → 3 ≤ most-kind b
+least-kind true = omega arith
+least-kind false = omega arith
+
+cut-kind : (b : Bool) (d : Direction) (x : ℕ) → kind-of (Cut d x) ≤ most-kind b
+cut-kind b Length x = omega (arith, least-kind b)
+cut-kind b Width x = omega (arith, least-kind b)
 
 -- such a node passes
 pub node-passes : (J : Job) (c : List ℕ) (r : Rect) (k : ℕ) (n : Node) → NodeFits J c r n → first-refusal (node-checks J c r k (kind-of n) (operand-of n)) ≡ Passed
 node-passes J c r k Waste h = waste-checks J c r k 0
-node-passes J c r k (Piece i) h = piece-passes J c r k i (h .0) (h .1) (h .2)
-node-passes J c r k (Cut d x) h = cut-checks J c r k (kind-of (Cut d x)) x d x (known d x) (node-back (Cut d x)) ∙ ap (λ b. refuse-when b (Operand k)) (inside (side d r) x (h .0) (h .1))
+node-passes J c r k (Piece i) h = piece-passes J c r k 1 i (omega (arith, least-kind (J .turning))) false i refl (h .0) (h .1) (h .2)
+node-passes J c r k (Turned i) h = piece-passes J c r k 4 i (turned-kind (J .turning) (h .0 .1)) true i refl (h .0 .0) (h .1) (h .2)
+node-passes J c r k (Cut d x) h = cut-checks J c r k (kind-of (Cut d x)) x (cut-kind (J .turning) d x) d x (node-back (Cut d x)) ∙ ap (λ b. refuse-when b (Operand k)) (inside (side d r) x (h .0) (h .1))
 
 -- and only such a node
-node-read : (J : Job) (c : List ℕ) (r : Rect) (k o : ℕ) (n : Node) → Read k o n → ltb 3 k ≡ false → unnumbered J n ≡ false → misplaced r n o ≡ false → misfit J r n ≡ false → excess J c n ≡ false
+node-read : (J : Job) (c : List ℕ) (r : Rect) (k o : ℕ) (n : Node) → Read k o n → ltb (most-kind (J .turning)) k ≡ false → unnumbered J n ≡ false → misplaced r n o ≡ false → misfit J r n ≡ false → excess J c n ≡ false
     → ((k, o) ≡ pair-of n) × NodeFits J c r n
 node-read J c r k o Waste (is-waste e) a b d f g = (ap₂ (λ x y. (x, y)) e (eqb-true o 0 (not-false (eqb o 0) d)), tt)
 node-read J c r k o (Piece i) (is-piece e) a b d f g =
     (ap (λ x. (x, o)) e, (leb-false (J .count) o b, not-false (fits-in (J .size o) r) f, leb-false (J .demand o) (getD c o 0) g))
 node-read J c r k o (Cut Length x) (is-length e) a b d f g = (ap (λ x. (x, o)) e, inside-range (r .0) o d)
-node-read J c r k o (Cut Width x) (is-width h) a b d f g = (ap (λ x. (x, o)) (let l = ltb-false 3 k a in let e : k ≡ 3 = omega arith in e), inside-range (r .1) o d)
+node-read J c r k o (Cut Width x) (is-width e) a b d f g = (ap (λ x. (x, o)) e, inside-range (r .1) o d)
+node-read J c r k o (Turned i) (is-turned h) a b d f g =
+    let e = kind-turned (J .turning) k h (ltb-false (most-kind (J .turning)) k a) in
+    (ap (λ x. (x, o)) (e .0), ((leb-false (J .count) o b, e .1), not-false (fits-in (laid J (laid.turned o)) r) f, leb-false (J .demand o) (getD c o 0) g))
 
 pub node-passed : (J : Job) (c : List ℕ) (r : Rect) (at k o : ℕ) → first-refusal (node-checks J c r at k o) ≡ Passed
     → ((k, o) ≡ pair-of (node-of k o)) × NodeFits J c r (node-of k o)

@@ -1,6 +1,6 @@
 -- What a node leaves: the sums stay within their bound, and the verdict, the sums and the copies are the definition's.
 use mathlib.Core.Path.{_≡_, _∙_, refl, sym, ap, subst}
-use mathlib.Core.Bool.{true, not}
+use mathlib.Core.Bool.{Bool, true, false, not}
 use mathlib.Core.List.{List}
 use Prim.Native.Nat.{ℕ, _+_, _-_, _≤_, _<_, _^_}
 use native.Mathlib.Omega.{arith}
@@ -19,8 +19,8 @@ use Rattle.refusal.specs.declared.Checked.the-variants.{Passed, Refused}
 use Rattle.node.specs.declared.Tally.{Tally}
 use Rattle.node.specs.declared.NodeAnswer.{NodeAnswer}
 use Rattle.job.specs.Block.{outside}
-use Rattle.node.specs.Nodes.{node-of, node-checks, with-waste, with-piece, tallied, copied}
-use Rattle.node.specs.Placed.{Sized, Grows, stopped, Placed}
+use Rattle.node.specs.Nodes.{node-of, most-kind, node-checks, with-waste, with-piece, tallied, copied}
+use Rattle.node.specs.Placed.{lying-as, laying, Sized, Grows, stopped, Placed}
 use Rattle.node.proofs.Nodes.{waste-checks, piece-passes, cut-checks}
 
 -- the sums of fewer nodes
@@ -62,17 +62,32 @@ pub waste-placed : (J : Job) (k o : ℕ) (r : Rect) (t : Tally) (c : List ℕ) (
     → s ≡ with-waste r t → Grows t s → Placed J k 0 o r t c (record { verdict = v; tally = s }) c
 waste-placed J k o r t c v s e f g = record { verdict = e ∙ sym (waste-checks J c r k o); sums = λ p. f; counts = λ p. refl; sized = g }
 
+-- what a piece adds
+tallied-piece : (J : Job) (b : Bool) (i : ℕ) (r : Rect) (t : Tally) → tallied J (laying b i) r t ≡ with-piece (J .price i) (lying-as b (J .size i)) r t
+tallied-piece J false i r t = refl
+tallied-piece J true i r t = refl
+
+copied-piece : (b : Bool) (i : ℕ) (c : List ℕ) → copied (laying b i) c ≡ set c i (getD c i 0 + 1)
+copied-piece false i c = refl
+copied-piece true i c = refl
+
 -- a piece that passes
-pub piece-placed : (J : Job) (k i : ℕ) (r : Rect) (t : Tally) (c : List ℕ) (s : Tally) (copies : ℕ) → i < J .count → fits-in (J .size i) r ≡ true → getD c i 0 < J .demand i
-    → s ≡ with-piece (J .price i) (J .size i) r t → Grows t s → copies ≡ getD c i 0 + 1 → Placed J k 1 i r t c (record { verdict = Passed; tally = s }) (set c i copies)
-piece-placed J k i r t c s copies n f d e g m = record { verdict = sym (piece-passes J c r k i n f d); sums = λ p. e; counts = λ p. ap (set c i) m; sized = g }
+pub piece-placed : (J : Job) (k kind o : ℕ) (r : Rect) (t : Tally) (c : List ℕ) (s : Tally) (copies : ℕ) (b : Bool) (i : ℕ) → kind ≤ most-kind (J .turning) → node-of kind o ≡ laying b i
+    → i < J .count → fits-in (lying-as b (J .size i)) r ≡ true → getD c i 0 < J .demand i
+    → s ≡ with-piece (J .price i) (lying-as b (J .size i)) r t → Grows t s → copies ≡ getD c i 0 + 1 → Placed J k kind o r t c (record { verdict = Passed; tally = s }) (set c i copies)
+piece-placed J k kind o r t c s copies b i h e n f d p g m = record {
+  verdict = sym (piece-passes J c r k kind o h b i e n f d);
+  sums = λ q. p ∙ sym (ap (λ m. tallied J m r t) e ∙ tallied-piece J b i r t);
+  counts = λ q. ap (set c i) m ∙ sym (ap (λ m. copied m c) e ∙ copied-piece b i c);
+  sized = g;
+}
 
 -- a cut
 pub cut-placed : (J : Job) (k kind o : ℕ) (r : Rect) (t : Tally) (c : List ℕ) (v : Checked) (d : Direction) (x : ℕ) → v ≡ refuse-when (outside 1 (side d r - 1) x) (Operand k)
-    → kind ≤ 3 → node-of kind o ≡ Cut d x → Placed J k kind o r t c (record { verdict = v; tally = t }) c
+    → kind ≤ most-kind (J .turning) → node-of kind o ≡ Cut d x → Placed J k kind o r t c (record { verdict = v; tally = t }) c
 cut-placed J k kind o r t c v d x e h n =
     record {
-      verdict = e ∙ sym (cut-checks J c r k kind o d x h n);
+      verdict = e ∙ sym (cut-checks J c r k kind o h d x n);
       sums = λ p. sym (ap (λ m. tallied J m r t) n);
       counts = λ p. sym (ap (λ m. copied m c) n);
       sized = grows-not t;
@@ -81,3 +96,7 @@ cut-placed J k kind o r t c v d x e h n =
 -- a node whose kind is known
 pub placed-as : {J : Job} {k kind n o : ℕ} {r : Rect} {t : Tally} {c : List ℕ} {a : NodeAnswer} {after : List ℕ} → kind ≡ n → Placed J k n o r t c a after → Placed J k kind o r t c a after
 placed-as {J} {k} {kind} {n} {o} {r} {t} {c} {a} {after} e p = subst (λ x. Placed J k x o r t c a after) (sym e) p
+
+-- a node whose place is known
+pub placed-at : {J : Job} {k m kind o : ℕ} {r : Rect} {t : Tally} {c : List ℕ} {a : NodeAnswer} {after : List ℕ} → k ≡ m → Placed J m kind o r t c a after → Placed J k kind o r t c a after
+placed-at {J} {k} {m} {kind} {o} {r} {t} {c} {a} {after} e p = subst (λ x. Placed J x kind o r t c a after) (sym e) p

@@ -7,11 +7,12 @@ use lib.Dec.{leb, ltb, eqb}
 use lib.ListN.{getD, set}
 use Rattle.cutting.specs.declared.Direction.the-variants.{Length, Width}
 use Rattle.cutting.specs.declared.Node.{Node}
-use Rattle.cutting.specs.declared.Node.the-variants.{Waste, Piece, Cut}
+use Rattle.cutting.specs.declared.Node.the-variants.{Waste, Piece, Turned, Cut}
 use Rattle.cutting.specs.Tree.{Rect, side, part}
+use Rattle.cutting.specs.Pieces as laid
 use Rattle.cutting.specs.Pieces.{fits-in}
 use Rattle.cutting.specs.Areas.{area}
-use Rattle.cutting.specs.Job.{Job}
+use Rattle.cutting.specs.Job.{Job, laid}
 use Rattle.refusal.specs.declared.Refusal.the-variants.{NodeKind, PieceNumber, Operand, Misfit, Excess}
 use Rattle.refusal.specs.Refusals.{Check}
 use Rattle.job.specs.Block.{outside}
@@ -22,38 +23,45 @@ abbrev pub pick : Bool → Node → Node → Node
 pick true a b = a
 pick false a b = b
 
--- the node of a kind from 0 to 3 and an operand
+-- the node of a kind from 0 to 4 and an operand
 abbrev pub node-of : ℕ → ℕ → Node
-node-of kind operand = pick (eqb kind 0) Waste (pick (eqb kind 1) (Piece operand) (pick (eqb kind 2) (Cut Length operand) (Cut Width operand)))
+node-of kind operand = pick (eqb kind 0) Waste (pick (eqb kind 1) (Piece operand) (pick (eqb kind 2) (Cut Length operand) (pick (eqb kind 3) (Cut Width operand) (Turned operand))))
+
+-- 12: the greatest kind of a node, 4 where pieces may be turned
+abbrev pub most-kind : Bool → ℕ
+most-kind false = 3
+most-kind true = 4
+
+-- what holds of the piece that a node lays, and of a node that lays none
+abbrev pub of-piece {ℓ} : {A : Type ℓ} → (laid.Piece → A) → A → Node → A
+of-piece f a Waste = a
+of-piece f a (Piece i) = f (laid.upright i)
+of-piece f a (Turned i) = f (laid.turned i)
+of-piece f a (Cut d x) = a
 
 -- 13: a piece number of n or more
 abbrev pub unnumbered : Job → Node → Bool
-unnumbered J Waste = false
-unnumbered J (Piece i) = leb (J .count) i
-unnumbered J (Cut d x) = false
+unnumbered J n = of-piece (λ p. leb (J .count) (laid.kind p)) false n
 
 -- 14: a waste operand that is not 0, or a cut position outside 1 to the side less 1
 abbrev pub misplaced : Rect → Node → ℕ → Bool
 misplaced r Waste operand = not (eqb operand 0)
 misplaced r (Piece i) operand = false
+misplaced r (Turned i) operand = false
 misplaced r (Cut d x) operand = outside 1 (side d r - 1) x
 
--- 15: a piece that does not fit the rectangle
+-- 15: a piece that does not fit the rectangle as it lies
 abbrev pub misfit : Job → Rect → Node → Bool
-misfit J r Waste = false
-misfit J r (Piece i) = not (fits-in (J .size i) r)
-misfit J r (Cut d x) = false
+misfit J r n = of-piece (λ p. not (fits-in (laid J p) r)) false n
 
--- 16: a piece whose copies so far have reached its demand
+-- 16: a piece whose kind's copies so far have reached its demand
 abbrev pub excess : Job → List ℕ → Node → Bool
-excess J copies Waste = false
-excess J copies (Piece i) = leb (J .demand i) (getD copies i 0)
-excess J copies (Cut d x) = false
+excess J copies n = of-piece (λ p. leb (J .demand (laid.kind p)) (getD copies (laid.kind p) 0)) false n
 
 -- checks 12 to 16 of node k, on the rectangle that it fills and after the copies before it
 abbrev pub node-checks : Job → List ℕ → Rect → ℕ → ℕ → ℕ → List Check
 node-checks J copies r k kind operand =
-    (ltb 3 kind, NodeKind k)
+    (ltb (most-kind (J .turning)) kind, NodeKind k)
     ∷ (unnumbered J (node-of kind operand), PieceNumber k)
     ∷ (misplaced r (node-of kind operand) operand, Operand k)
     ∷ (misfit J r (node-of kind operand), Misfit k)
@@ -64,6 +72,7 @@ node-checks J copies r k kind operand =
 abbrev pub parts : Node → Rect → List Rect
 parts Waste r = []
 parts (Piece i) r = []
+parts (Turned i) r = []
 parts (Cut d x) r = part d x r ∷ part d (side d r - x) r ∷ []
 
 -- the sums with a waste node more: its area
@@ -77,11 +86,10 @@ with-piece price size r t = record { profit = t .profit + price; pieces = t .pie
 -- the sums with one node more
 abbrev pub tallied : Job → Node → Rect → Tally → Tally
 tallied J Waste r t = with-waste r t
-tallied J (Piece i) r t = with-piece (J .price i) (J .size i) r t
+tallied J (Piece i) r t = with-piece (J .price i) (laid J (laid.upright i)) r t
+tallied J (Turned i) r t = with-piece (J .price i) (laid J (laid.turned i)) r t
 tallied J (Cut d x) r t = t
 
--- the copies of each kind with one node more
+-- the copies of each kind, upright and turned together, with one node more
 abbrev pub copied : Node → List ℕ → List ℕ
-copied Waste copies = copies
-copied (Piece i) copies = set copies i (getD copies i 0 + 1)
-copied (Cut d x) copies = copies
+copied n copies = of-piece (λ p. set copies (laid.kind p) (getD copies (laid.kind p) 0 + 1)) copies n

@@ -1,8 +1,13 @@
 -- What the functions of one node promise: sums that stay within 64 bits, and the node's verdict, sums and copies.
 use mathlib.Core.Path.{_≡_}
+use mathlib.Core.Bool.{Bool, true, false}
 use mathlib.Core.List.{List}
 use Prim.Native.Nat.{ℕ, _+_, _*_, _≤_, _^_}
 use Rattle.cutting.specs.Tree.{Rect}
+use Rattle.cutting.specs.declared.Node.{Node}
+use Rattle.cutting.specs.declared.Node.the-variants.{Piece, Turned}
+use Rattle.cutting.specs.Pieces as laid
+use Rattle.cutting.specs.Pieces.{quarter}
 use Rattle.cutting.specs.Job.{Job}
 use Rattle.refusal.specs.Refusals.{first-refusal}
 use Rattle.refusal.specs.declared.Refusal.{Refusal}
@@ -10,6 +15,20 @@ use Rattle.refusal.specs.declared.Checked.the-variants.{Passed, Refused}
 use Rattle.node.specs.declared.Tally.{Tally}
 use Rattle.node.specs.declared.NodeAnswer.{NodeAnswer}
 use Rattle.node.specs.Nodes.{node-of, node-checks, tallied, copied}
+
+-- a size as a piece lies, upright or turned
+abbrev pub lying-as : Bool → Rect → Rect
+lying-as false r = r
+lying-as true r = quarter r
+
+-- the piece of a kind's number, upright or turned, and the node that lays it
+abbrev pub piece-as : Bool → ℕ → laid.Piece
+piece-as false i = laid.upright i
+piece-as true i = laid.turned i
+
+abbrev pub laying : Bool → ℕ → Node
+laying false i = Piece i
+laying true i = Turned i
 
 -- the sums of n nodes: each adds less than 2 ^ 32 to any of them
 pub record Sized (n : ℕ) (t : Tally) : Type 0 where

@@ -5,22 +5,23 @@ use cutting::Node;
 use cutting::Sides;
 use cutting::cut_side;
 use cutting::fits;
+use cutting::turn;
 use refusal::Checked;
 use refusal::Refusal;
 use refusal::refuse_if;
 ghost use mathlib.Core.Path.{_≡_};
-ghost use mathlib.Core.Bool.{true};
+ghost use mathlib.Core.Bool.{Bool, true};
 ghost use mathlib.Core.List.{List};
 ghost use Prim.Native.Nat.{ℕ, _+_, _-_, _≤_, _<_, _^_};
 ghost use Rattle.cutting.specs.declared.Node.the-variants.{Cut};
 ghost use Rattle.cutting.specs.Tree.{side};
-ghost use Rattle.cutting.specs.Sides.{rect-of};
+ghost use Rattle.cutting.specs.Sides.{rect-of, sides-of};
 ghost use Rattle.cutting.specs.Pieces.{fits-in};
 ghost use Rattle.cutting.specs.Areas.{area};
 ghost use Rattle.cutting.specs.Job.{Job};
 ghost use Rattle.job.specs.Block.{outside, job-from};
-ghost use Rattle.node.specs.Nodes.{node-of, with-waste, with-piece};
-ghost use Rattle.node.specs.Placed.{Sized, Grows, stopped, Placed};
+ghost use Rattle.node.specs.Nodes.{node-of, most-kind, with-waste, with-piece};
+ghost use Rattle.node.specs.Placed.{Sized, Grows, stopped, Placed, lying-as, laying};
 
 // The sums over the nodes read: profit, and the areas of pieces, waste nodes and trim.
 pub struct Tally {
@@ -35,6 +36,19 @@ pub struct NodeEntry {
     pub at: u16,
     pub kind: u8,
     pub operand: u16,
+}
+
+// How many kinds there are, and whether they may be turned.
+pub struct Kinds {
+    pub count: u16,
+    pub turning: bool,
+}
+
+// A node that lays a piece: its place, the number of its kind, and whether it is turned.
+struct PieceEntry {
+    at: u16,
+    number: u16,
+    turned: bool,
 }
 
 // What one node answers: its verdict, and the sums with it where it passes.
@@ -58,7 +72,7 @@ fn area(s: Sides) -> u64
     (s.length as u64) * (s.width as u64)
 }
 
-// The node of a kind from 0 to 3.
+// The node of a kind from 0 to 4.
 pub fn decode(kind: u8, operand: u16) -> Node
     ensures { λ r. ⌜ r ≡ node-of kind operand ⌝ }
 {
@@ -66,8 +80,23 @@ pub fn decode(kind: u8, operand: u16) -> Node
         0 => Node::Waste,
         1 => Node::Piece(operand),
         2 => Node::Cut(Direction::Length, operand),
-        _ => Node::Cut(Direction::Width, operand),
+        3 => Node::Cut(Direction::Width, operand),
+        _ => Node::Turned(operand),
     }
+}
+
+// The greatest kind of a node.
+fn last_kind(turning: bool) -> u8
+    ensures { λ r. ⌜ r ≡ most-kind turning ⌝ }
+{
+    if turning { 4 } else { 3 }
+}
+
+// The size of a piece as it lies.
+fn lay(upright: Sides, turned: bool) -> Sides
+    ensures { λ r. ⌜ r ≡ sides-of (lying-as turned (rect-of upright)) ⌝ }
+{
+    if turned { turn(upright) } else { upright }
 }
 
 // Whether a cut's position is outside 1 to the side less 1.
@@ -109,6 +138,17 @@ fn add_piece(price: u32, piece: Sides, room: Sides, t: Tally) -> Tally
     }
 }
 
+// A node that lays a piece.
+fn piece_entry(at: u16, number: u16, turned: bool) -> PieceEntry
+    ensures { λ r. ⌜ r ≡ record { at = at; number = number; turned = turned } ⌝ }
+{
+    PieceEntry {
+        at: at,
+        number: number,
+        turned: turned,
+    }
+}
+
 // The node is refused.
 fn refuse(r: Refusal, t: Tally) -> NodeAnswer
     ensures { λ a. ⌜ a ≡ stopped r t ⌝ }
@@ -139,22 +179,24 @@ fn place_piece(
     demands: &[u16; 64],
     copies: &mut [u16; 64],
     count: u16,
-    node: NodeEntry,
+    node: PieceEntry,
     room: Sides,
     t: Tally,
 ) -> NodeAnswer
     requires { ⌜ Sized 4094 t × (count ≤ 64) ⌝ }
-    ensures { λ r. ⌜ ((p q : ℕ) → Placed (job-from p q count (now («kind_lengths» .entry)) (now («kind_widths» .entry)) (now (prices .entry)) (now (demands .entry))) (node .at) 1 (node .operand) (rect-of room) t (now (copies .entry)) r (now (copies .exit))) ⌝ }
+    ensures { λ r. ⌜ ((l w : ℕ) (turning : Bool) (kind operand : ℕ) → kind ≤ most-kind turning → node-of kind operand ≡ laying (node .turned) (node .number)
+        → Placed (job-from l w turning count (now («kind_lengths» .entry)) (now («kind_widths» .entry)) (now (prices .entry)) (now (demands .entry))) (node .at) kind operand (rect-of room) t (now (copies .entry)) r (now (copies .exit))) ⌝ }
 {
-    let i = node.operand;
+    let i = node.number;
     if count <= i {
         return refuse(Refusal::PieceNumber(node.at), t);
     }
     let k = i as usize;
-    let piece = Sides {
+    let upright = Sides {
         length: kind_lengths[k],
         width: kind_widths[k],
     };
+    let piece = lay(upright, node.turned);
     if !fits(piece, room) {
         return refuse(Refusal::Misfit(node.at), t);
     }
@@ -172,7 +214,7 @@ fn place_piece(
 
 // A cut: its parts are left to be filled.
 fn place_cut(d: Direction, x: u16, at: u16, room: Sides, t: Tally) -> NodeAnswer
-    ensures { λ r. ⌜ ((J : Job) (copies : List ℕ) (kind operand : ℕ) → kind ≤ 3 → node-of kind operand ≡ Cut d x → Placed J at kind operand (rect-of room) t copies r copies) ⌝ }
+    ensures { λ r. ⌜ ((J : Job) (copies : List ℕ) (kind operand : ℕ) → kind ≤ most-kind (J .turning) → node-of kind operand ≡ Cut d x → Placed J at kind operand (rect-of room) t copies r copies) ⌝ }
 {
     let verdict = refuse_if(outside_cut(d, x, room), Refusal::Operand(at));
     NodeAnswer {
@@ -188,30 +230,41 @@ pub fn check_node(
     prices: &[u32; 64],
     demands: &[u16; 64],
     copies: &mut [u16; 64],
-    count: u16,
+    kinds: Kinds,
     node: NodeEntry,
     room: Sides,
     t: Tally,
 ) -> NodeAnswer
-    requires { ⌜ Sized 4094 t × (count ≤ 64) ⌝ }
-    ensures { λ r. ⌜ ((p q : ℕ) → Placed (job-from p q count (now («kind_lengths» .entry)) (now («kind_widths» .entry)) (now (prices .entry)) (now (demands .entry))) (node .at) (node .kind) (node .operand) (rect-of room) t (now (copies .entry)) r (now (copies .exit))) ⌝ }
+    requires { ⌜ Sized 4094 t × (kinds .count ≤ 64) ⌝ }
+    ensures { λ r. ⌜ ((l w : ℕ) → Placed (job-from l w (kinds .turning) (kinds .count) (now («kind_lengths» .entry)) (now («kind_widths» .entry)) (now (prices .entry)) (now (demands .entry))) (node .at) (node .kind) (node .operand) (rect-of room) t (now (copies .entry)) r (now (copies .exit))) ⌝ }
 {
     let at = node.at;
     let operand = node.operand;
-    if 3 < node.kind {
+    if last_kind(kinds.turning) < node.kind {
         return refuse(Refusal::NodeKind(at), t);
     }
     let decoded = decode(node.kind, operand);
     match decoded {
         Node::Waste => place_waste(at, operand, room, t),
-        Node::Piece(_) => place_piece(
+        Node::Piece(i) => place_piece(
             kind_lengths,
             kind_widths,
             prices,
             demands,
             copies,
-            count,
-            node,
+            kinds.count,
+            piece_entry(at, i, false),
+            room,
+            t,
+        ),
+        Node::Turned(i) => place_piece(
+            kind_lengths,
+            kind_widths,
+            prices,
+            demands,
+            copies,
+            kinds.count,
+            piece_entry(at, i, true),
             room,
             t,
         ),

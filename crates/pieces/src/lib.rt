@@ -1,6 +1,7 @@
 // The pieces that may lie, numbered: the kinds in their order, each upright, and then turned where pieces may be turned. Normal positions,
 // fills and the choice read them from one array and know nothing of turning.
 use cutting::Sides;
+use cutting::turn;
 use job::JobRecord;
 ghost use mathlib.Core.Path.{_≡_};
 ghost use mathlib.Core.List.{List, _++_};
@@ -29,16 +30,13 @@ pub struct Listing {
     pub pieces: [u32; 640],
 }
 
-// The same piece turned: length and width change places.
-fn turn(piece: Piece) -> Piece
+// The same piece turned.
+fn turned(piece: Piece) -> Piece
     requires { ⌜ piece .node < 128 ⌝ }
     ensures { λ r. ⌜ r ≡ turned-piece piece ⌝ }
 {
     Piece {
-        size: Sides {
-            length: piece.size.width,
-            width: piece.size.length,
-        },
+        size: turn(piece.size),
         price: piece.price,
         weight: piece.weight,
         node: piece.node + 1,
@@ -66,7 +64,7 @@ fn put_kind(pieces: &mut [u32; 640], n: usize, piece: Piece, turning: bool) -> u
 {
     put_piece(pieces, n, piece);
     if turning {
-        put_piece(pieces, n + 1, turn(piece));
+        put_piece(pieces, n + 1, turned(piece));
         return n + 2;
     }
     n + 1

@@ -1,21 +1,28 @@
--- `node::check_node` meets its contract: a kind past 3 is refused, and else the node decides.
-use mathlib.Core.Path.{_∙_, sym}
+-- `node::check_node` meets its contract: a kind past the last is refused, and else the node decides.
+use mathlib.Core.Path.{_∙_, sym, ap, subst}
+use native.Mathlib.Omega.{arith}
 use denote.Ref.{now}
 use borrow.Author.Needs.{needs}
 use Rattle.cutting.specs.Sides.{rect-of}
 use Rattle.job.specs.Block.{job-from}
-use Rattle.node.proofs.Nodes.{waste-kind, piece-kind, kind-refused}
-use Rattle.node.proofs.Placed.{stops, placed-as}
+use Rattle.node.specs.Placed.{laying}
+use Rattle.node.proofs.Nodes.{waste-kind, kind-refused}
+use Rattle.node.proofs.Placed.{stops, placed-as, placed-at}
 use Rattle.node.proofs.check_node.Statement.{statement}
 use Rattle.node.proofs.check_node.Tie as tie
+
+last-kind-requires : tie.Need-last-kind-requires
+last-kind-requires c κs = search needs
 
 refuse-requires : tie.Need-refuse-requires
 refuse-requires c κs = search needs
 
 returns : tie.Need-returns
-returns c = λ p q. let a = c .before .before .before .args in let J = job-from p q (a .count) (now (a .kind-lengths)) (now (a .kind-widths)) (now (a .prices)) (now (a .demands)) in
+returns c l w =
+    let a = c .before .before .before .before .args in
+    let J = job-from l w (a .kinds .turning) (a .kinds .count) (now (a .kind-lengths)) (now (a .kind-widths)) (now (a .prices)) (now (a .demands)) in
     stops J (a .node .at) (a .node .kind) (a .node .operand) (rect-of (a .room)) (a .t) (now (a .copies)) (c .refuse .result) _ (c .refuse .ensures)
-    (kind-refused J (now (a .copies)) (rect-of (a .room)) (a .node .at) (a .node .kind) (a .node .operand) (c .before .if1 .taken))
+    (kind-refused J (now (a .copies)) (rect-of (a .room)) (a .node .at) (a .node .kind) (a .node .operand) (omega (arith, c .before .if1 .taken, c .before .before .before .last-kind .ensures)))
 
 decode-requires : tie.Need-decode-requires
 decode-requires c κs = search needs
@@ -26,43 +33,77 @@ enum-told c = search needs
 place-waste-requires : tie.Need-place-waste-requires
 place-waste-requires c κs = search needs
 
-enum-told-2 : tie.Need-enum-told-2
-enum-told-2 c = search needs
+enum-known-decoded : tie.Need-enum-known-decoded
+enum-known-decoded c = search needs
+
+piece-entry-requires : tie.Need-piece-entry-requires
+piece-entry-requires c κs = search needs
 
 place-piece-requires : tie.Need-place-piece-requires
 place-piece-requires c κs = search needs
 
-enum-known-decoded : tie.Need-enum-known-decoded
-enum-known-decoded c = search needs
+enum-known-decoded-2 : tie.Need-enum-known-decoded-2
+enum-known-decoded-2 c = search needs
+
+piece-entry-requires-2 : tie.Need-piece-entry-requires-2
+piece-entry-requires-2 c κs = search needs
+
+place-piece-requires-2 : tie.Need-place-piece-requires-2
+place-piece-requires-2 c κs = search needs
+
+enum-known-decoded-3 : tie.Need-enum-known-decoded-3
+enum-known-decoded-3 c = search needs
 
 place-cut-requires : tie.Need-place-cut-requires
 place-cut-requires c κs = search needs
 
 returns-2 : tie.Need-returns-2
-returns-2 c = λ p q. let a = c .before .before .before .before .before .before .args in let J = job-from p q (a .count) (now (a .kind-lengths)) (now (a .kind-widths)) (now (a .prices)) (now (a .demands)) in
+returns-2 c l w =
+    let a = c .before .before .before .before .before .before .before .args in
+    let J = job-from l w (a .kinds .turning) (a .kinds .count) (now (a .kind-lengths)) (now (a .kind-widths)) (now (a .prices)) (now (a .demands)) in
     placed-as {J = J} (waste-kind (a .node .kind) (a .node .operand) (sym (c .before .before .before .decode .ensures) ∙ c .before .enum-told .given .1)) (c .place-waste .ensures J (now (a .copies)))
 
 returns-3 : tie.Need-returns-3
-returns-3 c = λ p q. let a = c .before .before .before .before .before .before .before .args in let J = job-from p q (a .count) (now (a .kind-lengths)) (now (a .kind-widths)) (now (a .prices)) (now (a .demands)) in
-    placed-as {J = J} (piece-kind (a .node .kind) (a .node .operand) _ (sym (c .before .before .before .before .decode .ensures) ∙ c .before .before .enum-told2 .given .1)) (c .place-piece .ensures p q)
+returns-3 c l w =
+    let a = c .before .before .before .before .before .before .before .before .before .before .args in
+    let e = c .before .piece-entry .ensures in
+    placed-at (sym (ap (λ p. p .at) e))
+    (c .place-piece .ensures l w (a .kinds .turning) (a .node .kind) (a .node .operand) (omega (arith, c .before .before .before .before .before .before .before .if1 .left, c .before .before .before .before .before .before .before .before .before .last-kind .ensures))
+    (sym (c .before .before .before .before .before .before .decode .ensures) ∙ c .before .before .before .before .decoded .given .1 ∙ sym (ap (λ p. laying (p .turned) (p .number)) e)))
 
 returns-4 : tie.Need-returns-4
-returns-4 c = λ p q. let a = c .before .before .before .before .before .before .before .args in let J = job-from p q (a .count) (now (a .kind-lengths)) (now (a .kind-widths)) (now (a .prices)) (now (a .demands)) in
-    c .place-cut .ensures J (now (a .copies)) (a .node .kind) (a .node .operand) (c .before .before .before .before .before .if1 .left) (sym (c .before .before .before .before .decode .ensures) ∙ c .before .before .decoded .given .1)
+returns-4 c l w =
+    let a = c .before .before .before .before .before .before .before .before .before .before .args in
+    let e = c .before .piece-entry2 .ensures in
+    placed-at (sym (ap (λ p. p .at) e))
+    (c .place-piece2 .ensures l w (a .kinds .turning) (a .node .kind) (a .node .operand) (omega (arith, c .before .before .before .before .before .before .before .if1 .left, c .before .before .before .before .before .before .before .before .before .last-kind .ensures))
+    (sym (c .before .before .before .before .before .before .decode .ensures) ∙ c .before .before .before .before .decoded2 .given .1 ∙ sym (ap (λ p. laying (p .turned) (p .number)) e)))
+
+returns-5 : tie.Need-returns-5
+returns-5 c l w =
+    let a = c .before .before .before .before .before .before .before .before .args in
+    let J = job-from l w (a .kinds .turning) (a .kinds .count) (now (a .kind-lengths)) (now (a .kind-widths)) (now (a .prices)) (now (a .demands)) in
+    c .place-cut .ensures J (now (a .copies)) (a .node .kind) (a .node .operand) (omega (arith, c .before .before .before .before .before .if1 .left, c .before .before .before .before .before .before .before .last-kind .ensures)) (sym (c .before .before .before .before .decode .ensures) ∙ c .before .before .decoded3 .given .1)
 
 pub check-node-spec : {M : Type 1} → statement M
 check-node-spec =
     tie.close
     (tie.spec
+    last-kind-requires
     refuse-requires
     returns
     decode-requires
     enum-told
     place-waste-requires
-    enum-told-2
-    place-piece-requires
     enum-known-decoded
+    piece-entry-requires
+    place-piece-requires
+    enum-known-decoded-2
+    piece-entry-requires-2
+    place-piece-requires-2
+    enum-known-decoded-3
     place-cut-requires
     returns-2
     returns-3
-    returns-4)
+    returns-4
+    returns-5)

@@ -15,8 +15,8 @@ put-piece-requires c κs = search needs
 add-put-piece : tie.Need-add-put-piece
 add-put-piece c = search needs
 
-turn-requires : tie.Need-turn-requires
-turn-requires c κs = search needs
+turned-requires : tie.Need-turned-requires
+turned-requires c κs = search needs
 
 put-piece-requires-2 : tie.Need-put-piece-requires-2
 put-piece-requires-2 c κs =
@@ -30,7 +30,7 @@ returns : tie.Need-returns
 returns c J weight ps i w e =
     let start = c .before .before .before .before .before .before in
     rw (c .before .before .before .if1 .taken)
-    (listed-twice J weight ps i (start .args .n) (now (start .args .pieces)) _ _ (start .args .piece) _ (omega (arith, start .pre .0)) w e (c .before .before .before .before .put-piece .ensures) (c .before .turn .ensures) (c .put-piece2 .ensures))
+    (listed-twice J weight ps i (start .args .n) (now (start .args .pieces)) _ _ (start .args .piece) _ (omega (arith, start .pre .0)) w e (c .before .before .before .before .put-piece .ensures) (c .before .turned .ensures) (c .put-piece2 .ensures))
 
 add-result-2 : tie.Need-add-result-2
 add-result-2 c = search needs
@@ -46,7 +46,7 @@ put-kind-spec =
     (tie.spec
     put-piece-requires
     add-put-piece
-    turn-requires
+    turned-requires
     put-piece-requires-2
     add-result
     returns
