@@ -8,8 +8,9 @@ use lib.ListN.{length, getD, set, length-set}
 use lib.Seq.{getD-set-same, getD-set-other}
 use borrow.Author.Tests.{eq-eqb, ne-eqb}
 use Rattle.cutting.specs.declared.Direction.the-variants.{Length, Width}
-use Rattle.cutting.specs.declared.Node.the-variants.{Waste, Piece}
+use Rattle.cutting.specs.declared.Node.the-variants.{Waste, Piece, Turned}
 use Rattle.cutting.specs.Tree.{Rect, side, part, Tree, waste, piece, cut, total}
+use Rattle.cutting.specs.Pieces as laid
 use Rattle.cutting.specs.Areas.{pieces-area, waste-area, trim-area}
 use Rattle.cutting.specs.Job.{Job, profit, copies-of, pieces-area-of, waste-area-of, trim-area-of}
 use Rattle.cutting.proofs.Job.{waste-area-length, waste-area-width, trim-area-length, trim-area-width}
@@ -17,56 +18,63 @@ use Rattle.plan.specs.declared.Report.{Report}
 use Rattle.plan.specs.Plan.{counted}
 
 -- a report with a tree's nodes more
-unfoldable pub added : Job → Tree ℕ → Rect → Report → Report
+unfoldable pub added : Job → Tree laid.Piece → Rect → Report → Report
 added J waste r s = counted J Waste r s
-added J (piece i) r s = counted J (Piece i) r s
+added J (piece (laid.upright i)) r s = counted J (Piece i) r s
+added J (piece (laid.turned i)) r s = counted J (Turned i) r s
 added J (cut d x a b) r s = added J b (part d (side d r - x) r) (added J a (part d x r) s)
 
 module _ (J : Job) where
-  pub added-profit : (t : Tree ℕ) (r : Rect) (s : Report) → added J t r s .profit ≡ s .profit + profit J t
+  pub added-profit : (t : Tree laid.Piece) (r : Rect) (s : Report) → added J t r s .profit ≡ s .profit + profit J t
   unfolding added total
   added-profit waste r s = omega arith
-  added-profit (piece i) r s = refl
+  added-profit (piece (laid.upright i)) r s = refl
+  added-profit (piece (laid.turned i)) r s = refl
   added-profit (cut d x a b) r s = omega (arith, added-profit b (part d (side d r - x) r) (added J a (part d x r) s), added-profit a (part d x r) s)
 
-  pub added-pieces : (t : Tree ℕ) (r : Rect) (s : Report) → added J t r s .pieces ≡ s .pieces + pieces-area-of J t
+  pub added-pieces : (t : Tree laid.Piece) (r : Rect) (s : Report) → added J t r s .pieces ≡ s .pieces + pieces-area-of J t
   unfolding added total pieces-area
   added-pieces waste r s = omega arith
-  added-pieces (piece i) r s = refl
+  added-pieces (piece (laid.upright i)) r s = refl
+  added-pieces (piece (laid.turned i)) r s = refl
   added-pieces (cut d x a b) r s = omega (arith, added-pieces b (part d (side d r - x) r) (added J a (part d x r) s), added-pieces a (part d x r) s)
 
-  pub added-waste : (t : Tree ℕ) (r : Rect) (s : Report) → added J t r s .waste ≡ s .waste + waste-area-of (r .0) (r .1) t
+  pub added-waste : (t : Tree laid.Piece) (r : Rect) (s : Report) → added J t r s .waste ≡ s .waste + waste-area-of (r .0) (r .1) t
   unfolding added waste-area
   added-waste waste r s = refl
-  added-waste (piece i) r s = omega arith
+  added-waste (piece (laid.upright i)) r s = omega arith
+  added-waste (piece (laid.turned i)) r s = omega arith
   added-waste (cut Length x a b) r s = omega (arith, waste-area-length J (r .0) (r .1) x a b, added-waste b (r .0 - x, r .1) (added J a (x, r .1) s), added-waste a (x, r .1) s)
   added-waste (cut Width x a b) r s = omega (arith, waste-area-width J (r .0) (r .1) x a b, added-waste b (r .0, r .1 - x) (added J a (r .0, x) s), added-waste a (r .0, x) s)
 
-  pub added-trim : (t : Tree ℕ) (r : Rect) (s : Report) → added J t r s .trim ≡ s .trim + trim-area-of J (r .0) (r .1) t
+  pub added-trim : (t : Tree laid.Piece) (r : Rect) (s : Report) → added J t r s .trim ≡ s .trim + trim-area-of J (r .0) (r .1) t
   unfolding added trim-area
   added-trim waste r s = omega arith
-  added-trim (piece i) r s = refl
+  added-trim (piece (laid.upright i)) r s = refl
+  added-trim (piece (laid.turned i)) r s = refl
   added-trim (cut Length x a b) r s = omega (arith, trim-area-length J (r .0) (r .1) x a b, added-trim b (r .0 - x, r .1) (added J a (x, r .1) s), added-trim a (x, r .1) s)
   added-trim (cut Width x a b) r s = omega (arith, trim-area-width J (r .0) (r .1) x a b, added-trim b (r .0, r .1 - x) (added J a (r .0, x) s), added-trim a (r .0, x) s)
 
-  pub added-length : (t : Tree ℕ) (r : Rect) (s : Report) → length (added J t r s .copies) ≡ length (s .copies)
+  pub added-length : (t : Tree laid.Piece) (r : Rect) (s : Report) → length (added J t r s .copies) ≡ length (s .copies)
   unfolding added
   added-length waste r s = refl
-  added-length (piece i) r s = length-set (s .copies) i (getD (s .copies) i 0 + 1)
+  added-length (piece (laid.upright i)) r s = length-set (s .copies) i (getD (s .copies) i 0 + 1)
+  added-length (piece (laid.turned i)) r s = length-set (s .copies) i (getD (s .copies) i 0 + 1)
   added-length (cut d x a b) r s = added-length b (part d (side d r - x) r) (added J a (part d x r) s) ∙ added-length a (part d x r) s
 
   -- one copy more of kind j
-  one-copy : (c : List ℕ) (j i : ℕ) → i < length c → getD (set c j (getD c j 0 + 1)) i 0 ≡ getD c i 0 + copies-of i (piece j)
+  one-copy : (c : List ℕ) (j i : ℕ) → i < length c → getD (set c j (getD c j 0 + 1)) i 0 ≡ getD c i 0 + copies-of i (piece (laid.upright j))
   unfolding total
   one-copy c j i h = go (ℕ-discrete i j)
     where
-      go : Dec (i ≡ j) → getD (set c j (getD c j 0 + 1)) i 0 ≡ getD c i 0 + copies-of i (piece j)
+      go : Dec (i ≡ j) → getD (set c j (getD c j 0 + 1)) i 0 ≡ getD c i 0 + copies-of i (piece (laid.upright j))
       go (yes e) = rw e (getD-set-same c j (getD c j 0 + 1) 0 (rw e at h) ∙ simp (eq-eqb j j refl))
       go (no e) = getD-set-other c j i (getD c j 0 + 1) 0 e ∙ simp (ne-eqb j i (λ z. e (sym z))) (omega arith)
 
-  pub added-copies : (t : Tree ℕ) (r : Rect) (s : Report) (i : ℕ) → i < length (s .copies) → getD (added J t r s .copies) i 0 ≡ getD (s .copies) i 0 + copies-of i t
+  pub added-copies : (t : Tree laid.Piece) (r : Rect) (s : Report) (i : ℕ) → i < length (s .copies) → getD (added J t r s .copies) i 0 ≡ getD (s .copies) i 0 + copies-of i t
   unfolding added total
   added-copies waste r s i h = omega arith
-  added-copies (piece j) r s i h = one-copy (s .copies) j i h
+  added-copies (piece (laid.upright j)) r s i h = one-copy (s .copies) j i h
+  added-copies (piece (laid.turned j)) r s i h = one-copy (s .copies) j i h
   added-copies (cut d x a b) r s i h =
       omega (arith, added-copies b (part d (side d r - x) r) (added J a (part d x r) s) i (omega (arith, added-length a (part d x r) s)), added-copies a (part d x r) s i h)

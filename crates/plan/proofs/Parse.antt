@@ -11,16 +11,17 @@ use lib.Seq.{getD-set-same, getD-set-other}
 use Rattle.cutting.specs.declared.Direction.{Direction}
 use Rattle.cutting.specs.declared.Direction.the-variants.{Length, Width}
 use Rattle.cutting.specs.declared.Node.{Node}
-use Rattle.cutting.specs.declared.Node.the-variants.{Waste, Piece, Cut}
+use Rattle.cutting.specs.declared.Node.the-variants.{Waste, Piece, Turned, Cut}
 use Rattle.cutting.specs.Tree.{Rect, side, part, Tree, waste, piece, cut}
+use Rattle.cutting.specs.Pieces as laid
 use Rattle.cutting.specs.Preorder.{preorder, node-count}
 use Rattle.cutting.specs.Pieces.{fits-in}
-use Rattle.cutting.specs.Job.{Job, GuillotineTree}
+use Rattle.cutting.specs.Job.{Job, laid, GuillotineTree}
 use Rattle.cutting.proofs.Pieces.{true-fits-in}
 use Rattle.refusal.specs.declared.Refusal.{Refusal}
 use Rattle.refusal.specs.declared.Checked.{Checked}
 use Rattle.refusal.specs.declared.Checked.the-variants.{Passed, Refused}
-use Rattle.node.proofs.Nodes.{pair-of, NodeFits, node-passed}
+use Rattle.node.proofs.Nodes.{pair-of, PieceFits, NodeFits, node-passed}
 use Rattle.plan.specs.declared.Report.{Report}
 use Rattle.plan.specs.declared.PlanAnswer.{PlanAnswer}
 use Rattle.plan.specs.Plan.{node-of, proceed, walk}
@@ -48,7 +49,7 @@ module _ (J : Job) (few : J .count ≤ 64) where
 
   -- the tree at the front of the nodes, and what is left
   pub record Parsed (k : ℕ) (ns : List (ℕ × ℕ)) (r : Rect) (rs : List Rect) (s : Report) : Type 0 where
-    pub tree : Tree ℕ
+    pub tree : Tree laid.Piece
     pub left : List (ℕ × ℕ)
     pub nodes : ns ≡ written tree ++ left
     pub on : GuillotineTree J (r .0) (r .1) tree
@@ -64,7 +65,11 @@ module _ (J : Job) (few : J .count ≤ 64) where
       go j n (yes e) = rw (e, getD-set-same c i (getD c i 0 + 1) 0 (omega (arith, h .0, few))) (omega arith)
       go j n (no e) = rw (getD-set-other c i j (getD c i 0 + 1) 0 e) (h .1 j n)
 
-  join-parts : (d : Direction) (x : ℕ) (a b : Tree ℕ) (r : Rect) → (1 ≤ x) × (x < side d r)
+  -- and lies in its rectangle
+  piece-lies : (c : List ℕ) (p : laid.Piece) (r : Rect) → PieceFits J c r p → GuillotineTree J (r .0) (r .1) (piece p)
+  piece-lies c p r f = let z = fits-true (laid J p) r (f .1) in (f .0, z .0, z .1)
+
+  join-parts : (d : Direction) (x : ℕ) (a b : Tree laid.Piece) (r : Rect) → (1 ≤ x) × (x < side d r)
       → GuillotineTree J (part d x r .0) (part d x r .1) a → GuillotineTree J (part d (side d r - x) r .0) (part d (side d r - x) r .1) b → GuillotineTree J (r .0) (r .1) (cut d x a b)
   join-parts Length x a b r h g k = (h .0, h .1, g, k)
   join-parts Width x a b r h g k = (h .0, h .1, g, k)
@@ -79,7 +84,9 @@ module _ (J : Job) (few : J .count ≤ 64) where
   unfolding added preorder node-count
   after-node m parse k Waste ns r rs s l h f p = record { tree = waste; left = ns; nodes = refl; on = tt; goes = node-walks J k Waste ns r rs s f; kept = h }
   after-node m parse k (Piece i) ns r rs s l h f p =
-      record { tree = piece i; left = ns; nodes = refl; on = (let z = fits-true (J .size i) r (f .1) in (f .0, z .0, z .1)); goes = node-walks J k (Piece i) ns r rs s f; kept = kept-piece i (s .copies) h (f .0) (f .2) }
+      record { tree = piece (laid.upright i); left = ns; nodes = refl; on = piece-lies (s .copies) (laid.upright i) r f; goes = node-walks J k (Piece i) ns r rs s f; kept = kept-piece i (s .copies) h (f .0) (f .2) }
+  after-node m parse k (Turned i) ns r rs s l h f p =
+      record { tree = piece (laid.turned i); left = ns; nodes = refl; on = piece-lies (s .copies) (laid.turned i) r f; goes = node-walks J k (Turned i) ns r rs s f; kept = kept-piece i (s .copies) h (f .0 .0) (f .2) }
   after-node m parse k (Cut d x) ns r rs s l h f p =
       let w = node-walks J k (Cut d x) ns r rs s f in
       let a = parse (k + 1) ns (part d x r) (part d (side d r - x) r ∷ rs) s l h (ap (λ (z : PlanAnswer). z .verdict) (sym w) ∙ p) in

@@ -12,8 +12,10 @@ use lib.ListN.{length, getD, length-replicate, getD-replicate}
 use lib.Seq.{ext-getD}
 use Rattle.cutting.specs.declared.Direction.the-variants.{Length, Width}
 use Rattle.cutting.specs.Tree.{Rect, Tree, waste, piece, cut, total}
+use Rattle.cutting.specs.Pieces as laid
 use Rattle.cutting.specs.Preorder.{preorder, node-count}
 use Rattle.cutting.specs.Job.{Job, GuillotineTree, OnPlate, copies-of}
+use Rattle.cutting.proofs.Members.{lie-kind}
 use Rattle.cutting.proofs.Job.{areas-sum}
 use Rattle.refusal.specs.Refusals.{first-refusal}
 use Rattle.refusal.specs.declared.Refusal.{Refusal}
@@ -51,10 +53,10 @@ walk-zeros J k (n ∷ ns) (q ∷ rs) s = proceed-zeros (first-refusal (node-chec
     (walk-zeros J (k + 1) ns (parts (node-of (n .0) (n .1)) q ++ rs) (counted J (node-of (n .0) (n .1)) q s))
 
 -- a tree has no copy of a kind past the job's
-none-past : (J : Job) (t : Tree ℕ) (l w : ℕ) → GuillotineTree J l w t → (i : ℕ) → J .count ≤ i → copies-of i t ≡ 0
+none-past : (J : Job) (t : Tree laid.Piece) (l w : ℕ) → GuillotineTree J l w t → (i : ℕ) → J .count ≤ i → copies-of i t ≡ 0
 unfolding total
 none-past J waste l w g i h = refl
-none-past J (piece j) l w g i h = simp (ne-eqb j i (λ e. omega (arith, e, g .0)))
+none-past J (piece p) l w g i h = simp (ne-eqb (laid.kind p) i (λ e. omega (arith, e, lie-kind J p (g .0))))
 none-past J (cut Length x a b) l w g i h = omega (arith, none-past J a x w (g .2) i h, none-past J b (l - x) w (g .3) i h)
 none-past J (cut Width x a b) l w g i h = omega (arith, none-past J a l x (g .2) i h, none-past J b l (w - x) (g .3) i h)
 
@@ -65,10 +67,11 @@ ended J k [] s p = (refl, refl)
 ended J k (n ∷ ns) s p = no-pass p
 
 -- a tree has a node
-some-node : (t : Tree ℕ) → 1 ≤ node-count t
+some-node : (t : Tree laid.Piece) → 1 ≤ node-count t
 unfolding node-count preorder
 some-node waste = omega arith
-some-node (piece i) = omega arith
+some-node (piece (laid.upright i)) = omega arith
+some-node (piece (laid.turned i)) = omega arith
 some-node (cut d x a b) = omega arith
 
 same-report : {p p′ q q′ w w′ m m′ : ℕ} {c c′ : List ℕ} → p ≡ p′ → c ≡ c′ → q ≡ q′ → w ≡ w′ → m ≡ m′
@@ -83,14 +86,14 @@ empty-copies : (i : ℕ) → i < 64 → getD (empty-report .copies) i 0 ≡ 0
 empty-copies i h = getD-replicate {A = ℕ} 64 i 0 0 h
 
 module _ (J : Job) (few : J .count ≤ 64) where
-  abbrev whole : Tree ℕ → Report
+  abbrev whole : Tree laid.Piece → Report
   whole t = added J t (J .plate) empty-report
 
-  whole-copies : (t : Tree ℕ) (i : ℕ) → i < 64 → getD (whole t .copies) i 0 ≡ copies-of i t
+  whole-copies : (t : Tree laid.Piece) (i : ℕ) → i < 64 → getD (whole t .copies) i 0 ≡ copies-of i t
   whole-copies t i h = added-copies J t (J .plate) empty-report i (omega (arith, h, empty-length)) ∙ omega (arith, empty-copies i h)
 
   -- what a whole tree adds to the empty report is its own
-  whole-own : (t : Tree ℕ) → OnPlate J t → whole t ≡ tree-report J t
+  whole-own : (t : Tree laid.Piece) → OnPlate J t → whole t ≡ tree-report J t
   whole-own t g =
       same-report (added-profit J t (J .plate) empty-report ∙ zero-add _) copies (added-pieces J t (J .plate) empty-report ∙ zero-add _) (added-waste J t (J .plate) empty-report ∙ zero-add _) (added-trim J t (J .plate) empty-report ∙ zero-add _)
     where
@@ -107,7 +110,7 @@ module _ (J : Job) (few : J .count ≤ 64) where
 
   module _ (kinds operands : List ℕ) where
     -- a plan's tree passes
-    passes : (t : Tree ℕ) → PlanOf J t kinds operands → plan-answer J kinds operands ≡ passed (whole t)
+    passes : (t : Tree laid.Piece) → PlanOf J t kinds operands → plan-answer J kinds operands ≡ passed (whole t)
     unfolding walk
     passes t h =
         let a = ap length (h .kinds-are) ∙ kinds-length t in
@@ -118,7 +121,7 @@ module _ (J : Job) (few : J .count ≤ 64) where
         ∙ tree-walks J few t 0 [] (J .plate) [] empty-report (h .on-plate) (empty-length, λ i l. omega (arith, empty-copies i (omega (arith, l, few)), h .demands i l))
 
     -- a plan that passes is a tree's
-    parsed : length kinds ≡ length operands → 1 ≤ length kinds → length kinds ≤ 4095 → plan-answer J kinds operands .verdict ≡ Passed → (t : Tree ℕ) × PlanOf J t kinds operands × (plan-answer J kinds operands ≡ passed (whole t))
+    parsed : length kinds ≡ length operands → 1 ≤ length kinds → length kinds ≤ 4095 → plan-answer J kinds operands .verdict ≡ Passed → (t : Tree laid.Piece) × PlanOf J t kinds operands × (plan-answer J kinds operands ≡ passed (whole t))
     parsed same some most p =
         let w = walks-on J kinds operands same some most in
         let kept : Kept J few empty-report = (empty-length, λ i l. omega (arith, empty-copies i (omega (arith, l, few)))) in

@@ -8,12 +8,13 @@ use Rattle.cutting.specs.declared.Direction.{Direction}
 use Rattle.cutting.specs.declared.Node.{Node}
 use Rattle.cutting.specs.declared.Node.the-variants.{Cut}
 use Rattle.cutting.specs.Tree.{Tree, cut}
+use Rattle.cutting.specs.Pieces as laid
 use Rattle.cutting.specs.Preorder.{preorder, kind-of, operand-of, node-count, kinds-of, operands-of}
 use Rattle.node.proofs.Nodes.{pair-of}
 use Rattle.plan.specs.Plan.{nodes-in}
 
 -- a tree's nodes in preorder
-abbrev pub written : Tree ℕ → List (ℕ × ℕ)
+abbrev pub written : Tree laid.Piece → List (ℕ × ℕ)
 written t = map (λ n. pair-of n) (preorder t)
 
 map-append : (xs ys : List Node) → map (λ n. pair-of n) (xs ++ ys) ≡ map (λ n. pair-of n) xs ++ map (λ n. pair-of n) ys
@@ -21,15 +22,15 @@ map-append [] ys = refl
 map-append (x ∷ xs) ys = ap (λ l. pair-of x ∷ l) (map-append xs ys)
 
 -- a cut's nodes: its own, then the first part's, then the second's
-pub written-cut : (d : Direction) (x : ℕ) (a b : Tree ℕ) (ns : List (ℕ × ℕ)) → written (cut d x a b) ++ ns ≡ pair-of (Cut d x) ∷ (written a ++ (written b ++ ns))
+pub written-cut : (d : Direction) (x : ℕ) (a b : Tree laid.Piece) (ns : List (ℕ × ℕ)) → written (cut d x a b) ++ ns ≡ pair-of (Cut d x) ∷ (written a ++ (written b ++ ns))
 unfolding preorder
 written-cut d x a b ns = ap (λ l. pair-of (Cut d x) ∷ l) (ap (λ l. l ++ ns) (map-append (preorder a) (preorder b)) ∙ append-assoc (written a) (written b) ns)
 
-pub count-cut : (d : Direction) (x : ℕ) (a b : Tree ℕ) → node-count (cut d x a b) ≡ 1 + node-count a + node-count b
+pub count-cut : (d : Direction) (x : ℕ) (a b : Tree laid.Piece) → node-count (cut d x a b) ≡ 1 + node-count a + node-count b
 unfolding node-count preorder
 count-cut d x a b = omega (arith, length-append (preorder a) (preorder b))
 
-pub count-written : (t : Tree ℕ) → length (written t) ≡ node-count t
+pub count-written : (t : Tree laid.Piece) → length (written t) ≡ node-count t
 unfolding node-count
 count-written t = length-map (preorder t) (λ n. pair-of n)
 
@@ -51,22 +52,22 @@ seconds (k ∷ ks) [] h = absurd (omega arith)
 seconds (k ∷ ks) (o ∷ os) h = ap (λ l. o ∷ l) (seconds ks os (omega arith))
 
 -- a tree's arrays: their pairs, and their length
-pub arrays-written : (t : Tree ℕ) → nodes-in (kinds-of t) (operands-of t) ≡ written t
+pub arrays-written : (t : Tree laid.Piece) → nodes-in (kinds-of t) (operands-of t) ≡ written t
 unfolding kinds-of operands-of
 arrays-written t = arrays-in (preorder t)
 
-pub kinds-length : (t : Tree ℕ) → length (kinds-of t) ≡ node-count t
+pub kinds-length : (t : Tree laid.Piece) → length (kinds-of t) ≡ node-count t
 unfolding kinds-of node-count
 kinds-length t = length-map (preorder t) (λ n. kind-of n)
 
-pub operands-length : (t : Tree ℕ) → length (operands-of t) ≡ node-count t
+pub operands-length : (t : Tree laid.Piece) → length (operands-of t) ≡ node-count t
 unfolding operands-of node-count
 operands-length t = length-map (preorder t) (λ n. operand-of n)
 
-pub written-kinds : (ks os : List ℕ) (t : Tree ℕ) → length ks ≡ length os → nodes-in ks os ≡ written t → ks ≡ kinds-of t
+pub written-kinds : (ks os : List ℕ) (t : Tree laid.Piece) → length ks ≡ length os → nodes-in ks os ≡ written t → ks ≡ kinds-of t
 unfolding kinds-of
 written-kinds ks os t h e = sym (firsts ks os h) ∙ ap (map (λ p. p .0)) e ∙ map-map (λ p. p .0) (λ n. pair-of n) (preorder t)
 
-pub written-operands : (ks os : List ℕ) (t : Tree ℕ) → length ks ≡ length os → nodes-in ks os ≡ written t → os ≡ operands-of t
+pub written-operands : (ks os : List ℕ) (t : Tree laid.Piece) → length ks ≡ length os → nodes-in ks os ≡ written t → os ≡ operands-of t
 unfolding operands-of
 written-operands ks os t h e = sym (seconds ks os h) ∙ ap (map (λ p. p .1)) e ∙ map-map (λ p. p .1) (λ n. pair-of n) (preorder t)

@@ -8,11 +8,13 @@ use borrow.Author.Tests.{le-leb, eq-eqb}
 use Rattle.cutting.specs.declared.Direction.{Direction}
 use Rattle.cutting.specs.declared.Direction.the-variants.{Length, Width}
 use Rattle.cutting.specs.declared.Node.{Node}
-use Rattle.cutting.specs.declared.Node.the-variants.{Waste, Piece, Cut}
+use Rattle.cutting.specs.declared.Node.the-variants.{Waste, Piece, Turned, Cut}
 use Rattle.cutting.specs.Tree.{Rect, side, part, Tree, waste, piece, cut, total}
+use Rattle.cutting.specs.Pieces as laid
 use Rattle.cutting.specs.Preorder.{preorder, kind-of, operand-of, node-count}
-use Rattle.cutting.specs.Job.{Job, GuillotineTree, copies-of}
-use Rattle.node.proofs.Nodes.{node-back, pair-of, NodeFits, node-passes}
+use Rattle.cutting.specs.Job.{Job, laid, GuillotineTree, copies-of}
+use Rattle.cutting.proofs.Members.{lie-kind}
+use Rattle.node.proofs.Nodes.{node-back, pair-of, PieceFits, NodeFits, node-passes}
 use Rattle.plan.specs.declared.Report.{Report}
 use Rattle.plan.specs.Plan.{node-of, parts, counted, proceed, walk}
 use Rattle.plan.proofs.Counts.{added, added-copies, added-length}
@@ -28,22 +30,27 @@ node-walks J k n ns r rs s h =
 
 module _ (J : Job) (few : J .count ≤ 64) where
   -- a report whose copies, with a tree's, keep every demand
-  abbrev Room : Tree ℕ → Report → Type 0
+  abbrev Room : Tree laid.Piece → Report → Type 0
   Room t s = (length (s .copies) ≡ 64) × ((i : ℕ) → i < J .count → getD (s .copies) i 0 + copies-of i t ≤ J .demand i)
 
   -- a guillotine tree's cut, whatever its direction
-  pub cut-parts : (d : Direction) (x : ℕ) (a b : Tree ℕ) (r : Rect) → GuillotineTree J (r .0) (r .1) (cut d x a b)
+  pub cut-parts : (d : Direction) (x : ℕ) (a b : Tree laid.Piece) (r : Rect) → GuillotineTree J (r .0) (r .1) (cut d x a b)
       → (1 ≤ x) × (x < side d r) × GuillotineTree J (part d x r .0) (part d x r .1) a × GuillotineTree J (part d (side d r - x) r .0) (part d (side d r - x) r .1) b
   cut-parts Length x a b r g = g
   cut-parts Width x a b r g = g
 
-  pub tree-walks : (t : Tree ℕ) (k : ℕ) (ns : List (ℕ × ℕ)) (r : Rect) (rs : List Rect) (s : Report) → GuillotineTree J (r .0) (r .1) t → Room t s
+  -- a piece that lies in a rectangle passes where its kind has a copy left
+  piece-fits : (p : laid.Piece) (r : Rect) (s : Report) → GuillotineTree J (r .0) (r .1) (piece p) → Room (piece p) s → PieceFits J (s .copies) r p
+  unfolding total
+  piece-fits p r s g h =
+      (g .0, simp (le-leb (laid J p .0) (r .0) (g .1), le-leb (laid J p .1) (r .1) (g .2)), (let e = simp (eq-eqb (laid.kind p) (laid.kind p) refl) at (h .1 (laid.kind p) (lie-kind J p (g .0))) in omega (arith, e)))
+
+  pub tree-walks : (t : Tree laid.Piece) (k : ℕ) (ns : List (ℕ × ℕ)) (r : Rect) (rs : List Rect) (s : Report) → GuillotineTree J (r .0) (r .1) t → Room t s
       → walk J k (written t ++ ns) (r ∷ rs) s ≡ walk J (k + node-count t) ns rs (added J t r s)
   unfolding preorder node-count added total
   tree-walks waste k ns r rs s g h = node-walks J k Waste ns r rs s tt
-  tree-walks (piece i) k ns r rs s g h =
-      node-walks J k (Piece i) ns r rs s
-      (g .0, simp (le-leb (J .size i .0) (r .0) (g .1), le-leb (J .size i .1) (r .1) (g .2)), (let e = simp (eq-eqb i i refl) at (h .1 i (g .0)) in omega (arith, e)))
+  tree-walks (piece (laid.upright i)) k ns r rs s g h = node-walks J k (Piece i) ns r rs s (piece-fits (laid.upright i) r s g h)
+  tree-walks (piece (laid.turned i)) k ns r rs s g h = node-walks J k (Turned i) ns r rs s (piece-fits (laid.turned i) r s g h)
   tree-walks (cut d x a b) k ns r rs s g h =
       let p = cut-parts d x a b r g in
       let m = added J a (part d x r) s in

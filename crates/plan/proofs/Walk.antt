@@ -9,7 +9,7 @@ use lib.ListN.{length, getD, set, drop, replicate, drop-of-length-le, length-set
 use lib.Seq.{getD-set-same, getD-set-other}
 use Rattle.cutting.specs.declared.Direction.{Direction}
 use Rattle.cutting.specs.declared.Node.{Node}
-use Rattle.cutting.specs.declared.Node.the-variants.{Waste, Piece, Cut}
+use Rattle.cutting.specs.declared.Node.the-variants.{Waste, Piece, Turned, Cut}
 use Rattle.cutting.specs.declared.Sides.{Sides}
 use Rattle.cutting.specs.Tree.{Rect, side, part}
 use Rattle.cutting.specs.Sides.{rect-of, sides-of}
@@ -78,6 +78,7 @@ module _ (J : Job) (kinds operands : List ℕ) (same : length kinds ≡ length o
 pub fits-inside : (J : Job) (copies : List ℕ) (r : Rect) (n : Node) → NodeFits J copies r n → CutInside n r
 fits-inside J copies r Waste h = tt
 fits-inside J copies r (Piece i) h = tt
+fits-inside J copies r (Turned i) h = tt
 fits-inside J copies r (Cut d x) h = omega (arith, h .1)
 
 -- after the last node: 17 where a rectangle waits, and else the plan passes

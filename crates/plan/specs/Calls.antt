@@ -12,6 +12,7 @@ use Rattle.refusal.specs.declared.Refusal.the-variants.{PlanLength}
 use Rattle.refusal.specs.declared.Checked.{Checked}
 use Rattle.refusal.specs.declared.Checked.the-variants.{Passed}
 use Rattle.refusal.specs.Refusals.{Check, Outcome, next, first-refusal, outcome-by}
+use Rattle.job.specs.declared.Choices.{Choices}
 use Rattle.job.specs.Block.{u16-at, job-checks}
 use Rattle.job.specs.Weights.{block-job}
 use Rattle.plan.specs.declared.Report.{Report}
@@ -19,8 +20,8 @@ use Rattle.plan.specs.declared.PlanAnswer.{PlanAnswer}
 use Rattle.plan.specs.Plan.{proceed, plan-answer}
 
 -- what a plan's arrays answer for a job block
-abbrev pub arrays-answer : List ℕ → List ℕ → List ℕ → PlanAnswer
-arrays-answer s kinds operands = proceed (first-refusal (job-checks s)) (plan-answer (block-job s) kinds operands)
+abbrev pub arrays-answer : List ℕ → Choices → List ℕ → List ℕ → PlanAnswer
+arrays-answer s choices kinds operands = proceed (first-refusal (job-checks s)) (plan-answer (block-job s choices) kinds operands)
 
 -- a plan block: the node count, that many kinds, that many operands
 abbrev pub plan-count : List ℕ → ℕ
@@ -41,8 +42,8 @@ unfoldable pub plan-block-answer : Job → List ℕ → PlanAnswer
 plan-block-answer J p = proceed (first-refusal (block-checks p)) (plan-answer J (plan-kinds p) (plan-operands p))
 
 -- what a plan block answers for a job block
-abbrev pub block-answer : List ℕ → List ℕ → PlanAnswer
-block-answer s p = proceed (first-refusal (job-checks s)) (plan-block-answer (block-job s) p)
+abbrev pub block-answer : List ℕ → Choices → List ℕ → PlanAnswer
+block-answer s choices p = proceed (first-refusal (job-checks s)) (plan-block-answer (block-job s choices) p)
 
 -- no check of a job block refuses it
 abbrev pub JobPasses : List ℕ → Type 0
@@ -65,9 +66,9 @@ abbrev pub said-after : Checked → PlanAnswer → Outcome
 said-after v a = outcome-by (next v (a .verdict)) (plan-values (a .report))
 
 -- the number and values that the check of a plan's arrays answers for a job block
-abbrev pub arrays-said : List ℕ → List ℕ → List ℕ → Outcome
-arrays-said s kinds operands = said-after (first-refusal (job-checks s)) (plan-answer (block-job s) kinds operands)
+abbrev pub arrays-said : List ℕ → Choices → List ℕ → List ℕ → Outcome
+arrays-said s choices kinds operands = said-after (first-refusal (job-checks s)) (plan-answer (block-job s choices) kinds operands)
 
 -- the number and values that the check of a plan block answers for a job block
-abbrev pub block-said : List ℕ → List ℕ → Outcome
-block-said s p = said-after (first-refusal (job-checks s)) (plan-block-answer (block-job s) p)
+abbrev pub block-said : List ℕ → Choices → List ℕ → Outcome
+block-said s choices p = said-after (first-refusal (job-checks s)) (plan-block-answer (block-job s choices) p)

@@ -4,6 +4,7 @@ use mathlib.Core.List.{List}
 use Prim.Native.Nat.{ℕ, _+_, _*_, _≤_}
 use Rattle.cutting.specs.Limits.{most-nodes}
 use Rattle.cutting.specs.Tree.{Tree}
+use Rattle.cutting.specs.Pieces.{Piece}
 use Rattle.cutting.specs.Preorder.{node-count, kinds-of, operands-of}
 use Rattle.cutting.specs.Job.{Job, OnPlate, profit, copies-of, KeepsDemands, pieces-area-of, waste-area-of, trim-area-of}
 use Rattle.refusal.specs.declared.Refusal.{Refusal}
@@ -14,7 +15,7 @@ use Rattle.plan.specs.declared.PlanAnswer.{PlanAnswer}
 use Rattle.plan.specs.Plan.{empty-report}
 
 -- the arrays are the preorder of a guillotine tree on the plate that keeps every demand and has at most 4,095 nodes
-pub record PlanOf (J : Job) (t : Tree ℕ) (kinds operands : List ℕ) : Type 0 where
+pub record PlanOf (J : Job) (t : Tree Piece) (kinds operands : List ℕ) : Type 0 where
   pub on-plate : OnPlate J t
   pub demands : KeepsDemands J t
   pub nodes : node-count t ≤ most-nodes
@@ -22,7 +23,7 @@ pub record PlanOf (J : Job) (t : Tree ℕ) (kinds operands : List ℕ) : Type 0 
   pub operands-are : operands ≡ operands-of t
 
 -- a tree's own profit, copies of each kind (0 for numbers past the job's), and areas on the plate
-abbrev pub tree-report : Job → Tree ℕ → Report
+abbrev pub tree-report : Job → Tree Piece → Report
 tree-report J t = record {
   profit = profit J t;
   copies = entries (λ i. copies-of i t) (J .count);
@@ -32,14 +33,14 @@ tree-report J t = record {
 }
 
 -- a report is a tree's own, and its areas sum to the plate's
-pub record Reports (J : Job) (t : Tree ℕ) (r : Report) : Type 0 where
+pub record Reports (J : Job) (t : Tree Piece) (r : Report) : Type 0 where
   pub own : r ≡ tree-report J t
   pub areas : r .pieces + r .waste + r .trim ≡ J .plate .0 * J .plate .1
 
 -- where what stands before the plan's checks holds, an answer passes exactly for the plan of a tree; it then reports that tree, and a
 -- refusal reports zeros
 pub record ChecksPlan (Before : Type 0) (J : Job) (kinds operands : List ℕ) (a : PlanAnswer) : Type 0 where
-  pub passes : Before → (t : Tree ℕ) → PlanOf J t kinds operands → a .verdict ≡ Passed
+  pub passes : Before → (t : Tree Piece) → PlanOf J t kinds operands → a .verdict ≡ Passed
   pub before : a .verdict ≡ Passed → Before
-  pub tree : a .verdict ≡ Passed → (t : Tree ℕ) × PlanOf J t kinds operands × Reports J t (a .report)
+  pub tree : a .verdict ≡ Passed → (t : Tree Piece) × PlanOf J t kinds operands × Reports J t (a .report)
   pub zeros : (r : Refusal) → a .verdict ≡ Refused r → a .report ≡ empty-report

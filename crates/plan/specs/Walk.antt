@@ -4,7 +4,7 @@ use mathlib.Core.List.{List, [], _∷_}
 use Prim.Native.Nat.{ℕ, zero, suc, _≤_, _<_}
 use lib.ListN.{length, getD}
 use Rattle.cutting.specs.declared.Node.{Node}
-use Rattle.cutting.specs.declared.Node.the-variants.{Waste, Piece, Cut}
+use Rattle.cutting.specs.declared.Node.the-variants.{Waste, Piece, Turned, Cut}
 use Rattle.cutting.specs.Tree.{Rect, side}
 use Rattle.node.specs.declared.Tally.{Tally}
 use Rattle.node.specs.declared.NodeEntry.{NodeEntry}
@@ -26,6 +26,7 @@ entry-at kinds operands k = record { at = k; kind = getD kinds k 0; operand = ge
 abbrev pub CutInside : Node → Rect → Type 0
 CutInside Waste r = Unit {0}
 CutInside (Piece i) r = Unit {0}
+CutInside (Turned i) r = Unit {0}
 CutInside (Cut d x) r = x ≤ side d r
 
 -- the two arrays of the rectangles that wait have 4,096 places

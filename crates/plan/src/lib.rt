@@ -4,9 +4,11 @@ use cutting::Node;
 use cutting::Sides;
 use cutting::first_part;
 use cutting::second_part;
+use job::Choices;
 use job::JobRecord;
 use job::read_job;
 use job::read_u16;
+use node::Kinds;
 use node::NodeEntry;
 use node::Tally;
 use node::check_node;
@@ -109,6 +111,7 @@ fn leave_parts(
     match node {
         Node::Waste => top,
         Node::Piece(_) => top,
+        Node::Turned(_) => top,
         Node::Cut(d, x) => {
             let first = first_part(d, x, room);
             let second = second_part(d, x, room);
@@ -160,13 +163,17 @@ fn walk_nodes(job: JobRecord, kinds: &[u8], operands: &[u16]) -> PlanAnswer
         }
         let e = entry(kinds, operands, k);
         let room = next_room(&lengths, &widths, n);
+        let allowed = Kinds {
+            count: job.count,
+            turning: job.turning,
+        };
         let a = check_node(
             &kind_lengths,
             &kind_widths,
             &prices,
             &demands,
             &mut copies,
-            job.count,
+            allowed,
             e,
             room,
             t,
@@ -201,12 +208,12 @@ pub fn check_nodes(job: JobRecord, kinds: &[u8], operands: &[u16]) -> PlanAnswer
 }
 
 // A plan's arrays checked for a job block: refusals 1 to 7, then 10 to 18.
-pub fn check_plan(block: &[u8], kinds: &[u8], operands: &[u16]) -> PlanAnswer
-    ensures answer { λ r. ⌜ r ≡ arrays-answer (now (block .entry)) (now (kinds .entry)) (now (operands .entry)) ⌝ }
-    ensures outcome { λ r. ⌜ plan-outcome r ≡ arrays-said (now (block .entry)) (now (kinds .entry)) (now (operands .entry)) ⌝ }
-    ensures trees { λ r. ⌜ ChecksPlan (JobPasses (now (block .entry))) (block-job (now (block .entry))) (now (kinds .entry)) (now (operands .entry)) r ⌝ }
+pub fn check_plan(block: &[u8], choices: Choices, kinds: &[u8], operands: &[u16]) -> PlanAnswer
+    ensures answer { λ r. ⌜ r ≡ arrays-answer (now (block .entry)) choices (now (kinds .entry)) (now (operands .entry)) ⌝ }
+    ensures outcome { λ r. ⌜ plan-outcome r ≡ arrays-said (now (block .entry)) choices (now (kinds .entry)) (now (operands .entry)) ⌝ }
+    ensures trees { λ r. ⌜ ChecksPlan (JobPasses (now (block .entry))) (block-job (now (block .entry)) choices) (now (kinds .entry)) (now (operands .entry)) r ⌝ }
 {
-    let read = read_job(block);
+    let read = read_job(block, choices);
     let verdict = read.verdict;
     let Checked::Passed = verdict else {
         return without_report(verdict);
@@ -248,12 +255,12 @@ fn check_block(job: JobRecord, plan: &[u8]) -> PlanAnswer
 }
 
 // A plan block checked for a job block: refusals 1 to 7, then 10 to 18.
-pub fn check_plan_block(block: &[u8], plan: &[u8]) -> PlanAnswer
-    ensures answer { λ r. ⌜ r ≡ block-answer (now (block .entry)) (now (plan .entry)) ⌝ }
-    ensures outcome { λ r. ⌜ plan-outcome r ≡ block-said (now (block .entry)) (now (plan .entry)) ⌝ }
-    ensures trees { λ r. ⌜ ChecksPlan (JobPasses (now (block .entry)) × BlockPasses (now (plan .entry))) (block-job (now (block .entry))) (plan-kinds (now (plan .entry))) (plan-operands (now (plan .entry))) r ⌝ }
+pub fn check_plan_block(block: &[u8], choices: Choices, plan: &[u8]) -> PlanAnswer
+    ensures answer { λ r. ⌜ r ≡ block-answer (now (block .entry)) choices (now (plan .entry)) ⌝ }
+    ensures outcome { λ r. ⌜ plan-outcome r ≡ block-said (now (block .entry)) choices (now (plan .entry)) ⌝ }
+    ensures trees { λ r. ⌜ ChecksPlan (JobPasses (now (block .entry)) × BlockPasses (now (plan .entry))) (block-job (now (block .entry)) choices) (plan-kinds (now (plan .entry))) (plan-operands (now (plan .entry))) r ⌝ }
 {
-    let read = read_job(block);
+    let read = read_job(block, choices);
     let verdict = read.verdict;
     let Checked::Passed = verdict else {
         return without_report(verdict);

@@ -21,15 +21,15 @@ without-report-requires c κs = search needs
 
 returns : tie.Need-returns
 returns c = let a = c .before .before .before .before .before .before .before .args in
-    arrays-met (now (a .block)) (now (a .kinds)) (now (a .operands)) (c .without-report .ensures ∙ read-stops (now (a .block)) _ (c .before .before .before .read-job .ensures .0) (c .before .enum-told2 .given .1))
+    arrays-met (now (a .block)) (a .choices) (now (a .kinds)) (now (a .operands)) (c .without-report .ensures ∙ read-stops (now (a .block)) (a .choices) _ (c .before .before .before .read-job .ensures .0) (c .before .enum-told2 .given .1))
 
 check-nodes-requires : tie.Need-check-nodes-requires
-check-nodes-requires c κs = read-range (now (c .before .before .before .before .before .before .before .args .block)) (c .before .before .before .read-job .ensures .0) (c .before .enum-told .given .1)
+check-nodes-requires c κs = let a = c .before .before .before .before .before .before .before .args in read-range (now (a .block)) (a .choices) (c .before .before .before .read-job .ensures .0) (c .before .enum-told .given .1)
 
 returns-2 : tie.Need-returns-2
 returns-2 c = let a = c .before .before .before .before .before .before .before .before .args in
-    arrays-met (now (a .block)) (now (a .kinds)) (now (a .operands))
-    (c .check-nodes .ensures ∙ read-on (now (a .block)) (c .before .before .before .before .read-job .ensures .0) (c .before .before .enum-told .given .1) (λ J. plan-answer J (now (a .kinds)) (now (a .operands))))
+    arrays-met (now (a .block)) (a .choices) (now (a .kinds)) (now (a .operands))
+    (c .check-nodes .ensures ∙ read-on (now (a .block)) (a .choices) (c .before .before .before .before .read-job .ensures .0) (c .before .before .enum-told .given .1) (λ J. plan-answer J (now (a .kinds)) (now (a .operands))))
 
 pub check-plan-spec : {M : Type 1} → statement M
 check-plan-spec =

@@ -21,15 +21,15 @@ without-report-requires c κs = search needs
 
 returns : tie.Need-returns
 returns c = let a = c .before .before .before .before .before .before .args in
-    block-met (now (a .block)) (now (a .plan)) (c .without-report .ensures ∙ read-stops (now (a .block)) _ (c .before .before .before .read-job .ensures .0) (c .before .enum-told2 .given .1))
+    block-met (now (a .block)) (a .choices) (now (a .plan)) (c .without-report .ensures ∙ read-stops (now (a .block)) (a .choices) _ (c .before .before .before .read-job .ensures .0) (c .before .enum-told2 .given .1))
 
 check-block-requires : tie.Need-check-block-requires
-check-block-requires c κs = read-range (now (c .before .before .before .before .before .before .args .block)) (c .before .before .before .read-job .ensures .0) (c .before .enum-told .given .1)
+check-block-requires c κs = let a = c .before .before .before .before .before .before .args in read-range (now (a .block)) (a .choices) (c .before .before .before .read-job .ensures .0) (c .before .enum-told .given .1)
 
 returns-2 : tie.Need-returns-2
 returns-2 c = let a = c .before .before .before .before .before .before .before .args in
-    block-met (now (a .block)) (now (a .plan))
-    (c .check-block .ensures ∙ read-on (now (a .block)) (c .before .before .before .before .read-job .ensures .0) (c .before .before .enum-told .given .1) (λ J. plan-block-answer J (now (a .plan))))
+    block-met (now (a .block)) (a .choices) (now (a .plan))
+    (c .check-block .ensures ∙ read-on (now (a .block)) (a .choices) (c .before .before .before .before .read-job .ensures .0) (c .before .before .enum-told .given .1) (λ J. plan-block-answer J (now (a .plan))))
 
 pub check-plan-block-spec : {M : Type 1} → statement M
 check-plan-block-spec =

@@ -17,6 +17,9 @@ enum-told c = search needs
 enum-told-2 : tie.Need-enum-told-2
 enum-told-2 c = search needs
 
+enum-told-3 : tie.Need-enum-told-3
+enum-told-3 c = search needs
+
 enum-known-node : tie.Need-enum-known-node
 enum-known-node c = search needs
 
@@ -60,7 +63,10 @@ returns-2 : tie.Need-returns-2
 returns-2 c = (rw (c .enum-told2 .given .1), omega arith, c .before .before .pre .held)
 
 returns-3 : tie.Need-returns-3
-returns-3 c = let a = c .before .before .before .before .before .args in let given = c .before .before .before .before .before .pre in (
+returns-3 c = (rw (c .enum-told3 .given .1), omega arith, c .before .before .pre .held)
+
+returns-4 : tie.Need-returns-4
+returns-4 c = let a = c .before .before .before .before .before .args in let given = c .before .before .before .before .before .pre in (
   cut-waits (now (a .lengths)) (now (a .widths)) (a .n) (a .node) _ _ (rect-of (a .room)) (c .before .first-part .result) (c .second-part .result)
       (given .some) (omega (arith, given .held .0)) (omega (arith, given .held .1)) (c .before .before .before .node .given .1) (c .before .first-part .ensures) (c .second-part .ensures),
   omega arith,
@@ -74,6 +80,7 @@ leave-parts-spec =
     sub-top
     enum-told
     enum-told-2
+    enum-told-3
     enum-known-node
     first-part-requires
     second-part-requires
@@ -88,4 +95,5 @@ leave-parts-spec =
     add-result
     returns
     returns-2
-    returns-3)
+    returns-3
+    returns-4)

@@ -24,8 +24,8 @@ no-sums-requires c κs = search needs
 loop-holds : tie.Need-loop-holds Inv-loop μ-loop
 loop-holds c = let a = c .before .before .before .before .before .before .before .args in (refl, begins (job-of (a .job)) (now (a .kinds)) (now (a .operands)) (c .no-sums .result) (c .no-sums .ensures))
 
-cast-t21 : tie.Need-cast-t21 Inv-loop μ-loop
-cast-t21 c = search needs
+cast-t22 : tie.Need-cast-t22 Inv-loop μ-loop
+cast-t22 c = search needs
 
 without-report-requires : tie.Need-without-report-requires Inv-loop μ-loop
 without-report-requires c κs = search needs
@@ -92,7 +92,7 @@ walk-nodes-spec =
     μ-loop
     no-sums-requires
     loop-holds
-    cast-t21
+    cast-t22
     without-report-requires
     returns
     entry-requires
