@@ -67,12 +67,12 @@ fn the_lowest_kind_beats_orientation() {
 /// Two pieces of 2 by 3 and one of 3 by 1, turned, fill the plate of S.
 #[test]
 fn bound_and_certificate_take_both_orientations() {
-    let s = |weights: &[u8], nodes: &[Node]| input(job_s(), weights, nodes).with(TURNING);
-    answers(Call::Bound, &s(&[0, 1, 0], &[]), &[18, 2, 6, 4]);
-    writes(&s(&[0, 1, 0], &[(2, 1), (4, 1), (2, 2), (1, 0), (1, 0)]), 18);
+    let s = |nodes: &[Node]| input(job_s(), &[0, 1, 0], nodes).with(TURNING);
+    answers(Call::Bound, &s(&[]), &[18, 2, 6, 4]);
+    writes(&s(&[(2, 1), (4, 1), (2, 2), (1, 0), (1, 0)]), 18);
     let plan = [(2, 2), (1, 0), (2, 1), (4, 1), (3, 2), (1, 2), (0, 0)];
-    reports(&s(&[0, 1, 0], &plan), 16, [13, 2, 0], &[1, 1, 1]);
-    answers(Call::Certify, &s(&[0, 1, 0], &plan), &[2, 18, 16]);
+    reports(&s(&plan), 16, [13, 2, 0], &[1, 1, 1]);
+    answers(Call::Certify, &s(&plan), &[2, 18, 16]);
     answers(Call::Certify, &turning(5, 3, &[(3, 5, 7, 1)], &[(4, 0)]), &[0, 7, 7]);
 }
 
