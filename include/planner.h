@@ -21,6 +21,9 @@ extern "C" {
  * Job block. Plate length, plate width, number n of kinds; then n sizes (length, width); all of two
  * bytes, lowest byte first. Then n pairs of price (four bytes) and demand (two bytes). 6 + 10n bytes.
  *
+ * Choices. A word of bits, one for each choice of the call; 0 makes none.
+ *   PLANNER_TURNING  any piece may be turned
+ *
  * Weights. One byte for each kind. The capacity is the sum of demand times weight.
  *
  * Plan. A tree in preorder, as two arrays of one length: the kind of each node and its operand.
@@ -28,12 +31,19 @@ extern "C" {
  *   1 piece, operand its number
  *   2 cut of the length, operand the first part's length
  *   3 cut of the width, operand the first part's width
+ *   4 turned piece, whose length lies along the width, operand its number; with PLANNER_TURNING only
  * A plan block is the node count (two bytes), the kinds (a byte each), the operands (two bytes each).
  *
  * Tree. A guillotine tree on a rectangle is waste, a piece of a kind of the job that fits there, or
- * a cut with a guillotine tree on each part. It may have any number of nodes. It earns the sum of
- * its pieces' prices, weighs the sum of their weights, and keeps every demand when no kind has more
- * copies in it than its demand.
+ * a cut with a guillotine tree on each part. With PLANNER_TURNING a piece is upright or turned; a
+ * turned one fits where its sides exchanged fit. A tree may have any number of nodes. It earns the
+ * sum of its pieces' prices, weighs the sum of their weights, and keeps every demand when no kind
+ * has more copies in it, upright and turned together, than its demand.
+ *
+ * Normal lengths. 0 and all sums, with repetition, of lengths of kinds that fit the plate, up to the
+ * plate's length; normal widths likewise. With PLANNER_TURNING the lengths are those of kinds that
+ * fit the plate upright and the widths of kinds that fit it turned; normal widths the other way
+ * about.
  *
  * Storage. `lengths` needs plate length + 1 words, `widths` plate width + 1, `table` p * r *
  * (capacity + 1), where p and r are the numbers of normal lengths and widths. A call that fills them
@@ -45,6 +55,7 @@ extern "C" {
  *   0        done; `answer` holds the words that the function names, and its later words are kept
  *   1 to 21  refused, see below; answer[0] is the place, and the other words of `answer` are kept
  *   100      `answer` has fewer words than the function names; nothing was changed
+ *   101      `choices` has a bit that is no choice, and `answer` is long enough; nothing was changed
  *
  * Refusals, in the order of the checks, the first one met, with their places.
  *    1  job of fewer than 6 bytes                              0
@@ -59,7 +70,7 @@ extern "C" {
  *   10  plan arrays differ in length, or plan block under      0
  *       2 bytes or not 2 + 3 * count bytes
  *   11  no node, or above 4095                                 0
- *   12  kind of node above 3                                   node
+ *   12  kind of node above 3, or above 4 with PLANNER_TURNING  node
  *   13  piece number n or more                                 node
  *   14  cut outside 1 to side - 1, or waste operand not 0      node
  *   15  piece does not fit                                     node
@@ -75,7 +86,13 @@ extern "C" {
 
 enum {
     PLANNER_DONE = 0,
-    PLANNER_ANSWER_TOO_SHORT = 100
+    PLANNER_ANSWER_TOO_SHORT = 100,
+    PLANNER_UNKNOWN_CHOICE = 101
+};
+
+/* Bits of `choices`. */
+enum {
+    PLANNER_TURNING = 1
 };
 
 /* Words of `answer`. */
@@ -90,9 +107,11 @@ enum {
  * returns 0 exactly if the arrays are the preorder of a guillotine tree on the plate that keeps
  * every demand and has at most 4095 nodes; the answer is that tree's own.
  * answer[0] profit, the sum of the prices; answer[1] area of the pieces, answer[2] of the waste
- * nodes, answer[3] of the trim; answer[4 + i] copies of kind i, 0 past the job's kinds. */
+ * nodes, answer[3] of the trim; answer[4 + i] copies of kind i, upright and turned, 0 past the job's
+ * kinds. */
 uint32_t planner_check_plan(
     const uint8_t *job, size_t job_len,
+    uint32_t choices,
     const uint8_t *kinds, size_t kinds_len,
     const uint16_t *operands, size_t operands_len,
     uint64_t *answer, size_t answer_len);
@@ -100,6 +119,7 @@ uint32_t planner_check_plan(
 /* The same for a plan block. */
 uint32_t planner_check_plan_block(
     const uint8_t *job, size_t job_len,
+    uint32_t choices,
     const uint8_t *plan, size_t plan_len,
     uint64_t *answer, size_t answer_len);
 
@@ -109,6 +129,7 @@ uint32_t planner_check_plan_block(
  * answer[0] bound, answer[1] capacity, answer[2] p, answer[3] r. */
 uint32_t planner_bound(
     const uint8_t *job, size_t job_len,
+    uint32_t choices,
     const uint8_t *weights, size_t weights_len,
     uint16_t *lengths, size_t lengths_len,
     uint16_t *widths, size_t widths_len,
@@ -121,6 +142,7 @@ uint32_t planner_bound(
  * answer[0] bound, answer[1] capacity, answer[2] p, answer[3] r, answer[4] node count. */
 uint32_t planner_write_plan(
     const uint8_t *job, size_t job_len,
+    uint32_t choices,
     const uint8_t *weights, size_t weights_len,
     uint16_t *lengths, size_t lengths_len,
     uint16_t *widths, size_t widths_len,
@@ -135,6 +157,7 @@ uint32_t planner_write_plan(
  * answer[0] gap, bound less profit; answer[1] bound, answer[2] profit. */
 uint32_t planner_certify(
     const uint8_t *job, size_t job_len,
+    uint32_t choices,
     const uint8_t *weights, size_t weights_len,
     const uint8_t *kinds, size_t kinds_len,
     const uint16_t *operands, size_t operands_len,

@@ -6,18 +6,30 @@
 #include <stddef.h>
 #include <stdint.h>
 
-enum { MOST_KINDS = 64, MOST_SIDE = 1000, MOST_NODES = 4095 };
+enum { MOST_PIECES = 128, MOST_SIDE = 1000, MOST_NODES = 4095 };
 
 typedef struct {
     int length, width;
 } Size;
 
+/* A node of a plan: kinds are those of planner.h. */
+typedef struct {
+    int kind, operand;
+} Node;
+
+enum { WASTE, PIECE, CUT_LENGTH, CUT_WIDTH, TURNED_PIECE };
+
+/* The choice that a piece may be turned. */
+enum { TURNING = 1 };
+
+/* Pieces are the kinds as they may lie, each with its node in a plan. */
 typedef struct {
     Size plate;
-    int kinds, capacity;
-    Size size[MOST_KINDS];
-    uint64_t price[MOST_KINDS];
-    int weight[MOST_KINDS];
+    int pieces, capacity;
+    Size size[MOST_PIECES];
+    uint64_t price[MOST_PIECES];
+    int weight[MOST_PIECES];
+    Node node[MOST_PIECES];
 } Job;
 
 /* A side's normal positions, and for each unit the index of the largest one not above it. */
@@ -34,7 +46,7 @@ typedef struct {
     Positions on[2];
 } Plate;
 
-void read_plate(Plate *plate, const uint8_t *job, const uint8_t *weights);
+void read_plate(Plate *plate, const uint8_t *job, uint32_t choices, const uint8_t *weights);
 void fill_row_fill(const Plate *plate, uint64_t *table);
 void fill_states(const Plate *plate, uint64_t *table);
 size_t write_nodes(const Plate *plate, const uint64_t *table, uint8_t *kinds, uint16_t *operands);

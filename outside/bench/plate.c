@@ -8,17 +8,28 @@ static int two(const uint8_t *at)
     return at[0] | at[1] << 8;
 }
 
-static void read_job(Job *job, const uint8_t *block, const uint8_t *weights)
+static void add_piece(Job *job, Size size, uint64_t price, int weight, Node node)
 {
+    int i = job->pieces++;
+    job->size[i] = size;
+    job->price[i] = price;
+    job->weight[i] = weight;
+    job->node[i] = node;
+}
+
+static void read_job(Job *job, const uint8_t *block, uint32_t choices, const uint8_t *weights)
+{
+    int kinds = two(block + 4);
+    const uint8_t *sizes = block + 6, *pairs = sizes + 4 * kinds;
     job->plate = (Size){two(block), two(block + 2)};
-    job->kinds = two(block + 4);
-    job->capacity = 0;
-    const uint8_t *sizes = block + 6, *pairs = sizes + 4 * job->kinds;
-    for (int i = 0; i < job->kinds; i++) {
+    job->pieces = job->capacity = 0;
+    for (int i = 0; i < kinds; i++) {
         const uint8_t *pair = pairs + 6 * i;
-        job->size[i] = (Size){two(sizes + 4 * i), two(sizes + 4 * i + 2)};
-        job->price[i] = (uint64_t)two(pair) | (uint64_t)two(pair + 2) << 16;
-        job->weight[i] = weights[i];
+        Size size = {two(sizes + 4 * i), two(sizes + 4 * i + 2)}, turned = {size.width, size.length};
+        uint64_t price = (uint64_t)two(pair) | (uint64_t)two(pair + 2) << 16;
+        add_piece(job, size, price, weights[i], (Node){PIECE, i});
+        if (choices & TURNING)
+            add_piece(job, turned, price, weights[i], (Node){TURNED_PIECE, i});
         job->capacity += two(pair + 4) * weights[i];
     }
 }
@@ -40,13 +51,13 @@ static void find_positions(Positions *found, int side, const uint16_t *sides, in
     }
 }
 
-void read_plate(Plate *plate, const uint8_t *block, const uint8_t *weights)
+void read_plate(Plate *plate, const uint8_t *block, uint32_t choices, const uint8_t *weights)
 {
-    uint16_t lengths[MOST_KINDS], widths[MOST_KINDS];
+    uint16_t lengths[MOST_PIECES], widths[MOST_PIECES];
     int count = 0;
     Job *job = &plate->job;
-    read_job(job, block, weights);
-    for (int i = 0; i < job->kinds; i++)
+    read_job(job, block, choices, weights);
+    for (int i = 0; i < job->pieces; i++)
         if (fits(job->size[i], job->plate)) {
             lengths[count] = (uint16_t)job->size[i].length;
             widths[count++] = (uint16_t)job->size[i].width;
@@ -55,10 +66,10 @@ void read_plate(Plate *plate, const uint8_t *block, const uint8_t *weights)
     find_positions(&plate->on[WIDTH], job->plate.width, widths, count);
 }
 
-static void fill(const uint8_t *job, const uint8_t *weights, Plate *plate,
+static void fill(const uint8_t *job, uint32_t choices, const uint8_t *weights, Plate *plate,
                  uint16_t *lengths, uint16_t *widths, uint64_t *table, uint64_t *answer)
 {
-    read_plate(plate, job, weights);
+    read_plate(plate, job, choices, weights);
     int p = plate->on[LENGTH].count, r = plate->on[WIDTH].count, capacity = plate->job.capacity;
     memcpy(lengths, plate->on[LENGTH].at, (size_t)p * sizeof *lengths);
     memcpy(widths, plate->on[WIDTH].at, (size_t)r * sizeof *widths);
@@ -72,18 +83,18 @@ static void fill(const uint8_t *job, const uint8_t *weights, Plate *plate,
     answer[3] = (uint64_t)r;
 }
 
-void baseline_bound(const uint8_t *job, const uint8_t *weights,
+void baseline_bound(const uint8_t *job, uint32_t choices, const uint8_t *weights,
                     uint16_t *lengths, uint16_t *widths, uint64_t *table, uint64_t *answer)
 {
     Plate plate;
-    fill(job, weights, &plate, lengths, widths, table, answer);
+    fill(job, choices, weights, &plate, lengths, widths, table, answer);
 }
 
-void baseline_write_plan(const uint8_t *job, const uint8_t *weights,
+void baseline_write_plan(const uint8_t *job, uint32_t choices, const uint8_t *weights,
                          uint16_t *lengths, uint16_t *widths, uint64_t *table,
                          uint8_t *kinds, uint16_t *operands, uint64_t *answer)
 {
     Plate plate;
-    fill(job, weights, &plate, lengths, widths, table, answer);
+    fill(job, choices, weights, &plate, lengths, widths, table, answer);
     answer[4] = write_nodes(&plate, table, kinds, operands);
 }

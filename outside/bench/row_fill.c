@@ -7,7 +7,7 @@
 static void lay_pieces(const Plate *plate, int length, uint64_t *restrict row)
 {
     const Job *job = &plate->job;
-    for (int i = 0; i < job->kinds; i++)
+    for (int i = 0; i < job->pieces; i++)
         if (job->size[i].length == length && job->size[i].width <= job->plate.width
             && job->weight[i] == 0) {
             uint64_t *cell = row + plate->on[WIDTH].index[job->size[i].width];

@@ -97,7 +97,7 @@ static void start(const Fill *fill, Cell *cell)
 /* Pieces of exactly this size; smaller ones came with the cells before. */
 static void lay_pieces(const Job *job, Cell *cell, Size size)
 {
-    for (int i = 0; i < job->kinds; i++) {
+    for (int i = 0; i < job->pieces; i++) {
         int s = job->weight[i];
         if (job->size[i].length == size.length && job->size[i].width == size.width
             && s < cell->states) {

@@ -9,8 +9,10 @@ typedef struct {
     int share;
 } Part;
 
+/* A node, and for a cut the first part's share. */
 typedef struct {
-    int kind, operand, share;
+    Node node;
+    int share;
 } Choice;
 
 typedef struct {
@@ -30,7 +32,7 @@ static const uint64_t *cell(const Tabled *tabled, const Part *part)
 static int find_piece(const Job *job, const Part *part, uint64_t value)
 {
     Size rectangle = {part->side[LENGTH], part->side[WIDTH]};
-    for (int i = 0; i < job->kinds; i++)
+    for (int i = 0; i < job->pieces; i++)
         if (job->price[i] == value && fits(job->size[i], rectangle) && job->weight[i] <= part->share)
             return i;
     return -1;
@@ -57,7 +59,7 @@ static int find_cut(const Tabled *tabled, const Part *part, int direction, uint6
         int rest = positions->index[side - positions->at[i]];
         int c = find_share(origin + i * step, origin + rest * step, part->share, value);
         if (c >= 0) {
-            *chosen = (Choice){2 + direction, positions->at[i], c};
+            *chosen = (Choice){{CUT_LENGTH + direction, positions->at[i]}, c};
             return 1;
         }
     }
@@ -66,13 +68,14 @@ static int find_cut(const Tabled *tabled, const Part *part, int direction, uint6
 
 static Choice choose(const Tabled *tabled, const Part *part)
 {
-    Choice chosen = {0, 0, 0};
+    Choice chosen = {{WASTE, 0}, 0};
     uint64_t value = cell(tabled, part)[part->share];
     if (value == 0)
         return chosen;
-    int i = find_piece(&tabled->plate->job, part, value);
+    const Job *job = &tabled->plate->job;
+    int i = find_piece(job, part, value);
     if (i >= 0)
-        return (Choice){1, i, 0};
+        return (Choice){job->node[i], 0};
     if (!find_cut(tabled, part, LENGTH, value, &chosen))
         find_cut(tabled, part, WIDTH, value, &chosen);
     return chosen;
@@ -81,11 +84,11 @@ static Choice choose(const Tabled *tabled, const Part *part)
 /* Puts the two parts of a cut into the list, the first one last. */
 static void split(Part *waiting, Choice cut)
 {
-    int direction = cut.kind - 2;
+    int direction = cut.node.kind - CUT_LENGTH;
     waiting[1] = waiting[0];
-    waiting[0].side[direction] -= cut.operand;
+    waiting[0].side[direction] -= cut.node.operand;
     waiting[0].share -= cut.share;
-    waiting[1].side[direction] = cut.operand;
+    waiting[1].side[direction] = cut.node.operand;
     waiting[1].share = cut.share;
 }
 
@@ -102,13 +105,13 @@ size_t write_nodes(const Plate *plate, const uint64_t *table, uint8_t *kinds, ui
     for (int left = 1; left > 0; count++) {
         Choice chosen = choose(&tabled, &waiting[left - 1]);
         if (count < MOST_NODES) {
-            kind[count] = (uint8_t)chosen.kind;
-            operand[count] = (uint16_t)chosen.operand;
+            kind[count] = (uint8_t)chosen.node.kind;
+            operand[count] = (uint16_t)chosen.node.operand;
         }
-        if (chosen.kind < 2)
-            left--;
-        else
+        if (chosen.node.kind == CUT_LENGTH || chosen.node.kind == CUT_WIDTH)
             split(&waiting[left++ - 1], chosen);
+        else
+            left--;
     }
     if (count <= MOST_NODES) {
         memcpy(kinds, kind, count);

@@ -1,4 +1,5 @@
-/* Job S of the paper from C: the bound, the plan behind it, its check and its certificate.
+/* Job S of the paper from C: the bound, the plan behind it, its check and its certificate, upright
+ * and with pieces that may be turned.
  * The script `run` compiles this file against planner.h and compares what it prints with sample.out. */
 #include "planner.h"
 #include <inttypes.h>
@@ -11,7 +12,7 @@ static const uint8_t JOB[] = {
 };
 static const uint8_t WEIGHTS[] = {0, 1, 0};
 
-enum { TABLE_WORDS = 60, NODES = 16 };
+enum { TABLE_WORDS = 72, NODES = 16 };
 
 static uint16_t lengths[6], widths[4];
 static uint64_t table[TABLE_WORDS];
@@ -21,23 +22,25 @@ static void refused(uint32_t number, const uint64_t *answer)
     printf("refused %" PRIu32 " place %" PRIu64 "\n", number, answer[0]);
 }
 
-static void bound(size_t table_words)
+static void bound(uint32_t choices, size_t table_words)
 {
     uint64_t answer[PLANNER_BOUND_WORDS];
-    uint32_t number = planner_bound(JOB, sizeof JOB, WEIGHTS, sizeof WEIGHTS, lengths, 6, widths, 4,
-                                    table, table_words, answer, PLANNER_BOUND_WORDS);
-    if (number == PLANNER_DONE)
+    uint32_t number = planner_bound(JOB, sizeof JOB, choices, WEIGHTS, sizeof WEIGHTS, lengths, 6,
+                                    widths, 4, table, table_words, answer, PLANNER_BOUND_WORDS);
+    if (number == PLANNER_UNKNOWN_CHOICE)
+        printf("no such choice\n");
+    else if (number == PLANNER_DONE)
         printf("bound %" PRIu64 " capacity %" PRIu64 " p %" PRIu64 " r %" PRIu64 "\n", answer[0],
                answer[1], answer[2], answer[3]);
     else
         refused(number, answer);
 }
 
-static size_t write_plan(uint8_t *kinds, uint16_t *operands)
+static size_t write_plan(uint32_t choices, uint8_t *kinds, uint16_t *operands)
 {
     uint64_t answer[PLANNER_PLAN_WORDS];
-    uint32_t number = planner_write_plan(JOB, sizeof JOB, WEIGHTS, sizeof WEIGHTS, lengths, 6,
-                                         widths, 4, table, TABLE_WORDS, kinds, NODES, operands,
+    uint32_t number = planner_write_plan(JOB, sizeof JOB, choices, WEIGHTS, sizeof WEIGHTS, lengths,
+                                         6, widths, 4, table, TABLE_WORDS, kinds, NODES, operands,
                                          NODES, answer, PLANNER_PLAN_WORDS);
     if (number != PLANNER_DONE) {
         refused(number, answer);
@@ -48,11 +51,11 @@ static size_t write_plan(uint8_t *kinds, uint16_t *operands)
     return (size_t)answer[4];
 }
 
-static void check(const uint8_t *kinds, const uint16_t *operands, size_t nodes)
+static void check(uint32_t choices, const uint8_t *kinds, const uint16_t *operands, size_t nodes)
 {
     uint64_t answer[PLANNER_REPORT_WORDS];
-    uint32_t number = planner_check_plan(JOB, sizeof JOB, kinds, nodes, operands, nodes, answer,
-                                         PLANNER_REPORT_WORDS);
+    uint32_t number = planner_check_plan(JOB, sizeof JOB, choices, kinds, nodes, operands, nodes,
+                                         answer, PLANNER_REPORT_WORDS);
     if (number == PLANNER_DONE)
         printf("profit %" PRIu64 " areas %" PRIu64 " %" PRIu64 " %" PRIu64 "\n", answer[0],
                answer[1], answer[2], answer[3]);
@@ -63,7 +66,7 @@ static void check(const uint8_t *kinds, const uint16_t *operands, size_t nodes)
 static void check_block(const uint8_t *plan, size_t bytes)
 {
     uint64_t answer[PLANNER_REPORT_WORDS];
-    uint32_t number = planner_check_plan_block(JOB, sizeof JOB, plan, bytes, answer,
+    uint32_t number = planner_check_plan_block(JOB, sizeof JOB, 0, plan, bytes, answer,
                                                PLANNER_REPORT_WORDS);
     if (number == PLANNER_DONE)
         printf("waste %" PRIu64 "\n", answer[2]);
@@ -71,12 +74,12 @@ static void check_block(const uint8_t *plan, size_t bytes)
         refused(number, answer);
 }
 
-static void certify(const uint8_t *kinds, const uint16_t *operands, size_t nodes)
+static void certify(uint32_t choices, const uint8_t *kinds, const uint16_t *operands, size_t nodes)
 {
     uint64_t answer[PLANNER_CERTIFICATE_WORDS];
-    uint32_t number = planner_certify(JOB, sizeof JOB, WEIGHTS, sizeof WEIGHTS, kinds, nodes,
-                                      operands, nodes, lengths, 6, widths, 4, table, TABLE_WORDS,
-                                      answer, PLANNER_CERTIFICATE_WORDS);
+    uint32_t number = planner_certify(JOB, sizeof JOB, choices, WEIGHTS, sizeof WEIGHTS, kinds,
+                                      nodes, operands, nodes, lengths, 6, widths, 4, table,
+                                      TABLE_WORDS, answer, PLANNER_CERTIFICATE_WORDS);
     if (number == PLANNER_DONE)
         printf("gap %" PRIu64 " bound %" PRIu64 " profit %" PRIu64 "\n", answer[0], answer[1],
                answer[2]);
@@ -89,12 +92,17 @@ int main(void)
     static const uint8_t waste[] = {1, 0, 0, 0, 0};
     uint8_t kinds[NODES];
     uint16_t operands[NODES];
-    bound(TABLE_WORDS);
-    bound(TABLE_WORDS - 1);
-    size_t nodes = write_plan(kinds, operands);
-    check(kinds, operands, nodes);
-    check(kinds, operands, nodes - 1);
+    bound(0, TABLE_WORDS);
+    bound(0, 59);
+    size_t nodes = write_plan(0, kinds, operands);
+    check(0, kinds, operands, nodes);
+    check(0, kinds, operands, nodes - 1);
     check_block(waste, sizeof waste);
-    certify(kinds, operands, nodes);
+    certify(0, kinds, operands, nodes);
+    certify(PLANNER_TURNING, kinds, operands, nodes);
+    nodes = write_plan(PLANNER_TURNING, kinds, operands);
+    check(PLANNER_TURNING, kinds, operands, nodes);
+    check(0, kinds, operands, nodes);
+    bound(2, TABLE_WORDS);
     return 0;
 }

@@ -1,8 +1,14 @@
-// What the calls answer, what they borrow, and how an answer is laid out in words.
+// The choices of the calls, what they answer and borrow, and how an answer is laid out in words.
 // Wrapper, reference and baselines share these types.
+
+/// The choice that a piece may be turned.
+pub const TURNING: u32 = 1;
 
 /// Answer of a call whose `answer` slice is too short.
 pub const ANSWER_TOO_SHORT: u32 = 100;
+
+/// Answer of a call whose choices have a bit without a meaning.
+pub const UNKNOWN_CHOICE: u32 = 101;
 
 /// A refusal: its number and its place.
 #[derive(Clone, Copy, Debug, PartialEq, Eq)]

@@ -4,9 +4,9 @@ use crate::answers::{PlanArrays, Storage};
 
 pub struct Calls {
     pub name: &'static str,
-    pub check_plan: fn(&[u8], &[u8], &[u16], &mut [u64]) -> u32,
-    pub check_plan_block: fn(&[u8], &[u8], &mut [u64]) -> u32,
-    pub bound: fn(&[u8], &[u8], Storage<'_>, &mut [u64]) -> u32,
-    pub write_plan: fn(&[u8], &[u8], Storage<'_>, PlanArrays<'_>, &mut [u64]) -> u32,
-    pub certify: fn(&[u8], &[u8], &[u8], &[u16], Storage<'_>, &mut [u64]) -> u32,
+    pub check_plan: fn(&[u8], u32, &[u8], &[u16], &mut [u64]) -> u32,
+    pub check_plan_block: fn(&[u8], u32, &[u8], &mut [u64]) -> u32,
+    pub bound: fn(&[u8], u32, &[u8], Storage<'_>, &mut [u64]) -> u32,
+    pub write_plan: fn(&[u8], u32, &[u8], Storage<'_>, PlanArrays<'_>, &mut [u64]) -> u32,
+    pub certify: fn(&[u8], u32, &[u8], &[u8], &[u16], Storage<'_>, &mut [u64]) -> u32,
 }

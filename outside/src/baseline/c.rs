@@ -4,13 +4,13 @@ use crate::answers::{Bound, PlanArrays, Storage, Words, Written};
 
 extern "C" {
     fn baseline_bound(
-        job: *const u8, weights: *const u8,
+        job: *const u8, choices: u32, weights: *const u8,
         lengths: *mut u16, widths: *mut u16, table: *mut u64,
         answer: *mut u64,
     );
 
     fn baseline_write_plan(
-        job: *const u8, weights: *const u8,
+        job: *const u8, choices: u32, weights: *const u8,
         lengths: *mut u16, widths: *mut u16, table: *mut u64,
         kinds: *mut u8, operands: *mut u16,
         answer: *mut u64,
@@ -19,10 +19,10 @@ extern "C" {
 
 /// # Safety
 /// The planner accepts the job and the weights, and the storage is enough for them.
-pub unsafe fn bound(job: &[u8], weights: &[u8], storage: Storage) -> Bound {
+pub unsafe fn bound(job: &[u8], choices: u32, weights: &[u8], storage: Storage) -> Bound {
     let mut answer = [0; 4];
     baseline_bound(
-        job.as_ptr(), weights.as_ptr(),
+        job.as_ptr(), choices, weights.as_ptr(),
         storage.lengths.as_mut_ptr(), storage.widths.as_mut_ptr(), storage.table.as_mut_ptr(),
         answer.as_mut_ptr(),
     );
@@ -33,13 +33,14 @@ pub unsafe fn bound(job: &[u8], weights: &[u8], storage: Storage) -> Bound {
 /// As for `bound`; the plan arrays hold the plan or 4,095 nodes.
 pub unsafe fn write_plan(
     job: &[u8],
+    choices: u32,
     weights: &[u8],
     storage: Storage,
     plan: PlanArrays,
 ) -> Written {
     let mut answer = [0; 5];
     baseline_write_plan(
-        job.as_ptr(), weights.as_ptr(),
+        job.as_ptr(), choices, weights.as_ptr(),
         storage.lengths.as_mut_ptr(), storage.widths.as_mut_ptr(), storage.table.as_mut_ptr(),
         plan.kinds.as_mut_ptr(), plan.operands.as_mut_ptr(),
         answer.as_mut_ptr(),

@@ -7,10 +7,17 @@ use crate::calls::Calls;
 pub const CALLS: Calls =
     Calls { name: "proved", check_plan, check_plan_block, bound, write_plan, certify };
 
-pub fn check_plan(job: &[u8], kinds: &[u8], operands: &[u16], answer: &mut [u64]) -> u32 {
+pub fn check_plan(
+    job: &[u8],
+    choices: u32,
+    kinds: &[u8],
+    operands: &[u16],
+    answer: &mut [u64],
+) -> u32 {
     unsafe {
         foreign::planner_check_plan(
             job.as_ptr(), job.len(),
+            choices,
             kinds.as_ptr(), kinds.len(),
             operands.as_ptr(), operands.len(),
             answer.as_mut_ptr(), answer.len(),
@@ -18,20 +25,28 @@ pub fn check_plan(job: &[u8], kinds: &[u8], operands: &[u16], answer: &mut [u64]
     }
 }
 
-pub fn check_plan_block(job: &[u8], plan: &[u8], answer: &mut [u64]) -> u32 {
+pub fn check_plan_block(job: &[u8], choices: u32, plan: &[u8], answer: &mut [u64]) -> u32 {
     unsafe {
         foreign::planner_check_plan_block(
             job.as_ptr(), job.len(),
+            choices,
             plan.as_ptr(), plan.len(),
             answer.as_mut_ptr(), answer.len(),
         )
     }
 }
 
-pub fn bound(job: &[u8], weights: &[u8], storage: Storage, answer: &mut [u64]) -> u32 {
+pub fn bound(
+    job: &[u8],
+    choices: u32,
+    weights: &[u8],
+    storage: Storage,
+    answer: &mut [u64],
+) -> u32 {
     unsafe {
         foreign::planner_bound(
             job.as_ptr(), job.len(),
+            choices,
             weights.as_ptr(), weights.len(),
             storage.lengths.as_mut_ptr(), storage.lengths.len(),
             storage.widths.as_mut_ptr(), storage.widths.len(),
@@ -43,6 +58,7 @@ pub fn bound(job: &[u8], weights: &[u8], storage: Storage, answer: &mut [u64]) -
 
 pub fn write_plan(
     job: &[u8],
+    choices: u32,
     weights: &[u8],
     storage: Storage,
     plan: PlanArrays,
@@ -51,6 +67,7 @@ pub fn write_plan(
     unsafe {
         foreign::planner_write_plan(
             job.as_ptr(), job.len(),
+            choices,
             weights.as_ptr(), weights.len(),
             storage.lengths.as_mut_ptr(), storage.lengths.len(),
             storage.widths.as_mut_ptr(), storage.widths.len(),
@@ -64,6 +81,7 @@ pub fn write_plan(
 
 pub fn certify(
     job: &[u8],
+    choices: u32,
     weights: &[u8],
     kinds: &[u8],
     operands: &[u16],
@@ -73,6 +91,7 @@ pub fn certify(
     unsafe {
         foreign::planner_certify(
             job.as_ptr(), job.len(),
+            choices,
             weights.as_ptr(), weights.len(),
             kinds.as_ptr(), kinds.len(),
             operands.as_ptr(), operands.len(),

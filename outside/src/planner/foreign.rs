@@ -3,6 +3,7 @@
 extern "C" {
     pub fn planner_check_plan(
         job: *const u8, job_len: usize,
+        choices: u32,
         kinds: *const u8, kinds_len: usize,
         operands: *const u16, operands_len: usize,
         answer: *mut u64, answer_len: usize,
@@ -10,12 +11,14 @@ extern "C" {
 
     pub fn planner_check_plan_block(
         job: *const u8, job_len: usize,
+        choices: u32,
         plan: *const u8, plan_len: usize,
         answer: *mut u64, answer_len: usize,
     ) -> u32;
 
     pub fn planner_bound(
         job: *const u8, job_len: usize,
+        choices: u32,
         weights: *const u8, weights_len: usize,
         lengths: *mut u16, lengths_len: usize,
         widths: *mut u16, widths_len: usize,
@@ -25,6 +28,7 @@ extern "C" {
 
     pub fn planner_write_plan(
         job: *const u8, job_len: usize,
+        choices: u32,
         weights: *const u8, weights_len: usize,
         lengths: *mut u16, lengths_len: usize,
         widths: *mut u16, widths_len: usize,
@@ -36,6 +40,7 @@ extern "C" {
 
     pub fn planner_certify(
         job: *const u8, job_len: usize,
+        choices: u32,
         weights: *const u8, weights_len: usize,
         kinds: *const u8, kinds_len: usize,
         operands: *const u16, operands_len: usize,

@@ -6,39 +6,51 @@ mod foreign;
 use crate::answers::{Bound, Certificate, PlanArrays, Refusal, Report, Storage, Words, Written};
 
 /// Checks a plan given as two arrays.
-pub fn check_plan(job: &[u8], kinds: &[u8], operands: &[u16]) -> Result<Report, Refusal> {
-    typed(|answer| calls::check_plan(job, kinds, operands, answer))
+pub fn check_plan(
+    job: &[u8],
+    choices: u32,
+    kinds: &[u8],
+    operands: &[u16],
+) -> Result<Report, Refusal> {
+    typed(|answer| calls::check_plan(job, choices, kinds, operands, answer))
 }
 
 /// Checks a plan block.
-pub fn check_plan_block(job: &[u8], plan: &[u8]) -> Result<Report, Refusal> {
-    typed(|answer| calls::check_plan_block(job, plan, answer))
+pub fn check_plan_block(job: &[u8], choices: u32, plan: &[u8]) -> Result<Report, Refusal> {
+    typed(|answer| calls::check_plan_block(job, choices, plan, answer))
 }
 
 /// Computes the bound and fills the storage.
-pub fn bound(job: &[u8], weights: &[u8], storage: Storage) -> Result<Bound, Refusal> {
-    typed(|answer| calls::bound(job, weights, storage, answer))
+pub fn bound(
+    job: &[u8],
+    choices: u32,
+    weights: &[u8],
+    storage: Storage,
+) -> Result<Bound, Refusal> {
+    typed(|answer| calls::bound(job, choices, weights, storage, answer))
 }
 
 /// Writes the plan behind the bound and fills the storage.
 pub fn write_plan(
     job: &[u8],
+    choices: u32,
     weights: &[u8],
     storage: Storage,
     plan: PlanArrays,
 ) -> Result<Written, Refusal> {
-    typed(|answer| calls::write_plan(job, weights, storage, plan, answer))
+    typed(|answer| calls::write_plan(job, choices, weights, storage, plan, answer))
 }
 
 /// Certifies a plan and fills the storage.
 pub fn certify(
     job: &[u8],
+    choices: u32,
     weights: &[u8],
     kinds: &[u8],
     operands: &[u16],
     storage: Storage,
 ) -> Result<Certificate, Refusal> {
-    typed(|answer| calls::certify(job, weights, kinds, operands, storage, answer))
+    typed(|answer| calls::certify(job, choices, weights, kinds, operands, storage, answer))
 }
 
 fn typed<const N: usize, A: Words<N>>(

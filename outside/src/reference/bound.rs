@@ -1,7 +1,7 @@
 // The bound: refusals 1 to 9, 19 and 20, and the contents of lists and table.
 // The writer and the certificate prepare their storage by the same steps.
 use super::figures::Figures;
-use super::job::{Job, Kind};
+use super::job::Job;
 use super::normal::normal_positions;
 use super::refuse_if;
 use super::weights::capacity;
@@ -15,8 +15,13 @@ pub struct Tabled {
     pub widths: Vec<usize>,
 }
 
-pub fn bound(job: &[u8], weights: &[u8], storage: Storage) -> Result<Bound, Refusal> {
-    let job = Job::read(job)?;
+pub fn bound(
+    job: &[u8],
+    choices: u32,
+    weights: &[u8],
+    storage: Storage,
+) -> Result<Bound, Refusal> {
+    let job = Job::read(job, choices)?;
     let capacity = capacity(&job, weights)?;
     Ok(tabled(&job, weights, capacity, storage)?.bound)
 }
@@ -29,8 +34,7 @@ pub fn tabled(
 ) -> Result<Tabled, Refusal> {
     let short = storage.lengths.len() <= job.length || storage.widths.len() <= job.width;
     refuse_if(short, 19, 0)?;
-    let lengths = normal_positions(job.length, &sides(job, |kind| kind.length));
-    let widths = normal_positions(job.width, &sides(job, |kind| kind.width));
+    let (lengths, widths) = normal_positions(job);
     fill(storage.lengths, &lengths);
     fill(storage.widths, &widths);
     let needed = lengths.len() * widths.len() * (capacity + 1);
@@ -50,11 +54,6 @@ pub fn tabled(
         widths: widths.len() as u64,
     };
     Ok(Tabled { bound, figures, lengths, widths })
-}
-
-fn sides(job: &Job, side: impl Fn(&Kind) -> usize) -> Vec<usize> {
-    let fitting = job.kinds.iter().filter(|kind| kind.fits(job.length, job.width));
-    fitting.map(side).collect()
 }
 
 fn fill(list: &mut [u16], positions: &[usize]) {

@@ -1,50 +1,70 @@
 // The reference's calls with codes and answer words, as planner.h has them.
-// A short answer is told before anything else is looked at.
-use crate::answers::{PlanArrays, Refusal, Storage, Words, ANSWER_TOO_SHORT};
+// A short answer is told before anything else is looked at, and then a bit that is no choice.
+use crate::answers::{
+    PlanArrays, Refusal, Storage, Words, ANSWER_TOO_SHORT, TURNING, UNKNOWN_CHOICE,
+};
 use crate::calls::Calls;
 
 pub const CALLS: Calls =
     Calls { name: "reference", check_plan, check_plan_block, bound, write_plan, certify };
 
-pub fn check_plan(job: &[u8], kinds: &[u8], operands: &[u16], answer: &mut [u64]) -> u32 {
-    coded(answer, || super::check_plan(job, kinds, operands))
+pub fn check_plan(
+    job: &[u8],
+    choices: u32,
+    kinds: &[u8],
+    operands: &[u16],
+    answer: &mut [u64],
+) -> u32 {
+    coded(choices, answer, || super::check_plan(job, choices, kinds, operands))
 }
 
-pub fn check_plan_block(job: &[u8], plan: &[u8], answer: &mut [u64]) -> u32 {
-    coded(answer, || super::check_plan_block(job, plan))
+pub fn check_plan_block(job: &[u8], choices: u32, plan: &[u8], answer: &mut [u64]) -> u32 {
+    coded(choices, answer, || super::check_plan_block(job, choices, plan))
 }
 
-pub fn bound(job: &[u8], weights: &[u8], storage: Storage, answer: &mut [u64]) -> u32 {
-    coded(answer, || super::bound(job, weights, storage))
+pub fn bound(
+    job: &[u8],
+    choices: u32,
+    weights: &[u8],
+    storage: Storage,
+    answer: &mut [u64],
+) -> u32 {
+    coded(choices, answer, || super::bound(job, choices, weights, storage))
 }
 
 pub fn write_plan(
     job: &[u8],
+    choices: u32,
     weights: &[u8],
     storage: Storage,
     plan: PlanArrays,
     answer: &mut [u64],
 ) -> u32 {
-    coded(answer, || super::write_plan(job, weights, storage, plan))
+    coded(choices, answer, || super::write_plan(job, choices, weights, storage, plan))
 }
 
 pub fn certify(
     job: &[u8],
+    choices: u32,
     weights: &[u8],
     kinds: &[u8],
     operands: &[u16],
     storage: Storage,
     answer: &mut [u64],
 ) -> u32 {
-    coded(answer, || super::certify(job, weights, kinds, operands, storage))
+    coded(choices, answer, || super::certify(job, choices, weights, kinds, operands, storage))
 }
 
 fn coded<const N: usize, A: Words<N>>(
+    choices: u32,
     answer: &mut [u64],
     call: impl FnOnce() -> Result<A, Refusal>,
 ) -> u32 {
     if answer.len() < N {
         return ANSWER_TOO_SHORT;
+    }
+    if choices & !TURNING != 0 {
+        return UNKNOWN_CHOICE;
     }
     match call() {
         Ok(told) => {

@@ -8,12 +8,13 @@ use crate::answers::{Certificate, Refusal, Storage};
 
 pub fn certify(
     job: &[u8],
+    choices: u32,
     weights: &[u8],
     kinds: &[u8],
     operands: &[u16],
     storage: Storage,
 ) -> Result<Certificate, Refusal> {
-    let job = Job::read(job)?;
+    let job = Job::read(job, choices)?;
     let capacity = capacity(&job, weights)?;
     let profit = check(&job, kinds, operands)?.profit;
     let bound = tabled(&job, weights, capacity, storage)?.bound.bound;

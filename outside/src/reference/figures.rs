@@ -39,10 +39,9 @@ impl Figures {
 
     fn best(&self, job: &Job, weights: &[u8], length: usize, width: usize) -> Vec<u64> {
         let mut best = vec![0; self.shares];
-        for (kind, &weight) in job.kinds.iter().zip(weights) {
-            if kind.fits(length, width) {
-                best.iter_mut().skip(weight.into()).for_each(|b| *b = kind.price.max(*b));
-            }
+        for piece in job.pieces().filter(|piece| piece.fits(length, width)) {
+            let (price, weight) = (job.kinds[piece.kind].price, weights[piece.kind]);
+            best.iter_mut().skip(weight.into()).for_each(|b| *b = price.max(*b));
         }
         for cut in 1..length {
             raise(&mut best, self.shares_of(cut, width), self.shares_of(length - cut, width));

@@ -1,7 +1,7 @@
-// The job block: refusals 1 to 7.
+// The job block: refusals 1 to 7; and the pieces as they may lie.
 // Header, then all sizes, then the pairs of price and demand.
 use super::refuse_if;
-use crate::answers::Refusal;
+use crate::answers::{Refusal, TURNING};
 
 pub struct Kind {
     pub length: usize,
@@ -10,20 +10,42 @@ pub struct Kind {
     pub demand: u64,
 }
 
+/// A piece as it lies: of which kind, and its sides, exchanged where it is turned.
+pub struct Piece {
+    pub kind: usize,
+    pub turned: bool,
+    pub length: usize,
+    pub width: usize,
+}
+
 pub struct Job {
     pub length: usize,
     pub width: usize,
     pub kinds: Vec<Kind>,
+    pub turning: bool,
 }
 
-impl Kind {
+impl Piece {
     pub fn fits(&self, length: usize, width: usize) -> bool {
         self.length <= length && self.width <= width
     }
 }
 
 impl Job {
-    pub fn read(block: &[u8]) -> Result<Job, Refusal> {
+    pub fn piece(&self, kind: usize, turned: bool) -> Piece {
+        let Kind { length, width, .. } = self.kinds[kind];
+        let (length, width) = if turned { (width, length) } else { (length, width) };
+        Piece { kind, turned, length, width }
+    }
+
+    /// Every kind as it may lie, upright before turned.
+    pub fn pieces(&self) -> impl Iterator<Item = Piece> + '_ {
+        let ways: &[bool] = if self.turning { &[false, true] } else { &[false] };
+        let kinds = 0..self.kinds.len();
+        kinds.flat_map(move |i| ways.iter().map(move |&turned| self.piece(i, turned)))
+    }
+
+    pub fn read(block: &[u8], choices: u32) -> Result<Job, Refusal> {
         refuse_if(block.len() < 6, 1, 0)?;
         let (length, width, n) = (two(block, 0), two(block, 2), two(block, 4));
         refuse_if(is_no_side(length) || is_no_side(width), 2, 0)?;
@@ -38,7 +60,7 @@ impl Job {
             refuse_if(two(pair, 4) > 255, 7, i)?;
         }
         let kinds = sizes.chunks(4).zip(pairs.chunks(6)).map(kind).collect();
-        Ok(Job { length, width, kinds })
+        Ok(Job { length, width, kinds, turning: choices & TURNING != 0 })
     }
 }
 

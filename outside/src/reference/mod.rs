@@ -13,7 +13,7 @@ mod writer;
 pub use bound::bound;
 pub use certificate::certify;
 pub use figures::Figures;
-pub use job::{Job, Kind};
+pub use job::Job;
 pub use normal::normal_positions;
 pub use plan::{check_plan, check_plan_block};
 pub use weights::capacity;

@@ -1,19 +1,26 @@
 // The plan check: refusals 10 to 18, and the report.
 // Rectangles that wait for their node are kept in a list, the next one last.
-use super::job::Job;
+use super::job::{Job, Piece};
 use super::refuse_if;
 use crate::answers::{Refusal, Report};
 
 const WASTE: u8 = 0;
 const PIECE: u8 = 1;
 const CUT_LENGTH: u8 = 2;
+const CUT_WIDTH: u8 = 3;
+const TURNED_PIECE: u8 = 4;
 
-pub fn check_plan(job: &[u8], kinds: &[u8], operands: &[u16]) -> Result<Report, Refusal> {
-    check(&Job::read(job)?, kinds, operands)
+pub fn check_plan(
+    job: &[u8],
+    choices: u32,
+    kinds: &[u8],
+    operands: &[u16],
+) -> Result<Report, Refusal> {
+    check(&Job::read(job, choices)?, kinds, operands)
 }
 
-pub fn check_plan_block(job: &[u8], plan: &[u8]) -> Result<Report, Refusal> {
-    let job = Job::read(job)?;
+pub fn check_plan_block(job: &[u8], choices: u32, plan: &[u8]) -> Result<Report, Refusal> {
+    let job = Job::read(job, choices)?;
     refuse_if(plan.len() < 2, 10, 0)?;
     let count = usize::from(u16::from_le_bytes([plan[0], plan[1]]));
     refuse_if(plan.len() != 2 + 3 * count, 10, 0)?;
@@ -55,12 +62,13 @@ impl Walk<'_> {
         operand: usize,
         (length, width): (usize, usize),
     ) -> Result<(), Refusal> {
-        refuse_if(kind > 3, 12, at)?;
+        refuse_if(kind > if self.job.turning { TURNED_PIECE } else { CUT_WIDTH }, 12, at)?;
         if kind == WASTE {
             refuse_if(operand != 0, 14, at)?;
             self.report.waste += (length * width) as u64;
-        } else if kind == PIECE {
-            self.piece(at, operand, length, width)?;
+        } else if kind == PIECE || kind == TURNED_PIECE {
+            refuse_if(operand >= self.job.kinds.len(), 13, at)?;
+            self.piece(at, self.job.piece(operand, kind == TURNED_PIECE), length, width)?;
         } else if kind == CUT_LENGTH {
             refuse_if(operand < 1 || operand >= length, 14, at)?;
             self.waiting.extend([(length - operand, width), (operand, width)]);
@@ -71,13 +79,18 @@ impl Walk<'_> {
         Ok(())
     }
 
-    fn piece(&mut self, at: usize, i: usize, length: usize, width: usize) -> Result<(), Refusal> {
-        refuse_if(i >= self.job.kinds.len(), 13, at)?;
-        let kind = &self.job.kinds[i];
-        refuse_if(!kind.fits(length, width), 15, at)?;
-        refuse_if(self.report.copies[i] == kind.demand, 16, at)?;
-        let area = kind.length * kind.width;
-        self.report.copies[i] += 1;
+    fn piece(
+        &mut self,
+        at: usize,
+        piece: Piece,
+        length: usize,
+        width: usize,
+    ) -> Result<(), Refusal> {
+        let kind = &self.job.kinds[piece.kind];
+        refuse_if(!piece.fits(length, width), 15, at)?;
+        refuse_if(self.report.copies[piece.kind] == kind.demand, 16, at)?;
+        let area = piece.length * piece.width;
+        self.report.copies[piece.kind] += 1;
         self.report.profit += kind.price;
         self.report.pieces += area as u64;
         self.report.trim += (length * width - area) as u64;

@@ -1,7 +1,7 @@
 // The plan behind the bound, chosen from the figures of whole rectangles: refusal 21.
 // The order of choice is the paper's; positions are normal, the remainder is true.
 use super::bound::{tabled, Tabled};
-use super::job::Job;
+use super::job::{Job, Piece};
 use super::refuse_if;
 use super::weights::capacity;
 use crate::answers::{PlanArrays, Refusal, Storage, Written};
@@ -11,18 +11,19 @@ type Part = (usize, usize, usize);
 
 enum Choice {
     Waste,
-    Piece(usize),
+    Piece(Piece),
     CutLength(usize, usize),
     CutWidth(usize, usize),
 }
 
 pub fn write_plan(
     job: &[u8],
+    choices: u32,
     weights: &[u8],
     storage: Storage,
     plan: PlanArrays,
 ) -> Result<Written, Refusal> {
-    let job = Job::read(job)?;
+    let job = Job::read(job, choices)?;
     let capacity = capacity(&job, weights)?;
     let tabled = tabled(&job, weights, capacity, storage)?;
     let nodes = nodes(&job, weights, &tabled, capacity);
@@ -42,7 +43,7 @@ fn nodes(job: &Job, weights: &[u8], tabled: &Tabled, capacity: usize) -> Vec<(u8
         let (length, width, share) = part;
         match choose(job, weights, tabled, part) {
             Choice::Waste => nodes.push((0, 0)),
-            Choice::Piece(i) => nodes.push((1, i)),
+            Choice::Piece(piece) => nodes.push((if piece.turned { 4 } else { 1 }, piece.kind)),
             Choice::CutLength(cut, first) => {
                 nodes.push((2, cut));
                 waiting.extend([(length - cut, width, share - first), (cut, width, first)]);
@@ -62,12 +63,12 @@ fn choose(job: &Job, weights: &[u8], tabled: &Tabled, (length, width, share): Pa
     if value == 0 {
         return Choice::Waste;
     }
-    let earns = |i: &usize| {
-        let kind = &job.kinds[*i];
-        kind.fits(length, width) && usize::from(weights[*i]) <= share && kind.price == value
+    let earns = |piece: &Piece| {
+        let (price, weight) = (job.kinds[piece.kind].price, weights[piece.kind]);
+        piece.fits(length, width) && usize::from(weight) <= share && price == value
     };
-    if let Some(i) = (0..job.kinds.len()).find(earns) {
-        return Choice::Piece(i);
+    if let Some(piece) = job.pieces().find(earns) {
+        return Choice::Piece(piece);
     }
     let across = |cut| (figures.shares_of(cut, width), figures.shares_of(length - cut, width));
     if let Some((cut, first)) = first_pair(&tabled.lengths, length, share, value, across) {

@@ -2,37 +2,37 @@
 // What they take as given is given here: an accepted job and storage that the reference found enough.
 use crate::inputs::{draw, Scale};
 use crate::lent::{Lent, Sizes};
-use crate::run::Input;
-use outside::answers::{PlanArrays, Storage, Words, Written};
+use crate::run::{Call, Input};
+use outside::answers::{PlanArrays, Storage, Words, Written, TURNING};
 use outside::random::Random;
 use outside::{baseline, reference};
 
 const ROOM: Sizes =
     Sizes { lengths: 120, widths: 120, table: 1 << 18, kinds: 4095, operands: 4095, answer: 5 };
 
-type WritePlan = fn(&[u8], &[u8], Storage<'_>, PlanArrays<'_>) -> Written;
+type WritePlan = fn(&[u8], u32, &[u8], Storage<'_>, PlanArrays<'_>) -> Written;
 
-fn in_c(job: &[u8], weights: &[u8], storage: Storage, plan: PlanArrays) -> Written {
-    unsafe { baseline::c::write_plan(job, weights, storage, plan) }
+fn in_c(job: &[u8], c: u32, weights: &[u8], storage: Storage, plan: PlanArrays) -> Written {
+    unsafe { baseline::c::write_plan(job, c, weights, storage, plan) }
 }
 
 fn written(input: &Input, write_plan: WritePlan) -> Lent {
     let mut lent = Lent::new(ROOM);
     let (storage, plan, answer) = lent.split();
-    answer.copy_from_slice(&write_plan(&input.job, &input.weights, storage, plan).to_words());
+    let Input { job, choices, weights, .. } = input;
+    answer.copy_from_slice(&write_plan(job, *choices, weights, storage, plan).to_words());
     lent
 }
 
-/// Compares both baselines on so many jobs, those left out that the reference refuses.
+/// Compares both baselines on so many jobs, upright and turning, those left out that the reference
+/// refuses.
 fn baselines_agree(seed: u64, jobs: usize, scale: Scale) {
     let random = &mut Random::new(seed);
     let mut compared = 0;
-    for _ in 0..jobs {
-        let input = draw(random, scale);
+    for i in 0..jobs {
+        let input = draw(random, scale, [0, TURNING][i % 2]);
         let mut expected = Lent::new(ROOM);
-        let (storage, plan, answer) = expected.split();
-        let Input { job, weights, .. } = &input;
-        if reference::calls::write_plan(job, weights, storage, plan, answer) == 0 {
+        if Call::WritePlan.run(&reference::calls::CALLS, &input, &mut expected) == 0 {
             compared += 1;
             for write_plan in [baseline::rust::write_plan, in_c] {
                 assert_eq!(expected.differences(&written(&input, write_plan)), [""; 0], "{input:?}");
@@ -47,19 +47,19 @@ fn baselines_agree(seed: u64, jobs: usize, scale: Scale) {
 fn baselines_agree_with_shares() {
     let scale =
         Scale { plate: 12, side: 7, kinds: 6, price: 30, demand: 4, weight: 3, work: usize::MAX };
-    baselines_agree(11, 3000, scale);
+    baselines_agree(11, 6000, scale);
 }
 
 #[test]
 fn baselines_agree_with_many_shares() {
     let scale =
         Scale { plate: 5, side: 3, kinds: 4, price: 50, demand: 6, weight: 40, work: usize::MAX };
-    baselines_agree(13, 500, scale);
+    baselines_agree(13, 1000, scale);
 }
 
 #[test]
 fn baselines_agree_without_weights() {
     let scale =
         Scale { plate: 60, side: 40, kinds: 9, price: 400, demand: 4, weight: 0, work: usize::MAX };
-    baselines_agree(12, 200, scale);
+    baselines_agree(12, 400, scale);
 }

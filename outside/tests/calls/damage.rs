@@ -20,6 +20,7 @@ pub fn damage(random: &mut Random, input: &mut Input) {
         }
         5 if random.one_in(8) => input.plan = vec![0, 0],
         5 => damage_bytes(random, &mut input.plan),
+        6 if random.one_in(4) => input.choices ^= 1 << random.from(0, 31),
         _ => {}
     }
 }
@@ -93,7 +94,7 @@ fn damage_arrays(random: &mut Random, input: &mut Input) {
             kinds.push(0);
             operands.push(0);
         }
-        4 => kinds[at] = random.from(0, 5) as u8,
+        4 => kinds[at] = random.from(0, 6) as u8,
         5 => operands[at] = random.pick(&EDGES),
         6 => operands[at] ^= 1,
         _ => kinds[at] ^= 1,

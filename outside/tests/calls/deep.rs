@@ -1,10 +1,11 @@
-// The deepest and the longest inputs of every call, on a thread with a small stack.
-// A plan on a 1,000 by 1,000 plate nests at most 1,998 cuts; a plan has at most 4,095 nodes.
+// The deepest and the longest inputs of every call, with and without turning, on a thread with a
+// small stack. A plan on a 1,000 by 1,000 plate nests at most 1,998 cuts; a plan has at most 4,095
+// nodes.
 use crate::examples::{input, Node};
 use crate::lent::{Lent, Sizes};
 use crate::run::{Call, Input};
 use crate::stack::on_small_stack;
-use outside::answers::Words;
+use outside::answers::{Words, TURNING};
 use outside::blocks::{job_block, Kind};
 use outside::random::Random;
 use outside::{baseline, reference};
@@ -71,30 +72,40 @@ fn deep_plans() -> Vec<Vec<Node>> {
 #[test]
 fn deepest_plans_are_checked_and_certified() {
     let job = job_block(1000, 1000, &[(40, 30, 7, 1)]);
-    let bound = 25 * 33 * 7;
-    let sizes = Sizes { table: 26 * 34, ..LARGE };
-    for nodes in deep_plans() {
-        assert!([3997, 4095].contains(&nodes.len()));
-        let input = input(job.clone(), &[0], &nodes);
-        for call in [Call::CheckPlan, Call::CheckPlanBlock] {
-            let (code, lent) = agrees(call, &input, sizes);
-            assert_eq!((code, lent.answer.words()[2]), (0, 1_000_000));
+    let turning = (TURNING, 32 * 25 + 33, 98 * 98);
+    for (choices, copies, table) in [(0, 33 * 25, 26 * 34), turning] {
+        let (bound, sizes) = (copies * 7, Sizes { table, ..LARGE });
+        for nodes in deep_plans() {
+            assert!([3997, 4095].contains(&nodes.len()));
+            let input = input(job.clone(), &[0], &nodes).with(choices);
+            for call in [Call::CheckPlan, Call::CheckPlanBlock] {
+                let (code, lent) = agrees(call, &input, sizes);
+                assert_eq!((code, lent.answer.words()[2]), (0, 1_000_000));
+            }
+            let (code, lent) = on_small_stack(Call::Certify, &input, sizes);
+            assert_eq!((code, &lent.answer.words()[..3]), (0, &[bound, bound, 0][..]));
         }
-        let (code, lent) = on_small_stack(Call::Certify, &input, sizes);
-        assert_eq!((code, &lent.answer.words()[..3]), (0, &[bound, bound, 0][..]));
     }
 }
 
 /// The most rectangles wait when a plan ends after its last nested cut, or goes wrong there.
 #[test]
 fn deepest_plans_are_refused() {
+    let ends = [
+        (0, None, 17),
+        (0, Some((4, 0)), 12),
+        (0, Some((2, 1)), 14),
+        (0, Some((1, 0)), 15),
+        (TURNING, Some((5, 0)), 12),
+        (TURNING, Some((4, 1)), 13),
+        (TURNING, Some((4, 0)), 15),
+    ];
     let job = job_block(1000, 1000, &[(40, 30, 7, 1)]);
     for order in [Order::LengthsThenWidths, Order::Alternating] {
         let cuts = &nested_in_first_parts(order)[..1998];
-        let last = |node| cuts.iter().copied().chain([node]).collect::<Vec<Node>>();
-        let ends = [(cuts.to_vec(), 17), (last((4, 0)), 12), (last((2, 1)), 14), (last((1, 0)), 15)];
-        for (nodes, number) in ends {
-            let input = input(job.clone(), &[0], &nodes);
+        for (choices, last, number) in ends {
+            let nodes: Vec<Node> = cuts.iter().copied().chain(last).collect();
+            let input = input(job.clone(), &[0], &nodes).with(choices);
             for call in [Call::CheckPlan, Call::CheckPlanBlock, Call::Certify] {
                 let (code, lent) = agrees(call, &input, LARGE);
                 assert_eq!((code, lent.answer.words()[0]), (number, 1998));
@@ -103,20 +114,28 @@ fn deepest_plans_are_refused() {
     }
 }
 
-/// The 64 by 32 plate in units, written, and then checked and certified with 32 copies of each kind.
+/// The 64 by 32 plate in units, and the 64 by 64 plate in pieces of 2 by 1 that are all turned.
 #[test]
-fn longest_plan_is_written_checked_and_certified() {
-    let kinds: Vec<Kind> = vec![(1, 1, 1_000_000, 32); 64];
-    let blank = input(job_block(64, 32, &kinds), &[0; 64], &[]);
-    let sizes = Sizes { table: 65 * 33, ..LARGE };
+fn longest_plans_are_written_checked_and_certified() {
+    let [unit, long] = [1, 2].map(|length| vec![(length, 1, 1_000_000, 32); 64]);
+    longest_plan(input(job_block(64, 32, &unit), &[0; 64], &[]), 65 * 33, 1);
+    longest_plan(input(job_block(64, 64, &long), &[0; 64], &[]).with(TURNING), 65 * 65, 4);
+}
+
+/// Written with 2,048 leaves of one kind of node, then checked and certified with 32 copies of each
+/// kind.
+fn longest_plan(blank: Input, table: usize, piece: u8) {
+    let sizes = Sizes { table, ..LARGE };
     let (code, lent) = agrees(Call::WritePlan, &blank, sizes);
     assert_eq!((code, lent.answer.words()[4]), (0, 4095));
-    let mut leaves = 0..;
-    let nodes = lent.kinds.words().iter().zip(lent.operands.words()).map(|node| match node {
-        (1, _) => (1, leaves.next().expect("a number") / 32),
-        (&kind, &operand) => (kind, operand),
+    let mut leaves = 0..2048;
+    let nodes = lent.kinds.words().iter().zip(lent.operands.words()).map(|(&kind, &operand)| {
+        let leaf = (kind == piece).then(|| leaves.next().expect("2,048 leaves"));
+        (kind, leaf.map_or(operand, |leaf| leaf / 32))
     });
-    let full = input(blank.job, &[0; 64], &nodes.collect::<Vec<Node>>());
+    let nodes: Vec<Node> = nodes.collect();
+    assert!(leaves.is_empty());
+    let full = input(blank.job, &[0; 64], &nodes).with(blank.choices);
     let profit = 2_048_000_000;
     let firsts = [(Call::CheckPlan, profit), (Call::CheckPlanBlock, profit), (Call::Certify, 0)];
     for (call, first) in firsts {
@@ -125,35 +144,50 @@ fn longest_plan_is_written_checked_and_certified() {
     }
 }
 
-/// Whole strips have no weight, and one unit of weight 1 is dear: the last strip is cut into units,
-/// and the dear one comes last.
 #[test]
 fn deepest_plan_is_written() {
-    let kinds = [(1, 1000, 2000, 0), (1, 1, 1, 0), (1, 1, 100_000, 1)];
-    let input = input(job_block(1000, 1000, &kinds), &[0, 0, 1], &[]);
+    deepest_plan((1, 1000), 0, 1);
+}
+
+#[test]
+fn deepest_plan_is_written_with_turned_strips() {
+    deepest_plan((1000, 1), TURNING, 4);
+}
+
+/// Whole strips, of these sides and this kind of node, have no weight, and one unit of weight 1 is
+/// dear: the last strip is cut into units, and the dear one comes last.
+fn deepest_plan((length, width): (u16, u16), choices: u32, piece: u8) {
+    let kinds = [(length, width, 2000, 0), (1, 1, 1, 0), (1, 1, 100_000, 1)];
+    let input = input(job_block(1000, 1000, &kinds), &[0, 0, 1], &[]).with(choices);
     let sizes = Sizes { table: 2 * 1001 * 1001, kinds: 3997, operands: 3997, ..LARGE };
     let (code, lent) = on_small_stack(Call::WritePlan, &input, sizes);
     assert_eq!(code, 0);
     assert_eq!(lent.answer.words()[..5], [999 * 2000 + 999 + 100_000, 1, 1001, 1001, 3997]);
-    let strips = |kind| std::iter::repeat_n([kind, 1], 999).flatten();
-    assert!(lent.kinds.words().iter().copied().eq(strips(2).chain(strips(3)).chain([1])));
+    let strips = |cut, piece| std::iter::repeat_n([cut, piece], 999).flatten();
+    assert!(lent.kinds.words().iter().copied().eq(strips(2, piece).chain(strips(3, 1)).chain([1])));
     let operands = |piece| std::iter::repeat_n([1, piece], 999).flatten();
     assert!(lent.operands.words().iter().copied().eq(operands(0).chain(operands(1)).chain([2])));
-    let strip = |l: u64, w: u64| if w == 1000 { 2000 * l } else { l * w };
-    let dear = |l: u64, w: u64| strip(l - 1, w) + w - 1 + 100_000;
-    table_is(&lent, |l, w| [strip(l, w), if l * w == 0 { 0 } else { dear(l, w) }]);
+    let strip = |l: u64, w: u64| match (l, w) {
+        (_, 1000) => 2000 * l,
+        (1000, _) if choices == TURNING => 2000 * w,
+        _ => l * w,
+    };
+    let rest = |l, w| if w == 1000 { strip(l - 1, w) + w - 1 } else { strip(l, w - 1) + l - 1 };
+    table_is(&lent, |l, w| [strip(l, w), if l * w == 0 { 0 } else { rest(l, w) + 100_000 }]);
 }
 
 /// The greatest figure and the longest plan: 1,999,999 nodes, which are counted and not written.
 #[test]
 fn a_million_pieces_are_counted() {
-    let input = input(job_block(1000, 1000, &[(1, 1, 1_000_000, 0)]), &[0], &[]);
     let sizes = Sizes { table: 1001 * 1001, ..LARGE };
-    let (code, lent) = on_small_stack(Call::WritePlan, &input, sizes);
-    assert_eq!((code, lent.answer.words()[0]), (21, 1_999_999));
-    table_is(&lent, |l, w| [l * w * 1_000_000]);
     let fresh = Lent::new(sizes);
-    assert!(lent.kinds == fresh.kinds && lent.operands == fresh.operands);
+    for choices in [0, TURNING] {
+        let input = input(job_block(1000, 1000, &[(1, 1, 1_000_000, 0)]), &[0], &[]).with(choices);
+        let (code, lent) = on_small_stack(Call::WritePlan, &input, sizes);
+        assert_eq!((code, lent.answer.words()[0]), (21, 1_999_999));
+        table_is(&lent, |l, w| [l * w * 1_000_000]);
+        assert!(lent.kinds == fresh.kinds && lent.operands == fresh.operands);
+    }
 }
 
 /// Expects the table of a plate whose every unit is normal.
@@ -170,21 +204,26 @@ fn largest_tables_are_filled() {
     let mut weights = [64; 64];
     weights[0] = 63;
     let weighed = input(job_block(12, 9, &many_kinds(9)), &weights, &[(0, 0)]);
-    for (input, p, r, capacity) in [(free, 1001, 1001, 0), (weighed, 13, 10, 4095)] {
-        let sizes = Sizes { table: p * r * (capacity + 1), ..LARGE };
-        let mut filled = Lent::new(sizes);
-        let (storage, plan, _) = filled.split();
-        let Input { job, weights, .. } = &input;
-        let written = baseline::rust::write_plan(job, weights, storage, plan).to_words();
-        assert_eq!(written[1..4], [capacity, p, r].map(|number| number as u64));
-        let certificate = [written[0], written[0], 0];
-        let calls =
-            [(Call::Bound, &written[..4]), (Call::WritePlan, &written), (Call::Certify, &certificate)];
-        for (call, answer) in calls {
-            let (code, lent) = on_small_stack(call, &input, sizes);
-            assert_eq!((code, &lent.answer.words()[..answer.len()]), (0, answer));
-            assert!(lent.table == filled.table && lent.lengths == filled.lengths);
-        }
+    for choices in [0, TURNING] {
+        is_filled(&free.clone().with(choices), 1001, 1001, 0);
+        is_filled(&weighed.clone().with(choices), 13, 10, 4095);
+    }
+}
+
+fn is_filled(input: &Input, p: usize, r: usize, capacity: usize) {
+    let sizes = Sizes { table: p * r * (capacity + 1), ..LARGE };
+    let mut filled = Lent::new(sizes);
+    let (storage, plan, _) = filled.split();
+    let Input { job, choices, weights, .. } = input;
+    let written = baseline::rust::write_plan(job, *choices, weights, storage, plan).to_words();
+    assert_eq!(written[1..4], [capacity, p, r].map(|number| number as u64));
+    let certificate = [written[0], written[0], 0];
+    let calls =
+        [(Call::Bound, &written[..4]), (Call::WritePlan, &written), (Call::Certify, &certificate)];
+    for (call, answer) in calls {
+        let (code, lent) = on_small_stack(call, input, sizes);
+        assert_eq!((code, &lent.answer.words()[..answer.len()]), (0, answer));
+        assert!(lent.table == filled.table && lent.lengths == filled.lengths);
     }
 }
 

@@ -10,11 +10,12 @@ pub type Node = (u8, u16);
 const AMPLE: Sizes =
     Sizes { lengths: 1001, widths: 1001, table: 1 << 15, kinds: 4095, operands: 4095, answer: 68 };
 
+/// An input without a choice.
 pub fn input(job: Vec<u8>, weights: &[u8], nodes: &[Node]) -> Input {
     let kinds: Vec<u8> = nodes.iter().map(|node| node.0).collect();
     let operands: Vec<u16> = nodes.iter().map(|node| node.1).collect();
     let plan = plan_block(&kinds, &operands);
-    Input { job, weights: weights.to_vec(), kinds, operands, plan }
+    Input { job, choices: 0, weights: weights.to_vec(), kinds, operands, plan }
 }
 
 /// Expects each implementation to answer these words.
@@ -43,25 +44,24 @@ pub fn plan_refused(input: &Input, number: u32, place: u64) {
     }
 }
 
-/// Expects a written plan of these nodes, and the bound.
-pub fn writes(job: Vec<u8>, weights: &[u8], bound: u64, nodes: &[Node]) {
-    let expected = input(job, weights, nodes);
+/// Expects a written plan, that of the input, and the bound.
+pub fn writes(expected: &Input, bound: u64) {
+    let nodes = expected.kinds.len();
     for calls in IMPLEMENTATIONS {
         let mut lent = Lent::new(AMPLE);
-        assert_eq!(Call::WritePlan.run(&calls, &expected, &mut lent), 0, "{}", calls.name);
+        assert_eq!(Call::WritePlan.run(&calls, expected, &mut lent), 0, "{}", calls.name);
         let answer = lent.answer.words();
-        assert_eq!((answer[0], answer[4]), (bound, nodes.len() as u64), "{}", calls.name);
-        assert_eq!(lent.kinds.words()[..nodes.len()], expected.kinds, "{}", calls.name);
-        assert_eq!(lent.operands.words()[..nodes.len()], expected.operands, "{}", calls.name);
+        assert_eq!((answer[0], answer[4]), (bound, nodes as u64), "{}", calls.name);
+        assert_eq!(lent.kinds.words()[..nodes], expected.kinds, "{}", calls.name);
+        assert_eq!(lent.operands.words()[..nodes], expected.operands, "{}", calls.name);
     }
 }
 
 /// Expects the lists that a bound leaves.
-pub fn lists(job: Vec<u8>, weights: &[u8], lengths: &[u16], widths: &[u16]) {
-    let input = input(job, weights, &[]);
+pub fn lists(input: &Input, lengths: &[u16], widths: &[u16]) {
     for calls in IMPLEMENTATIONS {
         let mut lent = Lent::new(AMPLE);
-        assert_eq!(Call::Bound.run(&calls, &input, &mut lent), 0, "{}", calls.name);
+        assert_eq!(Call::Bound.run(&calls, input, &mut lent), 0, "{}", calls.name);
         assert_eq!(lent.lengths.words()[..lengths.len()], *lengths, "{}", calls.name);
         assert_eq!(lent.widths.words()[..widths.len()], *widths, "{}", calls.name);
         let counts = [lengths.len() as u64, widths.len() as u64];
@@ -81,7 +81,7 @@ const BEST_OF_S: [Node; 5] = [(2, 2), (1, 0), (3, 1), (1, 1), (1, 2)];
 
 #[test]
 fn normal_positions_of_s() {
-    lists(job_s(), &[0, 0, 0], &[0, 2, 3, 4, 5], &[0, 1, 2, 3]);
+    lists(&input(job_s(), &[0, 0, 0], &[]), &[0, 2, 3, 4, 5], &[0, 1, 2, 3]);
 }
 
 #[test]
@@ -116,7 +116,7 @@ fn best_plan_of_s() {
 
 #[test]
 fn written_plan_of_s() {
-    writes(job_s(), &[0, 1, 0], 16, &BEST_OF_S);
+    writes(&input(job_s(), &[0, 1, 0], &BEST_OF_S), 16);
 }
 
 #[test]
@@ -145,9 +145,9 @@ fn too_few_and_too_many_nodes() {
 
 #[test]
 fn nothing_fits() {
-    let job = job_block(1, 1, &[(2, 2, 5, 1)]);
-    lists(job.clone(), &[0], &[0], &[0]);
-    writes(job, &[0], 0, &[(0, 0)]);
+    let waste = input(job_block(1, 1, &[(2, 2, 5, 1)]), &[0], &[(0, 0)]);
+    lists(&waste, &[0], &[0]);
+    writes(&waste, 0);
 }
 
 #[test]

@@ -4,9 +4,10 @@ use crate::damage::damage;
 use crate::inputs::{draw, Scale};
 use crate::lent::{Lent, Sizes};
 use crate::run::{compare, Call, Input, ALL_CALLS};
+use outside::answers::TURNING;
 use outside::blocks::plan_block;
 use outside::random::Random;
-use outside::reference::{capacity, normal_positions, Job, Kind};
+use outside::reference::{capacity, normal_positions, Job};
 use std::collections::BTreeMap;
 
 /// How often each call gave each code, and how many certificates of a plan that earns something were
@@ -56,14 +57,15 @@ const LONG: Scale = Scale {
 
 #[test]
 fn small_inputs_agree() {
-    let tally = agree(1, 30_000, SMALL);
-    for call in ALL_CALLS {
-        let seen = |code: &u32| tally.codes.get(&(call, *code)).copied().unwrap_or(0);
-        for code in codes(call) {
-            assert!(seen(&code) >= 20, "{call:?} gave {code} only {} times", seen(&code));
+    for tally in agree(1, 30_000, SMALL) {
+        for call in ALL_CALLS {
+            let seen = |code: &u32| tally.codes.get(&(call, *code)).copied().unwrap_or(0);
+            for code in codes(call) {
+                assert!(seen(&code) >= 20, "{call:?} gave {code} only {} times", seen(&code));
+            }
         }
+        assert!(tally.best >= 100 && tally.gaps >= 100, "{} best, {} gaps", tally.best, tally.gaps);
     }
-    assert!(tally.best >= 100 && tally.gaps >= 100, "{} best, {} gaps", tally.best, tally.gaps);
 }
 
 #[test]
@@ -94,15 +96,20 @@ fn codes(call: Call) -> Vec<u32> {
         Call::WritePlan => &[8, 9, 19, 20, 21],
         Call::Certify => &[8, 9, 10, 11, 12, 13, 14, 15, 16, 17, 18, 19, 20],
     };
-    (0..=7).chain(others.iter().copied()).chain([100]).collect()
+    (0..=7).chain(others.iter().copied()).chain([100, 101]).collect()
 }
 
-/// Compares every call on so many inputs; at least a third of the calls must be done.
-fn agree(seed: u64, inputs: usize, scale: Scale) -> Tally {
+/// Compares every call on so many inputs without a choice, and on as many with turning.
+fn agree(seed: u64, inputs: usize, scale: Scale) -> [Tally; 2] {
     let random = &mut Random::new(seed);
+    [0, TURNING].map(|choices| agree_with(random, inputs, scale, choices))
+}
+
+/// At least a third of the calls must be done.
+fn agree_with(random: &mut Random, inputs: usize, scale: Scale, choices: u32) -> Tally {
     let mut tally = Tally::default();
     for _ in 0..inputs {
-        let input = draw_affordable(random, scale);
+        let input = draw_affordable(random, scale, choices);
         for call in ALL_CALLS {
             let sizes = draw_sizes(random, call, &input);
             let (code, lent) = tally.compare(call, &input, sizes);
@@ -115,7 +122,7 @@ fn agree(seed: u64, inputs: usize, scale: Scale) -> Tally {
         }
     }
     let (all, done) = tally.compared();
-    println!("{inputs} inputs, {all} calls compared, {done} of them done");
+    println!("choices {choices}: {inputs} inputs, {all} calls compared, {done} of them done");
     assert!(all >= 5 * inputs && 3 * done >= all);
     tally
 }
@@ -142,9 +149,9 @@ fn written_plan_agrees(
 }
 
 /// Draws an input, damages it, and draws again where the reference would take too long.
-fn draw_affordable(random: &mut Random, scale: Scale) -> Input {
+fn draw_affordable(random: &mut Random, scale: Scale, choices: u32) -> Input {
     loop {
-        let mut input = draw(random, scale);
+        let mut input = draw(random, scale, choices);
         damage(random, &mut input);
         if work(&input) <= scale.work {
             return input;
@@ -154,7 +161,7 @@ fn draw_affordable(random: &mut Random, scale: Scale) -> Input {
 
 /// The sums that the reference forms, about.
 fn work(input: &Input) -> usize {
-    let Ok(job) = Job::read(&input.job) else { return 0 };
+    let Ok(job) = Job::read(&input.job, input.choices) else { return 0 };
     let Ok(capacity) = capacity(&job, &input.weights) else { return 0 };
     let cuts = job.length * job.width * (job.length + job.width) / 2;
     cuts * (capacity + 1) * (capacity + 2) / 2
@@ -184,12 +191,8 @@ fn near(random: &mut Random, needed: usize) -> usize {
 
 /// The words that lists and table need; anything for a job that is refused.
 fn needs(input: &Input) -> (usize, usize, usize) {
-    let Ok(job) = Job::read(&input.job) else { return (4, 4, 16) };
+    let Ok(job) = Job::read(&input.job, input.choices) else { return (4, 4, 16) };
     let shares = capacity(&job, &input.weights).map_or(1, |q| q + 1);
-    let fitting = || job.kinds.iter().filter(|kind| kind.fits(job.length, job.width));
-    let count = |side, of: fn(&Kind) -> usize| {
-        normal_positions(side, &fitting().map(of).collect::<Vec<_>>()).len()
-    };
-    let cells = count(job.length, |kind| kind.length) * count(job.width, |kind| kind.width);
-    (job.length + 1, job.width + 1, cells * shares)
+    let (lengths, widths) = normal_positions(&job);
+    (job.length + 1, job.width + 1, lengths.len() * widths.len() * shares)
 }

@@ -2,6 +2,7 @@
 // Sides are small against the plate, prices few, so that ties and full plates are common.
 use crate::examples::{input, Node};
 use crate::run::Input;
+use outside::answers::TURNING;
 use outside::blocks::{job_block, Kind};
 use outside::random::Random;
 
@@ -18,14 +19,14 @@ pub struct Scale {
     pub work: usize,
 }
 
-pub fn draw(random: &mut Random, scale: Scale) -> Input {
+pub fn draw(random: &mut Random, scale: Scale, choices: u32) -> Input {
     let (length, width) = (random.from(1, scale.plate), random.from(1, scale.plate));
     let n = random.from(1, scale.kinds);
     let kinds: Vec<Kind> = (0..n).map(|_| draw_kind(random, scale)).collect();
     let heaviest = if random.one_in(4) { 0 } else { scale.weight };
     let weights: Vec<u8> = (0..n).map(|_| random.from(0, heaviest) as u8).collect();
-    let nodes = draw_plan(random, (length, width), &kinds);
-    input(job_block(length as u16, width as u16, &kinds), &weights, &nodes)
+    let nodes = draw_plan(random, (length, width), &kinds, choices);
+    input(job_block(length as u16, width as u16, &kinds), &weights, &nodes).with(choices)
 }
 
 fn draw_kind(random: &mut Random, scale: Scale) -> Kind {
@@ -39,15 +40,20 @@ fn draw_kind(random: &mut Random, scale: Scale) -> Kind {
 }
 
 /// A plan by random cuts. Now and then a node breaks a rule.
-fn draw_plan(random: &mut Random, plate: (usize, usize), kinds: &[Kind]) -> Vec<Node> {
+fn draw_plan(
+    random: &mut Random,
+    plate: (usize, usize),
+    kinds: &[Kind],
+    choices: u32,
+) -> Vec<Node> {
     let mut left: Vec<u16> = kinds.iter().map(|kind| kind.3).collect();
     let mut waiting = vec![plate];
     let mut nodes = Vec::new();
     while let Some(rectangle) = waiting.pop() {
         let node = if random.one_in(40) {
-            (random.from(0, 4) as u8, random.from(0, plate.0 + 1) as u16)
+            (random.from(0, 5) as u8, random.from(0, plate.0 + 1) as u16)
         } else {
-            draw_node(random, rectangle, kinds, &mut left)
+            draw_node(random, rectangle, kinds, choices, &mut left)
         };
         nodes.push(node);
         waiting.extend(parts(node, rectangle));
@@ -59,14 +65,17 @@ fn draw_node(
     random: &mut Random,
     (length, width): (usize, usize),
     kinds: &[Kind],
+    choices: u32,
     left: &mut [u16],
 ) -> Node {
     let i = random.from(0, kinds.len() - 1);
     let (l, w, _, _) = kinds[i];
+    let turned = choices & TURNING != 0 && random.one_in(2);
+    let (node, l, w) = if turned { (4, w, l) } else { (1, l, w) };
     match random.from(0, 5) {
         0..=2 if left[i] > 0 && usize::from(l) <= length && usize::from(w) <= width => {
             left[i] -= 1;
-            (1, i as u16)
+            (node, i as u16)
         }
         0 | 1 | 3 if length > 1 => (2, random.from(1, length - 1) as u16),
         2 | 4 if width > 1 => (3, random.from(1, width - 1) as u16),

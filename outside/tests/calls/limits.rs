@@ -2,8 +2,8 @@
 // Also how the answer slice itself is treated.
 use crate::examples::{answers, input, plan_refused, refuses, reports, Node};
 use crate::lent::{Lent, Sizes};
-use crate::run::{compare, Call, ALL_CALLS};
-use outside::answers::ANSWER_TOO_SHORT;
+use crate::run::{compare, Call, Input, ALL_CALLS};
+use outside::answers::{ANSWER_TOO_SHORT, TURNING, UNKNOWN_CHOICE};
 use outside::blocks::{job_block, job_s, Kind};
 
 const ROOM: Sizes =
@@ -28,9 +28,9 @@ fn sides_up_to_1000() {
 fn up_to_64_kinds() {
     let kinds: Vec<Kind> = (0..65).map(|i| (1 + i % 13, 9 - i % 7, 1 + u32::from(i), 1)).collect();
     let job = |n: usize| input(job_block(13, 9, &kinds[..n]), &vec![1; n], &[(1, 63)]);
-    for call in ALL_CALLS {
-        assert_eq!(compare(call, &job(64), ROOM).0, 0);
-        refuses(call, &job(65), 3, 0);
+    for (call, choices) in ALL_CALLS.into_iter().flat_map(|call| [(call, 0), (call, TURNING)]) {
+        assert_eq!(compare(call, &job(64).with(choices), ROOM).0, 0);
+        refuses(call, &job(65).with(choices), 3, 0);
     }
 }
 
@@ -111,15 +111,33 @@ fn plans_of_4096_nodes_are_refused() {
     plan_refused(&input(job, &[0], &vec![(0, 0); 65_535]), 11, 0);
 }
 
+/// A code that comes before all others, with no change of memory.
+fn nothing_is_changed(call: Call, input: &Input, answer: usize, code: u32) {
+    let sizes = Sizes { answer, ..ROOM };
+    let (given, lent) = compare(call, input, sizes);
+    assert_eq!((given, lent.differences(&Lent::new(sizes))), (code, vec![]));
+}
+
 #[test]
 fn short_answers_change_nothing() {
-    let input = input(job_s(), &[0, 1, 0], &[(0, 0)]);
     for call in ALL_CALLS {
-        for answer in [0, 1, call.answer_words() - 1] {
-            let sizes = Sizes { answer, table: 60, ..ROOM };
-            let (code, lent) = compare(call, &input, sizes);
-            assert_eq!(code, ANSWER_TOO_SHORT);
-            assert!(lent.differences(&Lent::new(sizes)).is_empty());
+        for choices in [0, TURNING, 2] {
+            let input = input(job_s(), &[0, 1, 0], &[(0, 0)]).with(choices);
+            for answer in [0, 1, call.answer_words() - 1] {
+                nothing_is_changed(call, &input, answer, ANSWER_TOO_SHORT);
+            }
+        }
+    }
+}
+
+#[test]
+fn unknown_choices_change_nothing() {
+    for choices in [2, 3, 4, 8, 0x8000_0001] {
+        for call in ALL_CALLS {
+            for job in [job_s(), vec![]] {
+                let input = input(job, &[0, 1, 0], &[(0, 0)]).with(choices);
+                nothing_is_changed(call, &input, call.answer_words(), UNKNOWN_CHOICE);
+            }
         }
     }
 }

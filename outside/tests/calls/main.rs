@@ -11,4 +11,5 @@ mod limits;
 mod readings;
 mod run;
 mod stack;
+mod turning;
 mod wrapper;

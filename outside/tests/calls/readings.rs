@@ -97,7 +97,8 @@ fn kinds_of_demand_zero_are_open() {
 
 #[test]
 fn only_fitting_kinds_give_positions() {
-    lists(job_block(6, 2, &[(2, 1, 1, 1), (3, 3, 1, 1)]), &[0, 0], &[0, 2, 4, 6], &[0, 1, 2]);
+    let job = job_block(6, 2, &[(2, 1, 1, 1), (3, 3, 1, 1)]);
+    lists(&input(job, &[0, 0], &[]), &[0, 2, 4, 6], &[0, 1, 2]);
 }
 
 #[test]
@@ -130,25 +131,25 @@ fn short_table_answers_the_words_needed() {
 #[test]
 fn last_position_is_below_the_tabled_length() {
     let job = job_block(3, 2, &[(2, 1, 1, 1)]);
-    writes(job, &[0], 2, &[(3, 1), (1, 0), (1, 0)]);
+    writes(&input(job, &[0], &[(3, 1), (1, 0), (1, 0)]), 2);
 }
 
 #[test]
 fn positions_rise_over_the_whole_range() {
     let job = job_block(3, 2, &[(3, 1, 1, 1), (2, 1, 2, 1)]);
-    writes(job, &[0, 0], 4, &[(2, 2), (3, 1), (1, 1), (1, 1), (0, 0)]);
+    writes(&input(job, &[0, 0], &[(2, 2), (3, 1), (1, 1), (1, 1), (0, 0)]), 4);
 }
 
 #[test]
 fn shares_rise_from_zero() {
     let job = job_block(1, 3, &[(1, 1, 1, 2)]);
-    writes(job, &[2], 2, &[(3, 1), (0, 0), (3, 1), (1, 0), (1, 0)]);
+    writes(&input(job, &[2], &[(3, 1), (0, 0), (3, 1), (1, 0), (1, 0)]), 2);
 }
 
 #[test]
 fn figure_zero_is_waste_and_a_free_piece_is_a_piece() {
     let job = job_block(2, 1, &[(1, 1, 0, 1)]);
-    writes(job.clone(), &[0], 0, &[(0, 0)]);
+    writes(&input(job.clone(), &[0], &[(0, 0)]), 0);
     reports(&input(job, &[0], &[(2, 1), (1, 0), (0, 0)]), 0, [1, 1, 0], &[1]);
 }
 

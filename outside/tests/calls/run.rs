@@ -20,10 +20,17 @@ pub const ALL_CALLS: [Call; 5] =
 #[derive(Clone, Debug, Default)]
 pub struct Input {
     pub job: Vec<u8>,
+    pub choices: u32,
     pub weights: Vec<u8>,
     pub kinds: Vec<u8>,
     pub operands: Vec<u16>,
     pub plan: Vec<u8>,
+}
+
+impl Input {
+    pub fn with(self, choices: u32) -> Input {
+        Input { choices, ..self }
+    }
 }
 
 /// The implementations that must pass every example.
@@ -42,13 +49,14 @@ impl Call {
 
     pub fn run(self, calls: &Calls, input: &Input, lent: &mut Lent) -> u32 {
         let (storage, plan, answer) = lent.split();
-        let Input { job, weights, kinds, operands, plan: block } = input;
+        let Input { job, weights, kinds, operands, plan: block, .. } = input;
+        let c = input.choices;
         match self {
-            Call::CheckPlan => (calls.check_plan)(job, kinds, operands, answer),
-            Call::CheckPlanBlock => (calls.check_plan_block)(job, block, answer),
-            Call::Bound => (calls.bound)(job, weights, storage, answer),
-            Call::WritePlan => (calls.write_plan)(job, weights, storage, plan, answer),
-            Call::Certify => (calls.certify)(job, weights, kinds, operands, storage, answer),
+            Call::CheckPlan => (calls.check_plan)(job, c, kinds, operands, answer),
+            Call::CheckPlanBlock => (calls.check_plan_block)(job, c, block, answer),
+            Call::Bound => (calls.bound)(job, c, weights, storage, answer),
+            Call::WritePlan => (calls.write_plan)(job, c, weights, storage, plan, answer),
+            Call::Certify => (calls.certify)(job, c, weights, kinds, operands, storage, answer),
         }
     }
 }

@@ -23,7 +23,8 @@ extern "C" {
 pub fn on_small_stack(call: Call, input: &Input, sizes: Sizes) -> (u32, Lent) {
     let mut lent = Lent::new(sizes);
     let used = measured(|| _ = call.run(&CALLS, input, &mut lent));
-    println!("{call:?}: {used} bytes of stack, {} nodes", input.kinds.len());
+    let (choices, nodes) = (input.choices, input.kinds.len());
+    println!("{call:?}, choices {choices}: {used} bytes of stack, {nodes} nodes");
     assert!(used + THREAD <= STACK, "{call:?} needs {used} bytes of stack");
     lent = Lent::new(sizes);
     let code = thread::scope(|scope| {

@@ -15,30 +15,30 @@ fn lent() -> Lent {
 #[test]
 fn plans_are_reported() {
     let (kinds, operands) = ([2, 1, 3, 1, 1], [2, 0, 1, 1, 2]);
-    let report = planner::check_plan(&job_s(), &kinds, &operands).expect("a plan of S");
+    let report = planner::check_plan(&job_s(), 0, &kinds, &operands).expect("a plan of S");
     assert_eq!((report.profit, report.pieces, report.waste, report.trim), (16, 13, 0, 2));
     assert_eq!((&report.copies[..3], report.copies[3..].iter().sum::<u64>()), (&[1, 1, 1][..], 0));
     let block = plan_block(&kinds, &operands);
-    assert_eq!(planner::check_plan_block(&job_s(), &block), Ok(report));
-    let early = planner::check_plan(&job_s(), &kinds[..2], &operands[..2]);
+    assert_eq!(planner::check_plan_block(&job_s(), 0, &block), Ok(report));
+    let early = planner::check_plan(&job_s(), 0, &kinds[..2], &operands[..2]);
     assert_eq!(early, Err(Refusal { number: 17, place: 2 }));
 }
 
 #[test]
 fn bound_and_plan_are_answered() {
     let mut memory = lent();
-    assert_eq!(planner::bound(&job_s(), &WEIGHTS, memory.split().0), Ok(BOUND));
+    assert_eq!(planner::bound(&job_s(), 0, &WEIGHTS, memory.split().0), Ok(BOUND));
     let (storage, plan, _) = memory.split();
-    let written = planner::write_plan(&job_s(), &WEIGHTS, storage, plan);
+    let written = planner::write_plan(&job_s(), 0, &WEIGHTS, storage, plan);
     assert_eq!(written, Ok(Written { bound: BOUND, nodes: 5 }));
     let (kinds, operands) = (memory.kinds.words().to_vec(), memory.operands.words().to_vec());
-    let best = planner::certify(&job_s(), &WEIGHTS, &kinds, &operands, memory.split().0);
+    let best = planner::certify(&job_s(), 0, &WEIGHTS, &kinds, &operands, memory.split().0);
     assert_eq!(best, Ok(Certificate { gap: 0, bound: 16, profit: 16 }));
 }
 
 #[test]
 fn refusals_are_errors() {
     let mut memory = lent();
-    let refused = planner::bound(&job_s(), &[0, 0], memory.split().0);
+    let refused = planner::bound(&job_s(), 0, &[0, 0], memory.split().0);
     assert_eq!(refused, Err(Refusal { number: 8, place: 0 }));
 }

@@ -8,13 +8,19 @@ mod writer;
 use crate::answers::{Bound, PlanArrays, Storage, Written};
 use plate::{Plate, LENGTH, WIDTH};
 
-pub fn bound(job: &[u8], weights: &[u8], storage: Storage) -> Bound {
-    fill(&Plate::read(job, weights), storage)
+pub fn bound(job: &[u8], choices: u32, weights: &[u8], storage: Storage) -> Bound {
+    fill(&Plate::read(job, choices, weights), storage)
 }
 
-pub fn write_plan(job: &[u8], weights: &[u8], storage: Storage, plan: PlanArrays) -> Written {
+pub fn write_plan(
+    job: &[u8],
+    choices: u32,
+    weights: &[u8],
+    storage: Storage,
+    plan: PlanArrays,
+) -> Written {
     let Storage { lengths, widths, table } = storage;
-    let plate = Plate::read(job, weights);
+    let plate = Plate::read(job, choices, weights);
     let bound = fill(&plate, Storage { lengths, widths, table });
     Written { bound, nodes: writer::write_nodes(&plate, table, plan) as u64 }
 }

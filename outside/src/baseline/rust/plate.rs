@@ -1,13 +1,16 @@
 // Reading a job, its capacity and its normal positions.
 // Also the two loops that all the work is in.
+use crate::answers::TURNING;
 
 pub const LENGTH: usize = 0;
 pub const WIDTH: usize = 1;
 
-pub struct Kind {
+/// A kind as it may lie, and its node in a plan.
+pub struct Piece {
     pub side: [usize; 2],
     pub price: u64,
     pub weight: usize,
+    pub node: (u8, usize),
 }
 
 /// A side's normal positions, and for each unit the index of the largest one not above it.
@@ -18,27 +21,30 @@ pub struct Positions {
 }
 
 pub struct Plate {
-    pub kinds: Vec<Kind>,
+    pub pieces: Vec<Piece>,
     pub capacity: usize,
     pub on: [Positions; 2],
 }
 
 impl Plate {
-    pub fn read(job: &[u8], weights: &[u8]) -> Plate {
+    pub fn read(job: &[u8], choices: u32, weights: &[u8]) -> Plate {
         let plate = [two(job, 0), two(job, 2)];
         let n = two(job, 4);
         let (sizes, pairs) = (&job[6..], &job[6 + 4 * n..]);
         let mut capacity = 0;
-        let mut kinds = Vec::with_capacity(n);
+        let mut pieces = Vec::with_capacity(2 * n);
         for (i, &weight) in weights.iter().enumerate() {
-            let side = [two(sizes, 4 * i), two(sizes, 4 * i + 2)];
+            let [length, width] = [two(sizes, 4 * i), two(sizes, 4 * i + 2)];
             let price = (two(pairs, 6 * i) + (two(pairs, 6 * i + 2) << 16)) as u64;
             let weight = usize::from(weight);
             capacity += two(pairs, 6 * i + 4) * weight;
-            kinds.push(Kind { side, price, weight });
+            pieces.push(Piece { side: [length, width], price, weight, node: (1, i) });
+            if choices & TURNING != 0 {
+                pieces.push(Piece { side: [width, length], price, weight, node: (4, i) });
+            }
         }
-        let on = [LENGTH, WIDTH].map(|d| Positions::find(plate, &kinds, d));
-        Plate { kinds, capacity, on }
+        let on = [LENGTH, WIDTH].map(|d| Positions::find(plate, &pieces, d));
+        Plate { pieces, capacity, on }
     }
 
     /// The plate's length and width.
@@ -47,20 +53,20 @@ impl Plate {
     }
 }
 
-impl Kind {
+impl Piece {
     pub fn fits(&self, rectangle: [usize; 2]) -> bool {
         self.side[LENGTH] <= rectangle[LENGTH] && self.side[WIDTH] <= rectangle[WIDTH]
     }
 }
 
 impl Positions {
-    fn find(plate: [usize; 2], kinds: &[Kind], direction: usize) -> Positions {
+    fn find(plate: [usize; 2], pieces: &[Piece], direction: usize) -> Positions {
         let side = plate[direction];
         let mut normal = vec![false; side + 1];
         normal[0] = true;
-        for kind in kinds.iter().filter(|kind| kind.fits(plate)) {
-            for x in kind.side[direction]..=side {
-                normal[x] |= normal[x - kind.side[direction]];
+        for piece in pieces.iter().filter(|piece| piece.fits(plate)) {
+            for x in piece.side[direction]..=side {
+                normal[x] |= normal[x - piece.side[direction]];
             }
         }
         let (mut at, mut index) = (Vec::with_capacity(side + 1), Vec::with_capacity(side + 1));

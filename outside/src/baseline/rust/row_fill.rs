@@ -22,10 +22,10 @@ pub fn fill(plate: &Plate, table: &mut [u64]) {
 /// Pieces of exactly this length and no weight; shorter ones came with the row before.
 fn lay_pieces(plate: &Plate, length: usize, row: &mut [u64]) {
     let widths = &plate.on[WIDTH];
-    for kind in plate.kinds.iter().filter(|kind| kind.side[LENGTH] == length) {
-        if kind.side[WIDTH] <= widths.side && kind.weight == 0 {
-            let cell = &mut row[widths.floor(kind.side[WIDTH])];
-            *cell = kind.price.max(*cell);
+    for piece in plate.pieces.iter().filter(|piece| piece.side[LENGTH] == length) {
+        if piece.side[WIDTH] <= widths.side && piece.weight == 0 {
+            let cell = &mut row[widths.floor(piece.side[WIDTH])];
+            *cell = piece.price.max(*cell);
         }
     }
 }

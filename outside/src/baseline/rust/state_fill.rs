@@ -61,11 +61,11 @@ fn make(plate: &Plate, made: &Made, cell: &mut Cell, index: [usize; 2]) -> usize
     start(made, cell);
     let last = cell.known - 1;
     let size = [LENGTH, WIDTH].map(|d| plate.on[d].position(index[d]));
-    for kind in plate.kinds.iter().filter(|kind| kind.side == size) {
-        if kind.weight < made.states {
-            cell.reach(kind.weight);
-            if cell.figures[kind.weight] < kind.price {
-                cell.raise(kind.weight, kind.price);
+    for piece in plate.pieces.iter().filter(|piece| piece.side == size) {
+        if piece.weight < made.states {
+            cell.reach(piece.weight);
+            if cell.figures[piece.weight] < piece.price {
+                cell.raise(piece.weight, piece.price);
             }
         }
     }

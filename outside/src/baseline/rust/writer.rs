@@ -13,7 +13,7 @@ struct Part {
 }
 
 enum Choice {
-    Leaf(u8, usize),
+    Leaf((u8, usize)),
     Cut { direction: usize, position: usize, share: usize },
 }
 
@@ -33,7 +33,7 @@ pub fn write_nodes(plate: &Plate, table: &[u64], plan: PlanArrays) -> usize {
     let mut waiting = vec![Part { side: plate.sides(), share: plate.capacity }];
     while let Some(part) = waiting.pop() {
         let node = match tabled.choose(part) {
-            Choice::Leaf(kind, operand) => (kind, operand as u16),
+            Choice::Leaf((kind, operand)) => (kind, operand as u16),
             Choice::Cut { direction, position, share } => {
                 let (mut first, mut second) = (part, part);
                 first.side[direction] = position;
@@ -63,14 +63,14 @@ impl Tabled<'_> {
         let at: usize = [LENGTH, WIDTH].iter().map(|&d| self.place(part, d)).sum();
         let value = self.table[at + part.share];
         if value == 0 {
-            return Choice::Leaf(0, 0);
+            return Choice::Leaf((0, 0));
         }
-        let mut kinds = self.plate.kinds.iter();
-        let earns = kinds.position(|kind| {
-            kind.price == value && kind.fits(part.side) && kind.weight <= part.share
+        let mut pieces = self.plate.pieces.iter();
+        let earns = pieces.find(|piece| {
+            piece.price == value && piece.fits(part.side) && piece.weight <= part.share
         });
-        if let Some(i) = earns {
-            return Choice::Leaf(1, i);
+        if let Some(piece) = earns {
+            return Choice::Leaf(piece.node);
         }
         let cut = |direction| self.find_cut(part, direction, at, value);
         cut(LENGTH).or_else(|| cut(WIDTH)).expect("some cut earns the figure")

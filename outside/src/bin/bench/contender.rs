@@ -21,28 +21,32 @@ pub struct Memory {
 pub const CONTENDERS: [Contender; 3] = [
     Contender {
         bound: |job, memory| {
-            planner::bound(&job.block, &job.weights, memory.split().0).expect("an accepted job")
+            planner::bound(&job.block, job.choices, &job.weights, memory.split().0)
+                .expect("an accepted job")
         },
         write_plan: |job, memory| {
             let (storage, plan) = memory.split();
-            planner::write_plan(&job.block, &job.weights, storage, plan).expect("an accepted job")
+            planner::write_plan(&job.block, job.choices, &job.weights, storage, plan)
+                .expect("an accepted job")
         },
     },
     Contender {
-        bound: |job, memory| baseline::rust::bound(&job.block, &job.weights, memory.split().0),
+        bound: |job, memory| {
+            baseline::rust::bound(&job.block, job.choices, &job.weights, memory.split().0)
+        },
         write_plan: |job, memory| {
             let (storage, plan) = memory.split();
-            baseline::rust::write_plan(&job.block, &job.weights, storage, plan)
+            baseline::rust::write_plan(&job.block, job.choices, &job.weights, storage, plan)
         },
     },
     Contender {
         // The generated jobs are accepted, and the memory is enough: the proved call has said so.
         bound: |job, memory| unsafe {
-            baseline::c::bound(&job.block, &job.weights, memory.split().0)
+            baseline::c::bound(&job.block, job.choices, &job.weights, memory.split().0)
         },
         write_plan: |job, memory| unsafe {
             let (storage, plan) = memory.split();
-            baseline::c::write_plan(&job.block, &job.weights, storage, plan)
+            baseline::c::write_plan(&job.block, job.choices, &job.weights, storage, plan)
         },
     },
 ];
@@ -61,7 +65,7 @@ impl Memory {
     /// The memory that a job needs, as the proved call answers it.
     pub fn enough_for(job: &Job) -> Memory {
         let mut none = Memory::new(0);
-        let refusal = planner::bound(&job.block, &job.weights, none.split().0);
+        let refusal = planner::bound(&job.block, job.choices, &job.weights, none.split().0);
         Memory::new(refusal.expect_err("no table is lent").place as usize)
     }
 

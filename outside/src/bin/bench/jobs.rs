@@ -1,11 +1,13 @@
 // The jobs that are measured. All are generated from fixed seeds, so every run has the same.
 // Prices are areas with a premium of up to a quarter; demands are raised until Q is as wanted.
+use outside::answers::TURNING;
 use outside::blocks::{job_block, job_s, Kind};
 use outside::random::Random;
 
 pub struct Job {
     pub name: String,
     pub block: Vec<u8>,
+    pub choices: u32,
     pub weights: Vec<u8>,
 }
 
@@ -16,41 +18,45 @@ struct Draw {
     sides: (usize, usize),
     weights: &'static [u8],
     capacity: usize,
+    choices: u32,
 }
 
-const FREE: &[u8] = &[0];
+const SMALL: Draw =
+    Draw { plate: 100, kinds: 20, sides: (8, 60), weights: &[0], capacity: 0, choices: 0 };
 
 /// The fixed set.
 pub fn named() -> Vec<Job> {
-    let small = Draw { plate: 100, kinds: 20, sides: (8, 60), weights: FREE, capacity: 0 };
-    let few = Draw { weights: &[0, 1], capacity: 30, ..small };
-    let half = Draw { plate: 500, kinds: 40, sides: (30, 250), ..small };
-    let full = Draw { plate: 1000, kinds: 50, sides: (100, 500), ..small };
+    let few = Draw { weights: &[0, 1], capacity: 30, ..SMALL };
+    let turning = Draw { choices: TURNING, ..few };
+    let half = Draw { plate: 500, kinds: 40, sides: (30, 250), ..SMALL };
+    let full = Draw { plate: 1000, kinds: 50, sides: (100, 500), ..SMALL };
     let shares = Draw {
         plate: 300,
         kinds: 15,
         sides: (45, 150),
         weights: &[0, 1, 2, 3, 5, 8],
         capacity: 200,
+        ..SMALL
     };
-    let many = Draw { sides: (20, 50), weights: &[0, 16, 48], capacity: 4000, ..small };
-    let mut jobs = vec![Job { name: "S".into(), block: job_s(), weights: vec![0, 1, 0] }];
-    jobs.extend([small, few, half, full, shares, many].iter().map(draw));
+    let many = Draw { sides: (20, 50), weights: &[0, 16, 48], capacity: 4000, ..SMALL };
+    let s = Job { name: "S".into(), block: job_s(), choices: 0, weights: vec![0, 1, 0] };
+    let mut jobs = vec![s];
+    jobs.extend([SMALL, few, turning, half, full, shares, many].iter().map(draw));
     jobs
 }
 
 /// Weights 0 on larger and larger plates.
 pub fn growing_plates() -> Vec<Job> {
     let plates = [125, 250, 500, 1000];
-    plates.map(|plate| draw(&Draw { plate, kinds: 30, sides: (20, 60), weights: FREE, capacity: 0 })).into()
+    plates.map(|plate| draw(&Draw { plate, kinds: 30, sides: (20, 60), ..SMALL })).into()
 }
 
 /// One plate with a larger and larger capacity.
 pub fn growing_capacities() -> Vec<Job> {
     let weights = &[1, 2, 3, 5, 8, 13];
     let capacities = [60, 250, 1000, 4000];
-    let sides = (12, 40);
-    capacities.map(|capacity| draw(&Draw { plate: 80, kinds: 16, sides, weights, capacity })).into()
+    let plate = Draw { plate: 80, kinds: 16, sides: (12, 40), weights, ..SMALL };
+    capacities.map(|capacity| draw(&Draw { capacity, ..plate })).into()
 }
 
 fn draw(from: &Draw) -> Job {
@@ -59,8 +65,10 @@ fn draw(from: &Draw) -> Job {
     let weights: Vec<u8> = (0..from.kinds).map(|_| random.pick(from.weights)).collect();
     let capacity = raise_demands(&mut kinds, &weights, from.capacity);
     let Draw { plate, sides: (low, high), .. } = from;
-    let name = format!("{plate}×{plate}, {} kinds of sides {low}–{high}, Q {capacity}", kinds.len());
-    Job { name, block: job_block(*plate, *plate, &kinds), weights }
+    let n = kinds.len();
+    let turning = if from.choices & TURNING != 0 { ", turning" } else { "" };
+    let name = format!("{plate}×{plate}, {n} kinds of sides {low}–{high}, Q {capacity}{turning}");
+    Job { name, block: job_block(*plate, *plate, &kinds), choices: from.choices, weights }
 }
 
 fn draw_kind(random: &mut Random, (low, high): (usize, usize)) -> Kind {
