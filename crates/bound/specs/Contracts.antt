@@ -4,6 +4,7 @@ use mathlib.Core.List.{List}
 use Prim.Native.Nat.{ℕ, _+_, _≤_}
 use lib.ListN.{length, drop}
 use Rattle.cutting.specs.declared.Direction.the-variants.{Length, Width}
+use Rattle.cutting.specs.Limits.{most-capacity}
 use Rattle.cutting.specs.Job.{Job, InRange, capacity}
 use Rattle.refusal.specs.Refusals.{first-refusal}
 use Rattle.refusal.specs.declared.Checked.the-variants.{Passed}
@@ -34,7 +35,7 @@ pub record Weighed (J : Job) (ws : List ℕ) (q : ℕ) : Type 0 where
   pub in-range : InRange J
   pub weights : J .count ≤ length ws
   pub total : q ≡ capacity J (weight-in ws)
-  pub most : q ≤ 4095
+  pub most : q ≤ most-capacity
 
 -- the answer of a job and weights that were accepted, what it leaves in lent memory, and where it has a report the floors of both sides
 pub record Bounded (J : Job) (weight : ℕ → ℕ) (old new : Memory) (floors : List ℕ) (r : BoundAnswer) : Type 0 where

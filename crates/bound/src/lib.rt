@@ -11,6 +11,7 @@ ghost use mathlib.Core.Bool.{_||_};
 ghost use Prim.Native.Nat.{_+_, _*_, _≤_};
 ghost use lib.Dec.{ltb};
 ghost use lib.ListN.{length};
+ghost use Rattle.cutting.specs.Limits.{most-side, most-capacity};
 ghost use Rattle.cutting.specs.Promises.{Recursion, NormalSums, FloorFigures};
 ghost use Rattle.job.specs.Block.{job-of};
 ghost use Rattle.job.specs.Weights.{block-job, weight-in, Accepted};
@@ -35,7 +36,7 @@ pub enum BoundAnswer {
 
 // The words that a table needs.
 fn words(p: u16, r: u16, q: u16) -> u64
-    requires { ⌜ (p ≤ 1001) × (r ≤ 1001) × (q ≤ 4095) ⌝ }
+    requires { ⌜ (p ≤ most-side + 1) × (r ≤ most-side + 1) × (q ≤ most-capacity) ⌝ }
     ensures { λ n. ⌜ n ≡ p * r * (q + 1) ⌝ }
 {
     (p as u64) * (r as u64) * ((q as u64) + 1)

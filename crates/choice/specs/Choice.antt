@@ -6,6 +6,7 @@ use Prim.Native.Nat.{ℕ, _≤_}
 use lib.ListN.{length, drop}
 use Rattle.cutting.specs.declared.Direction.the-variants.{Length, Width}
 use Rattle.cutting.specs.declared.Node.the-variants.{Waste, Piece, Cut}
+use Rattle.cutting.specs.Limits.{most-capacity}
 use Rattle.cutting.specs.Choice.{Choice, as-waste, as-piece, as-cut}
 use Rattle.cutting.specs.Job.{Job, InRange, plan-choice}
 use Rattle.job.specs.Weights.{weight-in}
@@ -20,7 +21,7 @@ pub record Tabled (J : Job) (weights : List ℕ) (columns q : ℕ) (normal-lengt
   pub in-range : InRange J
   pub weighed : J .count ≤ length weights
   pub columns-are : columns ≡ position-count J Width
-  pub capacity-most : q ≤ 4095
+  pub capacity-most : q ≤ most-capacity
   pub lengths-are : Listed J Length normal-lengths
   pub widths-are : Listed J Width normal-widths
   pub lengths-floored : Mapped J Length length-floors

@@ -8,6 +8,7 @@ use lib.Dec.{leb, eqb}
 use lib.ListN.{length, getD}
 use Rattle.cutting.specs.declared.Direction.the-variants.{Length, Width}
 use Rattle.cutting.specs.declared.Node.the-variants.{Waste, Cut}
+use Rattle.cutting.specs.Limits.{most-capacity, most-figure}
 use Rattle.cutting.specs.Lists.{range, first, pairs}
 use Rattle.cutting.specs.Pieces.{fits-in}
 use Rattle.cutting.specs.Sides.{rect-of}
@@ -55,13 +56,13 @@ or-length-cut (cut.At x k) r = record { node = Cut Length x; share = k }
 
 -- a row of the table, from a share up to c: its words are there, and the sum of two of them does not wrap
 abbrev pub Row : List ℕ → ℕ → ℕ → ℕ → ℕ → Type 0
-Row table stride base c i = (k : ℕ) → k ≤ c → (i * stride + base + k < length table) × (getD table (i * stride + base + k) 0 ≤ 1000000000000)
+Row table stride base c i = (k : ℕ) → k ≤ c → (i * stride + base + k < length table) × (getD table (i * stride + base + k) 0 ≤ most-figure)
 
 -- what the search for a cut reads: the positions below the last are listed and not above the side, and their rows and those of the
 -- remainders are there
 pub record Searchable (positions floors table : List ℕ) (side last stride base c : ℕ) : Type 0 where
   pub mapped : side < length floors
-  pub shares : c ≤ 4095
+  pub shares : c ≤ most-capacity
   pub listed : (i : ℕ) → i < last → (i < length positions) × (getD positions i 0 ≤ side)
   pub rows : (i : ℕ) → i < last → Row table stride base c i
   pub remainders : (x : ℕ) → x ≤ side → Row table stride base c (getD floors x 0)

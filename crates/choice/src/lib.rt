@@ -10,6 +10,7 @@ ghost use mathlib.Core.Bool.{_&&_};
 ghost use Prim.Native.Nat.{_+_, _*_, _≤_, _<_};
 ghost use lib.Dec.{leb, eqb};
 ghost use lib.ListN.{length, drop};
+ghost use Rattle.cutting.specs.Limits.{most-kinds};
 ghost use Rattle.cutting.specs.Lists.{range, first};
 ghost use Rattle.cutting.specs.Pieces.{fits-in};
 ghost use Rattle.cutting.specs.Sides.{rect-of};
@@ -86,7 +87,7 @@ fn kind_earns(piece: Sides, price: u32, weight: u8, cell: Cell, value: u64) -> b
 
 // The lowest-numbered kind that earns a value alone.
 fn find_kind(job: JobRecord, weights: &[u8], cell: Cell, value: u64) -> KindFound
-    requires { ⌜ (job .count ≤ 64) × (job .count ≤ length (now weights)) ⌝ }
+    requires { ⌜ (job .count ≤ most-kinds) × (job .count ≤ length (now weights)) ⌝ }
     ensures { λ r. ⌜ r ≡ kind-found (first (kind-test (job-of job) (weight-in (now (weights .entry))) cell value) (range 0 (job .count))) ⌝ }
 {
     for i in 0..job.count {

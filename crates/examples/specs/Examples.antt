@@ -6,6 +6,7 @@ use Prim.Native.Nat.{ℕ, _+_, _-_, _≤_, _<_}
 use lib.ListN.{length, replicate}
 use Rattle.cutting.specs.declared.Direction.{Direction}
 use Rattle.cutting.specs.declared.Direction.the-variants.{Length, Width}
+use Rattle.cutting.specs.Limits.{most-kinds, most-nodes}
 use Rattle.cutting.specs.Job.{capacity, normal-positions}
 use Rattle.cutting.specs.Preorder.{kinds-of, operands-of}
 use Rattle.refusal.specs.Refusals.{place-of, refused-as}
@@ -59,11 +60,11 @@ PassedTo k (Refused r) = k < place-of r
 
 -- the verdict of every plan with this first node, as many kinds as operands and at most 4,095 nodes, has a property
 abbrev pub Beginning : List ℕ → ℕ → ℕ → (Checked → Type 0) → Type 0
-Beginning s kind operand P = (kinds operands : List ℕ) → length kinds ≡ length operands → length kinds < 4095 → P (arrays-answer s (kind ∷ kinds) (operand ∷ operands) .verdict)
+Beginning s kind operand P = (kinds operands : List ℕ) → length kinds ≡ length operands → length kinds < most-nodes → P (arrays-answer s (kind ∷ kinds) (operand ∷ operands) .verdict)
 
 -- copies as a report has them: 64 numbers, 0 past the job's kinds
 abbrev pub padded : List ℕ → List ℕ
-padded xs = xs ++ replicate (64 - length xs) 0
+padded xs = xs ++ replicate (most-kinds - length xs) 0
 
 -- what each line means; where the table is too short the call gives refusal 20 with the words needed
 abbrev pub ExampleHolds : Example → Type 0

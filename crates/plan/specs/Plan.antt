@@ -6,7 +6,7 @@ use lib.Dec.{eqb}
 use lib.ListN.{length, replicate}
 use Rattle.cutting.specs.declared.Node.{Node}
 use Rattle.cutting.specs.Tree.{Rect}
-use Rattle.cutting.specs.Limits.{most-nodes}
+use Rattle.cutting.specs.Limits.{most-kinds, most-nodes}
 use Rattle.cutting.specs.Job.{Job}
 use Rattle.refusal.specs.declared.Refusal.{Refusal}
 use Rattle.refusal.specs.declared.Refusal.the-variants.{PlanLength, NodeCount, NodeMissing, NodeLeft}
@@ -34,7 +34,7 @@ counted J n r s = plan-report (tallied J n r (sums-of s)) (copied n (s .copies))
 
 -- the report before any node: the copies of 64 kinds, and every figure, are 0
 abbrev pub empty-report : Report
-empty-report = record { profit = 0; copies = replicate 64 0; pieces = 0; waste = 0; trim = 0 }
+empty-report = record { profit = 0; copies = replicate most-kinds 0; pieces = 0; waste = 0; trim = 0 }
 
 abbrev pub passed : Report → PlanAnswer
 passed s = record { verdict = Passed; report = s }

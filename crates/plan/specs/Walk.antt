@@ -5,6 +5,7 @@ use Prim.Native.Nat.{ℕ, zero, suc, _≤_, _<_}
 use lib.ListN.{length, getD}
 use Rattle.cutting.specs.declared.Node.{Node}
 use Rattle.cutting.specs.declared.Node.the-variants.{Waste, Piece, Turned, Cut}
+use Rattle.cutting.specs.Limits.{most-nodes}
 use Rattle.cutting.specs.Tree.{Rect, side}
 use Rattle.node.specs.declared.Tally.{Tally}
 use Rattle.node.specs.declared.NodeEntry.{NodeEntry}
@@ -42,4 +43,4 @@ pub record Opens (node : Node) (r : Rect) (lengths widths : List ℕ) (n : ℕ) 
 
 -- two arrays of one length, of at most 4,095 nodes
 abbrev pub Walkable : List ℕ → List ℕ → Type 0
-Walkable kinds operands = (length kinds ≡ length operands) × (length kinds ≤ 4095)
+Walkable kinds operands = (length kinds ≡ length operands) × (length kinds ≤ most-nodes)

@@ -19,6 +19,7 @@ ghost use mathlib.Core.Path.{_≡_};
 ghost use mathlib.Core.List.{List, [], _∷_, _++_};
 ghost use Prim.Native.Nat.{ℕ, _+_, _*_, _-_, _≤_, _<_};
 ghost use lib.ListN.{length, take, getD};
+ghost use Rattle.cutting.specs.Limits.{most-kinds, most-nodes};
 ghost use Rattle.cutting.specs.Sides.{rect-of, sides-of};
 ghost use Rattle.cutting.specs.Job.{Job, InRange};
 ghost use Rattle.job.specs.Block.{job-of};
@@ -145,7 +146,7 @@ fn finish(n: usize, k: u16, t: Tally, copies: [u16; 64]) -> PlanAnswer
 
 // The walk over a plan's nodes from the plate on: refusals 12 to 18.
 fn walk_nodes(job: JobRecord, kinds: &[u8], operands: &[u16]) -> PlanAnswer
-    requires { ⌜ Walkable (now kinds) (now operands) × (job .count ≤ 64) ⌝ }
+    requires { ⌜ Walkable (now kinds) (now operands) × (job .count ≤ most-kinds) ⌝ }
     ensures { λ r. ⌜ r ≡ walk (job-of job) 0 (nodes-in (now (kinds .entry)) (now (operands .entry))) (job-of job .plate ∷ []) empty-report ⌝ }
 {
     let kind_lengths = job.lengths;
@@ -224,8 +225,8 @@ pub fn check_plan(block: &[u8], choices: Choices, kinds: &[u8], operands: &[u16]
 
 // The operands of a plan block, in the first entries.
 fn read_operands(plan: &[u8], count: usize) -> [u16; 4095]
-    requires { ⌜ (count ≡ plan-count (now plan)) × (length (now plan) ≡ 2 + 3 * count) × (count ≤ 4095) ⌝ }
-    ensures { λ r. ⌜ (take count r ≡ plan-operands (now (plan .entry))) × (length r ≡ 4095) ⌝ }
+    requires { ⌜ (count ≡ plan-count (now plan)) × (length (now plan) ≡ 2 + 3 * count) × (count ≤ most-nodes) ⌝ }
+    ensures { λ r. ⌜ (take count r ≡ plan-operands (now (plan .entry))) × (length r ≡ most-nodes) ⌝ }
 {
     let mut operands = [0u16; 4095];
     for i in 0..count {

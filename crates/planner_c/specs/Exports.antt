@@ -5,6 +5,7 @@ use mathlib.Core.List.{List, _∷_}
 use Prim.Native.Nat.{ℕ, _+_, _≤_}
 use lib.Dec.{ltb}
 use lib.ListN.{length, getD}
+use Rattle.cutting.specs.Limits.{most-figure}
 use Rattle.cutting.specs.Lists.{over}
 use Rattle.cutting.specs.Tree.{Tree}
 use Rattle.cutting.specs.Job.{Job, bound-of}
@@ -56,7 +57,7 @@ PlanLeft s ws m old new =
 
 -- a certificate's profit and gap sum to at most the bound's ceiling
 abbrev pub GapWithin : Certificate → Type 0
-GapWithin r = (profit gap : ℕ) → r ≡ Gap profit gap → profit + gap ≤ 1000000000000
+GapWithin r = (profit gap : ℕ) → r ≡ Gap profit gap → profit + gap ≤ most-figure
 
 -- a word of the answer
 abbrev pub answer-word : List ℕ → ℕ → ℕ

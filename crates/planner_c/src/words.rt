@@ -13,6 +13,7 @@ ghost use mathlib.Core.List.{[], _∷_};
 ghost use Prim.Native.Nat.{_≤_, _<_};
 ghost use lib.ListN.{length};
 ghost use lib.Seq.{sets};
+ghost use Rattle.cutting.specs.Limits.{most-kinds};
 ghost use Rattle.cutting.specs.Lists.{over};
 ghost use Rattle.refusal.specs.Refusals.{refused-as};
 ghost use Rattle.plan.specs.Calls.{plan-values, plan-outcome};
@@ -128,7 +129,7 @@ fn wide(n: u16) -> u64
 // The copies of 64 kinds, from word 4 on. That they are 64 is handed on to the proof of the caller.
 fn put_copies(copies: [u16; 64], answer: &mut [u64])
     requires { ⌜ 68 ≤ length (now answer) ⌝ }
-    ensures { λ _. ⌜ (now (answer .exit) ≡ sets (now (answer .entry)) 4 copies) × (length copies ≡ 64) ⌝ }
+    ensures { λ _. ⌜ (now (answer .exit) ≡ sets (now (answer .entry)) 4 copies) × (length copies ≡ most-kinds) ⌝ }
 {
     for i in 0..64 {
         answer[4 + i] = wide(copies[i]);

@@ -5,6 +5,7 @@ ghost use mathlib.Core.Bool.{_&&_};
 ghost use Prim.Native.Nat.{_+_, _≤_, _<_};
 ghost use lib.Dec.{leb};
 ghost use lib.ListN.{length, take};
+ghost use Rattle.cutting.specs.Limits.{most-kinds};
 ghost use Rattle.cutting.specs.Normal.{normal?, normals};
 ghost use Rattle.positions.specs.Contracts.{Holds, fitting, positions-of, Scannable, Listable, Mappable, Floors};
 
@@ -27,7 +28,7 @@ fn fitting_sides(
     other: u16,
     fit: &mut [u16; 64],
 ) -> u16
-    requires { ⌜ (count ≤ 64) × (length (now fit) ≡ 64) ⌝ }
+    requires { ⌜ (count ≤ most-kinds) × (length (now fit) ≡ most-kinds) ⌝ }
     ensures { λ r. ⌜ Holds (fitting (now (sides .entry)) (now (others .entry)) count side other) r (now (fit .entry)) (now (fit .exit)) ⌝ }
 {
     let mut n: u16 = 0;

@@ -81,13 +81,22 @@ fn print_plate(block: &[u8]) {
     print_word(b"\n");
 }
 
+// A weight after a space.
+fn print_weight(weight: u8) {
+    print_word(b" ");
+    print_byte(weight);
+}
+
+fn print_each(weights: &[u8]) {
+    for i in 0..weights.len() {
+        print_weight(weights[i]);
+    }
+}
+
 // The line of the weights and the capacity.
 fn print_weights(weights: &[u8], capacity: u16) {
     print_word(b"weights");
-    for i in 0..weights.len() {
-        print_word(b" ");
-        print_byte(weights[i]);
-    }
+    print_each(weights);
     print_word(b" capacity ");
     print_small(capacity);
     print_word(b"\n");
@@ -100,15 +109,20 @@ fn print_bound(bound: u64) {
     print_word(b"\n");
 }
 
-// One line a node: kind, operand.
+// The line of a node: kind, operand.
+fn print_node(kind: u8, operand: u16) {
+    print_byte(kind);
+    print_word(b" ");
+    print_small(operand);
+    print_word(b"\n");
+}
+
+// One line a node.
 fn print_nodes(kinds: &[u8], operands: &[u16])
     requires { ⌜ length (now kinds) ≡ length (now operands) ⌝ }
 {
     for i in 0..kinds.len() {
-        print_byte(kinds[i]);
-        print_word(b" ");
-        print_small(operands[i]);
-        print_word(b"\n");
+        print_node(kinds[i], operands[i]);
     }
 }
 

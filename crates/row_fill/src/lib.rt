@@ -8,11 +8,11 @@ use table::entry;
 use table::greater;
 use table::greater_lifted;
 use table::half;
+use table::level;
 ghost use mathlib.Core.Path.{_≡_};
 ghost use Prim.Native.Nat.{ℕ, _+_, _-_, _≤_, _<_, min};
 ghost use lib.ListN.{length};
 ghost use Rattle.table.specs.Contracts.{size-job, each, Fillable, FilledBy};
-ghost use Rattle.table.specs.Words.{Run};
 ghost use Rattle.row_fill.specs.Raised.{Raised, Sums, Kind, Kinds, Pushed, CellPush};
 ghost use Rattle.row_fill.specs.Rows.{Entries, Spread, LengthsTaken, Widened, WidthsTaken};
 ghost use Rattle.row_fill.specs.Ready.{Capped, SumsReady, LengthsReady, KindsReady, PushReady, CellReady, WidthsReady, RowReady};
@@ -137,16 +137,6 @@ fn place_kinds(
             weights[i],
             price,
         );
-    }
-}
-
-// The units from `from` to x less 1, between two entries, become v.
-fn level(unit: &mut [u64], from: usize, x: usize, v: u64)
-    requires { ⌜ (from ≤ x) × (x ≤ length (now unit)) ⌝ }
-    ensures { λ _. ⌜ Run (λ j. v) from (x - from) (now (unit .entry)) (now (unit .exit)) ⌝ }
-{
-    for y in from..x {
-        unit[y] = v;
     }
 }
 

@@ -17,12 +17,12 @@ use Rattle.table.proofs.Words.{cell-before, words-past}
 use Rattle.table.proofs.Halves.{half-ready, half-next}
 use Rattle.table.proofs.Figures.{entry-is, positions-axis}
 use Rattle.table.specs.States.{figure-at}
-use Rattle.state_fill.specs.Cells.{figure-in, note-in, held, note, under, Digits}
-use Rattle.state_fill.specs.Tables.{tabled, cell, Made, Rows, Cells, CellsLent, Counted, RowSpot, Spot, Figures, Bare, Plain}
+use Rattle.state_fill.specs.Cells.{figure-in, note-in, held, note, under, Digits, Level, Levelled}
+use Rattle.state_fill.specs.Tables.{tabled, cell, Made, Rows, Cells, LevelRows, LevelCells, CellsLent, Counted, RowSpot, Spot, Figures, Bare, Plain}
 use Rattle.state_fill.proofs.Noted.{figure-plain, note-plain, plain-word}
 use Rattle.table.proofs.Across.{no-side}
 use Rattle.state_fill.proofs.Growing.{outside-same, order-of}
-use Rattle.state_fill.proofs.Making.{made-kept}
+use Rattle.state_fill.proofs.Making.{made-kept, level-later}
 
 -- there is a state
 some-state : {blocks : List ℕ} {d words : ℕ} → Digits blocks d words → 1 ≤ words
@@ -59,13 +59,27 @@ module _ {J : Job} (own : ℕ → ℕ) {normal-lengths length-floors normal-widt
   first-width : getD normal-widths 0 0 ≡ 0
   first-width = entry-is J Width (position-count J Width) normal-widths width-floors (lent .range) (lent .widths) 0 (positions-some J Width) ∙ positions-first J Width
 
+  -- a cell of length 0, or of width 0, earns nothing
+  zero-length : (j s : ℕ) → tabled J (under blocks d) own normal-lengths normal-widths 0 j s ≡ 0
+  zero-length j s = rw first-length (no-side J (under blocks d) own (order-of blocks d words (lent .digits)) (lent .range) Length (getD normal-widths j 0) s)
+
+  zero-width : (i s : ℕ) → tabled J (under blocks d) own normal-lengths normal-widths i 0 s ≡ 0
+  zero-width i s = rw first-width (no-side J (under blocks d) own (order-of blocks d words (lent .digits)) (lent .range) Width (getD normal-lengths i 0) s)
+
+  -- so its figures are the same from any state on
+  pub level-first-row : (flat : ℕ) → LevelRows J (under blocks d) own normal-lengths normal-widths words flat 1
+  level-first-row flat i j h l s k m = let e : i ≡ 0 = omega arith in rw e (zero-length j s ∙ sym (zero-length j flat))
+
+  pub level-first-cell : (a flat : ℕ) → LevelCells J (under blocks d) own normal-lengths normal-widths words flat a 1
+  level-first-cell a flat j l s k m = let e : j ≡ 0 = omega arith in rw e (zero-width a s ∙ sym (zero-width a flat))
+
   -- the row of length 0
   pub first-row : (m : ℕ) (old new : List ℕ) → m ≡ position-count J Width * words → Run (λ j. 0) 0 m old new → Rows J (under blocks d) own normal-lengths normal-widths words 1 new
   first-row m old new e w i j l h = go (ℕ-discrete i 0)
     where
       go : Dec (i ≡ 0) → Made J (under blocks d) own normal-lengths normal-widths words i j new
       go (no q) = absurd (omega arith)
-      go (yes q) = rw q (zeros-made 0 j new (λ s. rw first-length (no-side J (under blocks d) own (order-of blocks d words (lent .digits)) (lent .range) Length (getD normal-widths j 0) s))
+      go (yes q) = rw q (zeros-made 0 j new (zero-length j)
           (λ s k. (let z : 0 + (cell J words 0 j + s) ≡ cell J words 0 j + s = omega arith in rw z at (w .here (cell J words 0 j + s) (omega (arith, cell-before j (position-count J Width) words h))))))
 
   -- the first cell of a row
@@ -74,7 +88,7 @@ module _ {J : Job} (own : ℕ → ℕ) {normal-lengths length-floors normal-widt
     where
       go : Dec (j ≡ 0) → Made J (under blocks d) own normal-lengths normal-widths words a j new
       go (no q) = absurd (omega arith)
-      go (yes q) = rw q (zeros-made a 0 new (λ s. rw first-width (no-side J (under blocks d) own (order-of blocks d words (lent .digits)) (lent .range) Width (getD normal-lengths a 0) s)) (λ s k. rw (← p) (w .here s k)))
+      go (yes q) = rw q (zeros-made a 0 new (zero-width a) (λ s k. rw (← p) (w .here s k)))
 
   -- earlier rows, where words from row a on are written
   pub rows-kept : (a at end : ℕ) (old new : List ℕ) → cell J words a 0 ≤ at → Outside at end old new → Rows J (under blocks d) own normal-lengths normal-widths words a old → Rows J (under blocks d) own normal-lengths normal-widths words a new
@@ -95,7 +109,23 @@ module _ {J : Job} (own : ℕ → ℕ) {normal-lengths length-floors normal-widt
       go (yes q) = rw q m
       go (no q) = made-kept (before q) o (w j (omega arith))
 
+  pub level-cells-more : {flat high : ℕ} (a b : ℕ) → Levelled words flat high (tabled J (under blocks d) own normal-lengths normal-widths a b) → LevelCells J (under blocks d) own normal-lengths normal-widths words flat a b
+      → LevelCells J (under blocks d) own normal-lengths normal-widths words high a (b + 1)
+  level-cells-more {flat} {high} a b new w j l = go (ℕ-discrete j b)
+    where
+      go : Dec (j ≡ b) → Level words high (tabled J (under blocks d) own normal-lengths normal-widths a j)
+      go (yes q) = rw q (new .level)
+      go (no q) = level-later (new .more) (w j (omega arith))
+
   -- one row more
+  pub level-rows-more : {flat a columns : ℕ} → columns ≡ position-count J Width → LevelRows J (under blocks d) own normal-lengths normal-widths words flat a
+      → LevelCells J (under blocks d) own normal-lengths normal-widths words flat a columns → LevelRows J (under blocks d) own normal-lengths normal-widths words flat (a + 1)
+  level-rows-more {flat} {a} {columns} e w m i j h l = go (ℕ-discrete i a)
+    where
+      go : Dec (i ≡ a) → Level words flat (tabled J (under blocks d) own normal-lengths normal-widths i j)
+      go (yes q) = rw q (m j (omega arith))
+      go (no q) = w i j (omega arith) l
+
   pub rows-more : (a columns : ℕ) (xs : List ℕ) → columns ≡ position-count J Width → Rows J (under blocks d) own normal-lengths normal-widths words a xs → Cells J (under blocks d) own normal-lengths normal-widths words a columns xs → Rows J (under blocks d) own normal-lengths normal-widths words (a + 1) xs
   rows-more a columns xs e w m i j h l = go (ℕ-discrete i a)
     where
@@ -156,8 +186,9 @@ bare-left s i words x old xs e h b p j k l m z =
     let g = ap note-in (p .rest (x + k) (omega (arith, e))) in
     g ∙ rw (← e) at (b i j k h l m (rw (← e) (sym f ∙ z)))
 
--- the cells of row a below cell b are made, and no word outside of the row has changed since the loop began; `width-half-end` serves for the half of entry b
-pub record InRow (J : Job) (own : ℕ → ℕ) (normal-lengths normal-widths blocks : List ℕ) (d words columns stride a at width-half-end column b : ℕ) (old new : List ℕ) : Type 0 where
+-- the cells of row a below cell b are made, no word outside of the row has changed since the loop began, and `width-half-end` serves for
+-- the half of entry b
+pub record InRow (J : Job) (own : ℕ → ℕ) (normal-lengths normal-widths blocks : List ℕ) (d words columns stride a at width-half-end column flat b : ℕ) (old new : List ℕ) : Type 0 where
   pub inside : (1 ≤ b) × (b ≤ columns)
   pub halved : (1 ≤ width-half-end) × (width-half-end ≤ b)
   pub half : (i : ℕ) → 1 ≤ i → i < width-half-end → b < columns → 2 * getD normal-widths i 0 ≤ getD normal-widths b 0
@@ -165,9 +196,12 @@ pub record InRow (J : Job) (own : ℕ → ℕ) (normal-lengths normal-widths blo
   pub same : length new ≡ length old
   pub rows : Rows J (under blocks d) own normal-lengths normal-widths words a new
   pub cells : Cells J (under blocks d) own normal-lengths normal-widths words a b new
+  pub flat-most : flat ≤ words
+  pub level-rows : LevelRows J (under blocks d) own normal-lengths normal-widths words flat a
+  pub level-cells : LevelCells J (under blocks d) own normal-lengths normal-widths words flat a b
   pub rest : Outside at (at + stride) old new
 
-module _ {J : Job} {own : ℕ → ℕ} {normal-lengths length-floors normal-widths width-floors blocks : List ℕ} {d words length-count columns stride a length-half-end at : ℕ} {t0 : List ℕ} (spot : RowSpot J own normal-lengths length-floors normal-widths width-floors blocks d words length-count columns stride a length-half-end at t0) where
+module _ {J : Job} {own : ℕ → ℕ} {normal-lengths length-floors normal-widths width-floors blocks : List ℕ} {d words length-count columns stride a length-half-end at flat : ℕ} {t0 : List ℕ} (spot : RowSpot J own normal-lengths length-floors normal-widths width-floors blocks d words length-count columns stride a length-half-end at flat t0) where
   row-axis : Axis normal-widths width-floors columns
   row-axis = subst (λ columns. Axis normal-widths width-floors columns) (sym (spot .counted .widths)) (positions-axis J Width (position-count J Width) normal-widths width-floors (spot .lent .range) (spot .lent .widths))
 
@@ -185,7 +219,7 @@ module _ {J : Job} {own : ℕ → ℕ} {normal-lengths length-floors normal-widt
   row-first = omega (arith, row-room 0 row-some .0)
 
   -- the first cell
-  pub row-start : (t1 : List ℕ) → Run (λ j. 0) at words t0 t1 → InRow J own normal-lengths normal-widths blocks d words columns stride a at 1 words 1 t1 t1
+  pub row-start : (t1 : List ℕ) → Run (λ j. 0) at words t0 t1 → InRow J own normal-lengths normal-widths blocks d words columns stride a at 1 words flat 1 t1 t1
   row-start t1 w = record {
     inside = (omega arith, row-some);
     halved = (omega arith, omega arith);
@@ -194,15 +228,18 @@ module _ {J : Job} {own : ℕ → ℕ} {normal-lengths length-floors normal-widt
     same = refl;
     rows = rows-kept own (spot .lent) a at (at + words) t0 t1 (omega (arith, spot .at-is)) (w .rest) (spot .rows);
     cells = first-cell own (spot .lent) a at t0 t1 (spot .at-is) w;
+    flat-most = spot .flat-most;
+    level-rows = spot .level-rows;
+    level-cells = level-first-cell own (spot .lent) a flat;
     rest = outside-same at (at + stride) t1;
   }
 
-  module _ {t1 t2 : List ℕ} {width-half-end column b : ℕ} (one : length t1 ≡ length t0) (hb : b < columns) (so : InRow J own normal-lengths normal-widths blocks d words columns stride a at width-half-end column b t1 t2) where
+  module _ {t1 t2 : List ℕ} {width-half-end column high b : ℕ} (one : length t1 ≡ length t0) (hb : b < columns) (so : InRow J own normal-lengths normal-widths blocks d words columns stride a at width-half-end column high b t1 t2) where
     pub row-half : HalfReady normal-widths width-half-end b
     row-half = half-ready normal-widths width-floors columns row-axis width-half-end b (so .halved .0) (so .halved .1) hb (so .half)
 
     -- the place of the next cell
-    pub row-spot : (half-end : ℕ) → Half normal-widths b half-end → Spot J own normal-lengths length-floors normal-widths width-floors blocks d words stride a b length-half-end half-end (at + column) column t2
+    pub row-spot : (half-end : ℕ) → Half normal-widths b half-end → Spot J own normal-lengths length-floors normal-widths width-floors blocks d words stride a b length-half-end half-end (at + column) column high t2
     row-spot half-end half = record {
       lent = lent-kept (so .same ∙ one) (spot .lent);
       long-in = (spot .long-in .0, omega (arith, spot .long-in .1, spot .counted .lengths));
@@ -214,6 +251,9 @@ module _ {J : Job} {own : ℕ → ℕ} {normal-lengths length-floors normal-widt
       column-is = so .column-is;
       rows = so .rows;
       cells = so .cells;
+      flat-most = so .flat-most;
+      level-rows = so .level-rows;
+      level-cells = so .level-cells;
     }
 
     pub row-fits : at + column + words ≤ length t0
@@ -221,8 +261,8 @@ module _ {J : Job} {own : ℕ → ℕ} {normal-lengths length-floors normal-widt
 
     -- one cell more
     pub row-more : (half-end : ℕ) (t3 : List ℕ) → length t3 ≡ length t2 → Half normal-widths b half-end → Made J (under blocks d) own normal-lengths normal-widths words a b t3 → Outside (at + column) (at + column + words) t2 t3
-        → InRow J own normal-lengths normal-widths blocks d words columns stride a at half-end (column + words) (b + 1) t1 t3
-    row-more half-end t3 e half made o = record {
+        → {next : ℕ} → Levelled words high next (tabled J (under blocks d) own normal-lengths normal-widths a b) → InRow J own normal-lengths normal-widths blocks d words columns stride a at half-end (column + words) next (b + 1) t1 t3
+    row-more half-end t3 e half made o flat-from = record {
       inside = (omega arith, omega arith);
       halved = (half .least, omega (arith, half .most));
       half = λ i l m h. half-next normal-widths width-floors columns row-axis b half-end half i l m h;
@@ -230,6 +270,9 @@ module _ {J : Job} {own : ℕ → ℕ} {normal-lengths length-floors normal-widt
       same = e ∙ so .same;
       rows = rows-kept own (spot .lent) a (at + column) (at + column + words) t2 t3 (omega (arith, spot .at-is)) o (so .rows);
       cells = cells-more own (spot .lent) a b (at + column) t2 t3 (omega (arith, spot .at-is, so .column-is)) (so .cells) made o;
+      flat-most = flat-from .most;
+      level-rows = λ i j h l. level-later (flat-from .more) (so .level-rows i j h l);
+      level-cells = level-cells-more own (spot .lent) a b flat-from (so .level-cells);
       rest = record {
         before = λ i h. o .before i (omega arith) ∙ so .rest .before i h;
         after = λ i h. o .after i (omega (arith, so .column-is, row-room b hb .1)) ∙ so .rest .after i h;
@@ -237,21 +280,25 @@ module _ {J : Job} {own : ℕ → ℕ} {normal-lengths length-floors normal-widt
     }
 
   -- the row is made
-  pub row-end : {t1 t2 : List ℕ} {width-half-end column b : ℕ} → Run (λ j. 0) at words t0 t1 → columns ≤ b → InRow J own normal-lengths normal-widths blocks d words columns stride a at width-half-end column b t1 t2
-      → Rows J (under blocks d) own normal-lengths normal-widths words (a + 1) t2 × Outside at (at + stride) t0 t2
-  row-end {t1} {t2} {width-half-end} {column} {b} w h so = (
+  pub row-end : {t1 t2 : List ℕ} {width-half-end column high b : ℕ} → Run (λ j. 0) at words t0 t1 → columns ≤ b → InRow J own normal-lengths normal-widths blocks d words columns stride a at width-half-end column high b t1 t2
+      → Rows J (under blocks d) own normal-lengths normal-widths words (a + 1) t2 × Outside at (at + stride) t0 t2 × (high ≤ words) × LevelRows J (under blocks d) own normal-lengths normal-widths words high (a + 1)
+  row-end {t1} {t2} {width-half-end} {column} {high} {b} w h so = (
     rows-more own (spot .lent) a columns t2 (spot .counted .widths) (so .rows) (λ j l. so .cells j (omega arith)),
     record { before = λ i l. so .rest .before i l ∙ w .rest .before i l; after = λ i l. so .rest .after i l ∙ w .rest .after i (omega (arith, row-room 0 row-some .1)) },
+    so .flat-most,
+    level-rows-more own (spot .lent) (spot .counted .widths) (so .level-rows) (λ j l. so .level-cells j (omega arith)),
   )
 
 -- the rows below a are made, and no word past the table has changed since the loop began; `length-half-end` serves for the half of entry a
-pub record InTable (J : Job) (own : ℕ → ℕ) (normal-lengths normal-widths blocks : List ℕ) (d words length-count stride at length-half-end a : ℕ) (old new : List ℕ) : Type 0 where
+pub record InTable (J : Job) (own : ℕ → ℕ) (normal-lengths normal-widths blocks : List ℕ) (d words length-count stride at length-half-end flat a : ℕ) (old new : List ℕ) : Type 0 where
   pub inside : (1 ≤ a) × (a ≤ length-count)
   pub halved : (1 ≤ length-half-end) × (length-half-end ≤ a)
   pub half : (i : ℕ) → 1 ≤ i → i < length-half-end → a < length-count → 2 * getD normal-lengths i 0 ≤ getD normal-lengths a 0
   pub at-is : at ≡ a * stride
   pub same : length new ≡ length old
   pub rows : Rows J (under blocks d) own normal-lengths normal-widths words a new
+  pub flat-most : flat ≤ words
+  pub level-rows : LevelRows J (under blocks d) own normal-lengths normal-widths words flat a
   pub rest : (i : ℕ) → length-count * stride ≤ i → getD new i 0 ≡ getD old i 0
 
 module _ {J : Job} {normal-lengths length-floors normal-widths width-floors blocks : List ℕ} {d words length-count columns stride : ℕ} {t0 : List ℕ} (lent : CellsLent J normal-lengths length-floors normal-widths width-floors blocks d words t0) (counted : Counted J words length-count columns stride) where
@@ -277,7 +324,7 @@ module _ {J : Job} {normal-lengths length-floors normal-widths width-floors bloc
   pub table-cells : length-count * columns ≤ length t0
   table-cells = omega (arith, table-words, lent .room, mul-le-mul-right {m = 1} {n = words} (length-count * columns) (some-state (lent .digits)))
 
-  pub table-start : (own : ℕ → ℕ) (t1 : List ℕ) → Run (λ j. 0) 0 stride t0 t1 → InTable J own normal-lengths normal-widths blocks d words length-count stride stride 1 1 t1 t1
+  pub table-start : (own : ℕ → ℕ) (t1 : List ℕ) → Run (λ j. 0) 0 stride t0 t1 → InTable J own normal-lengths normal-widths blocks d words length-count stride stride 1 0 1 t1 t1
   table-start own t1 w = record {
     inside = (omega arith, table-some);
     halved = (omega arith, omega arith);
@@ -285,15 +332,17 @@ module _ {J : Job} {normal-lengths length-floors normal-widths width-floors bloc
     at-is = omega arith;
     same = refl;
     rows = first-row own lent stride t0 t1 (counted .stride-is ∙ ap (λ columns. columns * words) (counted .widths)) w;
+    flat-most = omega arith;
+    level-rows = level-first-row own lent 0;
     rest = λ i h. refl;
   }
 
-  module _ {own : ℕ → ℕ} {t1 t2 : List ℕ} {at length-half-end a : ℕ} (one : length t1 ≡ length t0) (ha : a < length-count) (so : InTable J own normal-lengths normal-widths blocks d words length-count stride at length-half-end a t1 t2) where
+  module _ {own : ℕ → ℕ} {t1 t2 : List ℕ} {at length-half-end flat a : ℕ} (one : length t1 ≡ length t0) (ha : a < length-count) (so : InTable J own normal-lengths normal-widths blocks d words length-count stride at length-half-end flat a t1 t2) where
     pub table-half : HalfReady normal-lengths length-half-end a
     table-half = half-ready normal-lengths length-floors length-count table-axis length-half-end a (so .halved .0) (so .halved .1) ha (so .half)
 
     -- the place of the next row
-    pub table-spot : (half-end : ℕ) → Half normal-lengths a half-end → RowSpot J own normal-lengths length-floors normal-widths width-floors blocks d words length-count columns stride a half-end at t2
+    pub table-spot : (half-end : ℕ) → Half normal-lengths a half-end → RowSpot J own normal-lengths length-floors normal-widths width-floors blocks d words length-count columns stride a half-end at flat t2
     table-spot half-end half = record {
       lent = lent-kept (so .same ∙ one) lent;
       counted = counted;
@@ -301,26 +350,30 @@ module _ {J : Job} {normal-lengths length-floors normal-widths width-floors bloc
       half-a = half;
       at-is = so .at-is ∙ (ap (λ x. a * x) (counted .stride-is ∙ ap (λ columns. columns * words) (counted .widths)) ∙ omega arith);
       rows = so .rows;
+      flat-most = so .flat-most;
+      level-rows = so .level-rows;
     }
 
     pub table-fits : at + stride ≤ length t0
     table-fits = omega (arith, so .at-is, table-row-room a ha)
 
     -- one row more
-    pub table-more : (half-end : ℕ) (t3 : List ℕ) → length t3 ≡ length t2 → Half normal-lengths a half-end → Rows J (under blocks d) own normal-lengths normal-widths words (a + 1) t3 → Outside at (at + stride) t2 t3
-        → InTable J own normal-lengths normal-widths blocks d words length-count stride (at + stride) half-end (a + 1) t1 t3
-    table-more half-end t3 e half made o = record {
+    pub table-more : (half-end : ℕ) (t3 : List ℕ) → length t3 ≡ length t2 → Half normal-lengths a half-end → Rows J (under blocks d) own normal-lengths normal-widths words (a + 1) t3 → Outside at (at + stride) t2 t3 → {high : ℕ} → high ≤ words → LevelRows J (under blocks d) own normal-lengths normal-widths words high (a + 1)
+        → InTable J own normal-lengths normal-widths blocks d words length-count stride (at + stride) half-end high (a + 1) t1 t3
+    table-more half-end t3 e half made o most level = record {
       inside = (omega arith, omega arith);
       halved = (half .least, omega (arith, half .most));
       half = λ i l m h. half-next normal-lengths length-floors length-count table-axis a half-end half i l m h;
       at-is = omega (arith, so .at-is);
       same = e ∙ so .same;
       rows = made;
+      flat-most = most;
+      level-rows = level;
       rest = λ i h. o .after i (omega (arith, so .at-is, cell-before a length-count stride ha)) ∙ so .rest i h;
     }
 
   -- all rows are made, and the lists are taken off
-  module _ {own : ℕ → ℕ} {t1 t2 : List ℕ} {at length-half-end a : ℕ} (w : Run (λ j. 0) 0 stride t0 t1) (one : length t1 ≡ length t0) (ha : length-count ≤ a) (so : InTable J own normal-lengths normal-widths blocks d words length-count stride at length-half-end a t1 t2) where
+  module _ {own : ℕ → ℕ} {t1 t2 : List ℕ} {at length-half-end flat a : ℕ} (w : Run (λ j. 0) 0 stride t0 t1) (one : length t1 ≡ length t0) (ha : length-count ≤ a) (so : InTable J own normal-lengths normal-widths blocks d words length-count stride at length-half-end flat a t1 t2) where
     cells-are : length-count * columns ≡ position-count J Length * position-count J Width
     cells-are = ap₂ (λ i j. i * j) (counted .lengths) (counted .widths)
 

@@ -7,11 +7,11 @@ use mathlib.Core.List.{List}
 use Prim.Native.Nat.{ℕ, _+_, _-_, _≤_, _<_}
 use native.Mathlib.Decide.{ℕ-discrete}
 use native.Mathlib.Omega.{arith}
-use lib.Dec.{T}
+use lib.Dec.{T, le→leb}
 use lib.ListN.{length, getD, set}
 use lib.Seq.{getD-set-same, getD-set-other}
 use Rattle.table.specs.Words.{Outside}
-use Rattle.table.specs.States.{Order, Covers}
+use Rattle.table.specs.States.{below, Order, Covers}
 use Rattle.state_fill.specs.Cells.{figure-in, note-in, held, under, Digits, Rises, Growing, Lift, Lifted, Raised, Flagged, Low, Grown, Taken}
 use Rattle.state_fill.proofs.Digits.{below-last, digits-order}
 use Rattle.state_fill.proofs.Noted.{figure-plain, figure-flagged, note-flagged}
@@ -21,6 +21,11 @@ outside-chain at end old mid new p q = record { before = λ i h. q .before i h �
 
 pub outside-same : (at end : ℕ) (xs : List ℕ) → Outside at end xs xs
 outside-same at end xs = record { before = λ i h. refl; after = λ i h. refl }
+
+-- the order of one digit is that of numbers
+pub under-zero : (blocks : List ℕ) (d : ℕ) → d ≡ 0 → (t s : ℕ) → t ≤ s → T (under blocks d t s)
+unfolding below
+under-zero blocks d e t s h = rw e (le→leb t s h)
 
 -- the order of a list of numbers of states
 pub order-of : (blocks : List ℕ) (d words : ℕ) → Digits blocks d words → Order (under blocks d)

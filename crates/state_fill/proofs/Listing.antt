@@ -1,7 +1,7 @@
 -- A cell that starts, inherits and lists: loops over the words of a cell, or over the list of another, one step at a time.
 use mathlib.Core.Path.{_≡_, refl, sym, _∙_, ap}
 use mathlib.Core.List.{List}
-use Prim.Native.Nat.{ℕ, _+_, _*_, _≤_, _<_}
+use Prim.Native.Nat.{ℕ, _+_, _-_, _*_, _≤_, _<_}
 use native.Mathlib.Decide.{ℕ-discrete, decLe}
 use native.Mathlib.Omega.{arith}
 use lib.ListN.{length, getD, set, length-set}
@@ -15,6 +15,18 @@ use Rattle.state_fill.proofs.Joining.{held-kept, note-kept}
 -- a cell that lies before is as it was
 pub run-held : (f : ℕ → ℕ) (at m : ℕ) (old new : List ℕ) (x s : ℕ) → x + s < at → Run f at m old new → held new x s ≡ held old x s
 run-held f at m old new x s h w = ap figure-in (w .rest .before (x + s) h)
+
+-- the words below state `flat` are written, and then the others, which are all the same
+pub run-level : (f : ℕ → ℕ) (at flat words v : ℕ) (old mid new : List ℕ) → flat ≤ words → ((s : ℕ) → flat ≤ s → s < words → f s ≡ v)
+    → Run f at flat old mid → Run (λ j. v) (at + flat) (at + words - (at + flat)) mid new → Run f at words old new
+run-level f at flat words v old mid new h same w x = record {
+  here = λ j l. go j l (decLe flat j);
+  rest = record { before = λ i l. x .rest .before i (omega arith) ∙ w .rest .before i l; after = λ i l. x .rest .after i (omega arith) ∙ w .rest .after i (omega arith) };
+}
+  where
+    go : (j : ℕ) → j < words → Dec (flat ≤ j) → getD new (at + j) 0 ≡ f j
+    go j l (yes q) = let e : at + flat + (j - flat) ≡ at + j = omega arith in rw e at (x .here (j - flat) (omega arith)) ∙ sym (same j q l)
+    go j l (no q) = x .rest .before (at + j) (omega arith) ∙ w .here j (omega arith)
 
 -- the first k entries of the list of the cell from `first` on are inherited
 pub record Inherit (first second at words k : ℕ) (old new : List ℕ) : Type 0 where

@@ -20,12 +20,12 @@ use Rattle.table.proofs.Words.{cell-before}
 use Rattle.table.proofs.Halves.{half-cuts, half-parts}
 use Rattle.table.proofs.Figures.{positions-axis}
 use Rattle.table.specs.States.{Order, Covers}
-use Rattle.state_fill.specs.Cells.{figure-in, note-in, held, under, Rises, Flagged, Listed, Low, Grown, Growing, Ready, Cuttable, CutAt, Placed, Inherited, Finished, FlaggedBelow, Topped}
+use Rattle.state_fill.specs.Cells.{figure-in, note-in, held, under, Level, Startable, Levelled, Rises, Flagged, Listed, Low, Grown, Growing, Ready, Cuttable, CutAt, Placed, Inherited, Finished, FlaggedBelow, Topped}
 use Rattle.state_fill.specs.Tables.{tabled, cell, Made, Spot}
 use Rattle.state_fill.proofs.Noted.{figure-small, figure-plain, note-plain}
 use Rattle.table.proofs.Across.{across, across-above, state-above, state-low, more-side, kind-most}
 use Rattle.table.proofs.Complete.{along, side-covered, complete}
-use Rattle.state_fill.proofs.Growing.{outside-chain, grown-then, order-of, last-state}
+use Rattle.state_fill.proofs.Growing.{outside-same, outside-chain, grown-then, order-of, under-zero, last-state}
 use Rattle.state_fill.proofs.Joining.{held-kept, note-kept, listed-kept}
 
 -- what some states cover, more states cover
@@ -53,6 +53,22 @@ start-covers le words some flag f g h top is low rises flags c s l = go (decLe (
     go (yes k) x = inl (omega (arith, is s l))
     go (no k) (inl x) = absurd (omega (arith, low s))
     go (no k) (inr x) = inr (x .0, x .1, x .2, flags (x .0) (x .1) (x .3) (omega (arith, rises (x .0) s l (x .2), x .4)), omega (arith, is s l, is (x .0) (x .1), x .4))
+
+-- figures that some states cover are the same past all of these, where the figures covered over are
+level-past : (le : ℕ → ℕ → Bool) → ((t s : ℕ) → t ≤ s → T (le t s)) → (words flat top : ℕ) (some : ℕ → Type 0) (f g : ℕ → ℕ) → Rises le words f → ((s : ℕ) → g s ≤ f s)
+    → ((t : ℕ) → t < words → some t → t < top) → Covers le words some f g → Level words flat g → Level words (max flat top) f
+level-past le plain words flat top some f g rises low below c level s h l = go (c s l)
+  where
+    up : f (max flat top) ≤ f s
+    up = rises (max flat top) s l (plain (max flat top) s h)
+
+    go : (f s ≤ g s) ⊎ ((t : ℕ) × (t < words) × T (le t s) × some t × (f s ≤ f t)) → f s ≡ f (max flat top)
+    go (inl x) = omega (arith, up, x, level s (omega arith) l, level (max flat top) (omega arith) (omega arith), low (max flat top))
+    go (inr x) = omega (arith, up, x .4, rises (x .0) (max flat top) (omega arith) (plain (x .0) (max flat top) (omega (arith, below (x .0) (x .1) (x .3)))))
+
+-- figures that are the same from a state on are so from a later one on
+pub level-later : {words flat high : ℕ} {f : ℕ → ℕ} → flat ≤ high → Level words flat f → Level words high f
+level-later {words} {flat} {high} {f} h level s k l = level s (omega arith) l ∙ sym (level high h (omega arith))
 
 -- a cell that is made stays so where words after it are written
 pub made-kept : {J : Job} {le : ℕ → ℕ → Bool} {own : ℕ → ℕ} {normal-lengths normal-widths : List ℕ} {words i j at end : ℕ} {old new : List ℕ}
@@ -99,7 +115,7 @@ module _ (J : Job) (le : ℕ → ℕ → Bool) (own : ℕ → ℕ) (order : Orde
       taken i j l m e x t u f y z b = rw e (cuts .sums i t u l m (rw e at x) f (rw e at y) z b)
 
 -- the cell at its place
-module _ {J : Job} {own : ℕ → ℕ} {normal-lengths length-floors normal-widths width-floors blocks : List ℕ} {d words stride a b length-half-end width-half-end at column : ℕ} {t0 : List ℕ} (spot : Spot J own normal-lengths length-floors normal-widths width-floors blocks d words stride a b length-half-end width-half-end at column t0) where
+module _ {J : Job} {own : ℕ → ℕ} {normal-lengths length-floors normal-widths width-floors blocks : List ℕ} {d words stride a b length-half-end width-half-end at column flat : ℕ} {t0 : List ℕ} (spot : Spot J own normal-lengths length-floors normal-widths width-floors blocks d words stride a b length-half-end width-half-end at column flat t0) where
   abbrev le : ℕ → ℕ → Bool
   le = under blocks d
 
@@ -234,14 +250,26 @@ module _ {J : Job} {own : ℕ → ℕ} {normal-lengths length-floors normal-widt
       rise i k h l (yes m) = let e : i ≡ k = omega arith in omega (arith, ap (λ i. getD normal-widths i 0) e)
       rise i k h l (no m) = omega (arith, positions-axis J Width (position-count J Width) normal-widths width-floors fit (spot .lent .widths) .rise i k (omega arith) l)
 
+  -- the figures of the two cells before it
+  shorter-figure : (s : ℕ) → s < words → held t0 (at - stride) s ≡ F (a - 1) b s
+  shorter-figure s h = rw shorter-word (spot .rows (a - 1) b (omega (arith, spot .long-in .0)) (spot .wide-in .1) .figures s h)
+
+  narrower-figure : (s : ℕ) → s < words → held t0 (at - words) s ≡ F a (b - 1) s
+  narrower-figure s h = rw narrower-word (spot .cells (b - 1) (omega (arith, spot .wide-in .0)) .figures s h)
+
+  -- it can start from them
+  pub startable : Startable (at - stride) (at - words) at words flat t0
+  startable = record {
+    first-before = shorter-ready t0 (outside-same at (at + words) t0) .before;
+    second-before = narrower-ready t0 (outside-same at (at + words) t0) .before;
+    room = room;
+    most = spot .flat-most;
+    first-level = λ s h l. shorter-figure s l ∙ (spot .level-rows (a - 1) b (omega (arith, spot .long-in .0)) (spot .wide-in .1) s h l ∙ sym (shorter-figure flat (omega arith)));
+    second-level = λ s h l. narrower-figure s l ∙ (spot .level-cells (b - 1) (omega (arith, spot .wide-in .0)) s h l ∙ sym (narrower-figure flat (omega arith)));
+  }
+
   -- the start
   module _ (t1 : List ℕ) (run : Run (λ s. max (held t0 (at - stride) s) (held t0 (at - words) s)) at words t0 t1) where
-    shorter-figure : (s : ℕ) → s < words → held t0 (at - stride) s ≡ F (a - 1) b s
-    shorter-figure s h = rw shorter-word (spot .rows (a - 1) b (omega (arith, spot .long-in .0)) (spot .wide-in .1) .figures s h)
-
-    narrower-figure : (s : ℕ) → s < words → held t0 (at - words) s ≡ F a (b - 1) s
-    narrower-figure s h = rw narrower-word (spot .cells (b - 1) (omega (arith, spot .wide-in .0)) .figures s h)
-
     pub started : (s : ℕ) → s < words → held t1 at s ≡ max (F (a - 1) b s) (F a (b - 1) s)
     started s h = ap figure-in (run .here s h) ∙ (figure-plain _ (omega (arith, figure-small (getD t0 (at - stride + s) 0), figure-small (getD t0 (at - words + s) 0))) ∙ ap₂ max (shorter-figure s h) (narrower-figure s h))
 
@@ -352,13 +380,30 @@ module _ {J : Job} {own : ℕ → ℕ} {normal-lengths length-floors normal-widt
         figures : (s : ℕ) → s < words → held t6 at s ≡ F a b s
         figures s h = omega (arith, sound s h, full s h)
 
+        -- the flags cover the figures over those of the cells before
+        covers-length : Covers (under blocks d) words (Flagged t6 at) (F a b) (F (a - 1) b)
+        covers-length = covers-same (under blocks d) words (Flagged t6 at) (held t6 at) (F a b) (F (a - 1) b) figures (grown .covers (F (a - 1) b) inherited-rises covers-shorter)
+
+        covers-width : Covers (under blocks d) words (Flagged t6 at) (F a b) (F a (b - 1))
+        covers-width = covers-same (under blocks d) words (Flagged t6 at) (held t6 at) (F a b) (F a (b - 1)) figures (grown .covers (F a (b - 1)) inherited-rises covers-narrower)
+
+        -- and are the same past all flags, where those of the cells before are
+        pub levelled : {top high : ℕ} → FlaggedBelow at words top t6 → ((d ≡ 0) × (high ≡ max flat top)) ⊎ (high ≡ words) → Levelled words flat high (F a b)
+        levelled {top} {high} below (inr e) = record { more = omega (arith, spot .flat-most); most = omega arith; level = λ s h l. absurd (omega arith) }
+        levelled {top} {high} below (inl e) = record {
+          more = omega (arith, e .1);
+          most = omega (arith, e .1, below .most, spot .flat-most);
+          level = rw (e .1) (level-past (under blocks d) (under-zero blocks d (e .0)) words flat top (Flagged t6 at) (F a b) (F (a - 1) b) (rising a b) (λ s. longer (a - 1) a b s (omega arith) (spot .long-in .1)) (below .flags) covers-length
+              (spot .level-rows (a - 1) b (omega (arith, spot .long-in .0)) (spot .wide-in .1)));
+        }
+
         pub made : Made J (under blocks d) own normal-lengths normal-widths words a b t7
         made = record {
           figures = λ s h. rw (← spot .at-is) (done .same s h ∙ figures s h);
           notes = λ k h. rw (← spot .at-is) (done .notes k h);
           ended = λ j k h l z. rw (← spot .at-is) (done .ended j k h l (rw (← spot .at-is) at z));
-          longer = covers-same (under blocks d) words (Listed t7 (cell J words a b) words) (held t6 at) (F a b) (F (a - 1) b) figures (covers-more (under blocks d) words (Flagged t6 at) (Listed t7 (cell J words a b) words) (held t6 at) (F (a - 1) b) listed (grown .covers (F (a - 1) b) inherited-rises covers-shorter));
-          wider = covers-same (under blocks d) words (Listed t7 (cell J words a b) words) (held t6 at) (F a b) (F a (b - 1)) figures (covers-more (under blocks d) words (Flagged t6 at) (Listed t7 (cell J words a b) words) (held t6 at) (F a (b - 1)) listed (grown .covers (F a (b - 1)) inherited-rises covers-narrower));
+          longer = covers-more (under blocks d) words (Flagged t6 at) (Listed t7 (cell J words a b) words) (F a b) (F (a - 1) b) listed covers-length;
+          wider = covers-more (under blocks d) words (Flagged t6 at) (Listed t7 (cell J words a b) words) (F a b) (F a (b - 1)) listed covers-width;
         }
           where
             listed : (t : ℕ) → t < words → Flagged t6 at t → Listed t7 (cell J words a b) words t

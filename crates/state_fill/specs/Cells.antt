@@ -37,6 +37,25 @@ pub record Digits (blocks : List ℕ) (d words : ℕ) : Type 0 where
   pub states : words ≡ getD blocks d 0
   pub most : words ≤ 65536
 
+-- figures are the same from state `flat` on
+abbrev pub Level : ℕ → ℕ → (ℕ → ℕ) → Type 0
+Level words flat f = (s : ℕ) → flat ≤ s → s < words → f s ≡ f flat
+
+-- the cells from `first` and `second` on lie before the one from `at` on, which has room, and their figures are the same from `flat` on
+pub record Startable (first second at words flat : ℕ) (xs : List ℕ) : Type 0 where
+  pub first-before : first + words ≤ at
+  pub second-before : second + words ≤ at
+  pub room : at + words ≤ length xs
+  pub most : flat ≤ words
+  pub first-level : Level words flat (held xs first)
+  pub second-level : Level words flat (held xs second)
+
+-- a cell's figures are the same from `high` on, which is no less than `flat` and no more than the number of states
+pub record Levelled (words flat high : ℕ) (f : ℕ → ℕ) : Type 0 where
+  pub more : flat ≤ high
+  pub most : high ≤ words
+  pub level : Level words high f
+
 -- figures do not fall from a state to one above
 abbrev pub Rises : (ℕ → ℕ → Bool) → ℕ → (ℕ → ℕ) → Type 0
 Rises le words f = (t s : ℕ) → s < words → T (le t s) → f t ≤ f s

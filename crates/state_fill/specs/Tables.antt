@@ -14,7 +14,7 @@ use Rattle.table.specs.States.{figure-at, Covers}
 use Rattle.state_fill.specs.declared.shape.Shape.{Shape}
 use Rattle.state_fill.specs.declared.cells.Place.{Place}
 use Rattle.state_fill.specs.declared.parts.Line.{Line}
-use Rattle.state_fill.specs.Cells.{held, note, under, Digits, Listed}
+use Rattle.state_fill.specs.Cells.{held, note, under, Digits, Listed, Level}
 
 -- the cells of a cell's width, along the lengths, and those of its length, along the widths
 abbrev pub length-line : Shape → Place → Line
@@ -74,6 +74,13 @@ Rows J le own normal-lengths normal-widths words a xs = (i j : ℕ) → i < a �
 abbrev pub Cells : Job → (ℕ → ℕ → Bool) → (ℕ → ℕ) → List ℕ → List ℕ → ℕ → ℕ → ℕ → List ℕ → Type 0
 Cells J le own normal-lengths normal-widths words a b xs = (j : ℕ) → j < b → Made J le own normal-lengths normal-widths words a j xs
 
+-- the figures of the cells of the rows below a, and of the cells of row a below cell b, are the same from state `flat` on
+abbrev pub LevelRows : Job → (ℕ → ℕ → Bool) → (ℕ → ℕ) → List ℕ → List ℕ → ℕ → ℕ → ℕ → Type 0
+LevelRows J le own normal-lengths normal-widths words flat a = (i j : ℕ) → i < a → j < position-count J Width → Level words flat (tabled J le own normal-lengths normal-widths i j)
+
+abbrev pub LevelCells : Job → (ℕ → ℕ → Bool) → (ℕ → ℕ) → List ℕ → List ℕ → ℕ → ℕ → ℕ → ℕ → Type 0
+LevelCells J le own normal-lengths normal-widths words flat a b = (j : ℕ) → j < b → Level words flat (tabled J le own normal-lengths normal-widths a j)
+
 -- what the fill is lent: a job in range, the digits of the states, the normal positions with their floors, and a table that is long enough
 pub record CellsLent (J : Job) (normal-lengths length-floors normal-widths width-floors blocks : List ℕ) (d words : ℕ) (table : List ℕ) : Type 0 where
   pub range : InRange J
@@ -89,16 +96,18 @@ pub record Counted (J : Job) (words length-count columns stride : ℕ) : Type 0 
   pub stride-is : stride ≡ columns * words
 
 -- the place of a row that is to be made: all rows before it are
-pub record RowSpot (J : Job) (own : ℕ → ℕ) (normal-lengths length-floors normal-widths width-floors blocks : List ℕ) (d words length-count columns stride a length-half-end at : ℕ) (table : List ℕ) : Type 0 where
+pub record RowSpot (J : Job) (own : ℕ → ℕ) (normal-lengths length-floors normal-widths width-floors blocks : List ℕ) (d words length-count columns stride a length-half-end at flat : ℕ) (table : List ℕ) : Type 0 where
   pub lent : CellsLent J normal-lengths length-floors normal-widths width-floors blocks d words table
   pub counted : Counted J words length-count columns stride
   pub long-in : (1 ≤ a) × (a < length-count)
   pub half-a : Half normal-lengths a length-half-end
   pub at-is : at ≡ cell J words a 0
   pub rows : Rows J (under blocks d) own normal-lengths normal-widths words a table
+  pub flat-most : flat ≤ words
+  pub level-rows : LevelRows J (under blocks d) own normal-lengths normal-widths words flat a
 
 -- the place of a cell that is to be made: all cells before it are
-pub record Spot (J : Job) (own : ℕ → ℕ) (normal-lengths length-floors normal-widths width-floors blocks : List ℕ) (d words stride a b length-half-end width-half-end at column : ℕ) (table : List ℕ) : Type 0 where
+pub record Spot (J : Job) (own : ℕ → ℕ) (normal-lengths length-floors normal-widths width-floors blocks : List ℕ) (d words stride a b length-half-end width-half-end at column flat : ℕ) (table : List ℕ) : Type 0 where
   pub lent : CellsLent J normal-lengths length-floors normal-widths width-floors blocks d words table
   pub long-in : (1 ≤ a) × (a < position-count J Length)
   pub wide-in : (1 ≤ b) × (b < position-count J Width)
@@ -109,6 +118,9 @@ pub record Spot (J : Job) (own : ℕ → ℕ) (normal-lengths length-floors norm
   pub column-is : column ≡ b * words
   pub rows : Rows J (under blocks d) own normal-lengths normal-widths words a table
   pub cells : Cells J (under blocks d) own normal-lengths normal-widths words a b table
+  pub flat-most : flat ≤ words
+  pub level-rows : LevelRows J (under blocks d) own normal-lengths normal-widths words flat a
+  pub level-cells : LevelCells J (under blocks d) own normal-lengths normal-widths words flat a b
 
 -- each word holds the figure of its normal length, normal width and state
 abbrev pub Figures : Job → (ℕ → ℕ → Bool) → (ℕ → ℕ) → ℕ → List ℕ → Type 0

@@ -9,20 +9,34 @@ use crate::shape::widen;
 use crate::words::figure;
 use crate::words::note;
 use table::greater;
+use table::level;
 ghost use mathlib.Core.Path.{_≡_};
+ghost use mathlib.Core.Logic.{_⊎_};
 ghost use Prim.Native.Nat.{_+_, _≤_, max};
 ghost use lib.ListN.{length};
 ghost use Rattle.table.specs.Words.{Outside, Run};
-ghost use Rattle.state_fill.specs.Cells.{held, note, under, Growing, Taken, Ready, Inherited, Placed, Finished, FlaggedBelow, Topped};
-ghost use Rattle.state_fill.specs.Tables.{job-in, owns, length-line, width-line, Made, Spot};
+ghost use Rattle.state_fill.specs.Cells.{held, note, under, Startable, Levelled, Growing, Taken, Ready, Inherited, Placed, Finished, FlaggedBelow, Topped};
+ghost use Rattle.state_fill.specs.Tables.{job-in, owns, length-line, width-line, tabled, Made, Spot};
 
-// The cell's words become the greater of the figures of the cells before it.
+// The first words of the cell become the greater of the figures of the cells before it.
 fn start(table: &mut [u64], at: usize, first: usize, second: usize, words: usize)
     requires { ⌜ (first + words ≤ at) × (second + words ≤ at) × (at + words ≤ length (now table)) ⌝ }
     ensures { λ _. ⌜ Run (λ s. max (held (now (table .entry)) first s) (held (now (table .entry)) second s)) at words (now (table .entry)) (now (table .exit)) ⌝ }
 {
     for s in 0..words {
         table[at + s] = greater(figure(table[first + s]), figure(table[second + s]));
+    }
+}
+
+// All words of the cell become that. From state `flat` on the figures of the cells before it are the same: there one pair is read.
+fn begin(table: &mut [u64], at: usize, first: usize, second: usize, words: usize, flat: usize)
+    requires { ⌜ Startable first second at words flat (now table) ⌝ }
+    ensures { λ _. ⌜ Run (λ s. max (held (now (table .entry)) first s) (held (now (table .entry)) second s)) at words (now (table .entry)) (now (table .exit)) ⌝ }
+{
+    start(table, at, first, second, flat);
+    if flat < words {
+        let v = greater(figure(table[first + flat]), figure(table[second + flat]));
+        level(table, at + flat, at + words, v);
     }
 }
 
@@ -118,8 +132,19 @@ fn finish(table: &mut [u64], at: usize, words: usize, top: usize)
     }
 }
 
-// The place of a cell: the indices of its normal length and width, the ends of their first halves, its word, and the word of the cell of
-// length 0 and the same width.
+// The state from which on the figures of this cell and of those before it are the same: past every flagged one. Where states have
+// several digits none is known.
+fn flat_after(d: usize, words: usize, flat: usize, top: usize) -> usize
+    ensures { λ r. ⌜ ((d ≡ 0) × (r ≡ max flat top)) ⊎ (r ≡ words) ⌝ }
+{
+    if 0 < d {
+        return words;
+    }
+    if flat < top { top } else { flat }
+}
+
+// The place of a cell: the indices of its normal length and width, the ends of their first halves, its word, the word of the cell of
+// length 0 and the same width, and the state from which on the figures of all cells before it are the same.
 pub struct Place {
     pub a: usize,
     pub b: usize,
@@ -127,6 +152,7 @@ pub struct Place {
     pub width_half_end: usize,
     pub at: usize,
     pub column: usize,
+    pub flat: usize,
 }
 
 // The cells that the cell's cuts read: those of its width, along the lengths, and those of its length, along the widths.
@@ -155,7 +181,8 @@ fn width_line(shape: Shape, place: Place) -> Line
     }
 }
 
-// A cell of the table from the cells before it in length and width, those that its cuts read among them.
+// A cell of the table from the cells before it in length and width, those that its cuts read among them. The state from which on the
+// figures of this one too are the same is handed on.
 pub fn make_cell(
     table: &mut [u64],
     kinds: &[u32; 256],
@@ -166,11 +193,12 @@ pub fn make_cell(
     blocks: &[u32],
     shape: Shape,
     place: Place,
-)
+) -> usize
     requires { ⌜ Spot (job-in shape (now kinds)) (owns (now kinds)) (now «normal_lengths») (now «length_floors») (now «normal_widths») (now «width_floors») (now blocks) (shape .d) (shape .words) (shape .stride)
-        (place .a) (place .b) (place .«length_half_end») (place .«width_half_end») (place .at) (place .column) (now table) ⌝ }
-    ensures { λ _. ⌜ Made (job-in shape (now (kinds .entry))) (under (now (blocks .entry)) (shape .d)) (owns (now (kinds .entry))) (now («normal_lengths» .entry)) (now («normal_widths» .entry)) (shape .words) (place .a) (place .b) (now (table .exit))
-        × Outside (place .at) (place .at + shape .words) (now (table .entry)) (now (table .exit)) ⌝ }
+        (place .a) (place .b) (place .«length_half_end») (place .«width_half_end») (place .at) (place .column) (place .flat) (now table) ⌝ }
+    ensures { λ r. ⌜ Made (job-in shape (now (kinds .entry))) (under (now (blocks .entry)) (shape .d)) (owns (now (kinds .entry))) (now («normal_lengths» .entry)) (now («normal_widths» .entry)) (shape .words) (place .a) (place .b) (now (table .exit))
+        × Outside (place .at) (place .at + shape .words) (now (table .entry)) (now (table .exit))
+        × Levelled (shape .words) (place .flat) r (tabled (job-in shape (now (kinds .entry))) (under (now (blocks .entry)) (shape .d)) (owns (now (kinds .entry))) (now («normal_lengths» .entry)) (now («normal_widths» .entry)) (place .a) (place .b)) ⌝ }
 {
     let at = place.at;
     let words = shape.words;
@@ -178,7 +206,7 @@ pub fn make_cell(
     let b = place.b;
     let shorter = at - shape.stride;
     let narrower = at - words;
-    start(table, at, shorter, narrower, words);
+    begin(table, at, shorter, narrower, words, place.flat);
     let mut top = inherit(table, at, narrower, shorter, words, 0);
     top = inherit(table, at, shorter, narrower, words, top);
     let l = widen(normal_lengths[a]);
@@ -207,4 +235,5 @@ pub fn make_cell(
         top,
     );
     finish(table, at, words, top);
+    flat_after(shape.d, words, place.flat, top)
 }

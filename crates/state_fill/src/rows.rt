@@ -13,13 +13,15 @@ ghost use Rattle.cutting.specs.declared.Direction.the-variants.{Length, Width};
 ghost use Rattle.table.specs.Table.{position-count, Kept};
 ghost use Rattle.table.specs.Words.{Outside, Run};
 ghost use Rattle.state_fill.specs.Cells.{held, note, under};
-ghost use Rattle.state_fill.specs.Tables.{job-in, owns, Rows, CellsLent, Counted, RowSpot, Figures, Bare, Plain};
+ghost use Rattle.state_fill.specs.Tables.{job-in, owns, Rows, LevelRows, CellsLent, Counted, RowSpot, Figures, Bare, Plain};
 
-// The place of a row: the index of its normal length, the end of that one's first half, and its word.
+// The place of a row: the index of its normal length, the end of that one's first half, its word, and the state from which on the
+// figures of all cells before it are the same.
 pub struct Row {
     pub a: usize,
     pub half_end: usize,
     pub at: usize,
+    pub flat: usize,
 }
 
 // A row, from the rows before it: its first cell, of width 0, holds 0.
@@ -33,15 +35,17 @@ fn fill_row(
     blocks: &[u32],
     shape: Shape,
     row: Row,
-)
+) -> usize
     requires { ⌜ RowSpot (job-in shape (now kinds)) (owns (now kinds)) (now «normal_lengths») (now «length_floors») (now «normal_widths») (now «width_floors») (now blocks) (shape .d) (shape .words)
-        (shape .«length_count») (shape .columns) (shape .stride) (row .a) (row .«half_end») (row .at) (now table) ⌝ }
-    ensures { λ _. ⌜ Rows (job-in shape (now (kinds .entry))) (under (now (blocks .entry)) (shape .d)) (owns (now (kinds .entry))) (now («normal_lengths» .entry)) (now («normal_widths» .entry)) (shape .words) (row .a + 1) (now (table .exit))
-        × Outside (row .at) (row .at + shape .stride) (now (table .entry)) (now (table .exit)) ⌝ }
+        (shape .«length_count») (shape .columns) (shape .stride) (row .a) (row .«half_end») (row .at) (row .flat) (now table) ⌝ }
+    ensures { λ r. ⌜ Rows (job-in shape (now (kinds .entry))) (under (now (blocks .entry)) (shape .d)) (owns (now (kinds .entry))) (now («normal_lengths» .entry)) (now («normal_widths» .entry)) (shape .words) (row .a + 1) (now (table .exit))
+        × Outside (row .at) (row .at + shape .stride) (now (table .entry)) (now (table .exit)) × (r ≤ shape .words)
+        × LevelRows (job-in shape (now (kinds .entry))) (under (now (blocks .entry)) (shape .d)) (owns (now (kinds .entry))) (now («normal_lengths» .entry)) (now («normal_widths» .entry)) (shape .words) r (row .a + 1) ⌝ }
 {
     clear(table, row.at, shape.words);
     let mut half_end: usize = 1;
     let mut column = shape.words;
+    let mut flat = row.flat;
     for b in 1..shape.columns {
         half_end = half(normal_widths, half_end, b);
         let place = Place {
@@ -51,8 +55,9 @@ fn fill_row(
             width_half_end: half_end,
             at: row.at + column,
             column: column,
+            flat: flat,
         };
-        make_cell(
+        flat = make_cell(
             table,
             kinds,
             normal_lengths,
@@ -65,6 +70,7 @@ fn fill_row(
         );
         column = column + shape.words;
     }
+    flat
 }
 
 // The list is taken off a cell: the words up to its end keep their figures alone.
@@ -111,14 +117,16 @@ pub fn fill(
     clear(table, 0, shape.stride);
     let mut at = shape.stride;
     let mut half_end: usize = 1;
+    let mut flat: usize = 0;
     for a in 1..shape.length_count {
         half_end = half(normal_lengths, half_end, a);
         let row = Row {
             a: a,
             half_end: half_end,
             at: at,
+            flat: flat,
         };
-        fill_row(
+        flat = fill_row(
             table,
             kinds,
             normal_lengths,

@@ -2,8 +2,8 @@
 // prices and states.
 ghost use mathlib.Core.Path.{_≡_};
 
-// The plate's length and width and the number of its kinds, the numbers of normal lengths and of normal widths, the last digit d of the states, the
-// words of a cell, and those from a cell to the one of the next normal length.
+// The plate's length and width and the number of its kinds, the numbers of normal lengths and of normal widths, the last digit d of the
+// states, the words of a cell, and those from a cell to the one of the next normal length.
 pub struct Shape {
     pub length: u16,
     pub width: u16,

@@ -1,6 +1,6 @@
-// What the fills of the table share: what a table is made for, reading a list of positions, the half of a side, the greater of two figures, and runs of words.
-// The definitions of the table's contents stand in specs/Table, what a fill asks in specs/Contracts; which cuts can give a cell more, and
-// what makes a cell complete, is proved in proofs/Covered and proofs/Complete.
+// What the fills of the table share: what a table is made for, reading a list of positions, the half of a side, the greater of two
+// figures, and runs of words. The definitions of the table's contents stand in specs/Table, what a fill asks and leaves in
+// specs/Contracts; which cuts can give a cell more, and what makes a cell complete, is proved in proofs/Covered and proofs/Complete.
 ghost use mathlib.Core.Path.{_≡_};
 ghost use Prim.Native.Nat.{ℕ, _+_, _-_, _*_, _≤_, _<_, max};
 ghost use lib.ListN.{length, getD};
@@ -71,5 +71,15 @@ pub fn clear(table: &mut [u64], at: usize, m: usize)
 {
     for j in 0..m {
         table[at + j] = 0;
+    }
+}
+
+// The words from `from` to x less 1 become v.
+pub fn level(words: &mut [u64], from: usize, x: usize, v: u64)
+    requires { ⌜ (from ≤ x) × (x ≤ length (now words)) ⌝ }
+    ensures { λ _. ⌜ Run (λ j. v) from (x - from) (now (words .entry)) (now (words .exit)) ⌝ }
+{
+    for y in from..x {
+        words[y] = v;
     }
 }

@@ -12,11 +12,12 @@ use every_unit::WORD_COUNT;
 use every_unit::write_block;
 use refusal::Refusal;
 use test_tools::Words;
-use test_tools::at_most;
 use test_tools::bytes;
 use test_tools::different_entries;
 use test_tools::different_words;
 use test_tools::first_bytes;
+use test_tools::lend_numbers;
+use test_tools::lend_words;
 use test_tools::marked_list;
 use test_tools::marked_table;
 use test_tools::put;
@@ -102,13 +103,13 @@ fn call_lent(t: &mut Words) {
     let mut lengths = marked_list();
     let mut widths = marked_list();
     let mut table = marked_table();
-    let p = at_most(t, LENT_LENGTHS, 1008);
-    let r = at_most(t, LENT_WIDTHS, 1008);
-    let k = at_most(t, LENT_WORDS, 36872);
-    note_answer(
+    let answer = call_bound(
         t,
-        call_bound(t, &mut lengths[..p], &mut widths[..r], &mut table[..k]),
+        lend_numbers(&mut lengths, word(t, LENT_LENGTHS, 0)),
+        lend_numbers(&mut widths, word(t, LENT_WIDTHS, 0)),
+        lend_words(&mut table, word(t, LENT_WORDS, 0)),
     );
+    note_answer(t, answer);
     note_left(t, &lengths, &widths, &table);
 }
 

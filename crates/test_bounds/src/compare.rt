@@ -15,6 +15,7 @@ use every_unit::compute;
 use every_unit::draw_job;
 use test_tools::Words;
 use test_tools::add;
+use test_tools::clear;
 use test_tools::larger;
 use test_tools::plus;
 use test_tools::print_numbers;
@@ -136,15 +137,9 @@ fn compare_jobs(t: &mut Words, n: usize) {
     }
 }
 
-fn clear_tally(t: &mut Words) {
-    for i in 0..4 {
-        put(t, AGREED, i, 0);
-    }
-}
-
 // Compares the jobs of the shape in the row.
 pub fn compare_shape(t: &mut Words) {
-    clear_tally(t);
+    clear(t, AGREED, 4);
     compare_jobs(t, JOBS);
     print_shape(t);
 }

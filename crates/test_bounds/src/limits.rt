@@ -11,6 +11,7 @@ use every_unit::PLATE;
 use every_unit::PRICE;
 use test_tools::ROW;
 use test_tools::Words;
+use test_tools::clear;
 use test_tools::copy;
 use test_tools::minus;
 use test_tools::plus;
@@ -32,13 +33,6 @@ fn price_last(t: &mut Words) {
     put(t, PRICE, minus(n, 1), price);
 }
 
-// Expects no length, no width and no word, so that every change differs.
-fn expect_nothing(t: &mut Words) {
-    for i in 0..3 {
-        put(t, LENGTH_COUNT, i, 0);
-    }
-}
-
 fn make_job(t: &mut Words) {
     copy(t, PLATE, ROW, 3);
     copy(t, LENT_LENGTHS, plus(ROW, 9), 3);
@@ -54,9 +48,10 @@ fn print_answer(t: &Words) {
     }
 }
 
+// Runs the case. No length, no width and no word is expected, so that every change differs.
 pub fn run_limit(t: &mut Words) {
     make_job(t);
-    expect_nothing(t);
+    clear(t, LENGTH_COUNT, 3);
     try_bound(t);
     print_answer(t);
     print_words(b"; changed # # #", t, OTHER_LENGTHS);

@@ -12,12 +12,13 @@ use certificate::Certificate;
 use certificate::certify;
 use refusal::Refusal;
 use test_tools::Words;
-use test_tools::at_most;
 use test_tools::bytes;
 use test_tools::different_entries;
 use test_tools::different_words;
 use test_tools::first_bytes;
 use test_tools::first_numbers;
+use test_tools::lend_numbers;
+use test_tools::lend_words;
 use test_tools::marked_list;
 use test_tools::marked_table;
 use test_tools::numbers;
@@ -55,17 +56,14 @@ fn certify_plan(t: &Words, block: &[u8], weights: &[u8], kinds: &[u8], operands:
     let mut lengths = marked_list();
     let mut widths = marked_list();
     let mut table = marked_table();
-    let p = at_most(t, LENT_LENGTHS, 1008);
-    let r = at_most(t, LENT_WIDTHS, 1008);
-    let k = at_most(t, LENT_WORDS, 36872);
     print_certificate(certify(
         block,
         weights,
         kinds,
         operands,
-        &mut lengths[..p],
-        &mut widths[..r],
-        &mut table[..k],
+        lend_numbers(&mut lengths, count(t, LENT_LENGTHS)),
+        lend_numbers(&mut widths, count(t, LENT_WIDTHS)),
+        lend_words(&mut table, count(t, LENT_WORDS)),
     ));
     print_changed(t, &lengths, &widths, &table);
 }

@@ -63,18 +63,19 @@ pub fn run_block(t: &Words) {
     ));
 }
 
-// Every truncation of the job block, and the whole of it.
-pub fn run_jobs(t: &mut Words) {
-    for n in 0..plus(count(t, JOB), 1) {
-        put(t, JOB, 0, n);
+// The check that reads the bytes at a place: of the plan block, or of the two arrays.
+fn run_check(t: &Words, at: usize) {
+    if at == PLAN {
+        run_block(t);
+    } else {
         run_arrays(t);
     }
 }
 
-// Every truncation of the plan block, and the whole of it.
-pub fn run_plans(t: &mut Words) {
-    for n in 0..plus(count(t, PLAN), 1) {
-        put(t, PLAN, 0, n);
-        run_block(t);
+// Every truncation of the job block or of the plan block, and the whole of it.
+pub fn run_truncations(t: &mut Words, at: usize) {
+    for n in 0..plus(count(t, at), 1) {
+        put(t, at, 0, n);
+        run_check(t, at);
     }
 }

@@ -12,8 +12,7 @@ mod write;
 use certify::run_certify;
 use check::run_arrays;
 use check::run_block;
-use check::run_jobs;
-use check::run_plans;
+use check::run_truncations;
 use lent::JOB;
 use lent::KINDS;
 use lent::LENT;
@@ -45,8 +44,8 @@ fn run(t: &mut Words, letter: u8) {
     match letter {
         b'A' => run_arrays(t),
         b'B' => run_block(t),
-        b'J' => run_jobs(t),
-        b'P' => run_plans(t),
+        b'J' => run_truncations(t, JOB),
+        b'P' => run_truncations(t, PLAN),
         b'W' => run_write(t),
         b'C' => run_certify(t),
         _ => row_to(t, place(letter)),

@@ -7,9 +7,10 @@ use crate::lent::count;
 use crate::lent::print_refusal;
 use crate::lent::widen;
 use test_tools::Words;
-use test_tools::at_most;
 use test_tools::bytes;
 use test_tools::first_bytes;
+use test_tools::lend_bytes;
+use test_tools::lend_numbers;
 use test_tools::numbers;
 use test_tools::print_numbers;
 use test_tools::text;
@@ -88,9 +89,12 @@ fn write_into(t: &Words, kinds: &mut [u8], operands: &mut [u16]) {
 pub fn run_write(t: &Words) {
     let mut kinds = bytes(t, KINDS);
     let mut operands = numbers(t, OPERANDS);
-    let m = at_most(t, KINDS, 5000);
-    let n = at_most(t, OPERANDS, 5000);
-    write_into(t, &mut kinds[..m], &mut operands[..n]);
+    let m = count(t, KINDS);
+    write_into(
+        t,
+        lend_bytes(&mut kinds, m),
+        lend_numbers(&mut operands, count(t, OPERANDS)),
+    );
     if m == 7 {
         print_entries(&kinds, &operands);
     }

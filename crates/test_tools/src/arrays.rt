@@ -57,3 +57,15 @@ pub fn first_numbers(numbers: &[u16], n: usize) -> &[u16] {
     let k = smaller(n, numbers.len());
     &numbers[..k]
 }
+
+// The first n bytes for a call to change, or all where there are fewer.
+pub fn lend_bytes(bytes: &mut [u8], n: usize) -> &mut [u8] {
+    let k = smaller(n, bytes.len());
+    &mut bytes[..k]
+}
+
+// The first n numbers for a call to change, or all where there are fewer.
+pub fn lend_numbers(numbers: &mut [u16], n: usize) -> &mut [u16] {
+    let k = smaller(n, numbers.len());
+    &mut numbers[..k]
+}

@@ -2,6 +2,7 @@
 use crate::arrays::put_number;
 use crate::words::Words;
 use crate::words::plus;
+use crate::words::smaller;
 use crate::words::word;
 ghost use mathlib.Core.Path.{_≡_};
 ghost use lib.ListN.{length};
@@ -48,6 +49,12 @@ pub fn marked_table() -> [u64; 36872]
     let mut table = [0u64; 36872];
     fill_table(&mut table);
     table
+}
+
+// The first n words of a table for a call to change, or all where there are fewer.
+pub fn lend_words(table: &mut [u64], n: usize) -> &mut [u64] {
+    let k = smaller(n, table.len());
+    &mut table[..k]
 }
 
 fn widen(x: u16) -> usize {

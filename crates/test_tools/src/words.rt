@@ -57,16 +57,16 @@ pub fn smaller(a: usize, b: usize) -> usize
     if a < b { a } else { b }
 }
 
-// The word at a place, or the most that is wanted where it is greater.
-pub fn at_most(t: &Words, at: usize, most: usize) -> usize
-    ensures { λ r. ⌜ r ≤ most ⌝ }
-{
-    smaller(word(t, at, 0), most)
-}
-
 // Adds a number to a word.
 pub fn add(t: &mut Words, at: usize, x: usize) {
     put(t, at, 0, plus(word(t, at, 0), x));
+}
+
+// Puts 0 into n words.
+pub fn clear(t: &mut Words, from: usize, n: usize) {
+    for i in 0..n {
+        put(t, from, i, 0);
+    }
 }
 
 // Copies n words.

@@ -7,6 +7,7 @@ use Prim.Native.Nat.{ℕ}
 use lib.Dec.{ltb}
 use lib.ListN.{length}
 use Rattle.cutting.specs.declared.Direction.the-variants.{Length, Width}
+use Rattle.cutting.specs.Limits.{most-nodes}
 use Rattle.cutting.specs.Tree.{Tree}
 use Rattle.cutting.specs.Preorder.{kinds-of, operands-of, node-count}
 use Rattle.cutting.specs.Lists.{over}
@@ -24,7 +25,7 @@ use Rattle.writer.specs.declared.WriteAnswer.the-variants as answer
 
 -- check 21: the plan needs above 4,095 nodes, or more than an array of m or of n entries holds, with the nodes needed
 abbrev pub plan-check : Tree ℕ → ℕ → ℕ → Check
-plan-check t m n = ((ltb 4095 (node-count t) || ltb m (node-count t)) || ltb n (node-count t), PlanLong (node-count t))
+plan-check t m n = ((ltb most-nodes (node-count t) || ltb m (node-count t)) || ltb n (node-count t), PlanLong (node-count t))
 
 -- what the writing call reports of a job and weights: the bound, Q, p, r and the node count
 abbrev pub write-report : Job → (ℕ → ℕ) → WriteReport

@@ -13,6 +13,7 @@ use refusal::Refusal;
 ghost use mathlib.Core.Path.{_≡_};
 ghost use mathlib.Core.Bool.{_||_};
 ghost use lib.Dec.{ltb};
+ghost use Rattle.cutting.specs.Limits.{most-nodes};
 ghost use Rattle.cutting.specs.Preorder.{kinds-of, operands-of};
 ghost use Rattle.job.specs.Block.{job-of};
 ghost use Rattle.job.specs.Weights.{block-job, weight-in};
@@ -40,7 +41,7 @@ pub enum WriteAnswer {
 
 // Whether a plan needs above 4,095 nodes, or more than an array of m or of n entries holds.
 fn too_long(nodes: u64, m: usize, n: usize) -> bool
-    ensures { λ r. ⌜ r ≡ (ltb 4095 nodes || ltb m nodes) || ltb n nodes ⌝ }
+    ensures { λ r. ⌜ r ≡ (ltb most-nodes nodes || ltb m nodes) || ltb n nodes ⌝ }
 {
     if 4095 < nodes {
         return true;

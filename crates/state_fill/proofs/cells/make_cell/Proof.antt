@@ -1,10 +1,10 @@
 -- `state_fill::cells::make_cell` meets its contract: the steps that make the cell, one after the other.
 use native.Mathlib.Omega.{arith}
 use mathlib.Core.Path.{_∙_}
-use Rattle.state_fill.proofs.Growing.{outside-same, outside-chain}
+use Rattle.state_fill.proofs.Growing.{outside-chain}
 use Rattle.state_fill.proofs.Topping.{topped-then}
 use Rattle.state_fill.proofs.Joining.{growing-kept}
-use Rattle.state_fill.proofs.Making.{room, row-fits, cell-fits, few, long-cuts-are, wide-cuts-are, shorter-ready, narrower-ready, long-cuttable, wide-cuttable, start-topped, inherited-rest, inherited-growing, made, made-rest}
+use Rattle.state_fill.proofs.Making.{room, row-fits, cell-fits, few, long-cuts-are, wide-cuts-are, shorter-ready, narrower-ready, startable, long-cuttable, wide-cuttable, start-topped, inherited-rest, inherited-growing, levelled, made, made-rest}
 use Rattle.state_fill.proofs.cells.make_cell.Statement.{statement}
 use Rattle.state_fill.proofs.cells.make_cell.Tie as tie
 
@@ -14,19 +14,19 @@ sub-shorter c = row-fits (c .before .before .before .before .before .before .bef
 sub-narrower : tie.Need-sub-narrower
 sub-narrower c = omega (arith, row-fits (c .before .before .before .before .before .before .before .pre), cell-fits (c .before .before .before .before .before .before .before .pre) .0)
 
-start-requires : tie.Need-start-requires
-start-requires c κs = (shorter-ready (c .before .before .before .before .before .before .before .before .pre) _ (outside-same _ _ _) .before, narrower-ready (c .before .before .before .before .before .before .before .before .pre) _ (outside-same _ _ _) .before, room (c .before .before .before .before .before .before .before .before .pre))
+begin-requires : tie.Need-begin-requires
+begin-requires c κs = startable (c .before .before .before .before .before .before .before .before .pre)
 
 inherit-requires : tie.Need-inherit-requires
 inherit-requires c κs =
     let spot = c .before .before .before .before .before .before .before .before .before .before .before .before .pre in
-    let started = c .before .before .before .start in
+    let started = c .before .before .before .begin in
     (narrower-ready spot _ (started .ensures .rest), shorter-ready spot _ (started .ensures .rest) .before, omega (arith, room spot, started .kept .0))
 
 inherit-requires-2 : tie.Need-inherit-requires-2
 inherit-requires-2 c κs =
     let spot = c .before .before .before .before .before .before .before .before .before .before .before .before .before .before .before .before .pre in
-    let started = c .before .before .before .before .before .before .before .start in
+    let started = c .before .before .before .before .before .before .before .begin in
     let first = c .before .before .before .inherit in
     let rest = outside-chain _ _ _ _ _ (started .ensures .rest) (first .ensures .0 .rest) in
     (shorter-ready spot _ rest, narrower-ready spot _ rest .before, omega (arith, room spot, started .kept .0, first .kept .0))
@@ -52,7 +52,7 @@ widen-requires-2 c κs = tt
 place-kinds-requires : tie.Need-place-kinds-requires
 place-kinds-requires c κs =
     let spot = c .before .before .before .before .before .before .before .before .before .before .before .before .before .before .before .before .before .before .before .before .before .before .before .before .pre in
-    let started = c .before .before .before .before .before .before .before .before .before .before .before .before .before .before .before .start in
+    let started = c .before .before .before .before .before .before .before .before .before .before .before .before .before .before .before .begin in
     let first = c .before .before .before .before .before .before .before .before .before .before .before .inherit in
     let second = c .before .before .before .before .before .before .before .inherit2 in
     let growing = inherited-growing spot _ (started .ensures) _ _ (first .ensures .0) (second .ensures .0) (second .kept .0 ∙ (first .kept .0 ∙ started .kept .0)) in
@@ -64,7 +64,7 @@ length-line-requires c κs = tt
 cut-requires : tie.Need-cut-requires
 cut-requires c κs =
     let spot = c .before .before .before .before .before .before .before .before .before .before .before .before .before .before .before .before .before .before .before .before .before .before .before .before .before .before .before .before .before .pre in
-    let started = c .before .before .before .before .before .before .before .before .before .before .before .before .before .before .before .before .before .before .before .before .start in
+    let started = c .before .before .before .before .before .before .before .before .before .before .before .before .before .before .before .before .before .before .before .before .begin in
     let first = c .before .before .before .before .before .before .before .before .before .before .before .before .before .before .before .before .inherit in
     let second = c .before .before .before .before .before .before .before .before .before .before .before .before .inherit2 in
     let kinds = c .before .before .before .before .place-kinds in
@@ -79,7 +79,7 @@ width-line-requires c κs = cell-fits (c .before .before .before .before .before
 cut-requires-2 : tie.Need-cut-requires-2
 cut-requires-2 c κs =
     let spot = c .before .before .before .before .before .before .before .before .before .before .before .before .before .before .before .before .before .before .before .before .before .before .before .before .before .before .before .before .before .before .before .before .before .before .pre in
-    let started = c .before .before .before .before .before .before .before .before .before .before .before .before .before .before .before .before .before .before .before .before .before .before .before .before .before .start in
+    let started = c .before .before .before .before .before .before .before .before .before .before .before .before .before .before .before .before .before .before .before .before .before .before .before .before .before .begin in
     let first = c .before .before .before .before .before .before .before .before .before .before .before .before .before .before .before .before .before .before .before .before .before .inherit in
     let second = c .before .before .before .before .before .before .before .before .before .before .before .before .before .before .before .before .before .inherit2 in
     let kinds = c .before .before .before .before .before .before .before .before .before .place-kinds in
@@ -92,7 +92,7 @@ cut-requires-2 c κs =
 finish-requires : tie.Need-finish-requires
 finish-requires c κs =
     let spot = c .before .before .before .before .before .before .before .before .before .before .before .before .before .before .before .before .before .before .before .before .before .before .before .before .before .before .before .before .before .before .before .before .before .before .before .before .before .before .pre in
-    let started = c .before .before .before .before .before .before .before .before .before .before .before .before .before .before .before .before .before .before .before .before .before .before .before .before .before .before .before .before .before .start in
+    let started = c .before .before .before .before .before .before .before .before .before .before .before .before .before .before .before .before .before .before .before .before .before .before .before .before .before .before .before .before .before .begin in
     let first = c .before .before .before .before .before .before .before .before .before .before .before .before .before .before .before .before .before .before .before .before .before .before .before .before .before .inherit in
     let second = c .before .before .before .before .before .before .before .before .before .before .before .before .before .before .before .before .before .before .before .before .before .inherit2 in
     let kinds = c .before .before .before .before .before .before .before .before .before .before .before .before .before .place-kinds in
@@ -100,20 +100,26 @@ finish-requires c κs =
     let by-width = rw (c .before .before .before .before .before .width-line .ensures) at (c .before .before .before .cut2 .ensures .1) in
     (omega (arith, room spot, started .kept .0, first .kept .0, second .kept .0, kinds .kept .0, c .before .before .before .before .before .before .before .before .cut .kept .0, c .before .before .before .cut2 .kept .0), spot .lent .digits .most, start-topped spot _ (started .ensures) _ _ (topped-then _ _ _ _ _ _ _ _ (first .ensures .1) (topped-then _ _ _ _ _ _ _ _ (second .ensures .1) (topped-then _ _ _ _ _ _ _ _ (kinds .ensures .1) (topped-then _ _ _ _ _ _ _ _ by-length by-width)))))
 
+flat-after-requires : tie.Need-flat-after-requires
+flat-after-requires c κs = tt
+
 same-length : tie.Need-same-length
-same-length c = c .before .before .finish .kept .0 ∙ (c .before .before .before .before .before .before .cut2 .kept .0 ∙ (c .before .before .before .before .before .before .before .before .before .before .before .cut .kept .0 ∙ (c .before .before .before .before .before .before .before .before .before .before .before .before .before .before .before .before .place-kinds .kept .0 ∙ (c .before .before .before .before .before .before .before .before .before .before .before .before .before .before .before .before .before .before .before .before .before .before .before .before .inherit2 .kept .0 ∙ (c .before .before .before .before .before .before .before .before .before .before .before .before .before .before .before .before .before .before .before .before .before .before .before .before .before .before .before .before .inherit .kept .0 ∙ c .before .before .before .before .before .before .before .before .before .before .before .before .before .before .before .before .before .before .before .before .before .before .before .before .before .before .before .before .before .before .before .before .start .kept .0)))))
+same-length c = c .before .before .before .finish .kept .0 ∙ (c .before .before .before .before .before .before .before .cut2 .kept .0 ∙ (c .before .before .before .before .before .before .before .before .before .before .before .before .cut .kept .0 ∙ (c .before .before .before .before .before .before .before .before .before .before .before .before .before .before .before .before .before .place-kinds .kept .0 ∙ (c .before .before .before .before .before .before .before .before .before .before .before .before .before .before .before .before .before .before .before .before .before .before .before .before .before .inherit2 .kept .0 ∙ (c .before .before .before .before .before .before .before .before .before .before .before .before .before .before .before .before .before .before .before .before .before .before .before .before .before .before .before .before .before .inherit .kept .0 ∙ c .before .before .before .before .before .before .before .before .before .before .before .before .before .before .before .before .before .before .before .before .before .before .before .before .before .before .before .before .before .before .before .before .before .begin .kept .0)))))
 
 returns : tie.Need-returns
 returns c =
-    let spot = c .before .before .before .before .before .before .before .before .before .before .before .before .before .before .before .before .before .before .before .before .before .before .before .before .before .before .before .before .before .before .before .before .before .before .before .before .before .before .before .before .before .pre in
-    let started = c .before .before .before .before .before .before .before .before .before .before .before .before .before .before .before .before .before .before .before .before .before .before .before .before .before .before .before .before .before .before .before .before .start .ensures in
-    let first = c .before .before .before .before .before .before .before .before .before .before .before .before .before .before .before .before .before .before .before .before .before .before .before .before .before .before .before .before .inherit .ensures .0 in
-    let second = c .before .before .before .before .before .before .before .before .before .before .before .before .before .before .before .before .before .before .before .before .before .before .before .before .inherit2 .ensures .0 in
-    let kinds = rw (c .before .before .before .before .before .before .before .before .before .before .before .before .before .before .before .before .before .before .before .before .widen .ensures, c .before .before .before .before .before .before .before .before .before .before .before .before .before .before .before .before .before .before .widen2 .ensures) at (c .before .before .before .before .before .before .before .before .before .before .before .before .before .before .before .before .place-kinds .ensures .0) in
-    let by-length = rw (c .before .before .before .before .before .before .before .before .before .before .before .before .before .length-line .ensures) at (c .before .before .before .before .before .before .before .before .before .before .before .cut .ensures .0) in
-    let by-width = rw (c .before .before .before .before .before .before .before .before .width-line .ensures) at (c .before .before .before .before .before .before .cut2 .ensures .0) in
-    let done = c .before .before .finish .ensures in
-    (made spot _ started _ _ first second _ _ _ _ kinds by-length by-width done, made-rest spot _ started _ _ first second _ _ _ _ kinds by-length by-width done)
+    let spot = c .before .before .before .before .before .before .before .before .before .before .before .before .before .before .before .before .before .before .before .before .before .before .before .before .before .before .before .before .before .before .before .before .before .before .before .before .before .before .before .before .before .before .pre in
+    let started = c .before .before .before .before .before .before .before .before .before .before .before .before .before .before .before .before .before .before .before .before .before .before .before .before .before .before .before .before .before .before .before .before .before .begin .ensures in
+    let first = c .before .before .before .before .before .before .before .before .before .before .before .before .before .before .before .before .before .before .before .before .before .before .before .before .before .before .before .before .before .inherit .ensures .0 in
+    let second = c .before .before .before .before .before .before .before .before .before .before .before .before .before .before .before .before .before .before .before .before .before .before .before .before .before .inherit2 .ensures .0 in
+    let kinds = rw (c .before .before .before .before .before .before .before .before .before .before .before .before .before .before .before .before .before .before .before .before .before .widen .ensures, c .before .before .before .before .before .before .before .before .before .before .before .before .before .before .before .before .before .before .before .widen2 .ensures) at (c .before .before .before .before .before .before .before .before .before .before .before .before .before .before .before .before .before .place-kinds .ensures .0) in
+    let by-length = rw (c .before .before .before .before .before .before .before .before .before .before .before .before .before .before .length-line .ensures) at (c .before .before .before .before .before .before .before .before .before .before .before .before .cut .ensures .0) in
+    let by-width = rw (c .before .before .before .before .before .before .before .before .before .width-line .ensures) at (c .before .before .before .before .before .before .before .cut2 .ensures .0) in
+    let done = c .before .before .before .finish .ensures in
+    let length-top = rw (c .before .before .before .before .before .before .before .before .before .before .before .before .before .before .length-line .ensures) at (c .before .before .before .before .before .before .before .before .before .before .before .before .cut .ensures .1) in
+    let width-top = rw (c .before .before .before .before .before .before .before .before .before .width-line .ensures) at (c .before .before .before .before .before .before .before .cut2 .ensures .1) in
+    let flags = start-topped spot _ started _ _ (topped-then _ _ _ _ _ _ _ _ (c .before .before .before .before .before .before .before .before .before .before .before .before .before .before .before .before .before .before .before .before .before .before .before .before .before .before .before .before .before .inherit .ensures .1) (topped-then _ _ _ _ _ _ _ _ (c .before .before .before .before .before .before .before .before .before .before .before .before .before .before .before .before .before .before .before .before .before .before .before .before .before .inherit2 .ensures .1) (topped-then _ _ _ _ _ _ _ _ (c .before .before .before .before .before .before .before .before .before .before .before .before .before .before .before .before .before .place-kinds .ensures .1) (topped-then _ _ _ _ _ _ _ _ length-top width-top)))) in
+    (made spot _ started _ _ first second _ _ _ _ kinds by-length by-width done, made-rest spot _ started _ _ first second _ _ _ _ kinds by-length by-width done, levelled spot _ started _ _ first second _ _ _ _ kinds by-length by-width done flags (c .flat-after .ensures))
 
 pub make-cell-spec : {M : Type 1} → statement M
 make-cell-spec =
@@ -121,7 +127,7 @@ make-cell-spec =
     (tie.spec
     sub-shorter
     sub-narrower
-    start-requires
+    begin-requires
     inherit-requires
     inherit-requires-2
     mul-widen
@@ -136,5 +142,6 @@ make-cell-spec =
     width-line-requires
     cut-requires-2
     finish-requires
+    flat-after-requires
     same-length
     returns)

@@ -11,11 +11,11 @@ use Rattle.state_fill.proofs.rows.fill.Statement.{statement}
 use Rattle.state_fill.proofs.rows.fill.Tie as tie
 
 abbrev Inv-loop : tie.InvT-loop
-Inv-loop table₀ kinds normal-lengths length-floors normal-widths width-floors blocks shape at₀ half-end₀ a₀ a-end table at half-end a = (a-end ≡ shape .«length_count»)
-    × InTable (job-in shape kinds) (owns kinds) normal-lengths normal-widths blocks (shape .d) (shape .words) (shape .«length_count») (shape .stride) at half-end a table₀ table
+Inv-loop table₀ kinds normal-lengths length-floors normal-widths width-floors blocks shape at₀ half-end₀ flat₀ a₀ a-end table at half-end flat a = (a-end ≡ shape .«length_count»)
+    × InTable (job-in shape kinds) (owns kinds) normal-lengths normal-widths blocks (shape .d) (shape .words) (shape .«length_count») (shape .stride) at half-end flat a table₀ table
 
 abbrev μ-loop : tie.MeasureT-loop
-μ-loop table₀ kinds normal-lengths length-floors normal-widths width-floors blocks shape at₀ half-end₀ a₀ a-end table at half-end a = a-end - a
+μ-loop table₀ kinds normal-lengths length-floors normal-widths width-floors blocks shape at₀ half-end₀ flat₀ a₀ a-end table at half-end flat a = a-end - a
 
 table-length : (s : tie.Start Inv-loop μ-loop) → length (now (s .args .table)) < 18446744073709551616
 table-length s = omega arith
@@ -53,7 +53,7 @@ loop-again : tie.Need-loop-again Inv-loop μ-loop
 loop-again c =
     let given = c .before .before .before .before .before .before .before .before .before .before .before .before .before .before .before .before .before .before .pre in
     let row = c .before .before .before .fill-row in
-    (refl, table-more (given .0) (given .1) (c .before .before .before .before .before .before .before .before .before .before .clear .kept .0) (omega arith) (c .before .before .before .before .before .before .before .loop .inv .1) _ _ (row .kept .0) (c .before .before .before .before .before .half .ensures) (row .ensures .0) (row .ensures .1))
+    (refl, table-more (given .0) (given .1) (c .before .before .before .before .before .before .before .before .before .before .clear .kept .0) (omega arith) (c .before .before .before .before .before .before .before .loop .inv .1) _ _ (row .kept .0) (c .before .before .before .before .before .half .ensures) (row .ensures .0) (row .ensures .1) (row .ensures .2) (row .ensures .3))
 
 mul-strip-all : tie.Need-mul-strip-all Inv-loop μ-loop
 mul-strip-all c = omega (arith, table-length (c .before .before .before .before .before .before .before .before .before .before .before .before .before .before), table-cells (c .before .before .before .before .before .before .before .before .before .before .before .before .before .before .pre .0) (c .before .before .before .before .before .before .before .before .before .before .before .before .before .before .pre .1))

@@ -3,18 +3,23 @@
 use borrow.Author.Needs.{needs}
 use native.Mathlib.Omega.{arith}
 use mathlib.Core.Path.{_≡_, refl, _∙_}
-use Prim.Native.Nat.{_-_}
+use Prim.Native.Nat.{_-_, _<_}
+use lib.ListN.{length}
+use denote.Ref.{now}
 use Rattle.state_fill.specs.Tables.{job-in, owns}
 use Rattle.state_fill.proofs.Filling.{InRow, row-first, row-start, row-half, row-spot, row-fits, row-more, row-end}
 use Rattle.state_fill.proofs.rows.fill_row.Statement.{statement}
 use Rattle.state_fill.proofs.rows.fill_row.Tie as tie
 
 abbrev Inv-loop : tie.InvT-loop
-Inv-loop table₀ kinds normal-lengths length-floors normal-widths width-floors blocks shape row half-end₀ column₀ b₀ b-end table half-end column b = (b-end ≡ shape .columns)
-    × InRow (job-in shape kinds) (owns kinds) normal-lengths normal-widths blocks (shape .d) (shape .words) (shape .columns) (shape .stride) (row .a) (row .at) half-end column b table₀ table
+Inv-loop table₀ kinds normal-lengths length-floors normal-widths width-floors blocks shape row half-end₀ column₀ flat₀ b₀ b-end table half-end column flat b = (b-end ≡ shape .columns)
+    × InRow (job-in shape kinds) (owns kinds) normal-lengths normal-widths blocks (shape .d) (shape .words) (shape .columns) (shape .stride) (row .a) (row .at) half-end column flat b table₀ table
 
 abbrev μ-loop : tie.MeasureT-loop
-μ-loop table₀ kinds normal-lengths length-floors normal-widths width-floors blocks shape row half-end₀ column₀ b₀ b-end table half-end column b = b-end - b
+μ-loop table₀ kinds normal-lengths length-floors normal-widths width-floors blocks shape row half-end₀ column₀ flat₀ b₀ b-end table half-end column flat b = b-end - b
+
+table-length : (s : tie.Start Inv-loop μ-loop) → length (now (s .args .table)) < 18446744073709551616
+table-length s = omega arith
 
 clear-requires : tie.Need-clear-requires Inv-loop μ-loop
 clear-requires c κs = omega (arith, row-first (c .before .before .before .before .before .before .before .pre))
@@ -25,14 +30,14 @@ loop-holds c = (refl, row-start (c .before .before .before .before .before .befo
 half-requires : tie.Need-half-requires Inv-loop μ-loop
 half-requires c κs = row-half (c .before .before .before .before .before .before .before .before .before .before .before .before .pre) (c .before .before .before .before .clear .kept .0) (omega arith) (c .before .loop .inv .1)
 
-add-t19 : tie.Need-add-t19 Inv-loop μ-loop
-add-t19 c = omega (arith, row-fits (c .before .before .before .before .before .before .before .before .before .before .before .before .before .before .pre) (c .before .before .before .before .before .before .clear .kept .0) (omega arith) (c .before .before .before .loop .inv .1))
+add-t20 : tie.Need-add-t20 Inv-loop μ-loop
+add-t20 c = omega (arith, row-fits (c .before .before .before .before .before .before .before .before .before .before .before .before .before .before .pre) (c .before .before .before .before .before .before .clear .kept .0) (omega arith) (c .before .before .before .loop .inv .1))
 
 make-cell-requires : tie.Need-make-cell-requires Inv-loop μ-loop
 make-cell-requires c κs = row-spot (c .before .before .before .before .before .before .before .before .before .before .before .before .before .before .before .pre) (c .before .before .before .before .before .before .before .clear .kept .0) (omega arith) (c .before .before .before .before .loop .inv .1) _ (c .before .before .half .ensures)
 
 add-column : tie.Need-add-column Inv-loop μ-loop
-add-column c = omega (arith, row-fits (c .before .before .before .before .before .before .before .before .before .before .before .before .before .before .before .before .before .before .before .pre) (c .before .before .before .before .before .before .before .before .before .before .before .clear .kept .0) (omega arith) (c .before .before .before .before .before .before .before .before .loop .inv .1))
+add-column c = omega (arith, table-length (c .before .before .before .before .before .before .before .before .before .before .before .before .before .before .before .before .before .before .before), row-fits (c .before .before .before .before .before .before .before .before .before .before .before .before .before .before .before .before .before .before .before .pre) (c .before .before .before .before .before .before .before .before .before .before .before .clear .kept .0) (omega arith) (c .before .before .before .before .before .before .before .before .loop .inv .1))
 
 add-b : tie.Need-add-b Inv-loop μ-loop
 add-b c = search needs
@@ -41,7 +46,7 @@ loop-less : tie.Need-loop-less Inv-loop μ-loop
 loop-less c = search needs
 
 loop-again : tie.Need-loop-again Inv-loop μ-loop
-loop-again c = (refl, row-more (c .before .before .before .before .before .before .before .before .before .before .before .before .before .before .before .before .before .before .before .pre) (c .before .before .before .before .before .before .before .before .before .before .before .clear .kept .0) (omega arith) (c .before .before .before .before .before .before .before .before .loop .inv .1) _ _ (c .before .before .before .make-cell .kept .0) (c .before .before .before .before .before .before .half .ensures) (c .before .before .before .make-cell .ensures .0) (c .before .before .before .make-cell .ensures .1))
+loop-again c = (refl, row-more (c .before .before .before .before .before .before .before .before .before .before .before .before .before .before .before .before .before .before .before .pre) (c .before .before .before .before .before .before .before .before .before .before .before .clear .kept .0) (omega arith) (c .before .before .before .before .before .before .before .before .loop .inv .1) _ _ (c .before .before .before .make-cell .kept .0) (c .before .before .before .before .before .before .half .ensures) (c .before .before .before .make-cell .ensures .0) (c .before .before .before .make-cell .ensures .1) (c .before .before .before .make-cell .ensures .2))
 
 same-length : tie.Need-same-length Inv-loop μ-loop
 same-length c = c .before .loop .inv .1 .same ∙ c .before .before .before .before .clear .kept .0
@@ -58,7 +63,7 @@ fill-row-spec =
     clear-requires
     loop-holds
     half-requires
-    add-t19
+    add-t20
     make-cell-requires
     add-column
     add-b

@@ -8,15 +8,6 @@ use borrow.Author.Needs.{needs}
 use Rattle.writer.proofs.nodes.put_kind.Statement.{statement}
 use Rattle.writer.proofs.nodes.put_kind.Tie as tie
 
-kind-number-requires : tie.Need-kind-number-requires
-kind-number-requires c κs = search needs
-
-slice-write-kinds : tie.Need-slice-write-kinds
-slice-write-kinds c = search needs
-
-same-length : tie.Need-same-length
-same-length c = search needs
-
 returns : tie.Need-returns
 returns c =
     let e = c .before .before .before in
@@ -29,4 +20,5 @@ returns-2 c =
 
 pub put-kind-spec : {M : Type 1} → statement M
 put-kind-spec =
-    tie.close (tie.spec kind-number-requires slice-write-kinds same-length returns returns-2)
+    tie.close
+    (tie.spec (search needs) (search needs) (search needs) returns returns-2)

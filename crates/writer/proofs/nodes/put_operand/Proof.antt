@@ -8,18 +8,6 @@ use borrow.Author.Needs.{needs}
 use Rattle.writer.proofs.nodes.put_operand.Statement.{statement}
 use Rattle.writer.proofs.nodes.put_operand.Tie as tie
 
-operand-requires : tie.Need-operand-requires
-operand-requires c κs = search needs
-
-mul-operands : tie.Need-mul-operands
-mul-operands c = search needs
-
-slice-write-operands : tie.Need-slice-write-operands
-slice-write-operands c = search needs
-
-same-length : tie.Need-same-length
-same-length c = search needs
-
 returns : tie.Need-returns
 returns c =
     let e = c .before .before .before in
@@ -33,4 +21,4 @@ returns-2 c =
 pub put-operand-spec : {M : Type 1} → statement M
 put-operand-spec =
     tie.close
-    (tie.spec operand-requires mul-operands slice-write-operands same-length returns returns-2)
+    (tie.spec (search needs) (search needs) (search needs) (search needs) returns returns-2)
