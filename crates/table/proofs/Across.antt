@@ -9,19 +9,19 @@ use lib.Dec.{T}
 use Rattle.cutting.specs.declared.Direction.{Direction}
 use Rattle.cutting.specs.declared.Direction.the-variants.{Length, Width}
 use Rattle.cutting.specs.Lists.{range, only, filter, greatest}
-use Rattle.cutting.specs.Tree.{Rect, side, part, Shares}
+use Rattle.cutting.specs.Tree.{Rect, side, part}
 use Rattle.cutting.specs.Figure.{leaf, best, step, figure}
-use Rattle.cutting.specs.Pieces.{fits-in, sized}
+use Rattle.cutting.specs.Pieces.{Piece, kind, fits-in, sized}
 use Rattle.cutting.specs.Saws.{saw, saw-half}
-use Rattle.cutting.specs.Job.{Job, InRange, pieces, normal-side, normal-floor}
-use Rattle.cutting.proofs.Lists.{mem-range, range-mem}
+use Rattle.cutting.specs.Job.{Job, laid, MayLie, members, pieces, normal-side, normal-floor}
+use Rattle.cutting.specs.Listed.{InTableRange}
 use Rattle.cutting.proofs.Recursion.{figure-eq}
 use Rattle.cutting.proofs.Exact.{leaf-ge, best-ge, step-ge}
 use Rattle.cutting.proofs.Saws.{saw-cut, saw-proper}
 use Rattle.cutting.proofs.Pieces.{fits-in-true}
 use Rattle.cutting.proofs.Ceiling.{figure-area}
 use Rattle.cutting.proofs.Half.{half-figure}
-use Rattle.cutting.proofs.Job.{kinds-solid}
+use Rattle.cutting.proofs.Members.{lie-member, member-kind, members-solid, table-solid}
 use Rattle.cutting.proofs.Table.{sides-suffice}
 use Rattle.table.specs.States.{by-state, Order, figure-at}
 use Rattle.table.proofs.Shares.{state-split, by-state-monotone, by-state-symmetric, figure-above}
@@ -32,43 +32,44 @@ module _ (J : Job) (le : ℕ → ℕ → Bool) (own : ℕ → ℕ) where
   across Length o x s = figure-at J le own x o s
   across Width o x s = figure-at J le own o x s
 
-module _ (J : Job) (le : ℕ → ℕ → Bool) (own : ℕ → ℕ) (order : Order le) (fit : InRange J) where
-  abbrev H : Shares ℕ ℕ
-  H = by-state le own
+module _ (J : Job) (le : ℕ → ℕ → Bool) (own : ℕ → ℕ) (order : Order le) (fit : InTableRange J) where
+  -- the state of a piece
+  abbrev at : Piece → ℕ
+  at p = own (kind p)
 
   -- a state above gives no less
   pub state-above : (l w t s : ℕ) → T (le t s) → figure-at J le own l w t ≤ figure-at J le own l w s
   unfolding figure-at
-  state-above l w t s h = figure-above le order own (pieces J) (saw 0) (saw-proper 0) (l, w) t s h
+  state-above l w t s h = figure-above le order at (pieces J) (saw 0) (saw-proper 0) (l, w) t s h
 
   -- no figure is above the area times the greatest price
   pub state-ceiling : (l w s : ℕ) → figure-at J le own l w s ≤ l * w * 1000000
   unfolding figure-at pieces
-  state-ceiling l w s = figure-area (range 0 (J .count)) (J .price) (J .size) (kinds-solid J fit) (by-state le own) 1000000
-      (λ i m. (let l = mem-range 0 (J .count) i m in fit .prices i (omega arith))) (l, w) s
+  state-ceiling l w s = figure-area (members J) (λ p. J .price (kind p)) (laid J) (members-solid J (table-solid J fit)) (by-state le at) 1000000
+      (λ p m. fit .prices (kind p) (member-kind J p m)) (l, w) s
 
   -- so none is above 1,000,000,000 for each unit of its width
   pub state-low : (l w s : ℕ) → l ≤ 1000 → figure-at J le own l w s ≤ w * 1000000000
   state-low l w s h = omega (arith, state-ceiling l w s, mul-le-mul-right {m = l} {n = 1000} w h)
 
-  -- a kind that fits and whose state is below earns no more than the figure
-  pub kind-most : (l w s i : ℕ) → i < J .count → J .size i .0 ≤ l → J .size i .1 ≤ w → T (le (own i) s) → J .price i ≤ figure-at J le own l w s
+  -- a piece that fits and whose state is below earns no more than the figure
+  pub piece-most : (q : Piece) (l w s : ℕ) → MayLie J q → laid J q .0 ≤ l → laid J q .1 ≤ w → T (le (own (kind q)) s) → J .price (kind q) ≤ figure-at J le own l w s
   unfolding figure-at pieces sized step by-state
-  kind-most l w s i h p q m = omega (
+  piece-most q l w s h u v m = omega (
     arith,
-    leaf-ge (pieces J) (saw 0) (by-state le own) i (l, w) s (range-mem 0 (J .count) i (omega arith) (omega arith)) (fits-in-true (J .size i) (l, w) (p, q)) m,
-    figure-eq (pieces J) (saw 0) (by-state le own) (saw-proper 0) (l, w) s,
+    leaf-ge (pieces J) (saw 0) (by-state le at) q (l, w) s (lie-member J q h) (fits-in-true (laid J q) (l, w) (u, v)) m,
+    figure-eq (pieces J) (saw 0) (by-state le at) (saw-proper 0) (l, w) s,
   )
 
   cut-most : (d : Direction) (r : Rect) (x k m : ℕ) → 1 ≤ x → x < side d r → T (le k (k + m))
-      → figure (pieces J) (saw 0) (by-state le own) (part d x r) k + figure (pieces J) (saw 0) (by-state le own) (part d (side d r - x - 0) r) m
-      ≤ figure (pieces J) (saw 0) (by-state le own) r (k + m)
+      → figure (pieces J) (saw 0) (by-state le at) (part d x r) k + figure (pieces J) (saw 0) (by-state le at) (part d (side d r - x - 0) r) m
+      ≤ figure (pieces J) (saw 0) (by-state le at) r (k + m)
   unfolding saw
   cut-most d r x k m p q c = omega (
     arith,
-    best-ge (pieces J) (saw 0) (by-state le own) (figure (pieces J) (saw 0) (by-state le own)) d r (k + m) x (k, m) (saw-cut 0 d (side d r) x p (omega arith)) (state-split le order own d k m c),
-    step-ge (pieces J) (saw 0) (by-state le own) (figure (pieces J) (saw 0) (by-state le own)) d r (k + m),
-    figure-eq (pieces J) (saw 0) (by-state le own) (saw-proper 0) r (k + m),
+    best-ge (pieces J) (saw 0) (by-state le at) (figure (pieces J) (saw 0) (by-state le at)) d r (k + m) x (k, m) (saw-cut 0 d (side d r) x p (omega arith)) (state-split le order at d k m c),
+    step-ge (pieces J) (saw 0) (by-state le at) (figure (pieces J) (saw 0) (by-state le at)) d r (k + m),
+    figure-eq (pieces J) (saw 0) (by-state le at) (saw-proper 0) r (k + m),
   )
 
   -- a cut between two parts gives no more than the whole
@@ -102,11 +103,11 @@ module _ (J : Job) (le : ℕ → ℕ → Bool) (own : ℕ → ℕ) (order : Orde
 
   -- the recursion over cuts at normal positions up to half of a side, the remainder counted down to a normal position
   pub state-half : (l w s : ℕ) → l ≤ J .plate .0 → w ≤ J .plate .1 → figure-at J le own l w s ≡
-      max (greatest (λ i. only (fits-in (J .size i) (l, w) && le (own i) s) (J .price i)) (range 0 (J .count)))
-      (max (greatest (λ x. greatest (λ q. across J le own Length w x (q .0) + across J le own Length w (normal-floor J Length (l - x)) (q .1)) (by-state {P = ℕ} le own .splits Length s))
+      max (greatest (λ q. only (fits-in (laid J q) (l, w) && le (own (kind q)) s) (J .price (kind q))) (members J))
+      (max (greatest (λ x. greatest (λ q. across J le own Length w x (q .0) + across J le own Length w (normal-floor J Length (l - x)) (q .1)) (by-state {P = Piece} le at .splits Length s))
       (filter (normal-side J Length) (range 1 (l / 2))))
-      (greatest (λ x. greatest (λ q. across J le own Width l x (q .0) + across J le own Width l (normal-floor J Width (w - x)) (q .1)) (by-state {P = ℕ} le own .splits Width s))
+      (greatest (λ x. greatest (λ q. across J le own Width l x (q .0) + across J le own Width l (normal-floor J Width (w - x)) (q .1)) (by-state {P = Piece} le at .splits Width s))
       (filter (normal-side J Width) (range 1 (w / 2)))))
   unfolding figure-at step leaf best pieces sized saw-half by-state
-  state-half l w s h k = half-figure (range 0 (J .count)) (J .price) (J .size) (kinds-solid J fit) (by-state le own) (by-state-monotone le order own)
-      (J .plate) (normal-side J) (sides-suffice J) (by-state-symmetric le order own) (l, w) s (h, k)
+  state-half l w s h k = half-figure (members J) (λ p. J .price (kind p)) (laid J) (members-solid J (table-solid J fit)) (by-state le at) (by-state-monotone le order at)
+      (J .plate) (normal-side J) (sides-suffice J) (by-state-symmetric le order at) (l, w) s (h, k)

@@ -2,7 +2,7 @@
 -- and the cuts of its sides up to the half give its figure.
 use mathlib.Core.Path.{_≡_, refl, sym, _∙_, ap, subst}
 use mathlib.Core.Bool.{Bool, _&&_}
-use mathlib.Core.List.{List}
+use mathlib.Core.List.{List, List·Memᴰ}
 use Prim.Native.Nat.{ℕ, _+_, _-_, _*_, _/_, _≤_, _<_}
 use native.Mathlib.Decide.{ℕ-discrete, decLe}
 use native.Mathlib.Omega.{arith}
@@ -12,10 +12,12 @@ use Rattle.cutting.specs.declared.Direction.{Direction}
 use Rattle.cutting.specs.declared.Direction.the-variants.{Length, Width}
 use Rattle.cutting.specs.Lists.{range, only, filter, greatest}
 use Rattle.cutting.specs.Tree.{side}
-use Rattle.cutting.specs.Pieces.{fits-in}
-use Rattle.cutting.specs.Job.{Job, InRange, normal-side, normal-floor}
+use Rattle.cutting.specs.Pieces.{Piece, kind, fits-in}
+use Rattle.cutting.specs.Job.{Job, laid, MayLie, members, normal-side, normal-floor}
+use Rattle.cutting.specs.Listed.{InTableRange}
 use Rattle.cutting.proofs.Tests.{only-positive, T-and}
-use Rattle.cutting.proofs.Lists.{mem-range, range-mem, mem-filter}
+use Rattle.cutting.proofs.Lists.{mem-range, mem-filter}
+use Rattle.cutting.proofs.Members.{member-lies, member-kind, table-upright}
 use Rattle.cutting.proofs.Greatest.{greatest-le}
 use Rattle.cutting.proofs.Pieces.{true-fits-in}
 use Rattle.cutting.proofs.Table.{sides-suffice, positions-first, positions-entry, positions-normal}
@@ -26,9 +28,9 @@ use Rattle.table.proofs.Figures.{entry-is, entry-side, positions-axis, 
 use Rattle.table.specs.States.{by-state, Order, figure-at, Covers}
 use Rattle.table.proofs.Shares.{split-state}
 use Rattle.table.proofs.Covered.{Along, covered}
-use Rattle.table.proofs.Across.{across, across-above, two-parts, more-side, kind-most, state-half}
+use Rattle.table.proofs.Across.{across, across-above, two-parts, more-side, piece-most, state-half}
 
-module _ (J : Job) (le : ℕ → ℕ → Bool) (own : ℕ → ℕ) (order : Order le) (fit : InRange J) where
+module _ (J : Job) (le : ℕ → ℕ → Bool) (own : ℕ → ℕ) (order : Order le) (fit : InTableRange J) where
   module _ (d : Direction) (count : ℕ) (positions floors : List ℕ) (given : Positions J d count positions floors) where
     rise : (i j : ℕ) → i < j → j < count → getD positions i 0 < getD positions j 0
     rise = positions-axis J d count positions floors fit given .rise
@@ -62,7 +64,7 @@ module _ (J : Job) (le : ℕ → ℕ → Bool) (own : ℕ → ℕ) (order : Orde
     -- the cuts up to half of entry a give no more than g, if no cut at an entry below the half does
     pub half-le : (o a half-end s g : ℕ) → a < count → Half positions a half-end
         → ((i : ℕ) → 1 ≤ i → i < half-end → (e m : ℕ) → T (le e (e + m)) → e + m ≡ s → across J le own d o (getD positions i 0) e + across J le own d o (getD positions (remainder positions floors a i) 0) m ≤ g)
-        → greatest (λ x. greatest (λ q. across J le own d o x (q .0) + across J le own d o (normal-floor J d (getD positions a 0 - x)) (q .1)) (by-state {P = ℕ} le own .splits d s)) (filter (normal-side J d) (range 1 (getD positions a 0 / 2))) ≤ g
+        → greatest (λ x. greatest (λ q. across J le own d o x (q .0) + across J le own d o (normal-floor J d (getD positions a 0 - x)) (q .1)) (by-state {P = Piece} le (λ p. own (kind p)) .splits d s)) (filter (normal-side J d) (range 1 (getD positions a 0 / 2))) ≤ g
     half-le o a half-end s g h half cuts = greatest-le _ g (filter (normal-side J d) (range 1 (getD positions a 0 / 2))) (λ x m.
         (let f = mem-filter (normal-side J d) (range 1 (getD positions a 0 / 2)) m in
         let q = mem-range 1 (getD positions a 0 / 2) x (f .0) in
@@ -70,9 +72,9 @@ module _ (J : Job) (le : ℕ → ℕ → Bool) (own : ℕ → ℕ) (order : Orde
         at x (e .0) (omega (arith, e .1, given .counted)) (entry-is J d count positions floors fit given (e .0) (omega (arith, e .1, given .counted)) ∙ e .2) (omega arith) (omega arith)))
       where
         at : (x i : ℕ) → i < count → getD positions i 0 ≡ x → 1 ≤ x → 2 * x ≤ getD positions a 0
-            → greatest (λ q. across J le own d o x (q .0) + across J le own d o (normal-floor J d (getD positions a 0 - x)) (q .1)) (by-state {P = ℕ} le own .splits d s) ≤ g
-        at x i l e q z = greatest-le _ g (by-state {P = ℕ} le own .splits d s) (λ u m.
-            (let v = split-state le order own d s u m in
+            → greatest (λ q. across J le own d o x (q .0) + across J le own d o (normal-floor J d (getD positions a 0 - x)) (q .1)) (by-state {P = Piece} le (λ p. own (kind p)) .splits d s) ≤ g
+        at x i l e q z = greatest-le _ g (by-state {P = Piece} le (λ p. own (kind p)) .splits d s) (λ u m.
+            (let v = split-state le order (λ (p : Piece). own (kind p)) d s u m in
             omega (arith, cuts i (positive (ℕ-discrete i 0)) (below (decLe half-end i) (ℕ-discrete half-end i)) (u .0) (u .1) (rw (v .1) (v .0)) (v .1), ap (λ y. across J le own d o y (u .0)) e, ap (λ y. across J le own d o y (u .1)) rest)))
           where
             positive : Dec (i ≡ 0) → 1 ≤ i
@@ -96,9 +98,9 @@ module _ (J : Job) (le : ℕ → ℕ → Bool) (own : ℕ → ℕ) (order : Orde
 
     module _ (a b s g : ℕ) (ha : a < length-count) (hb : b < columns) (above : cell (a - 1) b s ≤ g) (before : cell a (b - 1) s ≤ g)
         (kinds : (i : ℕ) → i < J .count → J .size i .0 ≡ getD normal-lengths a 0 → J .size i .1 ≡ getD normal-widths b 0 → T (le (own i) s) → J .price i ≤ g) where
-      -- a kind that fits earns no more than g: a smaller one lies in a cell before
-      kind-le : (i : ℕ) → i < J .count → J .size i .0 ≤ getD normal-lengths a 0 → J .size i .1 ≤ getD normal-widths b 0 → T (le (own i) s) → J .price i ≤ g
-      kind-le i h u v m = go (ℕ-discrete (J .size i .0) (getD normal-lengths a 0)) (ℕ-discrete (J .size i .1) (getD normal-widths b 0))
+      -- a piece that fits earns no more than g: a smaller one lies in a cell before
+      piece-le : (q : Piece) → List·Memᴰ q (members J) → laid J q .0 ≤ getD normal-lengths a 0 → laid J q .1 ≤ getD normal-widths b 0 → T (le (own (kind q)) s) → J .price (kind q) ≤ g
+      piece-le q h u v m = go (ℕ-discrete (laid J q .0) (getD normal-lengths a 0)) (ℕ-discrete (laid J q .1) (getD normal-widths b 0))
         where
           on-length : getD normal-lengths a 0 ≤ J .plate .0
           on-length = entry-side J Length length-count normal-lengths length-floors fit lengths a ha
@@ -106,25 +108,34 @@ module _ (J : Job) (le : ℕ → ℕ → Bool) (own : ℕ → ℕ) (order : Orde
           on-width : getD normal-widths b 0 ≤ J .plate .1
           on-width = entry-side J Width columns normal-widths width-floors fit widths b hb
 
-          normal : (d : Direction) → T (normal-side J d (side d (J .size i)))
-          normal d = sides-suffice J .has-side d i (range-mem 0 (J .count) i (omega arith) (omega arith)) (omega (arith, on-length), omega (arith, on-width))
+          lies : MayLie J q
+          lies = member-lies J q h
 
-          go : Dec (J .size i .0 ≡ getD normal-lengths a 0) → Dec (J .size i .1 ≡ getD normal-widths b 0) → J .price i ≤ g
-          go (yes e) (yes f) = kinds i h e f m
-          go (no e) f = omega (arith, kind-most J le own order fit (getD normal-lengths (a - 1) 0) (getD normal-widths b 0) s i h (between J Length length-count normal-lengths length-floors fit lengths (J .size i .0) a ha (normal Length) (omega arith)) v m)
-          go (yes e) (no f) = omega (arith, kind-most J le own order fit (getD normal-lengths a 0) (getD normal-widths (b - 1) 0) s i h u (between J Width columns normal-widths width-floors fit widths (J .size i .1) b hb (normal Width) (omega arith)) m)
+          normal : (d : Direction) → T (normal-side J d (side d (laid J q)))
+          normal d = sides-suffice J .has-side d q h (omega (arith, on-length), omega (arith, on-width))
 
-      singles : greatest (λ i. only (fits-in (J .size i) (getD normal-lengths a 0, getD normal-widths b 0) && le (own i) s) (J .price i)) (range 0 (J .count)) ≤ g
-      singles = greatest-le _ g (range 0 (J .count)) (λ i m. (let h = mem-range 0 (J .count) i m in go i (omega arith) (ℕ-discrete (only (fits-in (J .size i) (getD normal-lengths a 0, getD normal-widths b 0) && le (own i) s) (J .price i)) 0)))
+          own-size : laid J q ≡ J .size (kind q)
+          own-size = ap (laid J) (table-upright J fit q lies)
+
+          go : Dec (laid J q .0 ≡ getD normal-lengths a 0) → Dec (laid J q .1 ≡ getD normal-widths b 0) → J .price (kind q) ≤ g
+          go (yes e) (yes f) = kinds (kind q) (member-kind J q h) (sym (ap (λ u. u .0) own-size) ∙ e) (sym (ap (λ u. u .1) own-size) ∙ f) m
+          go (no e) f = omega (arith, piece-most J le own order fit q (getD normal-lengths (a - 1) 0) (getD normal-widths b 0) s lies (between J Length length-count normal-lengths length-floors fit lengths (laid J q .0) a ha (normal Length) (omega arith)) v m)
+          go (yes e) (no f) = omega (arith, piece-most J le own order fit q (getD normal-lengths a 0) (getD normal-widths (b - 1) 0) s lies u (between J Width columns normal-widths width-floors fit widths (laid J q .1) b hb (normal Width) (omega arith)) m)
+
+      -- what a piece alone gives
+      abbrev alone : Piece → ℕ
+      alone q = only (fits-in (laid J q) (getD normal-lengths a 0, getD normal-widths b 0) && le (own (kind q)) s) (J .price (kind q))
+
+      singles : greatest alone (members J) ≤ g
+      singles = greatest-le _ g (members J) (λ q m. go q m (ℕ-discrete (alone q) 0))
         where
-          go : (i : ℕ) → i < J .count → Dec (only (fits-in (J .size i) (getD normal-lengths a 0, getD normal-widths b 0) && le (own i) s) (J .price i) ≡ 0)
-              → only (fits-in (J .size i) (getD normal-lengths a 0, getD normal-widths b 0) && le (own i) s) (J .price i) ≤ g
-          go i h (yes e) = omega arith
-          go i h (no e) =
-              let o = only-positive (fits-in (J .size i) (getD normal-lengths a 0, getD normal-widths b 0) && le (own i) s) (J .price i) (omega arith) in
-              let t = T-and (fits-in (J .size i) (getD normal-lengths a 0, getD normal-widths b 0)) (le (own i) s) (o .0) in
-              let f = true-fits-in (J .size i) (getD normal-lengths a 0, getD normal-widths b 0) (t .0) in
-              omega (arith, o .1, kind-le i h (f .0) (f .1) (t .1))
+          go : (q : Piece) → List·Memᴰ q (members J) → Dec (alone q ≡ 0) → alone q ≤ g
+          go q h (yes e) = omega arith
+          go q h (no e) =
+              let o = only-positive (fits-in (laid J q) (getD normal-lengths a 0, getD normal-widths b 0) && le (own (kind q)) s) (J .price (kind q)) (omega arith) in
+              let t = T-and (fits-in (laid J q) (getD normal-lengths a 0, getD normal-widths b 0)) (le (own (kind q)) s) (o .0) in
+              let f = true-fits-in (laid J q) (getD normal-lengths a 0, getD normal-widths b 0) (t .0) in
+              omega (arith, o .1, piece-le q h (f .0) (f .1) (t .1))
 
       -- the cells before it, the kinds of exactly its size and the cuts up to half of its sides give a cell its figure
       pub complete : (length-half-end width-half-end : ℕ) → Half normal-lengths a length-half-end → Half normal-widths b width-half-end

@@ -10,7 +10,8 @@ use lib.Seq.{getD-take}
 use Rattle.cutting.specs.declared.Direction.{Direction}
 use Rattle.cutting.specs.declared.Direction.the-variants.{Length, Width}
 use Rattle.cutting.specs.Tree.{side}
-use Rattle.cutting.specs.Job.{Job, InRange, normal-side}
+use Rattle.cutting.specs.Job.{Job, normal-side}
+use Rattle.cutting.specs.Listed.{InTableRange}
 use Rattle.cutting.proofs.Floor.{floor-le}
 use Rattle.cutting.proofs.Table.{positions-entry, positions-rise, positions-normal}
 use Rattle.table.specs.Table.{position}
@@ -18,11 +19,11 @@ use Rattle.table.specs.Contracts.{Positions}
 use Rattle.table.specs.Words.{Axis}
 
 -- a side of a plate in range
-side-range : (J : Job) (d : Direction) → InRange J → side d (J .plate) ≤ 1000
+side-range : (J : Job) (d : Direction) → InTableRange J → side d (J .plate) ≤ 1000
 side-range J Length h = h .plate-length .1
 side-range J Width h = h .plate-width .1
 
-module _ (J : Job) (d : Direction) (count : ℕ) (positions floors : List ℕ) (fit : InRange J) (given : Positions J d count positions floors) where
+module _ (J : Job) (d : Direction) (count : ℕ) (positions floors : List ℕ) (fit : InTableRange J) (given : Positions J d count positions floors) where
   -- an entry of the list is a normal position
   pub entry-is : (i : ℕ) → i < count → getD positions i 0 ≡ position J d i
   entry-is i h = sym (getD-take count positions i 0 h) ∙ ap (λ xs. getD xs i 0) (given .listed)

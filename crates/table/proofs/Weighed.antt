@@ -7,8 +7,8 @@ use lib.Dec.{leb, leb→le, le→leb}
 use Rattle.cutting.specs.Tree.{Rect, Tree, waste, piece, cut, Pieces, Saw, Shares, Proper, total, Within}
 use Rattle.cutting.specs.Figure.{figure}
 use Rattle.cutting.specs.Saws.{saw}
-use Rattle.cutting.specs.Shares.{by-weight}
-use Rattle.cutting.specs.Job.{Job, pieces, figure-of}
+use Rattle.cutting.specs.Pieces.{Piece, kind}
+use Rattle.cutting.specs.Job.{Job, pieces, by-kind, figure-of}
 use Rattle.cutting.proofs.Exact.{figure-upper, figure-attained}
 use Rattle.cutting.proofs.Saws.{saw-proper}
 use Rattle.cutting.proofs.Weights.{within-weight, weight-within}
@@ -57,5 +57,6 @@ figure-within K C proper H H′ r s s′ to from =
 -- the figures of the scope
 pub figure-one : (J : Job) (weight : ℕ → ℕ) (l w c : ℕ) → figure-at J leb weight l w c ≡ figure-of J weight l w c
 unfolding figure-at figure-of
-figure-one J weight l w c = figure-within (pieces J) (saw 0) (saw-proper 0) (by-state leb weight) (by-weight weight) (l, w) c c
-    (λ t h. weight-within weight t c (one-within weight t c h)) (λ t h. within-one weight t c (within-weight weight t c h))
+figure-one J weight l w c =
+    let heavy : Piece → ℕ = λ p. weight (kind p) in
+    figure-within (pieces J) (saw 0) (saw-proper 0) (by-state leb heavy) (by-kind weight) (l, w) c c (λ t h. weight-within heavy t c (one-within heavy t c h)) (λ t h. within-one heavy t c (within-weight heavy t c h))

@@ -6,7 +6,9 @@ use lib.ListN.{length, getD, take, drop}
 use Rattle.cutting.specs.declared.Direction.{Direction}
 use Rattle.cutting.specs.declared.Direction.the-variants.{Length, Width}
 use Rattle.cutting.specs.Tree.{side}
-use Rattle.cutting.specs.Job.{Job, InRange, normal-positions, normal-floor}
+use Rattle.cutting.specs.Limits.{most-capacity}
+use Rattle.cutting.specs.Job.{Job, normal-positions, normal-floor}
+use Rattle.cutting.specs.Listed.{InTableRange, pieces-job}
 use Rattle.table.specs.declared.TableSize.{TableSize}
 use Rattle.table.specs.Table.{position-count, position, words-needed, Figures, Kept}
 
@@ -18,23 +20,9 @@ Listed J d positions = (position-count J d ≤ length positions) × ((i : ℕ) �
 abbrev pub Mapped : Job → Direction → List ℕ → Type 0
 Mapped J d floors = (x : ℕ) → x ≤ side d (J .plate) → (getD floors x 0 < position-count J d) × (position J d (getD floors x 0) ≡ normal-floor J d x)
 
--- the job of a plate and of arrays with the sizes and prices of its kinds: the figures do not read the demands
-abbrev pub kinds-job : ℕ → ℕ → ℕ → List ℕ → List ℕ → List ℕ → Job
-kinds-job l w count kind-lengths kind-widths prices = record {
-  plate = (l, w);
-  count = count;
-  size = λ i. (getD kind-lengths i 0, getD kind-widths i 0);
-  price = λ i. getD prices i 0;
-  demand = λ i. 0;
-}
-
--- the job of a table's size and of the arrays of its kinds
-abbrev pub size-job : TableSize → List ℕ → List ℕ → List ℕ → Job
-size-job size kind-lengths kind-widths prices = kinds-job (size .length) (size .width) (size .count) kind-lengths kind-widths prices
-
--- an array, entry by entry
-abbrev pub each : List ℕ → ℕ → ℕ
-each xs i = getD xs i 0
+-- the plain job of a table's size and of the array of its pieces
+abbrev pub size-job : TableSize → List ℕ → Job
+size-job size pieces = pieces-job (size .length, size .width) (size .count) pieces
 
 -- a list begins with the normal positions of one side of a job, so many; and the floors of that side
 pub record Positions (J : Job) (d : Direction) (count : ℕ) (positions floors : List ℕ) : Type 0 where
@@ -43,15 +31,14 @@ pub record Positions (J : Job) (d : Direction) (count : ℕ) (positions floors :
   pub mapped : side d (J .plate) < length floors
   pub floored : Mapped J d floors
 
--- what a fill asks: a job in range, a weight for each of its kinds, the normal positions and floors of both sides, and a table with room
-pub record Fillable (J : Job) (weights : List ℕ) (size : TableSize) (normal-lengths normal-widths floors table : List ℕ) : Type 0 where
-  pub in-range : InRange J
-  pub weighed : J .count ≤ length weights
-  pub most : size .capacity ≤ 4095
+-- what a fill asks: pieces in range, the normal positions and floors of both sides, and a table with room
+pub record Fillable (size : TableSize) (pieces normal-lengths normal-widths floors table : List ℕ) : Type 0 where
+  pub in-range : InTableRange (size-job size pieces)
+  pub most : size .capacity ≤ most-capacity
   pub floors-there : length floors ≡ 2002
-  pub lengths : Positions J Length (size .rows) normal-lengths floors
-  pub widths : Positions J Width (size .columns) normal-widths (drop 1001 floors)
-  pub room : words-needed J (size .capacity) ≤ length table
+  pub lengths : Positions (size-job size pieces) Length (size .rows) normal-lengths floors
+  pub widths : Positions (size-job size pieces) Width (size .columns) normal-widths (drop 1001 floors)
+  pub room : words-needed (size-job size pieces) (size .capacity) ≤ length table
 
 -- what a fill leaves: the figures, and later words as they were
 abbrev pub FilledBy : Job → (ℕ → ℕ) → ℕ → List ℕ → List ℕ → Type 0

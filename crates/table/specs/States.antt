@@ -9,6 +9,7 @@ use lib.Dec.{T, leb, ltb, eqb}
 use Rattle.cutting.specs.Lists.{range, filter}
 use Rattle.cutting.specs.Tree.{Shares}
 use Rattle.cutting.specs.Figure.{figure}
+use Rattle.cutting.specs.Pieces.{kind}
 use Rattle.cutting.specs.Saws.{saw}
 use Rattle.cutting.specs.Job.{Job, pieces}
 
@@ -37,9 +38,9 @@ pub record Order (le : ℕ → ℕ → Bool) : Type 0 where
   pub sums : (t s u : ℕ) → T (le t s) → T (le s (s + u)) → T (le (t + u) (s + u))
   pub least : (s : ℕ) → T (le 0 s)
 
--- the figure of a rectangle l by w and a state, where every kind has a state of its own (one past all states: the kind is not open)
+-- the figure of a rectangle l by w and a state, where every kind has a state of its own (one past all states: it is not open)
 unfoldable pub figure-at : Job → (ℕ → ℕ → Bool) → (ℕ → ℕ) → ℕ → ℕ → ℕ → ℕ
-figure-at J le own l w s = figure (pieces J) (saw 0) (by-state le own) (l, w) s
+figure-at J le own l w s = figure (pieces J) (saw 0) (by-state le (λ p. own (kind p))) (l, w) s
 
 -- some states cover the values f over those of g: at each state s, f is not above g, or not above its own value at one of them below s
 abbrev pub Covers : (ℕ → ℕ → Bool) → ℕ → (ℕ → Type 0) → (ℕ → ℕ) → (ℕ → ℕ) → Type 0
