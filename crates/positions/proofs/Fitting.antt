@@ -1,74 +1,81 @@
--- The sides of the kinds that fit: how the list grows, and that it is the list of the scope, for lengths and for widths.
-use mathlib.Core.Path.{_≡_, refl, ap, ap₂}
+-- The sides of the pieces that fit: how the list grows, and that it gives the normal positions of the plain job of the array.
+use mathlib.Core.Path.{_≡_, refl, sym, _∙_, ap, subst}
 use mathlib.Core.Bool.{Bool, true, false, and-comm}
-use mathlib.Core.List.{List, [], _∷_, _++_, map, List·Memᴰ, List·Memᴰ·head, List·Memᴰ·tail}
-use Prim.Native.Nat.{ℕ, _+_, _≤_, _<_}
+use mathlib.Core.List.{List, [], _∷_, _++_, map}
+use Prim.Native.Nat.{ℕ, _+_, _-_, _*_, _≤_, _<_}
 use native.Mathlib.Omega.{arith}
-use lib.Dec.{leb}
+use lib.Dec.{T, leb}
 use lib.ListN.{length, getD, set, length-map, List·getD-append}
 use Rattle.cutting.specs.declared.Direction.{Direction}
 use Rattle.cutting.specs.declared.Direction.the-variants.{Length, Width}
-use Rattle.cutting.specs.Lists.{range, keep, filter}
-use Rattle.cutting.specs.Tree.{side}
+use Rattle.cutting.specs.Lists.{range, filter}
+use Rattle.cutting.specs.Tree.{Rect, side}
 use Rattle.cutting.specs.Pieces.{fits-in}
 use Rattle.cutting.specs.Normal.{normals, sides}
-use Rattle.cutting.specs.Job.{Job, normal-positions}
-use Rattle.cutting.proofs.Lists.{mem-range, mem-filter, mem-map}
+use Rattle.cutting.specs.Job.{normal-positions}
+use Rattle.cutting.specs.Listed.{size-in, price-in, pieces-job}
+use Rattle.cutting.proofs.Lists.{mem-range, mem-filter, mem-map, filter-map-cong}
+use Rattle.cutting.proofs.Pieces.{true-fits-in}
 use Rattle.cutting.proofs.Positions.{getD-mem}
-use Rattle.positions.specs.Contracts.{Holds, Positive, kind-fits, fitting, positions-of}
+use Rattle.cutting.proofs.Listed.{plain-sides}
+use Rattle.positions.specs.Contracts.{Holds, entry, field-in, Positive, piece-fits, fitting, positions-of}
 use Rattle.positions.proofs.Lists.{filter-taken, filter-left, filter-count, holds-more}
 
 map-snoc : (f : ℕ → ℕ) (xs : List ℕ) (x : ℕ) → map f (xs ++ (x ∷ [])) ≡ map f xs ++ (f x ∷ [])
 map-snoc f [] x = refl
 map-snoc f (y ∷ ys) x = ap (λ zs. f y ∷ zs) (map-snoc f ys x)
 
-module _ (ss os : List ℕ) (l o : ℕ) where
-  -- no kind yet
-  pub fitting-none : (old : List ℕ) → Holds (fitting ss os 0 l o) 0 old old
+module _ (pieces : List ℕ) (field l o : ℕ) where
+  -- the side of a piece that fits is not greater than the plate's
+  pub side-most : (i : ℕ) → piece-fits pieces field l o i ≡ true → field-in pieces field i ≤ l
+  side-most i t = true-fits-in (field-in pieces field i, field-in pieces (1 - field) i) (l, o) (subst T (sym t) tt) .0
+
+  -- no piece yet
+  pub fitting-none : (old : List ℕ) → Holds (fitting pieces field 0 l o) 0 old old
   unfolding fitting range filter
   fitting-none old = record { number = refl; contents = refl }
 
-  -- one kind more, which fits: its side is written
-  pub fitting-taken : (i n : ℕ) (old new : List ℕ) → kind-fits ss os l o i ≡ true
-      → Holds (fitting ss os i l o) n old new → n < length old → Holds (fitting ss os (i + 1) l o) (n + 1) old (set new n (getD ss i 0))
+  -- one piece more, which fits: its side is written
+  pub fitting-taken : (i n : ℕ) (old new : List ℕ) → piece-fits pieces field l o i ≡ true
+      → Holds (fitting pieces field i l o) n old new → n < length old → Holds (fitting pieces field (i + 1) l o) (n + 1) old (set new n (field-in pieces field i))
   unfolding fitting
   fitting-taken i n old new t w h =
-      rw (filter-taken (kind-fits ss os l o) i t, map-snoc (λ j. getD ss j 0) (filter (kind-fits ss os l o) (range 0 i)) i) (holds-more (fitting ss os i l o) old new n (getD ss i 0) w h)
+      rw (filter-taken (piece-fits pieces field l o) i t, map-snoc (field-in pieces field) (filter (piece-fits pieces field l o) (range 0 i)) i) (holds-more (fitting pieces field i l o) old new n (field-in pieces field i) w h)
 
-  -- one kind more, which does not fit
-  pub fitting-left : (i n : ℕ) (old new : List ℕ) → kind-fits ss os l o i ≡ false → Holds (fitting ss os i l o) n old new → Holds (fitting ss os (i + 1) l o) n old new
+  -- one piece more, which does not fit
+  pub fitting-left : (i n : ℕ) (old new : List ℕ) → piece-fits pieces field l o i ≡ false → Holds (fitting pieces field i l o) n old new → Holds (fitting pieces field (i + 1) l o) n old new
   unfolding fitting
-  fitting-left i n old new t w = rw (filter-left (kind-fits ss os l o) i t) w
+  fitting-left i n old new t w = rw (filter-left (piece-fits pieces field l o) i t) w
 
-  pub fitting-count : (n : ℕ) → length (fitting ss os n l o) ≤ n
+  pub fitting-count : (n : ℕ) → length (fitting pieces field n l o) ≤ n
   unfolding fitting
-  fitting-count n = rw length-map (filter-count (kind-fits ss os l o) n)
+  fitting-count n = rw length-map (filter-count (piece-fits pieces field l o) n)
 
-  -- the written sides are as positive as the kinds' own
-  pub fitting-positive : (n k : ℕ) (old new : List ℕ) → Positive ss n → Holds (fitting ss os n l o) k old new → Positive new k
+  -- the written sides are as positive as the pieces' own
+  pub fitting-positive : (n k : ℕ) (old new : List ℕ) → Positive (field-in pieces field) n → Holds (fitting pieces field n l o) k old new → Positive (entry new) k
   unfolding fitting
   fitting-positive n k old new h w i g =
-      let xs = filter (kind-fits ss os l o) (range 0 n) in
-      let b : i < length (fitting ss os n l o) = omega (arith, w .number) in
-      let j = mem-map (λ j. getD ss j 0) _ xs (getD-mem (fitting ss os n l o) i 0 b) in
-      let r = mem-range 0 n (j .0) (mem-filter (kind-fits ss os l o) (range 0 n) (j .1) .0) in
-      rw (w .contents, List·getD-append (fitting ss os n l o) _ 0 i b, j .2) (h (j .0) (omega arith))
+      let xs = filter (piece-fits pieces field l o) (range 0 n) in
+      let b : i < length (fitting pieces field n l o) = omega (arith, w .number) in
+      let j = mem-map (field-in pieces field) _ xs (getD-mem (fitting pieces field n l o) i 0 b) in
+      let r = mem-range 0 n (j .0) (mem-filter (piece-fits pieces field l o) (range 0 n) (j .1) .0) in
+      rw (w .contents, List·getD-append (fitting pieces field n l o) _ 0 i b, j .2) (h (j .0) (omega arith))
 
-module _ (J : Job) where
-  found : (d : Direction) (ss os : List ℕ) (o : ℕ)
-      → ((i : ℕ) → i < J .count → (kind-fits ss os (side d (J .plate)) o i ≡ fits-in (J .size i) (J .plate)) × (getD ss i 0 ≡ side d (J .size i)))
-      → positions-of ss os (J .count) (side d (J .plate)) o ≡ normal-positions J d
+module _ (r : Rect) (n : ℕ) (pieces : List ℕ) where
+  found : (d : Direction) (field o : ℕ) → ((i : ℕ) → (piece-fits pieces field (side d r) o i ≡ fits-in (size-in pieces i) r) × (field-in pieces field i ≡ side d (size-in pieces i)))
+      → positions-of pieces field n (side d r) o ≡ normal-positions (pieces-job r n pieces) d
   unfolding fitting sides normals normal-positions
-  found d ss os o h =
-      ap (λ zs. normals zs (side d (J .plate)))
-      (filter-map-cong (kind-fits ss os (side d (J .plate)) o) (λ i. fits-in (J .size i) (J .plate)) (λ i. getD ss i 0) (λ i. side d (J .size i)) (range 0 (J .count))
-      (λ i m. (let l = mem-range 0 (J .count) i m in h i (omega arith))))
+  found d field o h =
+      ap (λ zs. normals zs (side d r))
+      (filter-map-cong _ (λ i. fits-in (size-in pieces i) r) _ (λ i. side d (size-in pieces i)) (range 0 n) (λ i m. h i) ∙ sym (plain-sides r n (size-in pieces) (price-in pieces) d))
 
-  module _ (lengths widths : List ℕ) (h : (i : ℕ) → i < J .count → J .size i ≡ (getD lengths i 0, getD widths i 0)) where
-    -- from lengths and widths: the normal lengths
-    pub lengths-found : positions-of lengths widths (J .count) (J .plate .0) (J .plate .1) ≡ normal-positions J Length
-    lengths-found = found Length lengths widths (J .plate .1) (λ i l. rw (h i l) (refl, refl))
+  first-field : (i : ℕ) → field-in pieces 0 i ≡ size-in pieces i .0
+  first-field i = let e : 5 * i + 0 ≡ 5 * i = omega arith in rw e
 
-    -- from widths and lengths: the normal widths
-    pub widths-found : positions-of widths lengths (J .count) (J .plate .1) (J .plate .0) ≡ normal-positions J Width
-    widths-found = found Width widths lengths (J .plate .0) (λ i l. rw (h i l) (and-comm (leb (getD widths i 0) (J .plate .1)) (leb (getD lengths i 0) (J .plate .0)), refl))
+  -- field 0, the lengths
+  pub lengths-found : positions-of pieces 0 n (r .0) (r .1) ≡ normal-positions (pieces-job r n pieces) Length
+  lengths-found = found Length 0 (r .1) (λ i. rw (first-field i) (refl, refl))
+
+  -- field 1, the widths
+  pub widths-found : positions-of pieces 1 n (r .1) (r .0) ≡ normal-positions (pieces-job r n pieces) Width
+  widths-found = found Width 1 (r .0) (λ i. rw (first-field i) (and-comm (leb (size-in pieces i .1) (r .1)) (leb (size-in pieces i .0) (r .0)), refl))

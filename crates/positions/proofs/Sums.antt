@@ -1,4 +1,4 @@
--- Sums of sides, side after side: what the scan of the kinds at one position finds.
+-- Sums of sides, side after side: what the scan of the sides at one position finds.
 use mathlib.Core.Path.{_≡_, refl, sym, _∙_, ap, subst}
 use mathlib.Core.Bool.{Bool, true, false}
 use mathlib.Core.List.{List, List·Memᴰ}
@@ -11,7 +11,7 @@ use lib.Seq.{getD-take, length-take-le}
 use Rattle.cutting.specs.Normal.{Sum, none, more, normal?}
 use Rattle.cutting.proofs.Normal.{normal-sum}
 use Rattle.cutting.proofs.Positions.{getD-mem, mem-getD}
-use Rattle.positions.specs.Contracts.{Positive, Marked}
+use Rattle.positions.specs.Contracts.{entry, Positive, Marked}
 
 is-true : (b : Bool) → T b → b ≡ true
 is-true true t = refl
@@ -26,14 +26,14 @@ pub sum-zero : (zs : List ℕ) → normal? zs 0 ≡ true
 sum-zero zs = is-true (normal? zs 0) (normal-sum zs 0 .1 none)
 
 -- where no entry is 0, none is past the end
-positive-length : (fit : List ℕ) (n : ℕ) → Positive fit n → n ≤ length fit
+positive-length : (fit : List ℕ) (n : ℕ) → Positive (entry fit) n → n ≤ length fit
 positive-length fit n h = go (decLe n (length fit))
   where
     go : Dec (n ≤ length fit) → n ≤ length fit
     go (yes l) = l
     go (no l) = absurd (omega (arith, h (length fit) (omega arith), List·getD-eq-default fit 0 {n = length fit} (omega arith)))
 
-module _ (fit : List ℕ) (n x : ℕ) (marks : List Bool) (positive : Positive fit n) (marked : Marked (take n fit) x marks) where
+module _ (fit : List ℕ) (n x : ℕ) (marks : List Bool) (positive : Positive (entry fit) n) (marked : Marked (take n fit) x marks) where
   abbrev zs : List ℕ
   zs = take n fit
 

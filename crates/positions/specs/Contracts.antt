@@ -1,11 +1,11 @@
--- Normal positions as the planner finds them, from lent arrays of sides, and the map from a length to the last position not above it.
+-- Normal positions as the planner finds them, from the array of the pieces, and the map from a length to the last position not above it.
 use mathlib.Core.Path.{_≡_}
 use mathlib.Core.Bool.{Bool, false, _&&_}
 use mathlib.Core.List.{List, map}
-use Prim.Native.Nat.{ℕ, _+_, _≤_, _<_}
+use Prim.Native.Nat.{ℕ, _+_, _-_, _*_, _≤_, _<_}
 use lib.Dec.{leb}
 use lib.ListN.{length, getD, take}
-use Rattle.cutting.specs.Limits.{most-side, most-kinds}
+use Rattle.cutting.specs.Limits.{most-side, most-pieces}
 use Rattle.cutting.specs.Lists.{range, filter, over}
 use Rattle.cutting.specs.Normal.{normal?, normals}
 
@@ -14,36 +14,44 @@ pub record Holds (xs : List ℕ) (n : ℕ) (old new : List ℕ) : Type 0 where
   pub number : n ≡ length xs
   pub contents : new ≡ over xs old
 
--- no side of the first n kinds is 0
-abbrev pub Positive : List ℕ → ℕ → Type 0
-Positive sides n = (i : ℕ) → i < n → 1 ≤ getD sides i 0
+-- an entry of a list, 0 past its end
+abbrev pub entry : List ℕ → ℕ → ℕ
+entry xs i = getD xs i 0
 
--- whether a kind fits: neither its side nor its other side is greater than the plate's
-abbrev pub kind-fits : List ℕ → List ℕ → ℕ → ℕ → ℕ → Bool
-kind-fits sides others side other i = leb (getD sides i 0) side && leb (getD others i 0) other
+-- field 0 of a piece in the array is its length, field 1 its width
+abbrev pub field-in : List ℕ → ℕ → ℕ → ℕ
+field-in pieces field i = getD pieces (5 * i + field) 0
 
--- the sides of those of the first n kinds that fit
-unfoldable pub fitting : List ℕ → List ℕ → ℕ → ℕ → ℕ → List ℕ
-fitting sides others n side other = map (λ i. getD sides i 0) (filter (kind-fits sides others side other) (range 0 n))
+-- none of the first n sides is 0
+abbrev pub Positive : (ℕ → ℕ) → ℕ → Type 0
+Positive sides n = (i : ℕ) → i < n → 1 ≤ sides i
+
+-- whether a piece fits: neither its side nor its other side is greater than the plate's
+abbrev pub piece-fits : List ℕ → ℕ → ℕ → ℕ → ℕ → Bool
+piece-fits pieces field side other i = leb (field-in pieces field i) side && leb (field-in pieces (1 - field) i) other
+
+-- the sides of those of the first n pieces that fit
+unfoldable pub fitting : List ℕ → ℕ → ℕ → ℕ → ℕ → List ℕ
+fitting pieces field n side other = map (field-in pieces field) (filter (piece-fits pieces field side other) (range 0 n))
 
 -- the normal positions up to a side of the plate, rising
-abbrev pub positions-of : List ℕ → List ℕ → ℕ → ℕ → ℕ → List ℕ
-positions-of sides others n side other = normals (fitting sides others n side other) side
+abbrev pub positions-of : List ℕ → ℕ → ℕ → ℕ → ℕ → List ℕ
+positions-of pieces field n side other = normals (fitting pieces field n side other) side
 
 -- the marks below x are the tests for sums
 abbrev pub Marked : List ℕ → ℕ → List Bool → Type 0
 Marked zs x marks = (y : ℕ) → y < x → getD marks y false ≡ normal? zs y
 
--- what the scan for x asks: marks of the sums below x of up to 64 sides, none of them 0
+-- what the scan for x asks: marks of the sums below x of up to 128 sides, none of them 0
 pub record Scannable (sides : List ℕ) (n x : ℕ) (marks : List Bool) : Type 0 where
-  pub kinds : n ≤ most-kinds
+  pub kinds : n ≤ most-pieces
   pub most : x ≤ most-side
-  pub positive : Positive sides n
+  pub positive : Positive (entry sides) n
   pub marked : Marked (take n sides) x marks
 
--- what listing the positions up to a side asks: up to 64 sides, none of them 0, and room for every number up to the side
-pub record Listable (sides : List ℕ) (n side room : ℕ) : Type 0 where
-  pub kinds : n ≤ most-kinds
+-- what listing the positions up to a side asks: up to 128 sides, none of them 0, and room for every number up to the side
+pub record Listable (sides : ℕ → ℕ) (n side room : ℕ) : Type 0 where
+  pub kinds : n ≤ most-pieces
   pub most : side ≤ most-side
   pub room-there : side < room
   pub positive : Positive sides n

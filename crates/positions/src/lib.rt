@@ -1,41 +1,42 @@
 // Normal positions of either side of the plate, and the map of remainders: for each length the last position not above it.
-// One function serves lengths and widths: the caller hands over the sides in question first and the other sides second.
+// One function serves lengths and widths: field 0 of a piece in the array is its length, field 1 its width.
 ghost use mathlib.Core.Path.{_≡_};
 ghost use mathlib.Core.Bool.{_&&_};
 ghost use Prim.Native.Nat.{_+_, _≤_, _<_};
 ghost use lib.Dec.{leb};
 ghost use lib.ListN.{length, take};
-ghost use Rattle.cutting.specs.Limits.{most-kinds};
+ghost use Rattle.cutting.specs.Limits.{most-pieces};
 ghost use Rattle.cutting.specs.Normal.{normal?, normals};
-ghost use Rattle.positions.specs.Contracts.{Holds, fitting, positions-of, Scannable, Listable, Mappable, Floors};
+ghost use Rattle.positions.specs.Contracts.{Holds, entry, field-in, fitting, positions-of, Scannable, Listable, Mappable, Floors};
 
-// Whether a kind fits: neither side is greater than the plate's.
-fn fits(s: u16, o: u16, side: u16, other: u16) -> bool
+// Whether a piece fits: neither side is greater than the plate's.
+fn fits(s: u32, o: u32, side: u16, other: u16) -> bool
     ensures { λ r. ⌜ r ≡ leb s side && leb o other ⌝ }
 {
-    if s <= side {
-        return o <= other;
+    if s <= side as u32 {
+        return o <= other as u32;
     }
     false
 }
 
-// The sides of the kinds that fit, squeezed to the front of `fit`.
+// The sides of the pieces that fit, squeezed to the front of `fit`.
 fn fitting_sides(
-    sides: &[u16; 64],
-    others: &[u16; 64],
+    pieces: &[u32; 640],
+    field: usize,
     count: u16,
     side: u16,
     other: u16,
-    fit: &mut [u16; 64],
+    fit: &mut [u16; 128],
 ) -> u16
-    requires { ⌜ (count ≤ most-kinds) × (length (now fit) ≡ most-kinds) ⌝ }
-    ensures { λ r. ⌜ Holds (fitting (now (sides .entry)) (now (others .entry)) count side other) r (now (fit .entry)) (now (fit .exit)) ⌝ }
+    requires { ⌜ (field ≤ 1) × (count ≤ most-pieces) × (length (now fit) ≡ most-pieces) ⌝ }
+    ensures { λ r. ⌜ Holds (fitting (now (pieces .entry)) field count side other) r (now (fit .entry)) (now (fit .exit)) ⌝ }
 {
     let mut n: u16 = 0;
     for i in 0..count {
-        let s = sides[i as usize];
-        if fits(s, others[i as usize], side, other) {
-            fit[n as usize] = s;
+        let at = 5 * (i as usize);
+        let s = pieces[at + field];
+        if fits(s, pieces[at + (1 - field)], side, other) {
+            fit[n as usize] = s as u16;
             n += 1;
         }
     }
@@ -43,7 +44,7 @@ fn fitting_sides(
 }
 
 // Whether x is 0, or a side leads to it from a marked position.
-fn is_normal(marks: &[bool; 1001], fit: &[u16; 64], count: u16, x: u16) -> bool
+fn is_normal(marks: &[bool; 1001], fit: &[u16; 128], count: u16, x: u16) -> bool
     requires { ⌜ Scannable (now fit) count x (now marks) ⌝ }
     ensures { λ r. ⌜ r ≡ normal? (take count (now (fit .entry))) x ⌝ }
 {
@@ -62,8 +63,8 @@ fn is_normal(marks: &[bool; 1001], fit: &[u16; 64], count: u16, x: u16) -> bool
 }
 
 // Marks the sums up to `side` and lists them: position after position, each from the marks before it.
-fn list_sums(fit: &[u16; 64], count: u16, side: u16, out: &mut [u16]) -> u16
-    requires { ⌜ Listable (now fit) count side (length (now out)) ⌝ }
+fn list_sums(fit: &[u16; 128], count: u16, side: u16, out: &mut [u16]) -> u16
+    requires { ⌜ Listable (entry (now fit)) count side (length (now out)) ⌝ }
     ensures { λ r. ⌜ Holds (normals (take count (now (fit .entry))) side) r (now (out .entry)) (now (out .exit)) ⌝ }
 {
     let mut marks = [false; 1001];
@@ -81,19 +82,19 @@ fn list_sums(fit: &[u16; 64], count: u16, side: u16, out: &mut [u16]) -> u16
 }
 
 // The normal positions up to `side`, rising, at the front of `out`; answers how many.
-pub fn normal_positions<'a>(
-    sides: &'a [u16; 64],
-    others: &'a [u16; 64],
+pub fn normal_positions(
+    pieces: &[u32; 640],
+    field: usize,
     count: u16,
     side: u16,
     other: u16,
     out: &mut [u16],
 ) -> u16
-    requires { ⌜ Listable (now sides) count side (length (now out)) ⌝ }
-    ensures { λ r. ⌜ Holds (positions-of (now (sides .entry)) (now (others .entry)) count side other) r (now (out .entry)) (now (out .exit)) ⌝ }
+    requires { ⌜ (field ≤ 1) × Listable (field-in (now pieces) field) count side (length (now out)) ⌝ }
+    ensures { λ r. ⌜ Holds (positions-of (now (pieces .entry)) field count side other) r (now (out .entry)) (now (out .exit)) ⌝ }
 {
-    let mut fit = [0u16; 64];
-    let n = fitting_sides(sides, others, count, side, other, &mut fit);
+    let mut fit = [0u16; 128];
+    let n = fitting_sides(pieces, field, count, side, other, &mut fit);
     list_sums(&fit, n, side, out)
 }
 

@@ -1,25 +1,32 @@
--- `positions::fitting_sides` meets its contract. The invariant: the sides of those of the first i kinds that fit are at the front of `fit`.
+-- `positions::fitting_sides` meets its contract. The invariant: the sides of those of the first i pieces that fit are at the front of `fit`.
 use mathlib.Core.Logic.{⊎-elim}
 use Prim.Native.Nat.{_-_, _≤_}
 use mathlib.Core.Path.{_≡_, _∙_, sym}
 use native.Mathlib.Omega.{arith}
 use borrow.Author.Needs.{needs}
+use denote.Ref.{now}
 use Rattle.positions.specs.Contracts.{Holds, fitting}
-use Rattle.positions.proofs.Fitting.{fitting-none, fitting-taken, fitting-left}
+use Rattle.positions.proofs.Fitting.{side-most, fitting-none, fitting-taken, fitting-left}
 use Rattle.positions.proofs.fitting_sides.Statement.{statement}
 use Rattle.positions.proofs.fitting_sides.Tie as tie
 
 abbrev Inv-loop : tie.InvT-loop
-Inv-loop sides others count side other fit₀ n₀ i₀ fit n i = (i ≤ count) × (n ≤ i) × Holds (fitting sides others i side other) n fit₀ fit
+Inv-loop pieces field count side other fit₀ n₀ i₀ fit n i = (i ≤ count) × (n ≤ i) × Holds (fitting pieces field i side other) n fit₀ fit
 
 abbrev μ-loop : tie.MeasureT-loop
-μ-loop sides others count side other fit₀ n₀ i₀ fit n i = count - i
+μ-loop pieces field count side other fit₀ n₀ i₀ fit n i = count - i
 
 loop-holds : tie.Need-loop-holds Inv-loop μ-loop
 loop-holds c = (search needs, search needs, fitting-none _ _ _ _ _)
 
-cast-s : tie.Need-cast-s Inv-loop μ-loop
-cast-s c = search needs
+cast-at : tie.Need-cast-at Inv-loop μ-loop
+cast-at c = search needs
+
+mul-at : tie.Need-mul-at Inv-loop μ-loop
+mul-at c = search needs
+
+add-s : tie.Need-add-s Inv-loop μ-loop
+add-s c = search needs
 
 mul-s : tie.Need-mul-s Inv-loop μ-loop
 mul-s c = search needs
@@ -27,8 +34,11 @@ mul-s c = search needs
 element-copy-out-s : tie.Need-element-copy-out-s Inv-loop μ-loop
 element-copy-out-s c = search needs
 
-cast-fits : tie.Need-cast-fits Inv-loop μ-loop
-cast-fits c = search needs
+sub-fits : tie.Need-sub-fits Inv-loop μ-loop
+sub-fits c = search needs
+
+add-fits : tie.Need-add-fits Inv-loop μ-loop
+add-fits c = search needs
 
 mul-fits : tie.Need-mul-fits Inv-loop μ-loop
 mul-fits c = search needs
@@ -40,7 +50,12 @@ fits-requires : tie.Need-fits-requires Inv-loop μ-loop
 fits-requires c κs = search needs
 
 cast-fit : tie.Need-cast-fit Inv-loop μ-loop
-cast-fit c = search needs
+cast-fit c =
+    let start = c .before .before .before .before .before .before .args in
+    omega (arith, side-most (now (start .pieces)) (start .field) (start .side) (start .other) (c .before .before .before .before .before .loop .i) (sym (c .before .fits2 .ensures) ∙ c .if1 .taken))
+
+cast-fit-2 : tie.Need-cast-fit-2 Inv-loop μ-loop
+cast-fit-2 c = search needs
 
 mul-fit : tie.Need-mul-fit Inv-loop μ-loop
 mul-fit c = search needs
@@ -75,14 +90,18 @@ fitting-sides-spec =
     Inv-loop
     μ-loop
     loop-holds
-    cast-s
+    cast-at
+    mul-at
+    add-s
     mul-s
     element-copy-out-s
-    cast-fits
+    sub-fits
+    add-fits
     mul-fits
     element-copy-out-fits
     fits-requires
     cast-fit
+    cast-fit-2
     mul-fit
     element-write-fit
     add-n

@@ -14,9 +14,9 @@ list-sums-requires : tie.Need-list-sums-requires
 list-sums-requires c κs =
     let start = c .before .before .before .before .before in
     let fit = c .before .before .fitting-sides .ensures in
-    let given = start .pre in
+    let given = start .pre .1 in
     record {
-      kinds = omega (arith, fit .number, given .kinds, fitting-count (now (start .args .sides)) (now (start .args .others)) (start .args .side) (start .args .other) (start .args .count));
+      kinds = omega (arith, fit .number, given .kinds, fitting-count (now (start .args .pieces)) (start .args .field) (start .args .side) (start .args .other) (start .args .count));
       most = given .most;
       room-there = given .room-there;
       positive = fitting-positive _ _ _ _ _ _ _ _ (given .positive) fit;
