@@ -11,20 +11,23 @@ use lib.ListN.{length, getD, drop, replicate, length-replicate, getD-replicate, 
 use Rattle.cutting.specs.declared.Direction.{Direction}
 use Rattle.cutting.specs.declared.Direction.the-variants.{Length, Width}
 use Rattle.cutting.specs.Tree.{side}
-use Rattle.cutting.specs.Job.{Job, InRange, figure-of}
+use Rattle.cutting.specs.Pieces.{upright}
+use Rattle.cutting.specs.Job.{Job, figure-of}
+use Rattle.cutting.specs.Listed.{InTableRange, heavy-in}
+use Rattle.cutting.proofs.Members.{table-lies}
 use Rattle.cutting.proofs.Table.{positions-first, positions-some, positions-length}
 use Rattle.table.specs.declared.TableSize.{TableSize}
 use Rattle.table.specs.Table.{words-needed, Figures, Kept}
-use Rattle.table.specs.Contracts.{each, Positions, Fillable, FilledBy}
+use Rattle.table.specs.Contracts.{size-job, Positions, Fillable, FilledBy}
 use Rattle.table.specs.Words.{Outside, Run, HalfReady, Half, remainder, Axis}
 use Rattle.table.specs.States.{Covers, figure-at}
 use Rattle.table.proofs.Words.{cell-before, words-past}
 use Rattle.table.proofs.Halves.{half-below, half-more, half-cuts, half-parts, half-ready, half-next}
 use Rattle.table.proofs.Figures.{entry-is, entry-side, positions-axis}
 use Rattle.table.proofs.Weighed.{plain-order, figure-one}
-use Rattle.table.proofs.Across.{across, no-side, two-parts, more-side, kind-most, state-low}
+use Rattle.table.proofs.Across.{across, no-side, two-parts, more-side, piece-most, state-low}
 use Rattle.table.proofs.Complete.{side-covered, complete}
-use Rattle.row_fill.specs.Raised.{Kind, Kinds}
+use Rattle.row_fill.specs.Raised.{Alone, Pieces}
 use Rattle.row_fill.specs.Rows.{Entries, LengthsTaken, WidthsTaken, Rows}
 use Rattle.row_fill.specs.Ready.{ceiling, Capped, LengthsReady, RowReady}
 
@@ -40,7 +43,7 @@ half-found positions b h p = go b 1 (omega arith) h (omega arith) (λ i l m. abs
         at (yes q) next = next q
         at (no q) next = (k, record { least = l; most = m; within = w; past = omega arith })
 
-module _ (J : Job) (weight : ℕ → ℕ) (fit : InRange J) (d : Direction) (count : ℕ) (positions floors : List ℕ) (given : Positions J d count positions floors) where
+module _ (J : Job) (weight : ℕ → ℕ) (fit : InTableRange J) (d : Direction) (count : ℕ) (positions floors : List ℕ) (given : Positions J d count positions floors) where
   axis : Axis positions floors count
   axis = positions-axis J d count positions floors fit given
 
@@ -99,8 +102,11 @@ pub record Filling (J : Job) (weight : ℕ → ℕ) (length-count : ℕ) (normal
   pub rows : Rows J weight normal-lengths normal-widths columns a table
   pub kept : (i : ℕ) → length-count * columns ≤ i → getD table i 0 ≡ getD old i 0
 
-module _ {J : Job} {weights : List ℕ} {size : TableSize} {normal-lengths normal-widths floors lent : List ℕ} (asked : Fillable J weights size normal-lengths normal-widths floors lent × (size .capacity ≡ 0)) where
-  abbrev given : Fillable J weights size normal-lengths normal-widths floors lent
+module _ {size : TableSize} {pieces normal-lengths normal-widths floors lent : List ℕ} (asked : Fillable size pieces normal-lengths normal-widths floors lent × (size .capacity ≡ 0)) where
+  abbrev J : Job
+  J = size-job size pieces
+
+  abbrev given : Fillable size pieces normal-lengths normal-widths floors lent
   given = asked .0
 
   abbrev length-count : ℕ
@@ -109,11 +115,11 @@ module _ {J : Job} {weights : List ℕ} {size : TableSize} {normal-lengths norma
   abbrev columns : ℕ
   columns = size .columns
 
-  fit : InRange J
+  fit : InTableRange J
   fit = given .in-range
 
   abbrev weight : ℕ → ℕ
-  weight = each weights
+  weight = heavy-in pieces
 
   -- the floors of the normal widths, which the code does not read
   abbrev width-floors : List ℕ
@@ -239,20 +245,20 @@ module _ {J : Job} {weights : List ℕ} {size : TableSize} {normal-lengths norma
               ap (λ x. figure-at J leb weight x (getD normal-widths b 0) 0) e,
             )))
 
-        pub row-ready : length t1 ≡ length lent → RowReady (λ i. J .size i .1) (J .price) weights (J .count) normal-widths columns (J .plate .1) start unit t1
+        pub row-ready : length t1 ≡ length lent → RowReady pieces (J .count) normal-widths columns (J .plate .1) start unit t1
         row-ready same = record {
           laid = record { entries = width-entries; side-low = fit .plate-width .1; units = omega (arith, fit .plate-width .1, fill .units); room = omega (arith, row-end, all-room); capped = fill .capped };
-          kinds = record { counted = fit .kinds .1; weighed = given .weighed; wide = λ i h. fit .widths i h .0; priced = fit .prices; units = omega (arith, fit .plate-width .1, fill .units) };
+          lying = record { counted = fit .kinds; wide = λ i h. fit .widths i h .0; priced = fit .prices; units = omega (arith, fit .plate-width .1, fill .units) };
           words-low = λ b h. omega (arith, cut-low b h, cell-low a b ha);
         }
 
-        module _ {t2 : List ℕ} (taken : WidthsTaken (Kinds (getD normal-lengths a 0) (J .plate .1) (λ i. J .size i .0) (λ i. J .size i .1) weight (J .price) (J .count)) normal-widths columns start t1 t2) where
+        module _ {t2 : List ℕ} (taken : WidthsTaken (Pieces (getD normal-lengths a 0) (J .plate .1) pieces (J .count)) normal-widths columns start t1 t2) where
           row-low : (b : ℕ) → b < columns → getD t2 (start + b) 0 ≤ cell a b
           row-low = taken .low (λ x. figure-at J leb weight (getD normal-lengths a 0) x 0) (λ x y. two-parts J leb weight plain-order fit Width (getD normal-lengths a 0) x y 0 0 (plain-order .least 0)) cut-low
               (λ x v s. omega (
                 arith,
-                s .kind .value,
-                kind-most J leb weight plain-order fit (getD normal-lengths a 0) x 0 (s .index) (s .inside) (omega (arith, s .kind .long)) (omega (arith, s .kind .place)) (le→leb (weight (s .index)) 0 (omega (arith, s .kind .light))),
+                s .alone .value,
+                piece-most J leb weight plain-order fit (upright (s .index)) (getD normal-lengths a 0) x 0 (table-lies J fit (s .index) (s .inside)) (omega (arith, s .alone .long)) (omega (arith, s .alone .place)) (le→leb (weight (s .index)) 0 (omega (arith, s .alone .light))),
               ))
 
           -- one cell, from those before it
@@ -268,7 +274,7 @@ module _ {J : Job} {weights : List ℕ} {size : TableSize} {normal-lengths norma
 
             kind-taken : (i : ℕ) → i < J .count → J .size i .0 ≡ getD normal-lengths a 0 → J .size i .1 ≡ getD normal-widths b 0 → T (leb (weight i) 0) → J .price i ≤ g
             kind-taken i h e f m = taken .taken b (J .price i) hb
-                (record { index = i; inside = h; kind = record { long = e; fits = omega (arith, width-entries .within b hb); light = omega (arith, leb→le (weight i) 0 m); place = sym f; value = refl } })
+                (record { index = i; inside = h; alone = record { long = e; fits = omega (arith, width-entries .within b hb); light = omega (arith, leb→le (weight i) 0 m); place = sym f; value = refl } })
 
             length-taken : (i j : ℕ) → 1 ≤ i → i < half-end → j ≡ remainder normal-lengths floors a i → j < a → getD normal-lengths i 0 + getD normal-lengths j 0 ≡ getD normal-lengths a 0 → cell i b + cell j b ≤ g
             length-taken i j l m e h x = omega (

@@ -10,7 +10,7 @@ use lib.ListN.{length, getD, set}
 use lib.Seq.{getD-set-same, getD-set-other}
 use Rattle.table.specs.Words.{Outside, Run}
 use Rattle.table.proofs.Words.{outside-none}
-use Rattle.row_fill.specs.Raised.{Raised, Kinds, Pushed, CellPush}
+use Rattle.row_fill.specs.Raised.{Raised, Pieces, Pushed, CellPush}
 use Rattle.row_fill.specs.Rows.{Entries, Spread, Joins, Widened, WidthsTaken}
 use Rattle.row_fill.specs.Ready.{ceiling, Capped, Laid, WidthsReady, RowReady}
 use Rattle.row_fill.proofs.Raising.{raised-same}
@@ -222,16 +222,16 @@ module _ {normal-widths : List ℕ} {columns side : ℕ} (entries : Entries norm
     }
 
 -- a row whose words stand at their units, and which took its kinds there
-module _ {l count columns width start : ℕ} {kind-lengths kind-widths weight prices : ℕ → ℕ} {weights normal-widths unit table laid placed : List ℕ}
-    (ready : RowReady kind-widths prices weights count normal-widths columns width start unit table) (spread : Spread normal-widths start columns table unit laid)
-    (kinds : Raised (Kinds l width kind-lengths kind-widths weight prices count) laid placed) where
-  -- it can take its width cuts: no kind lies at width 0, and a price is less than the ceiling of its width
+module _ {l count columns width start : ℕ} {pieces normal-widths unit table laid placed : List ℕ}
+    (ready : RowReady pieces count normal-widths columns width start unit table) (spread : Spread normal-widths start columns table unit laid)
+    (kinds : Raised (Pieces l width pieces count) laid placed) where
+  -- it can take its width cuts: no piece lies at width 0, and a price is less than the ceiling of its width
   pub widths-ready : length placed ≡ length unit → WidthsReady normal-widths columns width start placed table
   widths-ready same = record {
     laid = record { entries = row .entries; side-low = row .side-low; units = omega (arith, row .units); room = row .room; capped = capped };
-    first = raised-same kinds 0 (λ v s. omega (arith, s .kind .place, ready .kinds .wide (s .index) (s .inside))) ∙ rw (row .entries .first, z) at (spread .here 0 (row .entries .some));
+    first = raised-same kinds 0 (λ v s. omega (arith, s .alone .place, ready .lying .wide (s .index) (s .inside))) ∙ rw (row .entries .first, z) at (spread .here 0 (row .entries .some));
     units-low = λ b h. kinds .low (getD normal-widths b 0) (getD normal-widths b 0 * 1000000000)
-        (λ v s. omega (arith, s .kind .value, s .kind .place, ready .kinds .priced (s .index) (s .inside), ready .kinds .wide (s .index) (s .inside)))
+        (λ v s. omega (arith, s .alone .value, s .alone .place, ready .lying .priced (s .index) (s .inside), ready .lying .wide (s .index) (s .inside)))
         (omega (arith, spread .here b h, ready .words-low b h));
   }
     where
@@ -242,11 +242,11 @@ module _ {l count columns width start : ℕ} {kind-lengths kind-widths weight pr
       z = omega arith
 
       capped : Capped placed
-      capped i = kinds .low i (2 * ceiling) (λ v s. omega (arith, s .kind .value, ready .kinds .priced (s .index) (s .inside)))
+      capped i = kinds .low i (2 * ceiling) (λ v s. omega (arith, s .alone .value, ready .lying .priced (s .index) (s .inside)))
           (spread .low i (2 * ceiling) (λ b h. omega (arith, ready .words-low b h, row .entries .within b h, row .side-low)) (row .capped i))
 
   -- it has taken them
-  pub widths-taken : {new : List ℕ} → Widened normal-widths columns start placed table new → WidthsTaken (Kinds l width kind-lengths kind-widths weight prices count) normal-widths columns start table new
+  pub widths-taken : {new : List ℕ} → Widened normal-widths columns start placed table new → WidthsTaken (Pieces l width pieces count) normal-widths columns start table new
   widths-taken widened = record {
     grown = λ b h. omega (arith, spread .here b h, kinds .grown (getD normal-widths b 0), widened .grown b h);
     taken = λ b v h o. omega (arith, kinds .taken (getD normal-widths b 0) v o, widened .grown b h);

@@ -11,7 +11,8 @@ use lib.ListN.{length, getD, set}
 use lib.Seq.{getD-set-same, getD-set-other}
 use Rattle.table.specs.Words.{remainder, Run}
 use Rattle.table.proofs.Words.{cell-before, run-none, run-more}
-use Rattle.row_fill.specs.Raised.{Raised, Single, Sums, LengthCuts, Kind, Kinds, Pushed, CellPush}
+use Rattle.cutting.specs.Listed.{size-in, price-in, heavy-in}
+use Rattle.row_fill.specs.Raised.{Raised, Single, Sums, LengthCuts, Alone, Pieces, Pushed, CellPush}
 use Rattle.row_fill.specs.Rows.{Entries, Spread, LengthsTaken}
 use Rattle.row_fill.specs.Ready.{ceiling, SumsReady, LengthsReady}
 
@@ -134,24 +135,24 @@ pub cell-rises : (x least side before : ℕ) (old new : List ℕ) → before < g
     → Raised (Pushed old x least (min x (side - x) + 1) (getD old x 0)) old new → Raised (CellPush old x least side before) old new
 cell-rises x least side before old new h p = raised-more (λ i v s. inl s) (λ i v s. inr (h, s)) (λ i v s. ⊎-elim (λ t. inl t) (λ t. inr (t .1)) s) (raised-keep x before old (omega arith)) p
 
--- a kind that is placed
-pub kind-placed : {l w kind-length kind-width weight price : ℕ} {old new : List ℕ} → kind-length ≡ l → kind-width ≤ w → weight ≡ 0
-    → Raised (Single kind-width price) old new → Raised (Kind l w kind-length kind-width weight price) old new
-kind-placed a b c p = raised-cong (λ i v s. record { long = a; fits = b; light = c; place = s .0; value = s .1 }) (λ i v k. (k .place, k .value)) p
+-- a piece that is placed
+pub piece-placed : {l w piece-length piece-width weight price : ℕ} {old new : List ℕ} → piece-length ≡ l → piece-width ≤ w → weight ≡ 0
+    → Raised (Single piece-width price) old new → Raised (Alone l w piece-length piece-width weight price) old new
+piece-placed a b c p = raised-cong (λ i v s. record { long = a; fits = b; light = c; place = s .0; value = s .1 }) (λ i v k. (k .place, k .value)) p
 
--- no kind yet, and one more
-pub kinds-none : {l w : ℕ} {kind-lengths kind-widths weights prices : ℕ → ℕ} {xs : List ℕ} → Raised (Kinds l w kind-lengths kind-widths weights prices 0) xs xs
-kinds-none = raised-none (λ i v s. omega (arith, s .inside))
+-- no piece yet, and one more
+pub pieces-none : {l w : ℕ} {pieces xs : List ℕ} → Raised (Pieces l w pieces 0) xs xs
+pieces-none = raised-none (λ i v s. omega (arith, s .inside))
 
-pub kinds-next : {l w j : ℕ} {kind-lengths kind-widths weights prices : ℕ → ℕ} {old mid new : List ℕ} → Raised (Kinds l w kind-lengths kind-widths weights prices j) old mid
-    → Raised (Kind l w (kind-lengths j) (kind-widths j) (weights j) (prices j)) mid new → Raised (Kinds l w kind-lengths kind-widths weights prices (j + 1)) old new
-kinds-next {l} {w} {j} {kind-lengths} {kind-widths} {weights} {prices} p q = raised-more
-    (λ i v s. record { index = s .index; inside = omega (arith, s .inside); kind = s .kind }) (λ i v s. record { index = j; inside = omega arith; kind = s }) (λ i v s. last i v s (ℕ-discrete (s .index) j)) p q
+pub pieces-next : {l w j : ℕ} {pieces old mid new : List ℕ} → Raised (Pieces l w pieces j) old mid
+    → Raised (Alone l w (size-in pieces j .0) (size-in pieces j .1) (heavy-in pieces j) (price-in pieces j)) mid new → Raised (Pieces l w pieces (j + 1)) old new
+pieces-next {l} {w} {j} {pieces} p q = raised-more
+    (λ i v s. record { index = s .index; inside = omega (arith, s .inside); alone = s .alone }) (λ i v s. record { index = j; inside = omega arith; alone = s }) (λ i v s. last i v s (ℕ-discrete (s .index) j)) p q
   where
-    last : (i v : ℕ) (s : Kinds l w kind-lengths kind-widths weights prices (j + 1) i v) → Dec (s .index ≡ j)
-        → Kinds l w kind-lengths kind-widths weights prices j i v ⊎ Kind l w (kind-lengths j) (kind-widths j) (weights j) (prices j) i v
-    last i v s (yes e) = inr (rw e at (s .kind))
-    last i v s (no e) = inl (record { index = s .index; inside = omega (arith, s .inside); kind = s .kind })
+    last : (i v : ℕ) (s : Pieces l w pieces (j + 1) i v) → Dec (s .index ≡ j)
+        → Pieces l w pieces j i v ⊎ Alone l w (size-in pieces j .0) (size-in pieces j .1) (heavy-in pieces j) (price-in pieces j) i v
+    last i v s (yes e) = inr (rw e at (s .alone))
+    last i v s (no e) = inl (record { index = s .index; inside = omega (arith, s .inside); alone = s .alone })
 
 -- no length cut yet
 pub cuts-none : {a start columns : ℕ} {normal-lengths length-floors xs : List ℕ} → Raised (LengthCuts xs normal-lengths length-floors a 1 start columns) xs xs

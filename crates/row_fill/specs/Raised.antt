@@ -1,10 +1,11 @@
--- Words that take values where those are more, and the values that a row's words take: the sums of two earlier rows, the prices of kinds,
+-- Words that take values where those are more, and the values that a row's words take: the sums of two earlier rows, the prices of pieces,
 -- and the sums that a cell pushes to the units past it.
 use mathlib.Core.Path.{_≡_}
 use mathlib.Core.List.{List}
 use mathlib.Core.Logic.{_⊎_}
 use Prim.Native.Nat.{ℕ, _+_, _-_, _*_, _≤_, _<_, min}
 use lib.ListN.{getD}
+use Rattle.cutting.specs.Listed.{size-in, price-in, heavy-in}
 use Rattle.table.specs.Words.{remainder}
 
 -- each word has become the greatest of what it was and the values offered to it
@@ -32,19 +33,19 @@ pub record LengthCuts (xs normal-lengths length-floors : List ℕ) (a half-end s
   pub exact : getD normal-lengths part 0 + getD normal-lengths (remainder normal-lengths length-floors a part) 0 ≡ getD normal-lengths a 0
   pub sums : Sums xs start (part * columns) (remainder normal-lengths length-floors a part * columns) columns i v
 
--- the unit of a kind's width is offered its price, if the kind has length l, fits in width w and has no weight
-pub record Kind (l w kind-length kind-width weight price i v : ℕ) : Type 0 where
-  pub long : kind-length ≡ l
-  pub fits : kind-width ≤ w
+-- the unit of a piece's width is offered its price, if the piece has length l, fits in width w and has no weight
+pub record Alone (l w piece-length piece-width weight price i v : ℕ) : Type 0 where
+  pub long : piece-length ≡ l
+  pub fits : piece-width ≤ w
   pub light : weight ≡ 0
-  pub place : i ≡ kind-width
+  pub place : i ≡ piece-width
   pub value : v ≡ price
 
--- the same for every kind below `count`
-pub record Kinds (l w : ℕ) (kind-lengths kind-widths weights prices : ℕ → ℕ) (count i v : ℕ) : Type 0 where
+-- the same for every piece below `count`
+pub record Pieces (l w : ℕ) (pieces : List ℕ) (count i v : ℕ) : Type 0 where
   pub index : ℕ
   pub inside : index < count
-  pub kind : Kind l w (kind-lengths index) (kind-widths index) (weights index) (prices index) i v
+  pub alone : Alone l w (size-in pieces index .0) (size-in pieces index .1) (heavy-in pieces index) (price-in pieces index) i v
 
 -- the units past x are offered v together with what the units from `least` to `end` less 1 have
 pub record Pushed (xs : List ℕ) (x least end v i u : ℕ) : Type 0 where

@@ -4,6 +4,8 @@ use mathlib.Core.Path.{_≡_}
 use mathlib.Core.List.{List}
 use Prim.Native.Nat.{ℕ, _+_, _*_, _≤_, _<_}
 use lib.ListN.{length, getD}
+use Rattle.cutting.specs.Limits.{most-pieces, most-price}
+use Rattle.cutting.specs.Listed.{size-in, price-in}
 use Rattle.table.specs.Words.{Cuts}
 use Rattle.row_fill.specs.Rows.{Entries}
 
@@ -31,12 +33,11 @@ pub record LengthsReady (normal-lengths length-floors : List ℕ) (a half-end st
   pub room : start + columns ≤ length table
   pub rows-low : (i j : ℕ) → i < a → j < columns → getD table (i * columns + j) 0 ≤ ceiling
 
--- kinds can be placed on the units of a width: each has a width and a price in range, and a weight
-pub record KindsReady (kind-widths prices : ℕ → ℕ) (weights : List ℕ) (count width : ℕ) (unit : List ℕ) : Type 0 where
-  pub counted : count ≤ 64
-  pub weighed : count ≤ length weights
-  pub wide : (i : ℕ) → i < count → 1 ≤ kind-widths i
-  pub priced : (i : ℕ) → i < count → prices i ≤ 1000000
+-- pieces can be placed on the units of a width: each has a width and a price in range
+pub record PiecesReady (pieces : List ℕ) (count width : ℕ) (unit : List ℕ) : Type 0 where
+  pub counted : count ≤ most-pieces
+  pub wide : (i : ℕ) → i < count → 1 ≤ size-in pieces i .1
+  pub priced : (i : ℕ) → i < count → price-in pieces i ≤ most-price
   pub units : width < length unit
 
 -- the unit x can push v together with the units from `least` to `end` less 1
@@ -70,8 +71,8 @@ pub record WidthsReady (normal-widths : List ℕ) (columns side start : ℕ) (un
   pub first : getD unit 0 0 ≡ getD table start 0
   pub units-low : (b : ℕ) → b < columns → getD unit (getD normal-widths b 0) 0 ≤ getD normal-widths b 0 * 1000000000
 
--- a row that has its length cuts can take its kinds and its width cuts
-pub record RowReady (kind-widths prices : ℕ → ℕ) (weights : List ℕ) (count : ℕ) (normal-widths : List ℕ) (columns width start : ℕ) (unit table : List ℕ) : Type 0 where
+-- a row that has its length cuts can take its pieces and its width cuts
+pub record RowReady (pieces : List ℕ) (count : ℕ) (normal-widths : List ℕ) (columns width start : ℕ) (unit table : List ℕ) : Type 0 where
   pub laid : Laid normal-widths columns width start unit table
-  pub kinds : KindsReady kind-widths prices weights count width unit
+  pub lying : PiecesReady pieces count width unit
   pub words-low : (b : ℕ) → b < columns → getD table (start + b) 0 ≤ getD normal-widths b 0 * 1000000000

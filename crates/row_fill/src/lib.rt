@@ -1,6 +1,6 @@
 // The table of figures where the capacity is 0: a cell is one word.
 // A row starts as the row before and takes its length cuts as sums of two earlier rows. Its words are then laid out over the units of
-// the width, where the kinds of exactly its length are placed and each cell that rises over the one before pushes its width cuts.
+// the width, where the pieces of exactly its length are placed and each cell that rises over the one before pushes its width cuts.
 use table::TableSize;
 use table::clear;
 use table::copy;
@@ -9,15 +9,17 @@ use table::greater;
 use table::greater_lifted;
 use table::half;
 use table::level;
+use table::widen;
 ghost use mathlib.Core.Path.{_≡_};
 ghost use Prim.Native.Nat.{ℕ, _+_, _-_, _≤_, _<_, min};
 ghost use lib.ListN.{length};
-ghost use Rattle.table.specs.Contracts.{size-job, each, Fillable, FilledBy};
-ghost use Rattle.row_fill.specs.Raised.{Raised, Sums, Kind, Kinds, Pushed, CellPush};
+ghost use Rattle.cutting.specs.Listed.{heavy-in};
+ghost use Rattle.table.specs.Contracts.{size-job, Fillable, FilledBy};
+ghost use Rattle.row_fill.specs.Raised.{Raised, Sums, Alone, Pieces, Pushed, CellPush};
 ghost use Rattle.row_fill.specs.Rows.{Entries, Spread, LengthsTaken, Widened, WidthsTaken};
-ghost use Rattle.row_fill.specs.Ready.{Capped, SumsReady, LengthsReady, KindsReady, PushReady, CellReady, WidthsReady, RowReady};
+ghost use Rattle.row_fill.specs.Ready.{Capped, SumsReady, LengthsReady, PiecesReady, PushReady, CellReady, WidthsReady, RowReady};
 
-// A row over the units of its width: its first word and its number of cells, its length, the plate's width and the number of kinds.
+// A row over the units of its width: its first word and its number of cells, its length, the plate's width and the number of pieces.
 struct Row {
     start: usize,
     columns: usize,
@@ -85,56 +87,51 @@ fn spread(
     }
 }
 
-// A kind of length l and no weight that fits in width w, at the unit of its width.
-fn place_kind(
+// A piece of length l and no weight that fits in width w, at the unit of its width.
+fn place_piece(
     unit: &mut [u64],
-    l: u16,
-    w: u16,
-    kind_length: u16,
-    kind_width: u16,
-    weight: u8,
+    l: u32,
+    w: u32,
+    piece_length: u32,
+    piece_width: u32,
+    weight: u32,
     price: u64,
 )
     requires { ⌜ w < length (now unit) ⌝ }
-    ensures { λ _. ⌜ Raised (Kind l w «kind_length» «kind_width» weight price) (now (unit .entry)) (now (unit .exit)) ⌝ }
+    ensures { λ _. ⌜ Raised (Alone l w «piece_length» «piece_width» weight price) (now (unit .entry)) (now (unit .exit)) ⌝ }
 {
-    if kind_length != l {
+    if piece_length != l {
         return;
     }
-    if w < kind_width {
+    if w < piece_width {
         return;
     }
     if weight != 0 {
         return;
     }
-    let x = kind_width as usize;
+    let x = piece_width as usize;
     if unit[x] < price {
         unit[x] = price;
     }
 }
 
-// All kinds of the row's length and no weight.
-fn place_kinds(
-    unit: &mut [u64],
-    kind_lengths: &[u16; 64],
-    kind_widths: &[u16; 64],
-    prices: &[u32; 64],
-    weights: &[u8],
-    row: Row,
-)
-    requires { ⌜ KindsReady (each (now «kind_widths»)) (each (now prices)) (now weights) (row .count) (row .width) (now unit) ⌝ }
-    ensures { λ _. ⌜ Raised (Kinds (row .length) (row .width) (each (now («kind_lengths» .entry))) (each (now («kind_widths» .entry))) (each (now (weights .entry))) (each (now (prices .entry))) (row .count))
-        (now (unit .entry)) (now (unit .exit)) ⌝ }
+// All pieces of the row's length and no weight.
+fn place_pieces(unit: &mut [u64], pieces: &[u32; 640], row: Row)
+    requires { ⌜ PiecesReady (now pieces) (row .count) (row .width) (now unit) ⌝ }
+    ensures { λ _. ⌜ Raised (Pieces (row .length) (row .width) (now (pieces .entry)) (row .count)) (now (unit .entry)) (now (unit .exit)) ⌝ }
 {
     for i in 0..row.count as usize {
-        let price = prices[i] as u64;
-        place_kind(
+        let at = 5 * i;
+        let l = widen(row.length);
+        let w = widen(row.width);
+        let price = pieces[at + 2] as u64;
+        place_piece(
             unit,
-            row.length,
-            row.width,
-            kind_lengths[i],
-            kind_widths[i],
-            weights[i],
+            l,
+            w,
+            pieces[at],
+            pieces[at + 1],
+            pieces[at + 3],
             price,
         );
     }
@@ -185,19 +182,16 @@ fn push_widths(
     }
 }
 
-// A row that has its length cuts takes its kinds and its width cuts. What its units held before does not matter.
+// A row that has its length cuts takes its pieces and its width cuts. What its units held before does not matter.
 fn fill_row(
     table: &mut [u64],
     unit: &mut [u64],
-    kind_lengths: &[u16; 64],
-    kind_widths: &[u16; 64],
-    prices: &[u32; 64],
-    weights: &[u8],
+    pieces: &[u32; 640],
     normal_widths: &[u16],
     row: Row,
 )
-    requires { ⌜ RowReady (each (now «kind_widths»)) (each (now prices)) (now weights) (row .count) (now «normal_widths») (row .columns) (row .width) (row .start) (now unit) (now table) ⌝ }
-    ensures { λ _. ⌜ WidthsTaken (Kinds (row .length) (row .width) (each (now («kind_lengths» .entry))) (each (now («kind_widths» .entry))) (each (now (weights .entry))) (each (now (prices .entry))) (row .count))
+    requires { ⌜ RowReady (now pieces) (row .count) (now «normal_widths») (row .columns) (row .width) (row .start) (now unit) (now table) ⌝ }
+    ensures { λ _. ⌜ WidthsTaken (Pieces (row .length) (row .width) (now (pieces .entry)) (row .count))
         (now («normal_widths» .entry)) (row .columns) (row .start) (now (table .entry)) (now (table .exit)) × Capped (now (unit .exit)) ⌝ }
 {
     let side = row.width as usize;
@@ -209,24 +203,21 @@ fn fill_row(
         row.columns,
         side,
     );
-    place_kinds(unit, kind_lengths, kind_widths, prices, weights, row);
+    place_pieces(unit, pieces, row);
     push_widths(table, unit, row.start, normal_widths, row.columns, side);
 }
 
 // The table of a job with one share a cell: its words are the figures, and the rest is as it was. The row of length 0 holds 0.
 pub fn fill(
     size: TableSize,
-    kind_lengths: &[u16; 64],
-    kind_widths: &[u16; 64],
-    prices: &[u32; 64],
-    weights: &[u8],
+    pieces: &[u32; 640],
     normal_lengths: &[u16],
     normal_widths: &[u16],
     floors: &[u16],
     table: &mut [u64],
 )
-    requires { ⌜ Fillable (size-job size (now «kind_lengths») (now «kind_widths») (now prices)) (now weights) size (now «normal_lengths») (now «normal_widths») (now floors) (now table) × (size .capacity ≡ 0) ⌝ }
-    ensures { λ _. ⌜ FilledBy (size-job size (now («kind_lengths» .entry)) (now («kind_widths» .entry)) (now (prices .entry))) (each (now (weights .entry))) (size .capacity) (now (table .entry)) (now (table .exit)) ⌝ }
+    requires { ⌜ Fillable size (now pieces) (now «normal_lengths») (now «normal_widths») (now floors) (now table) × (size .capacity ≡ 0) ⌝ }
+    ensures { λ _. ⌜ FilledBy (size-job size (now (pieces .entry))) (heavy-in (now (pieces .entry))) (size .capacity) (now (table .entry)) (now (table .exit)) ⌝ }
 {
     let columns = size.columns as usize;
     let rows = size.rows as usize;
@@ -244,16 +235,7 @@ pub fn fill(
             width: size.width,
             count: size.count,
         };
-        fill_row(
-            table,
-            &mut unit,
-            kind_lengths,
-            kind_widths,
-            prices,
-            weights,
-            normal_widths,
-            row,
-        );
+        fill_row(table, &mut unit, pieces, normal_widths, row);
         start = start + columns;
     }
 }

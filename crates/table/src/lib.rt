@@ -24,6 +24,13 @@ pub fn entry(list: &[u16], i: usize) -> usize
     list[i] as usize
 }
 
+// A side as the array of pieces holds it.
+pub fn widen(side: u16) -> u32
+    ensures { λ r. ⌜ r ≡ side ⌝ }
+{
+    side as u32
+}
+
 // The first index from 1 on whose entry is past half of entry b: those before `from` are known not to be.
 pub fn half(positions: &[u16], from: usize, b: usize) -> usize
     requires { ⌜ HalfReady (now positions) from b ⌝ }

@@ -3,35 +3,36 @@ use borrow.Author.Needs.{needs}
 use native.Mathlib.Omega.{arith}
 use mathlib.Core.Path.{_∙_, refl, sym}
 use Prim.Native.Nat.{_-_}
-use Rattle.table.specs.Contracts.{size-job, each}
+use Rattle.cutting.specs.Listed.{heavy-in}
+use Rattle.table.specs.Contracts.{size-job}
 use Rattle.row_fill.proofs.Filling.{Filling, zeros-capped, first-row, all-room, few-rows, fill-none, filled, end-few, row-half, lengths-ready, row-ready, fill-more}
 use Rattle.row_fill.proofs.fill.Statement.{statement}
 use Rattle.row_fill.proofs.fill.Tie as tie
 
 abbrev Inv-loop : tie.InvT-loop
-Inv-loop size kind-lengths kind-widths prices weights normal-lengths normal-widths floors table₀ columns rows unit₀ start₀ half-end₀ a₀ table unit start half-end a =
-    Filling (size-job size kind-lengths kind-widths prices) (each weights) (size .rows) normal-lengths (size .columns) normal-widths a start half-end unit table₀ table
+Inv-loop size pieces normal-lengths normal-widths floors table₀ columns rows unit₀ start₀ half-end₀ a₀ table unit start half-end a =
+    Filling (size-job size pieces) (heavy-in pieces) (size .rows) normal-lengths (size .columns) normal-widths a start half-end unit table₀ table
 
 abbrev μ-loop : tie.MeasureT-loop
-μ-loop size kind-lengths kind-widths prices weights normal-lengths normal-widths floors table₀ columns rows unit₀ start₀ half-end₀ a₀ table unit start half-end a = size .rows - a
+μ-loop size pieces normal-lengths normal-widths floors table₀ columns rows unit₀ start₀ half-end₀ a₀ table unit start half-end a = size .rows - a
 
 clear-requires : tie.Need-clear-requires Inv-loop μ-loop
-clear-requires c κs = let given = c .before .before .before .before .before .before .before .before .pre in omega (arith, all-room given, first-row given)
+clear-requires c κs = let given = c .before .before .before .before .before .before .before .pre in omega (arith, all-room given, first-row given)
 
 loop-holds : tie.Need-loop-holds Inv-loop μ-loop
-loop-holds c = fill-none (c .before .before .before .before .before .before .before .before .before .before .before .pre) (c .before .before .clear .ensures) refl (zeros-capped 1001)
+loop-holds c = fill-none (c .before .before .before .before .before .before .before .before .before .before .pre) (c .before .before .clear .ensures) refl (zeros-capped 1001)
 
 half-requires : tie.Need-half-requires Inv-loop μ-loop
-half-requires c κs = row-half (c .before .before .before .before .before .before .before .before .before .before .before .before .before .pre) (c .before .loop .inv) (c .loop-test .taken)
+half-requires c κs = row-half (c .before .before .before .before .before .before .before .before .before .before .before .before .pre) (c .before .loop .inv) (c .loop-test .taken)
 
 cut-lengths-requires : tie.Need-cut-lengths-requires Inv-loop μ-loop
-cut-lengths-requires c κs = lengths-ready (c .before .before .before .before .before .before .before .before .before .before .before .before .before .before .before .pre) (c .before .before .before .loop .inv) (c .before .before .loop-test .taken) (c .before .half .ensures) (c .before .before .before .before .before .before .clear .kept .0)
+cut-lengths-requires c κs = lengths-ready (c .before .before .before .before .before .before .before .before .before .before .before .before .before .before .pre) (c .before .before .before .loop .inv) (c .before .before .loop-test .taken) (c .before .half .ensures) (c .before .before .before .before .before .before .clear .kept .0)
 
-mul-t24 : tie.Need-mul-t24 Inv-loop μ-loop
-mul-t24 c = omega (arith, few-rows (c .before .before .before .before .before .before .before .before .before .before .before .before .before .before .before .before .before .before .pre), c .before .before .before .before .before .loop-test .taken)
+mul-t21 : tie.Need-mul-t21 Inv-loop μ-loop
+mul-t21 c = omega (arith, few-rows (c .before .before .before .before .before .before .before .before .before .before .before .before .before .before .before .before .before .pre), c .before .before .before .before .before .loop-test .taken)
 
-shared-slice-read-t26 : tie.Need-shared-slice-read-t26 Inv-loop μ-loop
-shared-slice-read-t26 c = row-half (c .before .before .before .before .before .before .before .before .before .before .before .before .before .before .before .before .before .before .before .pre) (c .before .before .before .before .before .before .before .loop .inv) (c .before .before .before .before .before .before .loop-test .taken) .listed
+shared-slice-read-t23 : tie.Need-shared-slice-read-t23 Inv-loop μ-loop
+shared-slice-read-t23 c = row-half (c .before .before .before .before .before .before .before .before .before .before .before .before .before .before .before .before .before .before .pre) (c .before .before .before .before .before .before .before .loop .inv) (c .before .before .before .before .before .before .loop-test .taken) .listed
 
 slice-aggregate-fill-row : tie.Need-slice-aggregate-fill-row Inv-loop μ-loop
 slice-aggregate-fill-row c = sym (c .before .before .before .before .before .before .before .before .before .loop .inv .units)
@@ -40,13 +41,13 @@ fill-row-requires : tie.Need-fill-row-requires Inv-loop μ-loop
 fill-row-requires c κs =
     let l = c .before .before .before .before .before .before .before .before .before .loop .inv in
     let cut = c .before .before .before .before .before .cut-lengths in
-    row-ready (c .before .before .before .before .before .before .before .before .before .before .before .before .before .before .before .before .before .before .before .before .before .pre) l (c .before .before .before .before .before .before .before .before .loop-test .taken) (c .before .before .before .before .before .before .before .half .ensures) (cut .ensures) (cut .kept .0 ∙ l .same ∙ c .before .before .before .before .before .before .before .before .before .before .before .before .clear .kept .0)
+    row-ready (c .before .before .before .before .before .before .before .before .before .before .before .before .before .before .before .before .before .before .before .before .pre) l (c .before .before .before .before .before .before .before .before .loop-test .taken) (c .before .before .before .before .before .before .before .half .ensures) (cut .ensures) (cut .kept .0 ∙ l .same ∙ c .before .before .before .before .before .before .before .before .before .before .before .before .clear .kept .0)
 
 add-start : tie.Need-add-start Inv-loop μ-loop
-add-start c = omega (arith, end-few (c .before .before .before .before .before .before .before .before .before .before .before .before .before .before .before .before .before .before .before .before .before .before .before .before .before .pre) (c .before .before .before .before .before .before .before .before .before .before .before .before .before .loop .inv) (c .before .before .before .before .before .before .before .before .before .before .before .before .loop-test .taken))
+add-start c = omega (arith, end-few (c .before .before .before .before .before .before .before .before .before .before .before .before .before .before .before .before .before .before .before .before .before .before .before .before .pre) (c .before .before .before .before .before .before .before .before .before .before .before .before .before .loop .inv) (c .before .before .before .before .before .before .before .before .before .before .before .before .loop-test .taken))
 
 add-a : tie.Need-add-a Inv-loop μ-loop
-add-a c = omega (arith, few-rows (c .before .before .before .before .before .before .before .before .before .before .before .before .before .before .before .before .before .before .before .before .before .before .before .before .before .pre), c .before .before .before .before .before .before .before .before .before .before .before .before .loop-test .taken)
+add-a c = omega (arith, few-rows (c .before .before .before .before .before .before .before .before .before .before .before .before .before .before .before .before .before .before .before .before .before .before .before .before .pre), c .before .before .before .before .before .before .before .before .before .before .before .before .loop-test .taken)
 
 loop-less : tie.Need-loop-less Inv-loop μ-loop
 loop-less c = omega (arith, c .before .before .before .before .before .before .before .before .before .before .before .before .loop-test .taken)
@@ -55,14 +56,14 @@ loop-again : tie.Need-loop-again Inv-loop μ-loop
 loop-again c =
     let cut = c .before .before .before .before .before .before .before .before .before .cut-lengths in
     let row = c .before .before .before .fill-row in
-    fill-more (c .before .before .before .before .before .before .before .before .before .before .before .before .before .before .before .before .before .before .before .before .before .before .before .before .before .pre) (c .before .before .before .before .before .before .before .before .before .before .before .before .before .loop .inv) (c .before .before .before .before .before .before .before .before .before .before .before .before .loop-test .taken) (c .before .before .before .before .before .before .before .before .before .before .before .half .ensures) (cut .ensures) (row .ensures .0) (row .kept .0 ∙ cut .kept .0) (row .kept .1 .0) (row .ensures .1)
+    fill-more (c .before .before .before .before .before .before .before .before .before .before .before .before .before .before .before .before .before .before .before .before .before .before .before .before .pre) (c .before .before .before .before .before .before .before .before .before .before .before .before .before .loop .inv) (c .before .before .before .before .before .before .before .before .before .before .before .before .loop-test .taken) (c .before .before .before .before .before .before .before .before .before .before .before .half .ensures) (cut .ensures) (row .ensures .0) (row .kept .0 ∙ cut .kept .0) (row .kept .1 .0) (row .ensures .1)
 
 same-length : tie.Need-same-length Inv-loop μ-loop
 same-length c = c .before .loop .inv .same ∙ c .before .before .before .before .clear .kept .0
 
 returns : tie.Need-returns Inv-loop μ-loop
 returns c =
-    let given = c .before .before .before .before .before .before .before .before .before .before .before .before .before .pre in
+    let given = c .before .before .before .before .before .before .before .before .before .before .before .before .pre in
     let l = c .before .loop .inv in
     let cleared = c .before .before .before .before .clear in
     filled given l (omega (arith, c .loop-test .left)) (cleared .kept .0) (cleared .ensures)
@@ -79,8 +80,8 @@ fill-spec =
     loop-holds
     half-requires
     cut-lengths-requires
-    mul-t24
-    shared-slice-read-t26
+    mul-t21
+    shared-slice-read-t23
     slice-aggregate-fill-row
     fill-row-requires
     add-start
@@ -89,5 +90,3 @@ fill-spec =
     loop-again
     same-length
     returns)
-
--- x
