@@ -8,7 +8,8 @@ use native.Mathlib.Decide.{ℕ-discrete, decLe}
 use native.Mathlib.Omega.{arith}
 use lib.ListN.{length, getD}
 use Rattle.cutting.specs.declared.Direction.the-variants.{Length, Width}
-use Rattle.cutting.specs.Job.{Job, InRange}
+use Rattle.cutting.specs.Job.{Job}
+use Rattle.cutting.specs.Listed.{InTableRange}
 use Rattle.cutting.proofs.Table.{positions-first, positions-some}
 use Rattle.table.specs.Table.{position-count, Kept}
 use Rattle.table.specs.Contracts.{Positions}
@@ -389,3 +390,17 @@ module _ {J : Job} {normal-lengths length-floors normal-widths width-floors bloc
       words-past (position-count J Length * position-count J Width * words) t0 t3 (e ∙ (so .same ∙ one)) (λ i h. u .rest i (omega (arith, table-words)) ∙ (so .rest i (omega (arith, table-words))
           ∙ w .rest .after i (omega (arith, table-words, cell-before 0 length-count stride table-some)))),
     )
+
+-- what the fill is lent, as the code counts the positions
+pub lent-of : {J : Job} {normal-lengths length-floors normal-widths width-floors blocks : List ℕ} {d words length-count columns stride : ℕ} {t0 : List ℕ} → InTableRange J → Digits blocks d words → Positions J Length length-count normal-lengths length-floors → Positions J Width columns normal-widths width-floors
+    → position-count J Length * position-count J Width * words ≤ length t0 → stride ≡ columns * words → CellsLent J normal-lengths length-floors normal-widths width-floors blocks d words t0 × Counted J words length-count columns stride
+lent-of {J} {normal-lengths} {length-floors} {normal-widths} {width-floors} range digits lengths widths room stride-is = (
+  record {
+    range = range;
+    digits = digits;
+    lengths = subst (λ k. Positions J Length k normal-lengths length-floors) (lengths .counted) lengths;
+    widths = subst (λ k. Positions J Width k normal-widths width-floors) (widths .counted) widths;
+    room = room;
+  },
+  record { lengths = lengths .counted; widths = widths .counted; stride-is = stride-is },
+)

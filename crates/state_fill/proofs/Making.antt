@@ -11,7 +11,10 @@ use lib.Dec.{T}
 use lib.ListN.{length, getD}
 use Rattle.cutting.specs.declared.Direction.{Direction}
 use Rattle.cutting.specs.declared.Direction.the-variants.{Length, Width}
-use Rattle.cutting.specs.Job.{Job, InRange}
+use Rattle.cutting.specs.Pieces.{upright}
+use Rattle.cutting.specs.Job.{Job}
+use Rattle.cutting.specs.Listed.{InTableRange}
+use Rattle.cutting.proofs.Members.{table-lies}
 use Rattle.cutting.proofs.Table.{positions-length}
 use Rattle.table.specs.Table.{position-count}
 use Rattle.table.specs.Contracts.{Positions}
@@ -23,7 +26,7 @@ use Rattle.table.specs.States.{Order, Covers}
 use Rattle.state_fill.specs.Cells.{figure-in, note-in, held, under, Level, Startable, Levelled, Rises, Flagged, Listed, Low, Grown, Growing, Ready, Cuttable, CutAt, Placed, Inherited, Finished, FlaggedBelow, Topped}
 use Rattle.state_fill.specs.Tables.{tabled, cell, Made, Spot}
 use Rattle.state_fill.proofs.Noted.{figure-small, figure-plain, note-plain}
-use Rattle.table.proofs.Across.{across, across-above, state-above, state-low, more-side, kind-most}
+use Rattle.table.proofs.Across.{across, across-above, state-above, state-low, more-side, piece-most}
 use Rattle.table.proofs.Complete.{along, side-covered, complete}
 use Rattle.state_fill.proofs.Growing.{outside-same, outside-chain, grown-then, order-of, under-zero, last-state}
 use Rattle.state_fill.proofs.Joining.{held-kept, note-kept, listed-kept}
@@ -82,7 +85,7 @@ made-kept {J} {le} {own} {normal-lengths} {normal-widths} {words} {i} {j} {at} {
 }
 
 -- the cuts of one side
-module _ (J : Job) (le : ℕ → ℕ → Bool) (own : ℕ → ℕ) (order : Order le) (fit : InRange J) (d : Direction) (count : ℕ) (positions floors : List ℕ) (given : Positions J d count positions floors)
+module _ (J : Job) (le : ℕ → ℕ → Bool) (own : ℕ → ℕ) (order : Order le) (fit : InTableRange J) (d : Direction) (count : ℕ) (positions floors : List ℕ) (given : Positions J d count positions floors)
     (o a half-end base stride at words : ℕ) (old new : List ℕ) (ha : a < count) (half : Half positions a half-end)
     (figures : (i s : ℕ) → i < a → s < words → held old (base + i * stride) s ≡ across J le own d o (getD positions i 0) s)
     (covers : (i : ℕ) → i < a → Covers le words (Listed old (base + i * stride) words) (across J le own d o (getD positions i 0)) (across J le own d o (getD positions (i - 1) 0)))
@@ -126,7 +129,7 @@ module _ {J : Job} {own : ℕ → ℕ} {normal-lengths length-floors normal-widt
   order : Order (under blocks d)
   order = order-of blocks d words (spot .lent .digits)
 
-  fit : InRange J
+  fit : InTableRange J
   fit = spot .lent .range
 
   -- a cell of an earlier row, and one before in the row, ends where this one begins or before
@@ -356,7 +359,7 @@ module _ {J : Job} {own : ℕ → ℕ} {normal-lengths length-floors normal-widt
         sound : Low (F a b) at words t6
         sound = side-low J (under blocks d) own order fit Width (position-count J Width) normal-widths width-floors (spot .lent .widths) (getD normal-lengths a 0) b width-half-end (at - column) words at words t5 t6 (spot .wide-in .1) (spot .half-b) wide-figures wide-covers wide-cuts
             (side-low J (under blocks d) own order fit Length (position-count J Length) normal-lengths length-floors (spot .lent .lengths) (getD normal-widths b 0) a length-half-end column stride at words t4 t5 (spot .long-in .1) (spot .half-a) long-figures long-covers long-cuts
-            (kinds .low (F a b) (rising a b) (λ i h e f l. kind-most J (under blocks d) own order fit (getD normal-lengths a 0) (getD normal-widths b 0) (own i) i h (omega arith) (omega arith) (order .same (own i))) inherited-low))
+            (kinds .low (F a b) (rising a b) (λ i h e f l. piece-most J (under blocks d) own order fit (upright i) (getD normal-lengths a 0) (getD normal-widths b 0) (own i) (table-lies J fit i h) (omega arith) (omega arith) (order .same (own i))) inherited-low))
 
         rises : Rises (under blocks d) words (held t6 at)
         rises = grown .rises inherited-rises

@@ -1,7 +1,7 @@
 -- The shares that states stand for: one weight, two weights, the remaining copies of each kind. A tree is within a state exactly if, at each
 -- digit, its pieces come to no more than the digit; so the figures over states are those over these shares.
-use mathlib.Core.Path.{_≡_, refl, sym, _∙_, ap, subst}
-use mathlib.Core.Bool.{true, false}
+use mathlib.Core.Path.{_≡_, refl, sym, _∙_, ap}
+use mathlib.Core.Bool.{Bool, true, false}
 use mathlib.Core.List.{List, [], _∷_}
 use Prim.Native.Nat.{ℕ, zero, suc, _+_, _-_, _*_, _/_, _%_, _≤_, _<_}
 use native.Mathlib.Nat.{mod-lt, div-add-mod'}
@@ -16,15 +16,15 @@ use Rattle.cutting.specs.Tree.{Tree, waste, piece, cut, total, Within}
 use Rattle.cutting.specs.Figure.{figure}
 use Rattle.cutting.specs.Saws.{saw}
 use Rattle.cutting.specs.Shares.{by-weight, paired, state, exact}
-use Rattle.cutting.specs.Job.{Job, GuillotineTree, pieces, figure-of}
+use Rattle.cutting.specs.Pieces.{Piece, kind}
+use Rattle.cutting.specs.Job.{Job, pieces, by-kind}
 use Rattle.cutting.proofs.Saws.{saw-proper}
 use Rattle.cutting.proofs.Weights.{within-weight, weight-within}
-use Rattle.cutting.proofs.Job.{figure-most, figure-earned}
 use Rattle.cutting.proofs.Pairs.{paired-within, within-paired, exact-within, within-exact}
 use Rattle.table.specs.Table.{position, words-needed, Figures as Shared, Kept}
 use Rattle.table.specs.States.{below, Blocks, by-state, Order, figure-at, digit, own-state}
 use Rattle.state_fill.specs.Cells.{under, Digits}
-use Rattle.state_fill.specs.Tables.{owns, Figures}
+use Rattle.state_fill.specs.Tables.{Figures}
 use Rattle.state_fill.proofs.Digits.{quotient, rest, lower-blocks, below-parts, parts-below, below-less, below-adds, digits-order}
 use Rattle.table.proofs.Shares.{split-state, state-split}
 use Rattle.table.proofs.Weighed.{one-within, within-one, figure-within, figure-one}
@@ -129,51 +129,47 @@ module _ {P : Type 0} (B : ℕ → ℕ) where
       (omega (arith, h (suc d) (omega arith), digit-last B d s))
       (digits-within w d t (s % B d) (lower-blocks B d blocks) (λ i k. omega (arith, h i (omega arith), digit-lower B d i s (λ e. omega arith))))
 
+-- the state of a piece is that of its kind
+kind-state : (B : ℕ → ℕ) (v : ℕ → ℕ → ℕ) (d : ℕ) (p : Piece) → own-state B v d (kind p) ≡ own-state B (λ i q. v i (kind q)) d p
+unfolding own-state
+kind-state B v zero p = refl
+kind-state B v (suc d) p = ap {B = ℕ} (λ s. elim (ltb s (B d)) [ true ↦ v (suc d) (kind p) * B d + s | false ↦ B (suc d) ]) (kind-state B v d p)
+
 module _ (J : Job) (B : ℕ → ℕ) where
+  -- the figure over states of the kinds is that over states of the pieces
+  kind-figure : (le : ℕ → ℕ → Bool) (v : ℕ → ℕ → ℕ) (d l w s : ℕ) → figure-at J le (own-state B v d) l w s ≡ figure (pieces J) (saw 0) (by-state le (own-state B (λ i (p : Piece). v i (kind p)) d)) (l, w) s
+  unfolding figure-at
+  kind-figure le v d l w s = ap (λ own. figure (pieces J) (saw 0) (by-state le own) (l, w) s) (λ i p. kind-state B v d p i)
+
   -- two weights, the second running fastest
   pub figure-two : (first second : ℕ → ℕ) (v : ℕ → ℕ → ℕ) → v 1 ≡ first → v 0 ≡ second → (l w s : ℕ) → Blocks B 1 → s < B 1
-      → figure-at J (below B 1) (own-state B v 1) l w s ≡ figure (pieces J) (saw 0) (paired (by-weight first) (by-weight second)) (l, w) (s / B 0, s % B 0)
-  unfolding figure-at digit
-  figure-two first second v e f l w s blocks h = rw (← e, ← f) (figure-within (pieces J) (saw 0) (saw-proper 0) (by-state (below B 1) (own-state B v 1)) (paired (by-weight (v 1)) (by-weight (v 0))) (l, w) s (s / B 0, s % B 0)
-      (λ t k. (let u = within-digits B v 1 t s blocks h k in within-paired (by-weight (v 1)) (by-weight (v 0)) t (s / B 0, s % B 0) (weight-within (v 1) t (s / B 0) (u 1 (omega arith))) (weight-within (v 0) t (s % B 0) (u 0 (omega arith)))))
-      (λ t k. (let u = paired-within (by-weight (v 1)) (by-weight (v 0)) t (s / B 0, s % B 0) k in digits-within B v 1 t s blocks (both t (within-weight (v 1) t (s / B 0) (u .0)) (within-weight (v 0) t (s % B 0) (u .1))))))
+      → figure-at J (below B 1) (own-state B v 1) l w s ≡ figure (pieces J) (saw 0) (paired (by-kind first) (by-kind second)) (l, w) (s / B 0, s % B 0)
+  unfolding digit
+  figure-two first second v e f l w s blocks h = rw (← e, ← f) (kind-figure (below B 1) v 1 l w s
+      ∙ figure-within (pieces J) (saw 0) (saw-proper 0) (by-state (below B 1) (own-state B u 1)) (paired (by-weight (u 1)) (by-weight (u 0))) (l, w) s (s / B 0, s % B 0)
+      (λ t k. (let x = within-digits B u 1 t s blocks h k in within-paired (by-weight (u 1)) (by-weight (u 0)) t (s / B 0, s % B 0) (weight-within (u 1) t (s / B 0) (x 1 (omega arith))) (weight-within (u 0) t (s % B 0) (x 0 (omega arith)))))
+      (λ t k. (let x = paired-within (by-weight (u 1)) (by-weight (u 0)) t (s / B 0, s % B 0) k in digits-within B u 1 t s blocks (both t (within-weight (u 1) t (s / B 0) (x .0)) (within-weight (u 0) t (s % B 0) (x .1))))))
     where
-      both : (t : Tree ℕ) → total (v 1) t ≤ s / B 0 → total (v 0) t ≤ s % B 0 → (i : ℕ) → i ≤ 1 → total (v i) t ≤ digit B 1 i s
+      u : ℕ → Piece → ℕ
+      u i p = v i (kind p)
+
+      both : (t : Tree Piece) → total (u 1) t ≤ s / B 0 → total (u 0) t ≤ s % B 0 → (i : ℕ) → i ≤ 1 → total (u i) t ≤ digit B 1 i s
       both t x y i k = go (ℕ-discrete i 0)
         where
-          go : Dec (i ≡ 0) → total (v i) t ≤ digit B 1 i s
+          go : Dec (i ≡ 0) → total (u i) t ≤ digit B 1 i s
           go (yes z) = rw z y
           go (no z) = let o : i ≡ 1 = omega arith in rw o x
 
   -- the remaining copies of each kind, kind 0 running fastest
   pub figure-exact : (d l w s : ℕ) → Blocks B d → s < B d
-      → figure-at J (below B d) (own-state B (λ i k. only (eqb k i) 1) d) l w s ≡ figure (pieces J) (saw 0) (exact (λ k. k) (suc d)) (l, w) (state (suc d) (λ i. digit B d i s))
-  unfolding figure-at
-  figure-exact d l w s blocks h = figure-within (pieces J) (saw 0) (saw-proper 0) (by-state (below B d) (own-state B (λ i k. only (eqb k i) 1) d)) (exact (λ k. k) (suc d)) (l, w) s (state (suc d) (λ i. digit B d i s))
-      (λ t k. exact-within (λ k. k) (suc d) (λ i. digit B d i s) t (λ i l. within-digits B (λ i k. only (eqb k i) 1) d t s blocks h k i (omega arith)))
-      (λ t k. (let u = within-exact (λ k. k) (suc d) (λ i. digit B d i s) t k in digits-within B (λ i k. only (eqb k i) 1) d t s blocks (λ i l. u i (omega arith))))
-
-module _ (J : Job) (f g : ℕ → ℕ) (same : (i : ℕ) → i < J .count → f i ≡ g i) where
-  -- what a tree weighs reads the weights of the job's kinds alone
-  total-kinds : (t : Tree ℕ) (l w : ℕ) → GuillotineTree J l w t → total f t ≡ total g t
-  unfolding total
-  total-kinds waste l w h = refl
-  total-kinds (piece i) l w h = same i (h .0)
-  total-kinds (cut Length x a b) l w h = omega (arith, total-kinds a x w (h .2), total-kinds b (l - x) w (h .3))
-  total-kinds (cut Width x a b) l w h = omega (arith, total-kinds a l x (h .2), total-kinds b l (w - x) (h .3))
-
-  -- so do the figures
-  figure-kinds : (l w c : ℕ) → figure-of J f l w c ≡ figure-of J g l w c
-  figure-kinds l w c =
-      let t = figure-earned J f l w c in
-      let u = figure-earned J g l w c in
-      omega (
-        arith,
-        t .3,
-        u .3,
-        figure-most J g (t .0) l w c (t .1) (omega (arith, t .2, total-kinds (t .0) l w (t .1))),
-        figure-most J f (u .0) l w c (u .1) (omega (arith, u .2, total-kinds (u .0) l w (u .1))),
-      )
+      → figure-at J (below B d) (own-state B (λ i k. only (eqb k i) 1) d) l w s ≡ figure (pieces J) (saw 0) (exact kind (suc d)) (l, w) (state (suc d) (λ i. digit B d i s))
+  figure-exact d l w s blocks h = kind-figure (below B d) (λ i k. only (eqb k i) 1) d l w s
+      ∙ figure-within (pieces J) (saw 0) (saw-proper 0) (by-state (below B d) (own-state B one d)) (exact kind (suc d)) (l, w) s (state (suc d) (λ i. digit B d i s))
+      (λ t k. exact-within kind (suc d) (λ i. digit B d i s) t (λ i l. within-digits B one d t s blocks h k i (omega arith)))
+      (λ t k. (let u = within-exact kind (suc d) (λ i. digit B d i s) t k in digits-within B one d t s blocks (λ i l. u i (omega arith))))
+    where
+      one : ℕ → Piece → ℕ
+      one i p = only (eqb (kind p) i) 1
 
 -- one digit of n states
 one-block : (n : ℕ) → 1 ≤ n → Blocks (λ i. getD (n ∷ []) i 0) 0
@@ -182,12 +178,8 @@ one-block n some = record { some = λ i h. (let e : i ≡ 0 = omega arith in rw 
 pub one-digit : (n : ℕ) → 1 ≤ n → n ≤ 65536 → Digits (n ∷ []) 0 n
 one-digit n some most = record { digits = one-block n some; listed = omega arith; states = refl; most = most }
 
--- a filled table of one digit is that of the weights, for a job that is equal: its states are the shares
-pub figures-one : {J K : Job} (kinds weights old new : List ℕ) (q : ℕ) → K ≡ J → ((i : ℕ) → i < J .count → owns kinds i ≡ getD weights i 0)
-    → Figures K (under ((q + 1) ∷ []) 0) (owns kinds) (q + 1) new × Kept (words-needed K q) old new → Shared J (λ i. getD weights i 0) q new × Kept (words-needed J q) old new
+-- a filled table of one digit is that of the weights: its states are the shares
+pub figures-one : (J : Job) (weight : ℕ → ℕ) (old new : List ℕ) (q : ℕ)
+    → Figures J (under ((q + 1) ∷ []) 0) weight (q + 1) new × Kept (words-needed J q) old new → Shared J weight q new × Kept (words-needed J q) old new
 unfolding below
-figures-one {J} {K} kinds weights old new q same states w =
-    let f = subst (λ J. Figures J (under ((q + 1) ∷ []) 0) (owns kinds) (q + 1) new) same (w .0) in (
-      λ a b c ha hb hc. f a b c ha hb hc ∙ (figure-one J (owns kinds) (position J Length a) (position J Width b) c ∙ figure-kinds J (owns kinds) (λ i. getD weights i 0) states (position J Length a) (position J Width b) c),
-      subst (λ J. Kept (words-needed J q) old new) same (w .1),
-    )
+figures-one J weight old new q w = (λ a b c ha hb hc. w .0 a b c ha hb hc ∙ figure-one J weight (position J Length a) (position J Width b) c, w .1)

@@ -4,11 +4,12 @@ use mathlib.Core.Path.{_≡_}
 use mathlib.Core.Bool.{Bool}
 use mathlib.Core.List.{List}
 use Prim.Native.Nat.{ℕ, _+_, _-_, _*_, _≤_, _<_}
-use lib.ListN.{length, getD, take, drop}
+use lib.ListN.{length, getD}
 use Rattle.cutting.specs.declared.Direction.the-variants.{Length, Width}
-use Rattle.cutting.specs.Job.{Job, InRange}
+use Rattle.cutting.specs.Job.{Job}
+use Rattle.cutting.specs.Listed.{InTableRange, pieces-job}
 use Rattle.table.specs.Table.{position-count, position}
-use Rattle.table.specs.Contracts.{kinds-job, Positions}
+use Rattle.table.specs.Contracts.{Positions}
 use Rattle.table.specs.Words.{Half}
 use Rattle.table.specs.States.{figure-at, Covers}
 use Rattle.state_fill.specs.declared.shape.Shape.{Shape}
@@ -23,31 +24,9 @@ length-line shape place = record { index = place .a; «half_end» = place .«len
 abbrev pub width-line : Shape → Place → Line
 width-line shape place = record { index = place .b; «half_end» = place .«width_half_end»; at = place .at; base = place .at - place .column; stride = shape .words }
 
--- 64 numbers of a list
-abbrev pub part : List ℕ → ℕ → List ℕ
-part kinds from = take 64 (drop from kinds)
-
--- the job of a plate and of one list of its kinds: their lengths, from 64 on their widths, from 128 on their prices
+-- the plain job of a plate and of the array of its pieces
 abbrev pub job-in : Shape → List ℕ → Job
-job-in shape kinds = kinds-job (shape .length) (shape .width) (shape .count) (part kinds 0) (part kinds 64) (part kinds 128)
-
--- the state of each kind, in the same list from 192 on
-abbrev pub owns : List ℕ → ℕ → ℕ
-owns kinds i = getD (part kinds 192) i 0
-
--- arrays of 64 kinds, and one of all of them
-pub record Whole (kind-lengths kind-widths prices kinds : List ℕ) : Type 0 where
-  pub lengths : length kind-lengths ≡ 64
-  pub widths : length kind-widths ≡ 64
-  pub priced : length prices ≡ 64
-  pub all : length kinds ≡ 256
-
--- the first i kinds are put into one list; the state of each kind below `count` is its weight
-pub record Gathered (kind-lengths kind-widths prices weights : List ℕ) (count i : ℕ) (kinds : List ℕ) : Type 0 where
-  pub lengths : (j : ℕ) → j < i → getD kinds j 0 ≡ getD kind-lengths j 0
-  pub widths : (j : ℕ) → j < i → getD kinds (64 + j) 0 ≡ getD kind-widths j 0
-  pub priced : (j : ℕ) → j < i → getD kinds (128 + j) 0 ≡ getD prices j 0
-  pub states : (j : ℕ) → j < i → j < count → getD kinds (192 + j) 0 ≡ getD weights j 0
+job-in shape pieces = pieces-job (shape .length, shape .width) (shape .count) pieces
 
 -- the figure of the a-th normal length, the b-th normal width and state s
 abbrev pub tabled : Job → (ℕ → ℕ → Bool) → (ℕ → ℕ) → List ℕ → List ℕ → ℕ → ℕ → ℕ → ℕ
@@ -81,9 +60,9 @@ LevelRows J le own normal-lengths normal-widths words flat a = (i j : ℕ) → i
 abbrev pub LevelCells : Job → (ℕ → ℕ → Bool) → (ℕ → ℕ) → List ℕ → List ℕ → ℕ → ℕ → ℕ → ℕ → Type 0
 LevelCells J le own normal-lengths normal-widths words flat a b = (j : ℕ) → j < b → Level words flat (tabled J le own normal-lengths normal-widths a j)
 
--- what the fill is lent: a job in range, the digits of the states, the normal positions with their floors, and a table that is long enough
+-- what the fill is lent: a plain job in range, the digits of the states, the normal positions with their floors, and a table that is long enough
 pub record CellsLent (J : Job) (normal-lengths length-floors normal-widths width-floors blocks : List ℕ) (d words : ℕ) (table : List ℕ) : Type 0 where
-  pub range : InRange J
+  pub range : InTableRange J
   pub digits : Digits blocks d words
   pub lengths : Positions J Length (position-count J Length) normal-lengths length-floors
   pub widths : Positions J Width (position-count J Width) normal-widths width-floors

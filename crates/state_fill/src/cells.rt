@@ -1,22 +1,24 @@
-// One cell: it starts from the cells before it in length and in width and inherits what they list, takes the kinds of exactly its size
+// One cell: it starts from the cells before it in length and in width and inherits what they list, takes the pieces of exactly its size
 // and the cuts of its sides, and lists its flagged states.
 use crate::parts::Line;
 use crate::parts::cut;
 use crate::raise::past;
 use crate::raise::take;
 use crate::shape::Shape;
-use crate::shape::widen;
 use crate::words::figure;
 use crate::words::note;
 use table::greater;
 use table::level;
+use table::widen;
 ghost use mathlib.Core.Path.{_≡_};
 ghost use mathlib.Core.Logic.{_⊎_};
 ghost use Prim.Native.Nat.{_+_, _≤_, max};
 ghost use lib.ListN.{length};
+ghost use Rattle.cutting.specs.Limits.{most-pieces};
+ghost use Rattle.cutting.specs.Listed.{heavy-in};
 ghost use Rattle.table.specs.Words.{Outside, Run};
 ghost use Rattle.state_fill.specs.Cells.{held, note, under, Startable, Levelled, Growing, Taken, Ready, Inherited, Placed, Finished, FlaggedBelow, Topped};
-ghost use Rattle.state_fill.specs.Tables.{job-in, owns, length-line, width-line, tabled, Made, Spot};
+ghost use Rattle.state_fill.specs.Tables.{job-in, length-line, width-line, tabled, Made, Spot};
 
 // The first words of the cell become the greater of the figures of the cells before it.
 fn start(table: &mut [u64], at: usize, first: usize, second: usize, words: usize)
@@ -67,8 +69,8 @@ fn inherit(
     high
 }
 
-// The price of a kind at its state, where it has one.
-fn place_kind(
+// The price of a piece at its state, where it has one.
+fn place_piece(
     table: &mut [u64],
     blocks: &[u32],
     d: usize,
@@ -88,10 +90,10 @@ fn place_kind(
     top
 }
 
-// The prices of the kinds of exactly the size l by w, at their states; smaller ones came with the cells before.
-fn place_kinds(
+// The prices of the pieces of exactly the size l by w, at their states; smaller ones came with the cells before.
+fn place_pieces(
     table: &mut [u64],
-    kinds: &[u32; 256],
+    pieces: &[u32; 640],
     blocks: &[u32],
     shape: Shape,
     at: usize,
@@ -99,17 +101,18 @@ fn place_kinds(
     w: u32,
     top: usize,
 ) -> usize
-    requires { ⌜ Growing (now blocks) (shape .d) (shape .words) at (now table) × (shape .count ≤ 64) ⌝ }
-    ensures { λ r. ⌜ Placed (under (now (blocks .entry)) (shape .d)) (job-in shape (now (kinds .entry))) (owns (now (kinds .entry))) (shape .count) l w at (shape .words) (now (table .entry)) (now (table .exit))
+    requires { ⌜ Growing (now blocks) (shape .d) (shape .words) at (now table) × (shape .count ≤ most-pieces) ⌝ }
+    ensures { λ r. ⌜ Placed (under (now (blocks .entry)) (shape .d)) (job-in shape (now (pieces .entry))) (heavy-in (now (pieces .entry))) (shape .count) l w at (shape .words) (now (table .entry)) (now (table .exit))
         × Topped at (shape .words) top r (now (table .entry)) (now (table .exit)) ⌝ }
 {
     let mut high = top;
     for i in 0..shape.count {
-        if kinds[i] == l {
-            if kinds[64 + i] == w {
-                let state = kinds[192 + i];
-                let price = kinds[128 + i];
-                high = place_kind(table, blocks, shape.d, shape.words, at, state, price, high);
+        let piece = 5 * i;
+        if pieces[piece] == l {
+            if pieces[piece + 1] == w {
+                let price = pieces[piece + 2];
+                let state = pieces[piece + 3];
+                high = place_piece(table, blocks, shape.d, shape.words, at, state, price, high);
             }
         }
     }
@@ -185,7 +188,7 @@ fn width_line(shape: Shape, place: Place) -> Line
 // figures of this one too are the same is handed on.
 pub fn make_cell(
     table: &mut [u64],
-    kinds: &[u32; 256],
+    pieces: &[u32; 640],
     normal_lengths: &[u16],
     length_floors: &[u16],
     normal_widths: &[u16],
@@ -194,11 +197,11 @@ pub fn make_cell(
     shape: Shape,
     place: Place,
 ) -> usize
-    requires { ⌜ Spot (job-in shape (now kinds)) (owns (now kinds)) (now «normal_lengths») (now «length_floors») (now «normal_widths») (now «width_floors») (now blocks) (shape .d) (shape .words) (shape .stride)
+    requires { ⌜ Spot (job-in shape (now pieces)) (heavy-in (now pieces)) (now «normal_lengths») (now «length_floors») (now «normal_widths») (now «width_floors») (now blocks) (shape .d) (shape .words) (shape .stride)
         (place .a) (place .b) (place .«length_half_end») (place .«width_half_end») (place .at) (place .column) (place .flat) (now table) ⌝ }
-    ensures { λ r. ⌜ Made (job-in shape (now (kinds .entry))) (under (now (blocks .entry)) (shape .d)) (owns (now (kinds .entry))) (now («normal_lengths» .entry)) (now («normal_widths» .entry)) (shape .words) (place .a) (place .b) (now (table .exit))
+    ensures { λ r. ⌜ Made (job-in shape (now (pieces .entry))) (under (now (blocks .entry)) (shape .d)) (heavy-in (now (pieces .entry))) (now («normal_lengths» .entry)) (now («normal_widths» .entry)) (shape .words) (place .a) (place .b) (now (table .exit))
         × Outside (place .at) (place .at + shape .words) (now (table .entry)) (now (table .exit))
-        × Levelled (shape .words) (place .flat) r (tabled (job-in shape (now (kinds .entry))) (under (now (blocks .entry)) (shape .d)) (owns (now (kinds .entry))) (now («normal_lengths» .entry)) (now («normal_widths» .entry)) (place .a) (place .b)) ⌝ }
+        × Levelled (shape .words) (place .flat) r (tabled (job-in shape (now (pieces .entry))) (under (now (blocks .entry)) (shape .d)) (heavy-in (now (pieces .entry))) (now («normal_lengths» .entry)) (now («normal_widths» .entry)) (place .a) (place .b)) ⌝ }
 {
     let at = place.at;
     let words = shape.words;
@@ -211,7 +214,7 @@ pub fn make_cell(
     top = inherit(table, at, shorter, narrower, words, top);
     let l = widen(normal_lengths[a]);
     let w = widen(normal_widths[b]);
-    top = place_kinds(table, kinds, blocks, shape, at, l, w, top);
+    top = place_pieces(table, pieces, blocks, shape, at, l, w, top);
     let by_length = length_line(shape, place);
     top = cut(
         table,

@@ -9,11 +9,12 @@ use table::half;
 ghost use mathlib.Core.Path.{_≡_};
 ghost use Prim.Native.Nat.{ℕ, _+_, _*_, _≤_, _<_};
 ghost use lib.ListN.{length};
+ghost use Rattle.cutting.specs.Listed.{heavy-in};
 ghost use Rattle.cutting.specs.declared.Direction.the-variants.{Length, Width};
 ghost use Rattle.table.specs.Table.{position-count, Kept};
 ghost use Rattle.table.specs.Words.{Outside, Run};
 ghost use Rattle.state_fill.specs.Cells.{held, note, under};
-ghost use Rattle.state_fill.specs.Tables.{job-in, owns, Rows, LevelRows, CellsLent, Counted, RowSpot, Figures, Bare, Plain};
+ghost use Rattle.state_fill.specs.Tables.{job-in, Rows, LevelRows, CellsLent, Counted, RowSpot, Figures, Bare, Plain};
 
 // The place of a row: the index of its normal length, the end of that one's first half, its word, and the state from which on the
 // figures of all cells before it are the same.
@@ -27,7 +28,7 @@ pub struct Row {
 // A row, from the rows before it: its first cell, of width 0, holds 0.
 fn fill_row(
     table: &mut [u64],
-    kinds: &[u32; 256],
+    pieces: &[u32; 640],
     normal_lengths: &[u16],
     length_floors: &[u16],
     normal_widths: &[u16],
@@ -36,11 +37,11 @@ fn fill_row(
     shape: Shape,
     row: Row,
 ) -> usize
-    requires { ⌜ RowSpot (job-in shape (now kinds)) (owns (now kinds)) (now «normal_lengths») (now «length_floors») (now «normal_widths») (now «width_floors») (now blocks) (shape .d) (shape .words)
+    requires { ⌜ RowSpot (job-in shape (now pieces)) (heavy-in (now pieces)) (now «normal_lengths») (now «length_floors») (now «normal_widths») (now «width_floors») (now blocks) (shape .d) (shape .words)
         (shape .«length_count») (shape .columns) (shape .stride) (row .a) (row .«half_end») (row .at) (row .flat) (now table) ⌝ }
-    ensures { λ r. ⌜ Rows (job-in shape (now (kinds .entry))) (under (now (blocks .entry)) (shape .d)) (owns (now (kinds .entry))) (now («normal_lengths» .entry)) (now («normal_widths» .entry)) (shape .words) (row .a + 1) (now (table .exit))
+    ensures { λ r. ⌜ Rows (job-in shape (now (pieces .entry))) (under (now (blocks .entry)) (shape .d)) (heavy-in (now (pieces .entry))) (now («normal_lengths» .entry)) (now («normal_widths» .entry)) (shape .words) (row .a + 1) (now (table .exit))
         × Outside (row .at) (row .at + shape .stride) (now (table .entry)) (now (table .exit)) × (r ≤ shape .words)
-        × LevelRows (job-in shape (now (kinds .entry))) (under (now (blocks .entry)) (shape .d)) (owns (now (kinds .entry))) (now («normal_lengths» .entry)) (now («normal_widths» .entry)) (shape .words) r (row .a + 1) ⌝ }
+        × LevelRows (job-in shape (now (pieces .entry))) (under (now (blocks .entry)) (shape .d)) (heavy-in (now (pieces .entry))) (now («normal_lengths» .entry)) (now («normal_widths» .entry)) (shape .words) r (row .a + 1) ⌝ }
 {
     clear(table, row.at, shape.words);
     let mut half_end: usize = 1;
@@ -59,7 +60,7 @@ fn fill_row(
         };
         flat = make_cell(
             table,
-            kinds,
+            pieces,
             normal_lengths,
             length_floors,
             normal_widths,
@@ -101,7 +102,7 @@ fn strip_all(table: &mut [u64], s: usize, words: usize)
 // The table of a job over the states of the digits up to d: its words are the figures, and the rest is as it was.
 pub fn fill(
     table: &mut [u64],
-    kinds: &[u32; 256],
+    pieces: &[u32; 640],
     normal_lengths: &[u16],
     length_floors: &[u16],
     normal_widths: &[u16],
@@ -109,10 +110,10 @@ pub fn fill(
     blocks: &[u32],
     shape: Shape,
 )
-    requires { ⌜ CellsLent (job-in shape (now kinds)) (now «normal_lengths») (now «length_floors») (now «normal_widths») (now «width_floors») (now blocks) (shape .d) (shape .words) (now table)
-        × Counted (job-in shape (now kinds)) (shape .words) (shape .«length_count») (shape .columns) (shape .stride) ⌝ }
-    ensures { λ _. ⌜ Figures (job-in shape (now (kinds .entry))) (under (now (blocks .entry)) (shape .d)) (owns (now (kinds .entry))) (shape .words) (now (table .exit))
-        × Kept (position-count (job-in shape (now (kinds .entry))) Length * position-count (job-in shape (now (kinds .entry))) Width * shape .words) (now (table .entry)) (now (table .exit)) ⌝ }
+    requires { ⌜ CellsLent (job-in shape (now pieces)) (now «normal_lengths») (now «length_floors») (now «normal_widths») (now «width_floors») (now blocks) (shape .d) (shape .words) (now table)
+        × Counted (job-in shape (now pieces)) (shape .words) (shape .«length_count») (shape .columns) (shape .stride) ⌝ }
+    ensures { λ _. ⌜ Figures (job-in shape (now (pieces .entry))) (under (now (blocks .entry)) (shape .d)) (heavy-in (now (pieces .entry))) (shape .words) (now (table .exit))
+        × Kept (position-count (job-in shape (now (pieces .entry))) Length * position-count (job-in shape (now (pieces .entry))) Width * shape .words) (now (table .entry)) (now (table .exit)) ⌝ }
 {
     clear(table, 0, shape.stride);
     let mut at = shape.stride;
@@ -128,7 +129,7 @@ pub fn fill(
         };
         flat = fill_row(
             table,
-            kinds,
+            pieces,
             normal_lengths,
             length_floors,
             normal_widths,

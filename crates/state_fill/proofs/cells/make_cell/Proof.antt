@@ -49,14 +49,14 @@ shared-slice-read-widen-2 c = wide-cuts-are (c .before .before .before .before .
 widen-requires-2 : tie.Need-widen-requires-2
 widen-requires-2 c κs = tt
 
-place-kinds-requires : tie.Need-place-kinds-requires
-place-kinds-requires c κs =
+place-pieces-requires : tie.Need-place-pieces-requires
+place-pieces-requires c κs =
     let spot = c .before .before .before .before .before .before .before .before .before .before .before .before .before .before .before .before .before .before .before .before .before .before .before .before .pre in
     let started = c .before .before .before .before .before .before .before .before .before .before .before .before .before .before .before .begin in
     let first = c .before .before .before .before .before .before .before .before .before .before .before .inherit in
     let second = c .before .before .before .before .before .before .before .inherit2 in
     let growing = inherited-growing spot _ (started .ensures) _ _ (first .ensures .0) (second .ensures .0) (second .kept .0 ∙ (first .kept .0 ∙ started .kept .0)) in
-    (growing, spot .lent .range .kinds .1)
+    (growing, spot .lent .range .kinds)
 
 length-line-requires : tie.Need-length-line-requires
 length-line-requires c κs = tt
@@ -67,7 +67,7 @@ cut-requires c κs =
     let started = c .before .before .before .before .before .before .before .before .before .before .before .before .before .before .before .before .before .before .before .before .begin in
     let first = c .before .before .before .before .before .before .before .before .before .before .before .before .before .before .before .before .inherit in
     let second = c .before .before .before .before .before .before .before .before .before .before .before .before .inherit2 in
-    let kinds = c .before .before .before .before .place-kinds in
+    let kinds = c .before .before .before .before .place-pieces in
     let line = c .before .length-line .ensures in
     let growing = inherited-growing spot _ (started .ensures) _ _ (first .ensures .0) (second .ensures .0) (second .kept .0 ∙ (first .kept .0 ∙ started .kept .0)) in
     let rest = inherited-rest spot _ (started .ensures) _ _ (first .ensures .0) (second .ensures .0) in
@@ -82,7 +82,7 @@ cut-requires-2 c κs =
     let started = c .before .before .before .before .before .before .before .before .before .before .before .before .before .before .before .before .before .before .before .before .before .before .before .before .before .begin in
     let first = c .before .before .before .before .before .before .before .before .before .before .before .before .before .before .before .before .before .before .before .before .before .inherit in
     let second = c .before .before .before .before .before .before .before .before .before .before .before .before .before .before .before .before .before .inherit2 in
-    let kinds = c .before .before .before .before .before .before .before .before .before .place-kinds in
+    let kinds = c .before .before .before .before .before .before .before .before .before .place-pieces in
     let by-length = rw (c .before .before .before .before .before .before .length-line .ensures) at (c .before .before .before .before .cut .ensures .0) in
     let line = c .before .width-line .ensures in
     let growing = inherited-growing spot _ (started .ensures) _ _ (first .ensures .0) (second .ensures .0) (second .kept .0 ∙ (first .kept .0 ∙ started .kept .0)) in
@@ -95,7 +95,7 @@ finish-requires c κs =
     let started = c .before .before .before .before .before .before .before .before .before .before .before .before .before .before .before .before .before .before .before .before .before .before .before .before .before .before .before .before .before .begin in
     let first = c .before .before .before .before .before .before .before .before .before .before .before .before .before .before .before .before .before .before .before .before .before .before .before .before .before .inherit in
     let second = c .before .before .before .before .before .before .before .before .before .before .before .before .before .before .before .before .before .before .before .before .before .inherit2 in
-    let kinds = c .before .before .before .before .before .before .before .before .before .before .before .before .before .place-kinds in
+    let kinds = c .before .before .before .before .before .before .before .before .before .before .before .before .before .place-pieces in
     let by-length = rw (c .before .before .before .before .before .before .before .before .before .before .length-line .ensures) at (c .before .before .before .before .before .before .before .before .cut .ensures .1) in
     let by-width = rw (c .before .before .before .before .before .width-line .ensures) at (c .before .before .before .cut2 .ensures .1) in
     (omega (arith, room spot, started .kept .0, first .kept .0, second .kept .0, kinds .kept .0, c .before .before .before .before .before .before .before .before .cut .kept .0, c .before .before .before .cut2 .kept .0), spot .lent .digits .most, start-topped spot _ (started .ensures) _ _ (topped-then _ _ _ _ _ _ _ _ (first .ensures .1) (topped-then _ _ _ _ _ _ _ _ (second .ensures .1) (topped-then _ _ _ _ _ _ _ _ (kinds .ensures .1) (topped-then _ _ _ _ _ _ _ _ by-length by-width)))))
@@ -104,7 +104,7 @@ flat-after-requires : tie.Need-flat-after-requires
 flat-after-requires c κs = tt
 
 same-length : tie.Need-same-length
-same-length c = c .before .before .before .finish .kept .0 ∙ (c .before .before .before .before .before .before .before .cut2 .kept .0 ∙ (c .before .before .before .before .before .before .before .before .before .before .before .before .cut .kept .0 ∙ (c .before .before .before .before .before .before .before .before .before .before .before .before .before .before .before .before .before .place-kinds .kept .0 ∙ (c .before .before .before .before .before .before .before .before .before .before .before .before .before .before .before .before .before .before .before .before .before .before .before .before .before .inherit2 .kept .0 ∙ (c .before .before .before .before .before .before .before .before .before .before .before .before .before .before .before .before .before .before .before .before .before .before .before .before .before .before .before .before .before .inherit .kept .0 ∙ c .before .before .before .before .before .before .before .before .before .before .before .before .before .before .before .before .before .before .before .before .before .before .before .before .before .before .before .before .before .before .before .before .before .begin .kept .0)))))
+same-length c = c .before .before .before .finish .kept .0 ∙ (c .before .before .before .before .before .before .before .cut2 .kept .0 ∙ (c .before .before .before .before .before .before .before .before .before .before .before .before .cut .kept .0 ∙ (c .before .before .before .before .before .before .before .before .before .before .before .before .before .before .before .before .before .place-pieces .kept .0 ∙ (c .before .before .before .before .before .before .before .before .before .before .before .before .before .before .before .before .before .before .before .before .before .before .before .before .before .inherit2 .kept .0 ∙ (c .before .before .before .before .before .before .before .before .before .before .before .before .before .before .before .before .before .before .before .before .before .before .before .before .before .before .before .before .before .inherit .kept .0 ∙ c .before .before .before .before .before .before .before .before .before .before .before .before .before .before .before .before .before .before .before .before .before .before .before .before .before .before .before .before .before .before .before .before .before .begin .kept .0)))))
 
 returns : tie.Need-returns
 returns c =
@@ -112,13 +112,13 @@ returns c =
     let started = c .before .before .before .before .before .before .before .before .before .before .before .before .before .before .before .before .before .before .before .before .before .before .before .before .before .before .before .before .before .before .before .before .before .begin .ensures in
     let first = c .before .before .before .before .before .before .before .before .before .before .before .before .before .before .before .before .before .before .before .before .before .before .before .before .before .before .before .before .before .inherit .ensures .0 in
     let second = c .before .before .before .before .before .before .before .before .before .before .before .before .before .before .before .before .before .before .before .before .before .before .before .before .before .inherit2 .ensures .0 in
-    let kinds = rw (c .before .before .before .before .before .before .before .before .before .before .before .before .before .before .before .before .before .before .before .before .before .widen .ensures, c .before .before .before .before .before .before .before .before .before .before .before .before .before .before .before .before .before .before .before .widen2 .ensures) at (c .before .before .before .before .before .before .before .before .before .before .before .before .before .before .before .before .before .place-kinds .ensures .0) in
+    let kinds = rw (c .before .before .before .before .before .before .before .before .before .before .before .before .before .before .before .before .before .before .before .before .before .widen .ensures, c .before .before .before .before .before .before .before .before .before .before .before .before .before .before .before .before .before .before .before .widen2 .ensures) at (c .before .before .before .before .before .before .before .before .before .before .before .before .before .before .before .before .before .place-pieces .ensures .0) in
     let by-length = rw (c .before .before .before .before .before .before .before .before .before .before .before .before .before .before .length-line .ensures) at (c .before .before .before .before .before .before .before .before .before .before .before .before .cut .ensures .0) in
     let by-width = rw (c .before .before .before .before .before .before .before .before .before .width-line .ensures) at (c .before .before .before .before .before .before .before .cut2 .ensures .0) in
     let done = c .before .before .before .finish .ensures in
     let length-top = rw (c .before .before .before .before .before .before .before .before .before .before .before .before .before .before .length-line .ensures) at (c .before .before .before .before .before .before .before .before .before .before .before .before .cut .ensures .1) in
     let width-top = rw (c .before .before .before .before .before .before .before .before .before .width-line .ensures) at (c .before .before .before .before .before .before .before .cut2 .ensures .1) in
-    let flags = start-topped spot _ started _ _ (topped-then _ _ _ _ _ _ _ _ (c .before .before .before .before .before .before .before .before .before .before .before .before .before .before .before .before .before .before .before .before .before .before .before .before .before .before .before .before .before .inherit .ensures .1) (topped-then _ _ _ _ _ _ _ _ (c .before .before .before .before .before .before .before .before .before .before .before .before .before .before .before .before .before .before .before .before .before .before .before .before .before .inherit2 .ensures .1) (topped-then _ _ _ _ _ _ _ _ (c .before .before .before .before .before .before .before .before .before .before .before .before .before .before .before .before .before .place-kinds .ensures .1) (topped-then _ _ _ _ _ _ _ _ length-top width-top)))) in
+    let flags = start-topped spot _ started _ _ (topped-then _ _ _ _ _ _ _ _ (c .before .before .before .before .before .before .before .before .before .before .before .before .before .before .before .before .before .before .before .before .before .before .before .before .before .before .before .before .before .inherit .ensures .1) (topped-then _ _ _ _ _ _ _ _ (c .before .before .before .before .before .before .before .before .before .before .before .before .before .before .before .before .before .before .before .before .before .before .before .before .before .inherit2 .ensures .1) (topped-then _ _ _ _ _ _ _ _ (c .before .before .before .before .before .before .before .before .before .before .before .before .before .before .before .before .before .place-pieces .ensures .1) (topped-then _ _ _ _ _ _ _ _ length-top width-top)))) in
     (made spot _ started _ _ first second _ _ _ _ kinds by-length by-width done, made-rest spot _ started _ _ first second _ _ _ _ kinds by-length by-width done, levelled spot _ started _ _ first second _ _ _ _ kinds by-length by-width done flags (c .flat-after .ensures))
 
 pub make-cell-spec : {M : Type 1} → statement M
@@ -136,7 +136,7 @@ make-cell-spec =
     mul-widen-2
     shared-slice-read-widen-2
     widen-requires-2
-    place-kinds-requires
+    place-pieces-requires
     length-line-requires
     cut-requires
     width-line-requires

@@ -5,17 +5,18 @@ use mathlib.Core.Path.{_≡_, refl, _∙_}
 use Prim.Native.Nat.{_-_, _<_}
 use lib.ListN.{length}
 use denote.Ref.{now}
-use Rattle.state_fill.specs.Tables.{job-in, owns}
+use Rattle.cutting.specs.Listed.{heavy-in}
+use Rattle.state_fill.specs.Tables.{job-in}
 use Rattle.state_fill.proofs.Filling.{InTable, table-room, table-cells, table-start, table-half, table-spot, table-fits, table-more, table-bare, table-end}
 use Rattle.state_fill.proofs.rows.fill.Statement.{statement}
 use Rattle.state_fill.proofs.rows.fill.Tie as tie
 
 abbrev Inv-loop : tie.InvT-loop
-Inv-loop table₀ kinds normal-lengths length-floors normal-widths width-floors blocks shape at₀ half-end₀ flat₀ a₀ a-end table at half-end flat a = (a-end ≡ shape .«length_count»)
-    × InTable (job-in shape kinds) (owns kinds) normal-lengths normal-widths blocks (shape .d) (shape .words) (shape .«length_count») (shape .stride) at half-end flat a table₀ table
+Inv-loop table₀ pieces normal-lengths length-floors normal-widths width-floors blocks shape at₀ half-end₀ flat₀ a₀ a-end table at half-end flat a = (a-end ≡ shape .«length_count»)
+    × InTable (job-in shape pieces) (heavy-in pieces) normal-lengths normal-widths blocks (shape .d) (shape .words) (shape .«length_count») (shape .stride) at half-end flat a table₀ table
 
 abbrev μ-loop : tie.MeasureT-loop
-μ-loop table₀ kinds normal-lengths length-floors normal-widths width-floors blocks shape at₀ half-end₀ flat₀ a₀ a-end table at half-end flat a = a-end - a
+μ-loop table₀ pieces normal-lengths length-floors normal-widths width-floors blocks shape at₀ half-end₀ flat₀ a₀ a-end table at half-end flat a = a-end - a
 
 table-length : (s : tie.Start Inv-loop μ-loop) → length (now (s .args .table)) < 18446744073709551616
 table-length s = omega arith

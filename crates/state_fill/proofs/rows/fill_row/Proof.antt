@@ -6,17 +6,18 @@ use mathlib.Core.Path.{_≡_, refl, _∙_}
 use Prim.Native.Nat.{_-_, _<_}
 use lib.ListN.{length}
 use denote.Ref.{now}
-use Rattle.state_fill.specs.Tables.{job-in, owns}
+use Rattle.cutting.specs.Listed.{heavy-in}
+use Rattle.state_fill.specs.Tables.{job-in}
 use Rattle.state_fill.proofs.Filling.{InRow, row-first, row-start, row-half, row-spot, row-fits, row-more, row-end}
 use Rattle.state_fill.proofs.rows.fill_row.Statement.{statement}
 use Rattle.state_fill.proofs.rows.fill_row.Tie as tie
 
 abbrev Inv-loop : tie.InvT-loop
-Inv-loop table₀ kinds normal-lengths length-floors normal-widths width-floors blocks shape row half-end₀ column₀ flat₀ b₀ b-end table half-end column flat b = (b-end ≡ shape .columns)
-    × InRow (job-in shape kinds) (owns kinds) normal-lengths normal-widths blocks (shape .d) (shape .words) (shape .columns) (shape .stride) (row .a) (row .at) half-end column flat b table₀ table
+Inv-loop table₀ pieces normal-lengths length-floors normal-widths width-floors blocks shape row half-end₀ column₀ flat₀ b₀ b-end table half-end column flat b = (b-end ≡ shape .columns)
+    × InRow (job-in shape pieces) (heavy-in pieces) normal-lengths normal-widths blocks (shape .d) (shape .words) (shape .columns) (shape .stride) (row .a) (row .at) half-end column flat b table₀ table
 
 abbrev μ-loop : tie.MeasureT-loop
-μ-loop table₀ kinds normal-lengths length-floors normal-widths width-floors blocks shape row half-end₀ column₀ flat₀ b₀ b-end table half-end column flat b = b-end - b
+μ-loop table₀ pieces normal-lengths length-floors normal-widths width-floors blocks shape row half-end₀ column₀ flat₀ b₀ b-end table half-end column flat b = b-end - b
 
 table-length : (s : tie.Start Inv-loop μ-loop) → length (now (s .args .table)) < 18446744073709551616
 table-length s = omega arith

@@ -1,10 +1,10 @@
--- `state_fill::cells::place_kind` meets its contract: a kind whose state is past all states takes nothing.
+-- `state_fill::cells::place_piece` meets its contract: a piece whose state is past all states takes nothing.
 use borrow.Author.Needs.{needs}
 use native.Mathlib.Omega.{arith}
 use Rattle.state_fill.proofs.Growing.{taken-none}
 use Rattle.state_fill.proofs.Topping.{topped-none}
-use Rattle.state_fill.proofs.cells.place_kind.Statement.{statement}
-use Rattle.state_fill.proofs.cells.place_kind.Tie as tie
+use Rattle.state_fill.proofs.cells.place_piece.Statement.{statement}
+use Rattle.state_fill.proofs.cells.place_piece.Tie as tie
 
 take-requires : tie.Need-take-requires
 take-requires c κs = search needs
@@ -18,5 +18,5 @@ returns c = search needs
 returns-2 : tie.Need-returns-2
 returns-2 c = (taken-none _ _ _ _ _ _ _ (λ h b. absurd (omega arith)), topped-none _ _ _ _)
 
-pub place-kind-spec : {M : Type 1} → statement M
-place-kind-spec = tie.close (tie.spec take-requires same-length returns returns-2)
+pub place-piece-spec : {M : Type 1} → statement M
+place-piece-spec = tie.close (tie.spec take-requires same-length returns returns-2)
