@@ -264,6 +264,16 @@ module _ {normal-lengths length-floors : List ℕ} {a half-end start columns : �
           let q = earlier (s .part) (s .from) (s .to) in
           omega (arith, s .sums .value, ap (λ b. sum (s .part) b) e, kept (s .part) b (q .0) h, kept (other (s .part)) b (q .1) h, f (s .part) (s .from) (s .to) (s .exact))
 
+-- no unit between two entries yet, and one more
+pub level-none : (from v : ℕ) (xs : List ℕ) → Run (λ j. v) from (from - from) xs xs
+level-none from v xs = let e : from - from ≡ 0 = omega arith in rw e (run-none (λ j. v) from xs)
+
+pub level-more : (from y v : ℕ) (old xs : List ℕ) → from ≤ y → y < length xs → Run (λ j. v) from (y - from) old xs → Run (λ j. v) from (y + 1 - from) old (set xs y v)
+level-more from y v old xs h l w =
+    let i : from + (y - from) ≡ y = omega arith in
+    let j : y - from + 1 ≡ y + 1 - from = omega arith in
+    rw (i, j) at (run-more (λ j. v) from (y - from) old xs v (omega arith) refl w)
+
 -- no word at its unit yet, and one more
 pub spread-none : {normal-widths table unit : List ℕ} {start : ℕ} → Spread normal-widths start 0 table unit unit
 spread-none = record { here = λ b h. absurd (omega arith); low = λ i bound f h. h }

@@ -2,19 +2,19 @@
 // A row starts as the row before and takes its length cuts as sums of two earlier rows. Its words are then laid out over the units of
 // the width, where the pieces of exactly its length are placed and each cell that rises over the one before pushes its width cuts.
 use table::TableSize;
-use table::clear;
 use table::copy;
 use table::entry;
 use table::greater;
 use table::greater_lifted;
 use table::half;
-use table::level;
+use table::set_run;
 use table::widen;
 ghost use mathlib.Core.Path.{_≡_};
 ghost use Prim.Native.Nat.{ℕ, _+_, _-_, _≤_, _<_, min};
 ghost use lib.ListN.{length};
 ghost use Rattle.cutting.specs.Listed.{heavy-in};
 ghost use Rattle.table.specs.Contracts.{size-job, Fillable, FilledBy};
+ghost use Rattle.table.specs.Words.{Run};
 ghost use Rattle.row_fill.specs.Raised.{Raised, Sums, Alone, Pieces, Pushed, CellPush};
 ghost use Rattle.row_fill.specs.Rows.{Entries, Spread, LengthsTaken, Widened, WidthsTaken};
 ghost use Rattle.row_fill.specs.Ready.{Capped, SumsReady, LengthsReady, PiecesReady, PushReady, CellReady, WidthsReady, RowReady};
@@ -137,6 +137,16 @@ fn place_pieces(unit: &mut [u64], pieces: &[u32; 640], row: Row)
     }
 }
 
+// The units from `from` to x less 1, between two entries, become v.
+fn level(unit: &mut [u64], from: usize, x: usize, v: u64)
+    requires { ⌜ (from ≤ x) × (x ≤ length (now unit)) ⌝ }
+    ensures { λ _. ⌜ Run (λ j. v) from (x - from) (now (unit .entry)) (now (unit .exit)) ⌝ }
+{
+    for y in from..x {
+        unit[y] = v;
+    }
+}
+
 // The units past x become v together with those from `least` to `end` less 1 where that is more.
 fn push(unit: &mut [u64], x: usize, least: usize, end: usize, v: u64)
     requires { ⌜ PushReady x least end v (now unit) ⌝ }
@@ -222,7 +232,7 @@ pub fn fill(
     let columns = size.columns as usize;
     let rows = size.rows as usize;
     let mut unit = [0u64; 1001];
-    clear(table, 0, columns);
+    set_run(table, 0, columns, 0);
     let mut start = columns;
     let mut half_end: usize = 1;
     for a in 1..rows {

@@ -212,7 +212,7 @@ module _ {J : Job} {own : ℕ → ℕ} {normal-lengths length-floors normal-widt
   -- a cell of the row ends within the table, and within the row
   row-room : (b : ℕ) → b < columns → (at + b * words + words ≤ length t0) × (b * words + words ≤ stride)
   row-room b h = (
-    omega (arith, spot .at-is, cell-room J words a b (length t0) (omega (arith, spot .long-in .1, spot .counted .lengths)) (omega (arith, spot .counted .widths)) (spot .lent .room)),
+    omega (arith, spot .at-is, cell-room J words a b (length t0) (omega (arith, spot .length-in .1, spot .counted .lengths)) (omega (arith, spot .counted .widths)) (spot .lent .room)),
     omega (arith, spot .counted .stride-is, cell-before b columns words h),
   )
 
@@ -243,10 +243,10 @@ module _ {J : Job} {own : ℕ → ℕ} {normal-lengths length-floors normal-widt
     pub row-spot : (half-end : ℕ) → Half normal-widths b half-end → Spot J own normal-lengths length-floors normal-widths width-floors blocks d words stride a b length-half-end half-end (at + column) column high t2
     row-spot half-end half = record {
       lent = lent-kept (so .same ∙ one) (spot .lent);
-      long-in = (spot .long-in .0, omega (arith, spot .long-in .1, spot .counted .lengths));
-      wide-in = (so .inside .0, omega (arith, spot .counted .widths));
-      half-a = spot .half-a;
-      half-b = half;
+      length-in = (spot .length-in .0, omega (arith, spot .length-in .1, spot .counted .lengths));
+      width-in = (so .inside .0, omega (arith, spot .counted .widths));
+      length-half = spot .length-half;
+      width-half = half;
       stride-is = spot .counted .stride-is ∙ ap (λ columns. columns * words) (spot .counted .widths);
       at-is = omega (arith, spot .at-is, so .column-is);
       column-is = so .column-is;
@@ -347,8 +347,8 @@ module _ {J : Job} {normal-lengths length-floors normal-widths width-floors bloc
     table-spot half-end half = record {
       lent = lent-kept (so .same ∙ one) lent;
       counted = counted;
-      long-in = (so .inside .0, ha);
-      half-a = half;
+      length-in = (so .inside .0, ha);
+      length-half = half;
       at-is = so .at-is ∙ (ap (λ x. a * x) (counted .stride-is ∙ ap (λ columns. columns * words) (counted .widths)) ∙ omega arith);
       rows = so .rows;
       flat-most = so .flat-most;

@@ -18,7 +18,7 @@ run-held f at m old new x s h w = ap figure-in (w .rest .before (x + s) h)
 
 -- the words below state `flat` are written, and then the others, which are all the same
 pub run-level : (f : ℕ → ℕ) (at flat words v : ℕ) (old mid new : List ℕ) → flat ≤ words → ((s : ℕ) → flat ≤ s → s < words → f s ≡ v)
-    → Run f at flat old mid → Run (λ j. v) (at + flat) (at + words - (at + flat)) mid new → Run f at words old new
+    → Run f at flat old mid → Run (λ j. v) (at + flat) (words - flat) mid new → Run f at words old new
 run-level f at flat words v old mid new h same w x = record {
   here = λ j l. go j l (decLe flat j);
   rest = record { before = λ i l. x .rest .before i (omega arith) ∙ w .rest .before i l; after = λ i l. x .rest .after i (omega arith) ∙ w .rest .after i (omega arith) };

@@ -145,7 +145,7 @@ module _ {J : Job} {own : ℕ → ℕ} {normal-lengths length-floors normal-widt
     arith,
     spot .at-is,
     spot .lent .room,
-    cell-before (a * position-count J Width + b) (position-count J Length * position-count J Width) words (omega (arith, cell-before a (position-count J Length) (position-count J Width) (spot .long-in .1))),
+    cell-before (a * position-count J Width + b) (position-count J Length * position-count J Width) words (omega (arith, cell-before a (position-count J Length) (position-count J Width) (spot .length-in .1))),
   )
 
   -- the words of the cells of its column and of its row, as the code counts them
@@ -165,32 +165,32 @@ module _ {J : Job} {own : ℕ → ℕ} {normal-lengths length-floors normal-widt
 
   pub shorter-word : at - stride ≡ cell J words (a - 1) b
   shorter-word =
-      let e : a - 1 + 1 ≡ a = omega (arith, spot .long-in .0) in
+      let e : a - 1 + 1 ≡ a = omega (arith, spot .length-in .0) in
       let f : a * stride ≡ (a - 1) * stride + stride = sym (ap (λ a. a * stride) e) ∙ omega arith in
       omega (arith, at-row, row-word (a - 1))
 
   pub narrower-word : at - words ≡ cell J words a (b - 1)
   narrower-word =
-      let e : b - 1 + 1 ≡ b = omega (arith, spot .wide-in .0) in
+      let e : b - 1 + 1 ≡ b = omega (arith, spot .width-in .0) in
       let f : b * words ≡ (b - 1) * words + words = sym (ap (λ b. b * words) e) ∙ omega arith in
       omega (arith, at-cell, cell-word (b - 1))
 
   pub row-fits : stride ≤ at
-  row-fits = omega (arith, at-row, cell-before 0 a stride (spot .long-in .0))
+  row-fits = omega (arith, at-row, cell-before 0 a stride (spot .length-in .0))
 
   pub cell-fits : (words ≤ stride) × (column ≤ at)
-  cell-fits = (omega (arith, spot .stride-is, cell-before 0 (position-count J Width) words (omega (arith, spot .wide-in .1))), omega (arith, at-row))
+  cell-fits = (omega (arith, spot .stride-is, cell-before 0 (position-count J Width) words (omega (arith, spot .width-in .1))), omega (arith, at-row))
 
   -- a plate has few normal positions
   pub few : (a ≤ 1000) × (b ≤ 1000)
-  few = (omega (arith, positions-length J Length, fit .plate-length, spot .long-in .1), omega (arith, positions-length J Width, fit .plate-width, spot .wide-in .1))
+  few = (omega (arith, positions-length J Length, fit .plate-length, spot .length-in .1), omega (arith, positions-length J Width, fit .plate-width, spot .width-in .1))
 
   -- the cuts of its two sides
-  pub long-cuts-are : Cuts normal-lengths length-floors a length-half-end
-  long-cuts-are = half-cuts normal-lengths length-floors (position-count J Length) (positions-axis J Length (position-count J Length) normal-lengths length-floors fit (spot .lent .lengths)) a length-half-end (spot .long-in .1) (spot .half-a)
+  pub length-cuts-are : Cuts normal-lengths length-floors a length-half-end
+  length-cuts-are = half-cuts normal-lengths length-floors (position-count J Length) (positions-axis J Length (position-count J Length) normal-lengths length-floors fit (spot .lent .lengths)) a length-half-end (spot .length-in .1) (spot .length-half)
 
-  pub wide-cuts-are : Cuts normal-widths width-floors b width-half-end
-  wide-cuts-are = half-cuts normal-widths width-floors (position-count J Width) (positions-axis J Width (position-count J Width) normal-widths width-floors fit (spot .lent .widths)) b width-half-end (spot .wide-in .1) (spot .half-b)
+  pub width-cuts-are : Cuts normal-widths width-floors b width-half-end
+  width-cuts-are = half-cuts normal-widths width-floors (position-count J Width) (positions-axis J Width (position-count J Width) normal-widths width-floors fit (spot .lent .widths)) b width-half-end (spot .width-in .1) (spot .width-half)
 
   low : (i j s : ℕ) → i < position-count J Length → j < position-count J Width → F i j s ≤ 1000000000000
   low i j s h m = omega (
@@ -213,10 +213,10 @@ module _ {J : Job} {own : ℕ → ℕ} {normal-lengths length-floors normal-widt
 
   -- cells of the column and of the row, in a table where words from here on were written
   earlier-row : (xs : List ℕ) → Outside at (at + words) t0 xs → (i : ℕ) → i < a → Ready xs (cell J words i b) words at
-  earlier-row xs o i h = ready i b xs (omega (arith, spot .long-in .1)) (spot .wide-in .1) (made-kept (row-earlier i h) o (spot .rows i b h (spot .wide-in .1))) (row-earlier i h)
+  earlier-row xs o i h = ready i b xs (omega (arith, spot .length-in .1)) (spot .width-in .1) (made-kept (row-earlier i h) o (spot .rows i b h (spot .width-in .1))) (row-earlier i h)
 
   earlier-cell : (xs : List ℕ) → Outside at (at + words) t0 xs → (j : ℕ) → j < b → Ready xs (cell J words a j) words at
-  earlier-cell xs o j h = ready a j xs (spot .long-in .1) (omega (arith, spot .wide-in .1)) (made-kept (cell-earlier j h) o (spot .cells j h)) (cell-earlier j h)
+  earlier-cell xs o j h = ready a j xs (spot .length-in .1) (omega (arith, spot .width-in .1)) (made-kept (cell-earlier j h) o (spot .cells j h)) (cell-earlier j h)
 
   row-ready : (xs : List ℕ) → Outside at (at + words) t0 xs → (i : ℕ) → i < a → Ready xs (column + i * stride) words at
   row-ready xs o i h = rw (row-word i) (earlier-row xs o i h)
@@ -225,18 +225,18 @@ module _ {J : Job} {own : ℕ → ℕ} {normal-lengths length-floors normal-widt
   cell-ready xs o j h = rw (cell-word j) (earlier-cell xs o j h)
 
   -- so the cuts of its two sides can be taken
-  pub long-cuttable : (xs : List ℕ) → Outside at (at + words) t0 xs → Growing blocks d words at xs → Cuttable blocks normal-lengths length-floors d words a 1 length-half-end column stride at xs
-  long-cuttable xs o g = record { growing = g; first = omega arith; cuts = long-cuts-are; ready = row-ready xs o }
+  pub length-cuttable : (xs : List ℕ) → Outside at (at + words) t0 xs → Growing blocks d words at xs → Cuttable blocks normal-lengths length-floors d words a 1 length-half-end column stride at xs
+  length-cuttable xs o g = record { growing = g; first = omega arith; cuts = length-cuts-are; ready = row-ready xs o }
 
-  pub wide-cuttable : (xs : List ℕ) → Outside at (at + words) t0 xs → Growing blocks d words at xs → Cuttable blocks normal-widths width-floors d words b 1 width-half-end (at - column) words at xs
-  wide-cuttable xs o g = record { growing = g; first = omega arith; cuts = wide-cuts-are; ready = cell-ready xs o }
+  pub width-cuttable : (xs : List ℕ) → Outside at (at + words) t0 xs → Growing blocks d words at xs → Cuttable blocks normal-widths width-floors d words b 1 width-half-end (at - column) words at xs
+  width-cuttable xs o g = record { growing = g; first = omega arith; cuts = width-cuts-are; ready = cell-ready xs o }
 
   -- the two cells before it
   pub shorter-ready : (xs : List ℕ) → Outside at (at + words) t0 xs → Ready xs (at - stride) words at
-  shorter-ready xs o = rw shorter-word (earlier-row xs o (a - 1) (omega (arith, spot .long-in .0)))
+  shorter-ready xs o = rw shorter-word (earlier-row xs o (a - 1) (omega (arith, spot .length-in .0)))
 
   pub narrower-ready : (xs : List ℕ) → Outside at (at + words) t0 xs → Ready xs (at - words) words at
-  narrower-ready xs o = rw narrower-word (earlier-cell xs o (b - 1) (omega (arith, spot .wide-in .0)))
+  narrower-ready xs o = rw narrower-word (earlier-cell xs o (b - 1) (omega (arith, spot .width-in .0)))
 
   -- a longer and a wider cell have no less
   longer : (i k j s : ℕ) → i ≤ k → k < position-count J Length → F i j s ≤ F k j s
@@ -255,10 +255,10 @@ module _ {J : Job} {own : ℕ → ℕ} {normal-lengths length-floors normal-widt
 
   -- the figures of the two cells before it
   shorter-figure : (s : ℕ) → s < words → held t0 (at - stride) s ≡ F (a - 1) b s
-  shorter-figure s h = rw shorter-word (spot .rows (a - 1) b (omega (arith, spot .long-in .0)) (spot .wide-in .1) .figures s h)
+  shorter-figure s h = rw shorter-word (spot .rows (a - 1) b (omega (arith, spot .length-in .0)) (spot .width-in .1) .figures s h)
 
   narrower-figure : (s : ℕ) → s < words → held t0 (at - words) s ≡ F a (b - 1) s
-  narrower-figure s h = rw narrower-word (spot .cells (b - 1) (omega (arith, spot .wide-in .0)) .figures s h)
+  narrower-figure s h = rw narrower-word (spot .cells (b - 1) (omega (arith, spot .width-in .0)) .figures s h)
 
   -- it can start from them
   pub startable : Startable (at - stride) (at - words) at words flat t0
@@ -267,8 +267,8 @@ module _ {J : Job} {own : ℕ → ℕ} {normal-lengths length-floors normal-widt
     second-before = narrower-ready t0 (outside-same at (at + words) t0) .before;
     room = room;
     most = spot .flat-most;
-    first-level = λ s h l. shorter-figure s l ∙ (spot .level-rows (a - 1) b (omega (arith, spot .long-in .0)) (spot .wide-in .1) s h l ∙ sym (shorter-figure flat (omega arith)));
-    second-level = λ s h l. narrower-figure s l ∙ (spot .level-cells (b - 1) (omega (arith, spot .wide-in .0)) s h l ∙ sym (narrower-figure flat (omega arith)));
+    first-level = λ s h l. shorter-figure s l ∙ (spot .level-rows (a - 1) b (omega (arith, spot .length-in .0)) (spot .width-in .1) s h l ∙ sym (shorter-figure flat (omega arith)));
+    second-level = λ s h l. narrower-figure s l ∙ (spot .level-cells (b - 1) (omega (arith, spot .width-in .0)) s h l ∙ sym (narrower-figure flat (omega arith)));
   }
 
   -- the start
@@ -302,25 +302,25 @@ module _ {J : Job} {own : ℕ → ℕ} {normal-lengths length-floors normal-widt
       inherited-growing e = record { digits = spot .lent .digits; room = omega (arith, room); rises = inherited-rises }
 
       inherited-low : Low (F a b) at words t3
-      inherited-low s h = omega (arith, same s h, started s h, longer (a - 1) a b s (omega arith) (spot .long-in .1), wider a (b - 1) b s (omega arith) (spot .wide-in .1))
+      inherited-low s h = omega (arith, same s h, started s h, longer (a - 1) a b s (omega arith) (spot .length-in .1), wider a (b - 1) b s (omega arith) (spot .width-in .1))
 
       -- the flags cover the start over both cells before
       covers-shorter : Covers (under blocks d) words (Flagged t3 at) (held t3 at) (F (a - 1) b)
       covers-shorter = start-covers (under blocks d) words (Listed t0 (cell J words a (b - 1)) words) (Flagged t3 at) (F a (b - 1)) (F (a - 1) b) (F (a - 1) (b - 1)) (held t3 at)
-          (λ s h. omega (arith, same s h, started s h)) (λ s. wider (a - 1) (b - 1) b s (omega arith) (spot .wide-in .1)) (rising (a - 1) b)
+          (λ s h. omega (arith, same s h, started s h)) (λ s. wider (a - 1) (b - 1) b s (omega arith) (spot .width-in .1)) (rising (a - 1) b)
           (λ t h l m. second .kept t h (first .flags t (listed-kept at (at + words) t0 t1 (run .rest) (at - words) words t (narrower-ready t0 none .before) (rw narrower-word l))
           (omega (arith, shorter-figure t h, narrower-figure t h, held-kept at (at + words) t0 t1 (run .rest) (at - words) t (omega (arith, narrower-ready t0 none .before)), held-kept at (at + words) t0 t1 (run .rest) (at - stride) t (omega (arith, shorter-ready t0 none .before))))))
-          (spot .cells (b - 1) (omega (arith, spot .wide-in .0)) .longer)
+          (spot .cells (b - 1) (omega (arith, spot .width-in .0)) .longer)
         where
           none : Outside at (at + words) t0 t0
           none = record { before = λ i h. refl; after = λ i h. refl }
 
       covers-narrower : Covers (under blocks d) words (Flagged t3 at) (held t3 at) (F a (b - 1))
       covers-narrower = start-covers (under blocks d) words (Listed t0 (cell J words (a - 1) b) words) (Flagged t3 at) (F (a - 1) b) (F a (b - 1)) (F (a - 1) (b - 1)) (held t3 at)
-          (λ s h. omega (arith, same s h, started s h)) (λ s. longer (a - 1) a (b - 1) s (omega arith) (spot .long-in .1)) (rising a (b - 1))
+          (λ s h. omega (arith, same s h, started s h)) (λ s. longer (a - 1) a (b - 1) s (omega arith) (spot .length-in .1)) (rising a (b - 1))
           (λ t h l m. second .flags t (listed-kept at (at + words) t0 t2 kept (at - stride) words t (shorter-ready t0 none .before) (rw shorter-word l))
           (omega (arith, shorter-figure t h, narrower-figure t h, held-kept at (at + words) t0 t2 kept (at - words) t (omega (arith, narrower-ready t0 none .before)), held-kept at (at + words) t0 t2 kept (at - stride) t (omega (arith, shorter-ready t0 none .before)))))
-          (spot .rows (a - 1) b (omega (arith, spot .long-in .0)) (spot .wide-in .1) .wider)
+          (spot .rows (a - 1) b (omega (arith, spot .length-in .0)) (spot .width-in .1) .wider)
         where
           none : Outside at (at + words) t0 t0
           none = record { before = λ i h. refl; after = λ i h. refl }
@@ -330,35 +330,35 @@ module _ {J : Job} {own : ℕ → ℕ} {normal-lengths length-floors normal-widt
 
       -- the kinds and the cuts
       module _ (t4 t5 t6 t7 : List ℕ) (kinds : Placed (under blocks d) J own (J .count) (getD normal-lengths a 0) (getD normal-widths b 0) at words t3 t4)
-          (long-cuts : CutAt (under blocks d) normal-lengths length-floors a 1 length-half-end column stride at words t4 t5) (wide-cuts : CutAt (under blocks d) normal-widths width-floors b 1 width-half-end (at - column) words at words t5 t6) (done : Finished at words t6 t7) where
+          (length-cuts : CutAt (under blocks d) normal-lengths length-floors a 1 length-half-end column stride at words t4 t5) (width-cuts : CutAt (under blocks d) normal-widths width-floors b 1 width-half-end (at - column) words at words t5 t6) (done : Finished at words t6 t7) where
         o4 : Outside at (at + words) t0 t4
         o4 = outside-chain at (at + words) t0 t3 t4 inherited-rest (kinds .grown .rest)
 
         o5 : Outside at (at + words) t0 t5
-        o5 = outside-chain at (at + words) t0 t4 t5 o4 (long-cuts .grown .rest)
+        o5 = outside-chain at (at + words) t0 t4 t5 o4 (length-cuts .grown .rest)
 
         grown : Grown (under blocks d) at words t3 t6
-        grown = grown-then (under blocks d) at words t3 t4 t6 (kinds .grown) (grown-then (under blocks d) at words t4 t5 t6 (long-cuts .grown) (wide-cuts .grown))
+        grown = grown-then (under blocks d) at words t3 t4 t6 (kinds .grown) (grown-then (under blocks d) at words t4 t5 t6 (length-cuts .grown) (width-cuts .grown))
 
         pub made-rest : Outside at (at + words) t0 t7
         made-rest = outside-chain at (at + words) t0 t6 t7 (outside-chain at (at + words) t0 t3 t6 inherited-rest (grown .rest)) (done .rest)
 
-        long-figures : (i s : ℕ) → i < a → s < words → held t4 (column + i * stride) s ≡ F i b s
-        long-figures i s h l = rw (row-word i) (made-kept (row-earlier i h) o4 (spot .rows i b h (spot .wide-in .1)) .figures s l)
+        length-figures : (i s : ℕ) → i < a → s < words → held t4 (column + i * stride) s ≡ F i b s
+        length-figures i s h l = rw (row-word i) (made-kept (row-earlier i h) o4 (spot .rows i b h (spot .width-in .1)) .figures s l)
 
-        long-covers : (i : ℕ) → i < a → Covers (under blocks d) words (Listed t4 (column + i * stride) words) (F i b) (F (i - 1) b)
-        long-covers i h = rw (row-word i) (made-kept (row-earlier i h) o4 (spot .rows i b h (spot .wide-in .1)) .longer)
+        length-covers : (i : ℕ) → i < a → Covers (under blocks d) words (Listed t4 (column + i * stride) words) (F i b) (F (i - 1) b)
+        length-covers i h = rw (row-word i) (made-kept (row-earlier i h) o4 (spot .rows i b h (spot .width-in .1)) .longer)
 
-        wide-figures : (j s : ℕ) → j < b → s < words → held t5 (at - column + j * words) s ≡ F a j s
-        wide-figures j s h l = rw (cell-word j) (made-kept (cell-earlier j h) o5 (spot .cells j h) .figures s l)
+        width-figures : (j s : ℕ) → j < b → s < words → held t5 (at - column + j * words) s ≡ F a j s
+        width-figures j s h l = rw (cell-word j) (made-kept (cell-earlier j h) o5 (spot .cells j h) .figures s l)
 
-        wide-covers : (j : ℕ) → j < b → Covers (under blocks d) words (Listed t5 (at - column + j * words) words) (F a j) (F a (j - 1))
-        wide-covers j h = rw (cell-word j) (made-kept (cell-earlier j h) o5 (spot .cells j h) .wider)
+        width-covers : (j : ℕ) → j < b → Covers (under blocks d) words (Listed t5 (at - column + j * words) words) (F a j) (F a (j - 1))
+        width-covers j h = rw (cell-word j) (made-kept (cell-earlier j h) o5 (spot .cells j h) .wider)
 
         -- no figure is too large
         sound : Low (F a b) at words t6
-        sound = side-low J (under blocks d) own order fit Width (position-count J Width) normal-widths width-floors (spot .lent .widths) (getD normal-lengths a 0) b width-half-end (at - column) words at words t5 t6 (spot .wide-in .1) (spot .half-b) wide-figures wide-covers wide-cuts
-            (side-low J (under blocks d) own order fit Length (position-count J Length) normal-lengths length-floors (spot .lent .lengths) (getD normal-widths b 0) a length-half-end column stride at words t4 t5 (spot .long-in .1) (spot .half-a) long-figures long-covers long-cuts
+        sound = side-low J (under blocks d) own order fit Width (position-count J Width) normal-widths width-floors (spot .lent .widths) (getD normal-lengths a 0) b width-half-end (at - column) words at words t5 t6 (spot .width-in .1) (spot .width-half) width-figures width-covers width-cuts
+            (side-low J (under blocks d) own order fit Length (position-count J Length) normal-lengths length-floors (spot .lent .lengths) (getD normal-widths b 0) a length-half-end column stride at words t4 t5 (spot .length-in .1) (spot .length-half) length-figures length-covers length-cuts
             (kinds .low (F a b) (rising a b) (λ i h e f l. piece-most J (under blocks d) own order fit (upright i) (getD normal-lengths a 0) (getD normal-widths b 0) (own i) (table-lies J fit i h) (omega arith) (omega arith) (order .same (own i))) inherited-low))
 
         rises : Rises (under blocks d) words (held t6 at)
@@ -366,12 +366,12 @@ module _ {J : Job} {own : ℕ → ℕ} {normal-lengths length-floors normal-widt
 
         -- and none too small
         full : (s : ℕ) → s < words → F a b s ≤ held t6 at s
-        full s h = complete J (under blocks d) own order fit (position-count J Length) (position-count J Width) normal-lengths length-floors normal-widths width-floors (spot .lent .lengths) (spot .lent .widths) a b s (held t6 at s) (spot .long-in .1) (spot .wide-in .1)
-            above before (λ i l e f m. (let k : own i < words = omega (arith, order .less (own i) s m) in omega (arith, kinds .taken i l e f k, long-cuts .grown .more (own i) k, wide-cuts .grown .more (own i) k, rises (own i) s h m)))
-            length-half-end width-half-end (spot .half-a) (spot .half-b)
-            (side-taken J (under blocks d) own order fit Length (position-count J Length) normal-lengths length-floors (spot .lent .lengths) (getD normal-widths b 0) a length-half-end column stride at words t4 t5 (spot .long-in .1) (spot .half-a) long-figures long-covers long-cuts
-            s (held t6 at s) h above (λ t m. omega (arith, wide-cuts .grown .more t (omega (arith, order .less t s m)), rises t s h m)))
-            (side-taken J (under blocks d) own order fit Width (position-count J Width) normal-widths width-floors (spot .lent .widths) (getD normal-lengths a 0) b width-half-end (at - column) words at words t5 t6 (spot .wide-in .1) (spot .half-b) wide-figures wide-covers wide-cuts
+        full s h = complete J (under blocks d) own order fit (position-count J Length) (position-count J Width) normal-lengths length-floors normal-widths width-floors (spot .lent .lengths) (spot .lent .widths) a b s (held t6 at s) (spot .length-in .1) (spot .width-in .1)
+            above before (λ i l e f m. (let k : own i < words = omega (arith, order .less (own i) s m) in omega (arith, kinds .taken i l e f k, length-cuts .grown .more (own i) k, width-cuts .grown .more (own i) k, rises (own i) s h m)))
+            length-half-end width-half-end (spot .length-half) (spot .width-half)
+            (side-taken J (under blocks d) own order fit Length (position-count J Length) normal-lengths length-floors (spot .lent .lengths) (getD normal-widths b 0) a length-half-end column stride at words t4 t5 (spot .length-in .1) (spot .length-half) length-figures length-covers length-cuts
+            s (held t6 at s) h above (λ t m. omega (arith, width-cuts .grown .more t (omega (arith, order .less t s m)), rises t s h m)))
+            (side-taken J (under blocks d) own order fit Width (position-count J Width) normal-widths width-floors (spot .lent .widths) (getD normal-lengths a 0) b width-half-end (at - column) words at words t5 t6 (spot .width-in .1) (spot .width-half) width-figures width-covers width-cuts
             s (held t6 at s) h before (λ t m. rises t s h m))
           where
             above : F (a - 1) b s ≤ held t6 at s
@@ -396,8 +396,8 @@ module _ {J : Job} {own : ℕ → ℕ} {normal-lengths length-floors normal-widt
         levelled {top} {high} below (inl e) = record {
           more = omega (arith, e .1);
           most = omega (arith, e .1, below .most, spot .flat-most);
-          level = rw (e .1) (level-past (under blocks d) (under-zero blocks d (e .0)) words flat top (Flagged t6 at) (F a b) (F (a - 1) b) (rising a b) (λ s. longer (a - 1) a b s (omega arith) (spot .long-in .1)) (below .flags) covers-length
-              (spot .level-rows (a - 1) b (omega (arith, spot .long-in .0)) (spot .wide-in .1)));
+          level = rw (e .1) (level-past (under blocks d) (under-zero blocks d (e .0)) words flat top (Flagged t6 at) (F a b) (F (a - 1) b) (rising a b) (λ s. longer (a - 1) a b s (omega arith) (spot .length-in .1)) (below .flags) covers-length
+              (spot .level-rows (a - 1) b (omega (arith, spot .length-in .0)) (spot .width-in .1)));
         }
 
         pub made : Made J (under blocks d) own normal-lengths normal-widths words a b t7

@@ -78,8 +78,8 @@ pub record Counted (J : Job) (words length-count columns stride : ℕ) : Type 0 
 pub record RowSpot (J : Job) (own : ℕ → ℕ) (normal-lengths length-floors normal-widths width-floors blocks : List ℕ) (d words length-count columns stride a length-half-end at flat : ℕ) (table : List ℕ) : Type 0 where
   pub lent : CellsLent J normal-lengths length-floors normal-widths width-floors blocks d words table
   pub counted : Counted J words length-count columns stride
-  pub long-in : (1 ≤ a) × (a < length-count)
-  pub half-a : Half normal-lengths a length-half-end
+  pub length-in : (1 ≤ a) × (a < length-count)
+  pub length-half : Half normal-lengths a length-half-end
   pub at-is : at ≡ cell J words a 0
   pub rows : Rows J (under blocks d) own normal-lengths normal-widths words a table
   pub flat-most : flat ≤ words
@@ -88,10 +88,10 @@ pub record RowSpot (J : Job) (own : ℕ → ℕ) (normal-lengths length-floors n
 -- the place of a cell that is to be made: all cells before it are
 pub record Spot (J : Job) (own : ℕ → ℕ) (normal-lengths length-floors normal-widths width-floors blocks : List ℕ) (d words stride a b length-half-end width-half-end at column flat : ℕ) (table : List ℕ) : Type 0 where
   pub lent : CellsLent J normal-lengths length-floors normal-widths width-floors blocks d words table
-  pub long-in : (1 ≤ a) × (a < position-count J Length)
-  pub wide-in : (1 ≤ b) × (b < position-count J Width)
-  pub half-a : Half normal-lengths a length-half-end
-  pub half-b : Half normal-widths b width-half-end
+  pub length-in : (1 ≤ a) × (a < position-count J Length)
+  pub width-in : (1 ≤ b) × (b < position-count J Width)
+  pub length-half : Half normal-lengths a length-half-end
+  pub width-half : Half normal-widths b width-half-end
   pub stride-is : stride ≡ position-count J Width * words
   pub at-is : at ≡ cell J words a b
   pub column-is : column ≡ b * words

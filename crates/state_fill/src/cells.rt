@@ -8,7 +8,7 @@ use crate::shape::Shape;
 use crate::words::figure;
 use crate::words::note;
 use table::greater;
-use table::level;
+use table::set_run;
 use table::widen;
 ghost use mathlib.Core.Path.{_≡_};
 ghost use mathlib.Core.Logic.{_⊎_};
@@ -38,7 +38,7 @@ fn begin(table: &mut [u64], at: usize, first: usize, second: usize, words: usize
     start(table, at, first, second, flat);
     if flat < words {
         let v = greater(figure(table[first + flat]), figure(table[second + flat]));
-        level(table, at + flat, at + words, v);
+        set_run(table, at + flat, words - flat, v);
     }
 }
 

@@ -4,8 +4,8 @@ use crate::cells::make_cell;
 use crate::shape::Shape;
 use crate::words::figure;
 use crate::words::note;
-use table::clear;
 use table::half;
+use table::set_run;
 ghost use mathlib.Core.Path.{_≡_};
 ghost use Prim.Native.Nat.{ℕ, _+_, _*_, _≤_, _<_};
 ghost use lib.ListN.{length};
@@ -43,7 +43,7 @@ fn fill_row(
         × Outside (row .at) (row .at + shape .stride) (now (table .entry)) (now (table .exit)) × (r ≤ shape .words)
         × LevelRows (job-in shape (now (pieces .entry))) (under (now (blocks .entry)) (shape .d)) (heavy-in (now (pieces .entry))) (now («normal_lengths» .entry)) (now («normal_widths» .entry)) (shape .words) r (row .a + 1) ⌝ }
 {
-    clear(table, row.at, shape.words);
+    set_run(table, row.at, shape.words, 0);
     let mut half_end: usize = 1;
     let mut column = shape.words;
     let mut flat = row.flat;
@@ -115,7 +115,7 @@ pub fn fill(
     ensures { λ _. ⌜ Figures (job-in shape (now (pieces .entry))) (under (now (blocks .entry)) (shape .d)) (heavy-in (now (pieces .entry))) (shape .words) (now (table .exit))
         × Kept (position-count (job-in shape (now (pieces .entry))) Length * position-count (job-in shape (now (pieces .entry))) Width * shape .words) (now (table .entry)) (now (table .exit)) ⌝ }
 {
-    clear(table, 0, shape.stride);
+    set_run(table, 0, shape.stride, 0);
     let mut at = shape.stride;
     let mut half_end: usize = 1;
     let mut flat: usize = 0;

@@ -36,16 +36,6 @@ run-one f at xs v l e = let z : at + 0 ≡ at = omega arith in rw z at (run-more
 pub first-more : (f : ℕ → ℕ) (j : ℕ) (old xs : List ℕ) (v : ℕ) → j < length xs → v ≡ f j → Run f 0 j old xs → Run f 0 (j + 1) old (set xs j v)
 first-more f j old xs v l e w = let z : 0 + j ≡ j = omega arith in rw z at (run-more f 0 j old xs v (omega arith) e w)
 
--- no word from `from` on is v yet, and one more
-pub level-none : (from v : ℕ) (xs : List ℕ) → Run (λ j. v) from (from - from) xs xs
-level-none from v xs = let e : from - from ≡ 0 = omega arith in rw e (run-none (λ j. v) from xs)
-
-pub level-more : (from y v : ℕ) (old xs : List ℕ) → from ≤ y → y < length xs → Run (λ j. v) from (y - from) old xs → Run (λ j. v) from (y + 1 - from) old (set xs y v)
-level-more from y v old xs h l w =
-    let i : from + (y - from) ≡ y = omega arith in
-    let j : y - from + 1 ≡ y + 1 - from = omega arith in
-    rw (i, j) at (run-more (λ j. v) from (y - from) old xs v (omega arith) refl w)
-
 -- a cell lies before the next one
 pub cell-before : (b columns words : ℕ) → b < columns → b * words + words ≤ columns * words
 cell-before b columns words h = omega (arith, mul-le-mul-right {m = b + 1} {n = columns} words (omega arith))

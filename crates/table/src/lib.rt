@@ -71,22 +71,12 @@ pub fn copy(table: &mut [u64], from: usize, at: usize, m: usize)
     }
 }
 
-// The m words from `at` on become 0.
-pub fn clear(table: &mut [u64], at: usize, m: usize)
+// The m words from `at` on become v.
+pub fn set_run(table: &mut [u64], at: usize, m: usize, v: u64)
     requires { ⌜ at + m ≤ length (now table) ⌝ }
-    ensures { λ _. ⌜ Run (λ j. 0) at m (now (table .entry)) (now (table .exit)) ⌝ }
+    ensures { λ _. ⌜ Run (λ j. v) at m (now (table .entry)) (now (table .exit)) ⌝ }
 {
     for j in 0..m {
-        table[at + j] = 0;
-    }
-}
-
-// The words from `from` to x less 1 become v.
-pub fn level(words: &mut [u64], from: usize, x: usize, v: u64)
-    requires { ⌜ (from ≤ x) × (x ≤ length (now words)) ⌝ }
-    ensures { λ _. ⌜ Run (λ j. v) from (x - from) (now (words .entry)) (now (words .exit)) ⌝ }
-{
-    for y in from..x {
-        words[y] = v;
+        table[at + j] = v;
     }
 }

@@ -16,17 +16,17 @@ Inv-loop size pieces normal-lengths normal-widths floors table₀ columns rows u
 abbrev μ-loop : tie.MeasureT-loop
 μ-loop size pieces normal-lengths normal-widths floors table₀ columns rows unit₀ start₀ half-end₀ a₀ table unit start half-end a = size .rows - a
 
-clear-requires : tie.Need-clear-requires Inv-loop μ-loop
-clear-requires c κs = let given = c .before .before .before .before .before .before .before .pre in omega (arith, all-room given, first-row given)
+set-run-requires : tie.Need-set-run-requires Inv-loop μ-loop
+set-run-requires c κs = let given = c .before .before .before .before .before .before .before .pre in omega (arith, all-room given, first-row given)
 
 loop-holds : tie.Need-loop-holds Inv-loop μ-loop
-loop-holds c = fill-none (c .before .before .before .before .before .before .before .before .before .before .pre) (c .before .before .clear .ensures) refl (zeros-capped 1001)
+loop-holds c = fill-none (c .before .before .before .before .before .before .before .before .before .before .pre) (c .before .before .set-run .ensures) refl (zeros-capped 1001)
 
 half-requires : tie.Need-half-requires Inv-loop μ-loop
 half-requires c κs = row-half (c .before .before .before .before .before .before .before .before .before .before .before .before .pre) (c .before .loop .inv) (c .loop-test .taken)
 
 cut-lengths-requires : tie.Need-cut-lengths-requires Inv-loop μ-loop
-cut-lengths-requires c κs = lengths-ready (c .before .before .before .before .before .before .before .before .before .before .before .before .before .before .pre) (c .before .before .before .loop .inv) (c .before .before .loop-test .taken) (c .before .half .ensures) (c .before .before .before .before .before .before .clear .kept .0)
+cut-lengths-requires c κs = lengths-ready (c .before .before .before .before .before .before .before .before .before .before .before .before .before .before .pre) (c .before .before .before .loop .inv) (c .before .before .loop-test .taken) (c .before .half .ensures) (c .before .before .before .before .before .before .set-run .kept .0)
 
 mul-t21 : tie.Need-mul-t21 Inv-loop μ-loop
 mul-t21 c = omega (arith, few-rows (c .before .before .before .before .before .before .before .before .before .before .before .before .before .before .before .before .before .pre), c .before .before .before .before .before .loop-test .taken)
@@ -41,7 +41,7 @@ fill-row-requires : tie.Need-fill-row-requires Inv-loop μ-loop
 fill-row-requires c κs =
     let l = c .before .before .before .before .before .before .before .before .before .loop .inv in
     let cut = c .before .before .before .before .before .cut-lengths in
-    row-ready (c .before .before .before .before .before .before .before .before .before .before .before .before .before .before .before .before .before .before .before .before .pre) l (c .before .before .before .before .before .before .before .before .loop-test .taken) (c .before .before .before .before .before .before .before .half .ensures) (cut .ensures) (cut .kept .0 ∙ l .same ∙ c .before .before .before .before .before .before .before .before .before .before .before .before .clear .kept .0)
+    row-ready (c .before .before .before .before .before .before .before .before .before .before .before .before .before .before .before .before .before .before .before .before .pre) l (c .before .before .before .before .before .before .before .before .loop-test .taken) (c .before .before .before .before .before .before .before .half .ensures) (cut .ensures) (cut .kept .0 ∙ l .same ∙ c .before .before .before .before .before .before .before .before .before .before .before .before .set-run .kept .0)
 
 add-start : tie.Need-add-start Inv-loop μ-loop
 add-start c = omega (arith, end-few (c .before .before .before .before .before .before .before .before .before .before .before .before .before .before .before .before .before .before .before .before .before .before .before .before .pre) (c .before .before .before .before .before .before .before .before .before .before .before .before .before .loop .inv) (c .before .before .before .before .before .before .before .before .before .before .before .before .loop-test .taken))
@@ -59,13 +59,13 @@ loop-again c =
     fill-more (c .before .before .before .before .before .before .before .before .before .before .before .before .before .before .before .before .before .before .before .before .before .before .before .before .pre) (c .before .before .before .before .before .before .before .before .before .before .before .before .before .loop .inv) (c .before .before .before .before .before .before .before .before .before .before .before .before .loop-test .taken) (c .before .before .before .before .before .before .before .before .before .before .before .half .ensures) (cut .ensures) (row .ensures .0) (row .kept .0 ∙ cut .kept .0) (row .kept .1 .0) (row .ensures .1)
 
 same-length : tie.Need-same-length Inv-loop μ-loop
-same-length c = c .before .loop .inv .same ∙ c .before .before .before .before .clear .kept .0
+same-length c = c .before .loop .inv .same ∙ c .before .before .before .before .set-run .kept .0
 
 returns : tie.Need-returns Inv-loop μ-loop
 returns c =
     let given = c .before .before .before .before .before .before .before .before .before .before .before .before .pre in
     let l = c .before .loop .inv in
-    let cleared = c .before .before .before .before .clear in
+    let cleared = c .before .before .before .before .set-run in
     filled given l (omega (arith, c .loop-test .left)) (cleared .kept .0) (cleared .ensures)
 
 pub fill-spec : {M : Type 1} → statement M
@@ -76,7 +76,7 @@ fill-spec =
     μ-loop
     (λ c. search needs)
     (λ c. search needs)
-    clear-requires
+    set-run-requires
     loop-holds
     half-requires
     cut-lengths-requires

@@ -31,14 +31,14 @@ slice-read-figure-2 c = omega (arith, c .before .before .before .before .before 
 greater-requires : tie.Need-greater-requires
 greater-requires c κs = (omega (arith, c .before .before .figure .ensures .1), omega (arith, c .figure2 .ensures .1))
 
-add-level : tie.Need-add-level
-add-level c = omega (arith, c .before .before .before .before .before .before .before .before .before .before .before .before .pre .room, c .before .before .before .before .before .before .before .before .before .before .before .before .pre .most)
+add-set-run : tie.Need-add-set-run
+add-set-run c = omega (arith, c .before .before .before .before .before .before .before .before .before .before .before .before .pre .room, c .before .before .before .before .before .before .before .before .before .before .before .before .pre .most)
 
-add-level-2 : tie.Need-add-level-2
-add-level-2 c = omega (arith, c .before .before .before .before .before .before .before .before .before .before .before .before .pre .room)
+sub-set-run : tie.Need-sub-set-run
+sub-set-run c = omega (arith, c .before .before .before .before .before .before .before .before .before .before .before .before .pre .most)
 
-level-requires : tie.Need-level-requires
-level-requires c κs = (omega (arith, c .before .before .before .before .before .before .before .before .before .before .before .before .pre .most), omega (arith, c .before .before .before .before .before .before .before .before .before .before .before .before .pre .room, c .before .before .before .before .before .before .before .before .before .start .kept .0))
+set-run-requires : tie.Need-set-run-requires
+set-run-requires c κs = omega (arith, c .before .before .before .before .before .before .before .before .before .before .before .before .pre .room, c .before .before .before .before .before .before .before .before .before .before .before .before .pre .most, c .before .before .before .before .before .before .before .before .before .start .kept .0)
 
 returns : tie.Need-returns
 returns c =
@@ -46,7 +46,7 @@ returns c =
     let run = c .before .before .before .before .before .before .before .before .before .before .before .before .start .ensures in
     let first = c .before .before .before .before .before .before .before .figure .ensures .0 ∙ run-held _ _ _ _ _ (c .before .before .before .before .before .before .before .before .before .before .before .before .before .before .before .args .first) (c .before .before .before .before .before .before .before .before .before .before .before .before .before .before .before .args .flat) (omega (arith, given .first-before)) run in
     let second = c .before .before .before .before .before .figure2 .ensures .0 ∙ run-held _ _ _ _ _ (c .before .before .before .before .before .before .before .before .before .before .before .before .before .before .before .args .second) (c .before .before .before .before .before .before .before .before .before .before .before .before .before .before .before .args .flat) (omega (arith, given .second-before)) run in
-    run-level _ _ _ _ _ _ _ _ (given .most) (λ s h l. ap₂ max (given .first-level s h l) (given .second-level s h l) ∙ sym (c .before .before .before .before .greater .ensures ∙ ap₂ max first second)) run (c .before .before .level .ensures)
+    run-level _ _ _ _ _ _ _ _ (given .most) (λ s h l. ap₂ max (given .first-level s h l) (given .second-level s h l) ∙ sym (c .before .before .before .before .greater .ensures ∙ ap₂ max first second)) run (c .before .before .set-run .ensures)
 
 returns-2 : tie.Need-returns-2
 returns-2 c = let e : c .before .before .before .before .before .before .args .flat ≡ c .before .before .before .before .before .before .args .words = omega (arith, c .before .before .before .before .before .before .pre .most) in rw e at (c .before .before .before .start .ensures)
@@ -65,9 +65,9 @@ begin-spec =
     slice-read-figure-2
     (λ c κs. search needs)
     greater-requires
-    add-level
-    add-level-2
-    level-requires
+    add-set-run
+    sub-set-run
+    set-run-requires
     (λ c. search needs)
     returns
     (λ c. search needs)

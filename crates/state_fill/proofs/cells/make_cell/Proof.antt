@@ -4,7 +4,7 @@ use mathlib.Core.Path.{_∙_}
 use Rattle.state_fill.proofs.Growing.{outside-chain}
 use Rattle.state_fill.proofs.Topping.{topped-then}
 use Rattle.state_fill.proofs.Joining.{growing-kept}
-use Rattle.state_fill.proofs.Making.{room, row-fits, cell-fits, few, long-cuts-are, wide-cuts-are, shorter-ready, narrower-ready, startable, long-cuttable, wide-cuttable, start-topped, inherited-rest, inherited-growing, levelled, made, made-rest}
+use Rattle.state_fill.proofs.Making.{room, row-fits, cell-fits, few, length-cuts-are, width-cuts-are, shorter-ready, narrower-ready, startable, length-cuttable, width-cuttable, start-topped, inherited-rest, inherited-growing, levelled, made, made-rest}
 use Rattle.state_fill.proofs.cells.make_cell.Statement.{statement}
 use Rattle.state_fill.proofs.cells.make_cell.Tie as tie
 
@@ -35,7 +35,7 @@ mul-widen : tie.Need-mul-widen
 mul-widen c = omega (arith, few (c .before .before .before .before .before .before .before .before .before .before .before .before .before .before .before .before .before .before .before .pre))
 
 shared-slice-read-widen : tie.Need-shared-slice-read-widen
-shared-slice-read-widen c = long-cuts-are (c .before .before .before .before .before .before .before .before .before .before .before .before .before .before .before .before .before .before .before .before .pre) .listed
+shared-slice-read-widen c = length-cuts-are (c .before .before .before .before .before .before .before .before .before .before .before .before .before .before .before .before .before .before .before .before .pre) .listed
 
 widen-requires : tie.Need-widen-requires
 widen-requires c κs = tt
@@ -44,7 +44,7 @@ mul-widen-2 : tie.Need-mul-widen-2
 mul-widen-2 c = omega (arith, few (c .before .before .before .before .before .before .before .before .before .before .before .before .before .before .before .before .before .before .before .before .before .pre))
 
 shared-slice-read-widen-2 : tie.Need-shared-slice-read-widen-2
-shared-slice-read-widen-2 c = wide-cuts-are (c .before .before .before .before .before .before .before .before .before .before .before .before .before .before .before .before .before .before .before .before .before .before .pre) .listed
+shared-slice-read-widen-2 c = width-cuts-are (c .before .before .before .before .before .before .before .before .before .before .before .before .before .before .before .before .before .before .before .before .before .before .pre) .listed
 
 widen-requires-2 : tie.Need-widen-requires-2
 widen-requires-2 c κs = tt
@@ -71,7 +71,7 @@ cut-requires c κs =
     let line = c .before .length-line .ensures in
     let growing = inherited-growing spot _ (started .ensures) _ _ (first .ensures .0) (second .ensures .0) (second .kept .0 ∙ (first .kept .0 ∙ started .kept .0)) in
     let rest = inherited-rest spot _ (started .ensures) _ _ (first .ensures .0) (second .ensures .0) in
-    rw line (long-cuttable spot _ (outside-chain _ _ _ _ _ rest (kinds .ensures .0 .grown .rest)) (growing-kept growing (kinds .kept .0) (kinds .ensures .0 .grown)))
+    rw line (length-cuttable spot _ (outside-chain _ _ _ _ _ rest (kinds .ensures .0 .grown .rest)) (growing-kept growing (kinds .kept .0) (kinds .ensures .0 .grown)))
 
 width-line-requires : tie.Need-width-line-requires
 width-line-requires c κs = cell-fits (c .before .before .before .before .before .before .before .before .before .before .before .before .before .before .before .before .before .before .before .before .before .before .before .before .before .before .before .before .before .before .before .before .pre) .1
@@ -87,7 +87,7 @@ cut-requires-2 c κs =
     let line = c .before .width-line .ensures in
     let growing = inherited-growing spot _ (started .ensures) _ _ (first .ensures .0) (second .ensures .0) (second .kept .0 ∙ (first .kept .0 ∙ started .kept .0)) in
     let rest = inherited-rest spot _ (started .ensures) _ _ (first .ensures .0) (second .ensures .0) in
-    rw line (wide-cuttable spot _ (outside-chain _ _ _ _ _ (outside-chain _ _ _ _ _ rest (kinds .ensures .0 .grown .rest)) (by-length .grown .rest)) (growing-kept (growing-kept growing (kinds .kept .0) (kinds .ensures .0 .grown)) (c .before .before .before .before .cut .kept .0) (by-length .grown)))
+    rw line (width-cuttable spot _ (outside-chain _ _ _ _ _ (outside-chain _ _ _ _ _ rest (kinds .ensures .0 .grown .rest)) (by-length .grown .rest)) (growing-kept (growing-kept growing (kinds .kept .0) (kinds .ensures .0 .grown)) (c .before .before .before .before .cut .kept .0) (by-length .grown)))
 
 finish-requires : tie.Need-finish-requires
 finish-requires c κs =

@@ -21,28 +21,28 @@ abbrev μ-loop : tie.MeasureT-loop
 table-length : (s : tie.Start Inv-loop μ-loop) → length (now (s .args .table)) < 18446744073709551616
 table-length s = omega arith
 
-clear-requires : tie.Need-clear-requires Inv-loop μ-loop
-clear-requires c κs = omega (arith, table-room (c .before .before .before .before .before .before .before .pre .0) (c .before .before .before .before .before .before .before .pre .1))
+set-run-requires : tie.Need-set-run-requires Inv-loop μ-loop
+set-run-requires c κs = omega (arith, table-room (c .before .before .before .before .before .before .before .pre .0) (c .before .before .before .before .before .before .before .pre .1))
 
 loop-holds : tie.Need-loop-holds Inv-loop μ-loop
 loop-holds c =
     let given = c .before .before .before .before .before .before .before .before .before .before .pre in
-    (refl, table-start (given .0) (given .1) _ _ (c .before .before .clear .ensures))
+    (refl, table-start (given .0) (given .1) _ _ (c .before .before .set-run .ensures))
 
 half-requires : tie.Need-half-requires Inv-loop μ-loop
 half-requires c κs =
     let given = c .before .before .before .before .before .before .before .before .before .before .before .before .pre in
-    table-half (given .0) (given .1) (c .before .before .before .before .clear .kept .0) (omega arith) (c .before .loop .inv .1)
+    table-half (given .0) (given .1) (c .before .before .before .before .set-run .kept .0) (omega arith) (c .before .loop .inv .1)
 
 fill-row-requires : tie.Need-fill-row-requires Inv-loop μ-loop
 fill-row-requires c κs =
     let given = c .before .before .before .before .before .before .before .before .before .before .before .before .before .before .pre in
-    table-spot (given .0) (given .1) (c .before .before .before .before .before .before .clear .kept .0) (omega arith) (c .before .before .before .loop .inv .1) _ (c .before .half .ensures)
+    table-spot (given .0) (given .1) (c .before .before .before .before .before .before .set-run .kept .0) (omega arith) (c .before .before .before .loop .inv .1) _ (c .before .half .ensures)
 
 add-at : tie.Need-add-at Inv-loop μ-loop
 add-at c =
     let given = c .before .before .before .before .before .before .before .before .before .before .before .before .before .before .before .before .before .before .pre in
-    omega (arith, table-length (c .before .before .before .before .before .before .before .before .before .before .before .before .before .before .before .before .before .before), table-fits (given .0) (given .1) (c .before .before .before .before .before .before .before .before .before .before .clear .kept .0) (omega arith) (c .before .before .before .before .before .before .before .loop .inv .1))
+    omega (arith, table-length (c .before .before .before .before .before .before .before .before .before .before .before .before .before .before .before .before .before .before), table-fits (given .0) (given .1) (c .before .before .before .before .before .before .before .before .before .before .set-run .kept .0) (omega arith) (c .before .before .before .before .before .before .before .loop .inv .1))
 
 add-a : tie.Need-add-a Inv-loop μ-loop
 add-a c = search needs
@@ -54,7 +54,7 @@ loop-again : tie.Need-loop-again Inv-loop μ-loop
 loop-again c =
     let given = c .before .before .before .before .before .before .before .before .before .before .before .before .before .before .before .before .before .before .pre in
     let row = c .before .before .before .fill-row in
-    (refl, table-more (given .0) (given .1) (c .before .before .before .before .before .before .before .before .before .before .clear .kept .0) (omega arith) (c .before .before .before .before .before .before .before .loop .inv .1) _ _ (row .kept .0) (c .before .before .before .before .before .half .ensures) (row .ensures .0) (row .ensures .1) (row .ensures .2) (row .ensures .3))
+    (refl, table-more (given .0) (given .1) (c .before .before .before .before .before .before .before .before .before .before .set-run .kept .0) (omega arith) (c .before .before .before .before .before .before .before .loop .inv .1) _ _ (row .kept .0) (c .before .before .before .before .before .half .ensures) (row .ensures .0) (row .ensures .1) (row .ensures .2) (row .ensures .3))
 
 mul-strip-all : tie.Need-mul-strip-all Inv-loop μ-loop
 mul-strip-all c = omega (arith, table-length (c .before .before .before .before .before .before .before .before .before .before .before .before .before .before), table-cells (c .before .before .before .before .before .before .before .before .before .before .before .before .before .before .pre .0) (c .before .before .before .before .before .before .before .before .before .before .before .before .before .before .pre .1))
@@ -62,16 +62,16 @@ mul-strip-all c = omega (arith, table-length (c .before .before .before .before 
 strip-all-requires : tie.Need-strip-all-requires Inv-loop μ-loop
 strip-all-requires c κs =
     let given = c .before .before .before .before .before .before .before .before .before .before .before .before .before .before .pre in
-    let cleared = c .before .before .before .before .before .before .clear in
+    let cleared = c .before .before .before .before .before .before .set-run in
     table-bare (given .0) (given .1) (cleared .ensures) (cleared .kept .0) (omega arith) (c .before .before .before .loop .inv .1)
 
 same-length : tie.Need-same-length Inv-loop μ-loop
-same-length c = c .before .before .strip-all .kept .0 ∙ (c .before .before .before .before .before .before .loop .inv .1 .same ∙ c .before .before .before .before .before .before .before .before .before .clear .kept .0)
+same-length c = c .before .before .strip-all .kept .0 ∙ (c .before .before .before .before .before .before .loop .inv .1 .same ∙ c .before .before .before .before .before .before .before .before .before .set-run .kept .0)
 
 returns : tie.Need-returns Inv-loop μ-loop
 returns c =
     let given = c .before .before .before .before .before .before .before .before .before .before .before .before .before .before .before .before .before .pre in
-    let cleared = c .before .before .before .before .before .before .before .before .before .clear in
+    let cleared = c .before .before .before .before .before .before .before .before .before .set-run in
     table-end (given .0) (given .1) (cleared .ensures) (cleared .kept .0) (omega arith) (c .before .before .before .before .before .before .loop .inv .1) _ (c .before .before .strip-all .kept .0) (c .before .before .strip-all .ensures)
 
 pub fill-spec : {M : Type 1} → statement M
@@ -80,7 +80,7 @@ fill-spec =
     (tie.spec
     Inv-loop
     μ-loop
-    clear-requires
+    set-run-requires
     loop-holds
     half-requires
     fill-row-requires

@@ -22,23 +22,23 @@ abbrev μ-loop : tie.MeasureT-loop
 table-length : (s : tie.Start Inv-loop μ-loop) → length (now (s .args .table)) < 18446744073709551616
 table-length s = omega arith
 
-clear-requires : tie.Need-clear-requires Inv-loop μ-loop
-clear-requires c κs = omega (arith, row-first (c .before .before .before .before .before .before .before .pre))
+set-run-requires : tie.Need-set-run-requires Inv-loop μ-loop
+set-run-requires c κs = omega (arith, row-first (c .before .before .before .before .before .before .before .pre))
 
 loop-holds : tie.Need-loop-holds Inv-loop μ-loop
-loop-holds c = (refl, row-start (c .before .before .before .before .before .before .before .before .before .before .pre) _ (c .before .before .clear .ensures))
+loop-holds c = (refl, row-start (c .before .before .before .before .before .before .before .before .before .before .pre) _ (c .before .before .set-run .ensures))
 
 half-requires : tie.Need-half-requires Inv-loop μ-loop
-half-requires c κs = row-half (c .before .before .before .before .before .before .before .before .before .before .before .before .pre) (c .before .before .before .before .clear .kept .0) (omega arith) (c .before .loop .inv .1)
+half-requires c κs = row-half (c .before .before .before .before .before .before .before .before .before .before .before .before .pre) (c .before .before .before .before .set-run .kept .0) (omega arith) (c .before .loop .inv .1)
 
 add-t20 : tie.Need-add-t20 Inv-loop μ-loop
-add-t20 c = omega (arith, row-fits (c .before .before .before .before .before .before .before .before .before .before .before .before .before .before .pre) (c .before .before .before .before .before .before .clear .kept .0) (omega arith) (c .before .before .before .loop .inv .1))
+add-t20 c = omega (arith, row-fits (c .before .before .before .before .before .before .before .before .before .before .before .before .before .before .pre) (c .before .before .before .before .before .before .set-run .kept .0) (omega arith) (c .before .before .before .loop .inv .1))
 
 make-cell-requires : tie.Need-make-cell-requires Inv-loop μ-loop
-make-cell-requires c κs = row-spot (c .before .before .before .before .before .before .before .before .before .before .before .before .before .before .before .pre) (c .before .before .before .before .before .before .before .clear .kept .0) (omega arith) (c .before .before .before .before .loop .inv .1) _ (c .before .before .half .ensures)
+make-cell-requires c κs = row-spot (c .before .before .before .before .before .before .before .before .before .before .before .before .before .before .before .pre) (c .before .before .before .before .before .before .before .set-run .kept .0) (omega arith) (c .before .before .before .before .loop .inv .1) _ (c .before .before .half .ensures)
 
 add-column : tie.Need-add-column Inv-loop μ-loop
-add-column c = omega (arith, table-length (c .before .before .before .before .before .before .before .before .before .before .before .before .before .before .before .before .before .before .before), row-fits (c .before .before .before .before .before .before .before .before .before .before .before .before .before .before .before .before .before .before .before .pre) (c .before .before .before .before .before .before .before .before .before .before .before .clear .kept .0) (omega arith) (c .before .before .before .before .before .before .before .before .loop .inv .1))
+add-column c = omega (arith, table-length (c .before .before .before .before .before .before .before .before .before .before .before .before .before .before .before .before .before .before .before), row-fits (c .before .before .before .before .before .before .before .before .before .before .before .before .before .before .before .before .before .before .before .pre) (c .before .before .before .before .before .before .before .before .before .before .before .set-run .kept .0) (omega arith) (c .before .before .before .before .before .before .before .before .loop .inv .1))
 
 add-b : tie.Need-add-b Inv-loop μ-loop
 add-b c = search needs
@@ -47,13 +47,13 @@ loop-less : tie.Need-loop-less Inv-loop μ-loop
 loop-less c = search needs
 
 loop-again : tie.Need-loop-again Inv-loop μ-loop
-loop-again c = (refl, row-more (c .before .before .before .before .before .before .before .before .before .before .before .before .before .before .before .before .before .before .before .pre) (c .before .before .before .before .before .before .before .before .before .before .before .clear .kept .0) (omega arith) (c .before .before .before .before .before .before .before .before .loop .inv .1) _ _ (c .before .before .before .make-cell .kept .0) (c .before .before .before .before .before .before .half .ensures) (c .before .before .before .make-cell .ensures .0) (c .before .before .before .make-cell .ensures .1) (c .before .before .before .make-cell .ensures .2))
+loop-again c = (refl, row-more (c .before .before .before .before .before .before .before .before .before .before .before .before .before .before .before .before .before .before .before .pre) (c .before .before .before .before .before .before .before .before .before .before .before .set-run .kept .0) (omega arith) (c .before .before .before .before .before .before .before .before .loop .inv .1) _ _ (c .before .before .before .make-cell .kept .0) (c .before .before .before .before .before .before .half .ensures) (c .before .before .before .make-cell .ensures .0) (c .before .before .before .make-cell .ensures .1) (c .before .before .before .make-cell .ensures .2))
 
 same-length : tie.Need-same-length Inv-loop μ-loop
-same-length c = c .before .loop .inv .1 .same ∙ c .before .before .before .before .clear .kept .0
+same-length c = c .before .loop .inv .1 .same ∙ c .before .before .before .before .set-run .kept .0
 
 returns : tie.Need-returns Inv-loop μ-loop
-returns c = row-end (c .before .before .before .before .before .before .before .before .before .before .before .before .pre) (c .before .before .before .before .clear .ensures) (omega arith) (c .before .loop .inv .1)
+returns c = row-end (c .before .before .before .before .before .before .before .before .before .before .before .before .pre) (c .before .before .before .before .set-run .ensures) (omega arith) (c .before .loop .inv .1)
 
 pub fill-row-spec : {M : Type 1} → statement M
 fill-row-spec =
@@ -61,7 +61,7 @@ fill-row-spec =
     (tie.spec
     Inv-loop
     μ-loop
-    clear-requires
+    set-run-requires
     loop-holds
     half-requires
     add-t20

@@ -1,4 +1,4 @@
--- `table::clear` meets its contract.
+-- `table::set_run` meets its contract.
 use borrow.Author.Needs.{needs}
 use native.Mathlib.Omega.{arith}
 use mathlib.Core.Path.{_≡_, refl}
@@ -6,14 +6,14 @@ use Prim.Native.Nat.{_-_, _≤_}
 use lib.ListN.{length, length-set}
 use Rattle.table.specs.Words.{Run}
 use Rattle.table.proofs.Words.{run-none, run-more}
-use Rattle.table.proofs.clear.Statement.{statement}
-use Rattle.table.proofs.clear.Tie as tie
+use Rattle.table.proofs.set_run.Statement.{statement}
+use Rattle.table.proofs.set_run.Tie as tie
 
 abbrev Inv-loop : tie.InvT-loop
-Inv-loop table₀ at m j₀ table j = (j ≤ m) × (length table ≡ length table₀) × Run (λ j. 0) at j table₀ table
+Inv-loop table₀ at m v j₀ table j = (j ≤ m) × (length table ≡ length table₀) × Run (λ j. v) at j table₀ table
 
 abbrev μ-loop : tie.MeasureT-loop
-μ-loop table₀ at m j₀ table j = m - j
+μ-loop table₀ at m v j₀ table j = m - j
 
 loop-holds : tie.Need-loop-holds Inv-loop μ-loop
 loop-holds c = (omega arith, refl, run-none _ _ _)
@@ -42,8 +42,8 @@ same-length c = c .before .loop .inv .1
 returns : tie.Need-returns Inv-loop μ-loop
 returns c = let e : c .before .loop .j ≡ c .before .before .args .m = omega arith in rw e at (c .before .loop .inv .2)
 
-pub clear-spec : {M : Type 1} → statement M
-clear-spec =
+pub set-run-spec : {M : Type 1} → statement M
+set-run-spec =
     tie.close
     (tie.spec
     Inv-loop

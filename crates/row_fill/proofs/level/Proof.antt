@@ -1,28 +1,28 @@
--- `table::level` meets its contract. The loop's invariant: the words passed are v, every other word is as it was.
+-- `row_fill::level` meets its contract. The loop's invariant: the units passed are v, every other unit is as it was.
 use borrow.Author.Needs.{needs}
 use native.Mathlib.Omega.{arith}
 use mathlib.Core.Path.{_≡_, refl}
 use Prim.Native.Nat.{_-_, _≤_}
 use lib.ListN.{length, length-set}
 use Rattle.table.specs.Words.{Run}
-use Rattle.table.proofs.Words.{level-none, level-more}
-use Rattle.table.proofs.level.Statement.{statement}
-use Rattle.table.proofs.level.Tie as tie
+use Rattle.row_fill.proofs.Raising.{level-none, level-more}
+use Rattle.row_fill.proofs.level.Statement.{statement}
+use Rattle.row_fill.proofs.level.Tie as tie
 
 abbrev Inv-loop : tie.InvT-loop
-Inv-loop words₀ from x v y₀ words y = (from ≤ y) × (y ≤ x) × (length words ≡ length words₀) × Run (λ j. v) from (y - from) words₀ words
+Inv-loop unit₀ from x v y₀ unit y = (from ≤ y) × (y ≤ x) × (length unit ≡ length unit₀) × Run (λ j. v) from (y - from) unit₀ unit
 
 abbrev μ-loop : tie.MeasureT-loop
-μ-loop words₀ from x v y₀ words y = x - y
+μ-loop unit₀ from x v y₀ unit y = x - y
 
 loop-holds : tie.Need-loop-holds Inv-loop μ-loop
 loop-holds c = (omega arith, search needs, refl, level-none _ _ _)
 
-mul-words : tie.Need-mul-words Inv-loop μ-loop
-mul-words c = search needs
+mul-unit : tie.Need-mul-unit Inv-loop μ-loop
+mul-unit c = search needs
 
-slice-write-words : tie.Need-slice-write-words Inv-loop μ-loop
-slice-write-words c = search needs
+slice-write-unit : tie.Need-slice-write-unit Inv-loop μ-loop
+slice-write-unit c = search needs
 
 add-y : tie.Need-add-y Inv-loop μ-loop
 add-y c = search needs
@@ -46,8 +46,8 @@ level-spec =
     Inv-loop
     μ-loop
     loop-holds
-    mul-words
-    slice-write-words
+    mul-unit
+    slice-write-unit
     add-y
     loop-less
     loop-again
