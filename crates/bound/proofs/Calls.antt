@@ -1,42 +1,66 @@
 -- What the bound call promises, from the job's and the weights' verdicts and from the bound of an accepted job.
 use mathlib.Core.Path.{_≡_, refl, sym, _∙_, ap, subst}
 use mathlib.Core.List.{List}
-use Prim.Native.Nat.{ℕ}
+use Prim.Native.Nat.{ℕ, _≤_}
+use lib.ListN.{length}
 use native.Mathlib.Omega.{arith}
-use Rattle.cutting.specs.Job.{Job, capacity}
+use Rattle.cutting.specs.declared.Sides.{Sides}
+use Rattle.cutting.specs.Limits.{most-kinds}
+use Rattle.cutting.specs.Sides.{rect-of, sides-of}
+use Rattle.cutting.specs.Job.{Job, InRange}
+use Rattle.cutting.specs.Listed.{heavy-in, pieces-job, PieceArray}
 use Rattle.cutting.specs.Promises.{Recursion, NormalSums, FloorFigures}
 use Rattle.cutting.proofs.Promises.{recursion, normal-listed, floor-figures}
 use Rattle.refusal.specs.Refusals.{next, first-refusal, by-check, outcome-by}
 use Rattle.refusal.specs.declared.Refusal.{Refusal}
 use Rattle.refusal.specs.declared.Checked.{Checked}
 use Rattle.refusal.specs.declared.Checked.the-variants.{Passed, Refused}
+use Rattle.job.specs.declared.Choices.{Choices}
 use Rattle.job.specs.declared.JobRecord.{JobRecord}
 use Rattle.job.specs.Block.{job-of}
 use Rattle.job.specs.Weights.{block-job, weight-in, Accepted}
 use Rattle.job.proofs.Checks.{passed-both}
 use Rattle.job.proofs.Weights.{weights-passed, accepted-both, accepted-in-range}
 use Rattle.job.proofs.Taken.{Taken}
-use Rattle.bound.specs.Bound.{Memory, Leaves, answer-by, memory-checks, bound-report, report-values, accept-verdict, bound-verdict, bound-answer, bound-outcome, bound-said, BoundSaid}
-use Rattle.bound.specs.Contracts.{Weighed, Bounded}
+use Rattle.bound.specs.Bound.{Memory, Leaves, answer-by, memory-checks, report-values, block-capacity, block-report, accept-verdict, bound-verdict, bound-answer, bound-outcome, bound-said, BoundLeaves, BoundSaid}
+use Rattle.bound.specs.Contracts.{Boundable, Bounded}
 use Rattle.bound.specs.declared.BoundReport.{BoundReport}
 use Rattle.bound.specs.declared.BoundAnswer.{BoundAnswer}
 use Rattle.bound.specs.declared.BoundAnswer.the-variants as answer
+use Rattle.bound.proofs.Listed.{pieces-range, pieces-bounded}
 use Rattle.bound.proofs.Holds.{bound-held, answered-behind}
 
-module _ (J : Job) (weight : ℕ → ℕ) (m : Memory) where
+module _ (J : Job) (weight : ℕ → ℕ) (q : ℕ) (m : Memory) where
   -- a refusal before the storage checks is the call's, and changes nothing
   pub refused-before : {A : Type 0} (a : A) (f : Refusal → A) {v : Checked} {r : Refusal} → v ≡ Refused r
-      → (f r ≡ by-check (next v (first-refusal (memory-checks J weight m))) a f) × Leaves v J weight m m
-  refused-before a f e = (sym (ap (λ v. by-check (next v (first-refusal (memory-checks J weight m))) a f) e), rw e (record { lengths = refl; widths = refl; table = refl }))
+      → (f r ≡ by-check (next v (first-refusal (memory-checks J q m))) a f) × Leaves v J weight q m m
+  refused-before a f e = (sym (ap (λ v. by-check (next v (first-refusal (memory-checks J q m))) a f) e), rw e (record { lengths = refl; widths = refl; table = refl }))
 
--- what the bound of a job asks, from a job and a capacity that were taken from an accepted block
-pub weighed : (s ws : List ℕ) {j : JobRecord} {q : ℕ} → Taken s ws j q → Weighed (job-of j) ws q
-weighed s ws t =
-    let n = accepted-both s ws (t .accepted) .1 in
-    let k = weights-passed (block-job s) ws n in
-    let w : Weighed (block-job s) ws (capacity (block-job s) (weight-in ws)) =
-    record { in-range = accepted-in-range s ws (t .accepted); weights = omega (arith, k .0); total = refl; most = k .1 } in
-    rw (t .record-is, t .capacity-is) w
+-- what listing the pieces and the bound of them ask, from a job and a capacity that were taken from an accepted block
+module _ (s : List ℕ) (choices : Choices) (ws : List ℕ) {j : JobRecord} {q : ℕ} (t : Taken s choices ws j q) where
+  range-taken : InRange (job-of j)
+  range-taken = rw (t .record-is) (accepted-in-range s choices ws (t .accepted))
+
+  pub listable : (j .count ≤ most-kinds) × (j .count ≤ length ws)
+  listable =
+      let k = weights-passed (block-job s choices) ws (accepted-both s choices ws (t .accepted) .1) in
+      (range-taken .kinds .1, omega (arith, k .0, ap (λ j. job-of j .count) (t .record-is)))
+
+  pub boundable : {plate : Sides} {n : ℕ} {pieces floors : List ℕ} → plate ≡ sides-of (job-of j .plate) → PieceArray (job-of j) (weight-in ws) n pieces → length floors ≡ 2002
+      → Boundable (pieces-job (rect-of plate) n pieces) q floors
+  boundable {plate} {n} {pieces} {floors} e a h =
+      let k = weights-passed (block-job s choices) ws (accepted-both s choices ws (t .accepted) .1) in
+      let b : Boundable (pieces-job (job-of j .plate) n pieces) q floors =
+      record { in-range = pieces-range (job-of j) (weight-in ws) n pieces a range-taken; most = omega (arith, k .1, t .capacity-is); floors-there = h } in
+      subst (λ p. Boundable (pieces-job (rect-of p) n pieces) q floors) (sym e) b
+
+  -- and what the bound of the pieces says of the job's block
+  pub job-bounded : {plate : Sides} {n : ℕ} {pieces floors : List ℕ} {old new : Memory} {r : BoundAnswer} → plate ≡ sides-of (job-of j .plate) → PieceArray (job-of j) (weight-in ws) n pieces
+      → Bounded (pieces-job (rect-of plate) n pieces) (heavy-in pieces) q old new floors r → Bounded (block-job s choices) (weight-in ws) (block-capacity s choices ws) old new floors r
+  job-bounded {plate} {n} {pieces} {floors} {old} {new} {r} e a b =
+      let c = pieces-bounded (job-of j) (weight-in ws) n pieces a q old new floors r (subst (λ p. Bounded (pieces-job (rect-of p) n pieces) (heavy-in pieces) q old new floors r) e b) in
+      let d : Bounded (job-of j) (weight-in ws) (block-capacity s choices ws) old new floors r = subst (λ q. Bounded (job-of j) (weight-in ws) q old new floors r) (t .capacity-is) c in
+      subst (λ j. Bounded (job-of j) (weight-in ws) (block-capacity s choices ws) old new floors r) (t .record-is) d
 
 -- an answer's number and values are those of its verdict
 said-by : (v : Checked) (b : BoundReport) → bound-outcome (answer-by v b) ≡ outcome-by v (report-values b)
@@ -44,33 +68,34 @@ said-by Passed b = refl
 said-by (Refused r) b = refl
 
 -- an answered bound is exact
-pub exact-by : (s ws : List ℕ) (m : Memory) → BoundSaid s ws (bound-answer s ws m)
-exact-by s ws m b e =
-    let w = answered-behind (bound-verdict s ws m) (bound-report (block-job s) (weight-in ws)) (sym e) in
-    let v = passed-both (accept-verdict s ws) (first-refusal (memory-checks (block-job s) (weight-in ws) m)) (w .0) in
-    rw (w .1) (bound-held (block-job s) (weight-in ws) (accepted-in-range s ws (v .0)))
+pub exact-by : (s : List ℕ) (choices : Choices) (ws : List ℕ) (m : Memory) → BoundSaid s choices ws (bound-answer s choices ws m)
+exact-by s choices ws m b e =
+    let w = answered-behind (bound-verdict s choices ws m) (block-report s choices ws) (sym e) in
+    let v = passed-both (accept-verdict s choices ws) (first-refusal (memory-checks (block-job s choices) (block-capacity s choices ws) m)) (w .0) in
+    rw (w .1) (bound-held (block-job s choices) (weight-in ws) (accepted-in-range s choices ws (v .0)))
 
 -- all clauses of the call
-abbrev pub Promised : List ℕ → List ℕ → Memory → Memory → BoundAnswer → Type 0
-Promised s ws old new r = (r ≡ bound-answer s ws old) × ((bound-outcome r ≡ bound-said s ws old) × (Leaves (accept-verdict s ws) (block-job s) (weight-in ws) old new
-    × (BoundSaid s ws r × (Recursion (block-job s) (weight-in ws) × (NormalSums (block-job s) × (Accepted s ws → FloorFigures (block-job s) (weight-in ws)))))))
+abbrev pub Promised : List ℕ → Choices → List ℕ → Memory → Memory → BoundAnswer → Type 0
+Promised s choices ws old new r = (r ≡ bound-answer s choices ws old) × ((bound-outcome r ≡ bound-said s choices ws old) × (BoundLeaves s choices ws old new
+    × (BoundSaid s choices ws r × (Recursion (block-job s choices) (weight-in ws) × (NormalSums (block-job s choices) × (Accepted s choices ws → FloorFigures (block-job s choices) (weight-in ws)))))))
 
-module _ (s ws : List ℕ) (old : Memory) where
+module _ (s : List ℕ) (choices : Choices) (ws : List ℕ) (old : Memory) where
   -- the answer and the memory give the rest
-  promised : {new : Memory} (r : BoundAnswer) → r ≡ bound-answer s ws old → Leaves (accept-verdict s ws) (block-job s) (weight-in ws) old new → Promised s ws old new r
+  promised : {new : Memory} (r : BoundAnswer) → r ≡ bound-answer s choices ws old → BoundLeaves s choices ws old new → Promised s choices ws old new r
   promised r e l =
-      let outcome = ap (λ x. bound-outcome x) e ∙ said-by (bound-verdict s ws old) (bound-report (block-job s) (weight-in ws)) in
-      let exact : BoundSaid s ws r = λ b f. exact-by s ws old b (sym e ∙ f) in
-      let floor : Accepted s ws → FloorFigures (block-job s) (weight-in ws) = λ a. floor-figures (block-job s) (weight-in ws) (accepted-in-range s ws a) in
-      (e, (outcome, (l, (exact, (recursion (block-job s) (weight-in ws), (normal-listed (block-job s), floor))))))
+      let outcome = ap (λ x. bound-outcome x) e ∙ said-by (bound-verdict s choices ws old) (block-report s choices ws) in
+      let exact : BoundSaid s choices ws r = λ b f. exact-by s choices ws old b (sym e ∙ f) in
+      let floor : Accepted s choices ws → FloorFigures (block-job s choices) (weight-in ws) = λ a. floor-figures (block-job s choices) (weight-in ws) (accepted-in-range s choices ws a) in
+      (e, (outcome, (l, (exact, (recursion (block-job s choices) (weight-in ws), (normal-listed (block-job s choices), floor))))))
 
   -- the job or its weights are refused
-  pub early : (r : Refusal) → accept-verdict s ws ≡ Refused r → Promised s ws old old (answer.Refused r)
-  early r v = let p = refused-before (block-job s) (weight-in ws) old (answer.Answered (bound-report (block-job s) (weight-in ws))) answer.Refused v in promised (answer.Refused r) (p .0) (p .1)
+  pub early : (r : Refusal) → accept-verdict s choices ws ≡ Refused r → Promised s choices ws old old (answer.Refused r)
+  early r v =
+      let p = refused-before (block-job s choices) (weight-in ws) (block-capacity s choices ws) old (answer.Answered (block-report s choices ws)) answer.Refused v in
+      promised (answer.Refused r) (p .0) (p .1)
 
   -- both are accepted
-  pub accepted : {j : JobRecord} {q : ℕ} → Taken s ws j q → {new : Memory} {floors : List ℕ} (r : BoundAnswer) → Bounded (job-of j) (weight-in ws) old new floors r → Promised s ws old new r
-  accepted t {new} {floors} r h =
-      let b : Bounded (block-job s) (weight-in ws) old new floors r = subst (λ j. Bounded (job-of j) (weight-in ws) old new floors r) (t .record-is) h in
-      let v = t .accepted in
-      promised r (b .answer ∙ sym (ap (λ v. answer-by (next v (first-refusal (memory-checks (block-job s) (weight-in ws) old))) (bound-report (block-job s) (weight-in ws))) v)) (rw v (b .memory))
+  pub accepted : Accepted s choices ws → {new : Memory} {floors : List ℕ} (r : BoundAnswer) → Bounded (block-job s choices) (weight-in ws) (block-capacity s choices ws) old new floors r
+      → Promised s choices ws old new r
+  accepted v {new} {floors} r b =
+      promised r (b .answer ∙ sym (ap (λ v. answer-by (next v (first-refusal (memory-checks (block-job s choices) (block-capacity s choices ws) old))) (block-report s choices ws)) v)) (rw v (b .memory))

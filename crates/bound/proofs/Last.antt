@@ -8,12 +8,14 @@ use lib.ListN.{getD}
 use Rattle.cutting.specs.declared.Direction.{Direction}
 use Rattle.cutting.specs.declared.Direction.the-variants.{Length, Width}
 use Rattle.cutting.specs.Tree.{side}
-use Rattle.cutting.specs.Job.{Job, InRange, figure-of, bound-of, capacity, normal-floor}
+use Rattle.cutting.specs.Job.{Job, figure-of, normal-floor}
+use Rattle.cutting.specs.Listed.{InTableRange}
+use Rattle.cutting.proofs.Members.{table-solid}
 use Rattle.cutting.proofs.Table.{positions-some, positions-length, positions-normal, positions-floor, figure-floor}
 use Rattle.table.specs.Table.{position-count, position, words-needed, Figures}
 
 -- p and r are at most 1,001
-pub count-most : (J : Job) → InRange J → (d : Direction) → position-count J d ≤ 1001
+pub count-most : (J : Job) → InTableRange J → (d : Direction) → position-count J d ≤ 1001
 count-most J h Length = omega (arith, positions-length J Length, h .plate-length .1)
 count-most J h Width = omega (arith, positions-length J Width, h .plate-width .1)
 
@@ -29,7 +31,7 @@ words-some J q =
     let c : 1 ≤ q + 1 = omega arith in
     omega (arith, mul-le-mul (mul-le-mul a b) c)
 
-pub words-most : (J : Job) → InRange J → (q : ℕ) → q ≤ 4095 → words-needed J q ≤ 4104196096
+pub words-most : (J : Job) → InTableRange J → (q : ℕ) → q ≤ 4095 → words-needed J q ≤ 4104196096
 words-most J h q l =
     let c : q + 1 ≤ 4096 = omega arith in
     omega (arith, mul-le-mul (mul-le-mul (count-most J h Length) (count-most J h Width)) c)
@@ -56,16 +58,14 @@ word-last p r n hp hr =
     let g : ((p - 1) * r + (r - 1) + 1) * (n + 1) ≡ p * r * (n + 1) = rw f in
     omega arith
 
--- the word before the end holds the bound
-pub bound-last : (J : Job) (weight : ℕ → ℕ) → InRange J → (xs : List ℕ) → Figures J weight (capacity J weight) xs
-    → getD xs (words-needed J (capacity J weight) - 1) 0 ≡ bound-of J weight
-bound-last J weight h xs f =
+-- the word before the end holds the figure of the plate
+pub bound-last : (J : Job) (weight : ℕ → ℕ) → InTableRange J → (q : ℕ) (xs : List ℕ) → Figures J weight q xs → getD xs (words-needed J q - 1) 0 ≡ figure-of J weight (J .plate .0) (J .plate .1) q
+bound-last J weight h q xs f =
     let p = position-count J Length in
     let r = position-count J Width in
-    let q = capacity J weight in
     let a = positions-some J Length in
     let b = positions-some J Width in
     rw (← word-last p r q a b)
     (f (p - 1) (r - 1) q (omega arith) (omega arith) (omega arith)
     ∙ ap₂ (λ l w. figure-of J weight l w q) (last-position J Length) (last-position J Width)
-    ∙ sym (figure-floor J weight h (J .plate .0) (J .plate .1) q (omega arith) (omega arith)))
+    ∙ sym (figure-floor J weight (table-solid J h) (J .plate .0) (J .plate .1) q (omega arith) (omega arith)))

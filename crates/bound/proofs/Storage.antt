@@ -9,7 +9,7 @@ use native.Mathlib.Omega.{arith}
 use borrow.Author.Tests.{lt-ltb, le-ltb, ltb-false}
 use Rattle.cutting.specs.declared.Direction.the-variants.{Length, Width}
 use Rattle.cutting.specs.Lists.{over}
-use Rattle.cutting.specs.Job.{Job, capacity, normal-positions}
+use Rattle.cutting.specs.Job.{Job, normal-positions}
 use Rattle.refusal.specs.Refusals.{next, refuse-when, first-refusal}
 use Rattle.refusal.specs.declared.Checked.the-variants.{Passed, Refused}
 use Rattle.refusal.specs.declared.Refusal.{Refusal}
@@ -43,29 +43,29 @@ lists-long m n l w e =
 unreported : {A : Type 0} {r : Refusal} {b : BoundReport} → answer.Refused r ≡ answer.Answered b → A
 unreported e = absurd (let z : _≡_ {A = ℕ} 0 1 = cc in omega arith)
 
-module _ (J : Job) (weight : ℕ → ℕ) (old : Memory) where
+module _ (J : Job) (weight : ℕ → ℕ) (q : ℕ) (old : Memory) where
   -- whether a list is short
   abbrev short : Bool
   short = ltb (length (old .lengths)) (J .plate .0 + 1) || ltb (length (old .widths)) (J .plate .1 + 1)
 
   -- whether the table is short
   abbrev small : Bool
-  small = ltb (length (old .table)) (words-needed J (capacity J weight))
+  small = ltb (length (old .table)) (words-needed J q)
 
   lists-by : (b : Bool) → short ≡ b → first-refusal (list-check J (length (old .lengths)) (length (old .widths)) ∷ []) ≡ next (refuse-when b ListShort) Passed
   unfolding first-refusal
   lists-by b e = ap (λ x. next (refuse-when x ListShort) Passed) e
 
   storage-by : (b c : Bool) → short ≡ b → small ≡ c
-      → first-refusal (memory-checks J weight old) ≡ next (refuse-when b ListShort) (next (refuse-when c (TableShort (words-needed J (capacity J weight)))) Passed)
+      → first-refusal (memory-checks J q old) ≡ next (refuse-when b ListShort) (next (refuse-when c (TableShort (words-needed J q))) Passed)
   unfolding first-refusal
-  storage-by b c e f = ap (λ x. next (refuse-when x ListShort) (next (refuse-when small (TableShort (words-needed J (capacity J weight)))) Passed)) e
-      ∙ ap (λ x. next (refuse-when b ListShort) (next (refuse-when x (TableShort (words-needed J (capacity J weight)))) Passed)) f
+  storage-by b c e f = ap (λ x. next (refuse-when x ListShort) (next (refuse-when small (TableShort (words-needed J q))) Passed)) e
+      ∙ ap (λ x. next (refuse-when b ListShort) (next (refuse-when x (TableShort (words-needed J q))) Passed)) f
 
   -- a list is short: refusal 19, and nothing is changed
-  pub lists-short : {floors : List ℕ} → short ≡ true → Bounded J weight old old floors (answer.Refused ListShort)
+  pub lists-short : {floors : List ℕ} → short ≡ true → Bounded J weight q old old floors (answer.Refused ListShort)
   lists-short e = record {
-    answer = sym (ap (λ v. answer-by v (bound-report J weight)) (storage-by true small e refl));
+    answer = sym (ap (λ v. answer-by v (bound-report J weight q)) (storage-by true small e refl));
     memory = record {
       lengths = sym (ap (λ v. list-after v (normal-positions J Length) (old .lengths)) (lists-by true e));
       widths = sym (ap (λ v. list-after v (normal-positions J Width) (old .widths)) (lists-by true e));
@@ -77,7 +77,7 @@ module _ (J : Job) (weight : ℕ → ℕ) (old : Memory) where
   module _ (new : Memory) (none-short : short ≡ false)
       (lengths : new .lengths ≡ over (normal-positions J Length) (old .lengths)) (widths : new .widths ≡ over (normal-positions J Width) (old .widths)) where
     -- the lists are filled in both cases
-    leaves : (b : Bool) → small ≡ b → TableAfter (next (refuse-when b (TableShort (words-needed J (capacity J weight)))) Passed) J weight (old .table) (new .table) → Leaves Passed J weight old new
+    leaves : (b : Bool) → small ≡ b → TableAfter (next (refuse-when b (TableShort (words-needed J q))) Passed) J weight q (old .table) (new .table) → Leaves Passed J weight q old new
     leaves b f t = record {
       lengths = lengths ∙ sym (ap (λ v. list-after v (normal-positions J Length) (old .lengths)) (lists-by false none-short));
       widths = widths ∙ sym (ap (λ v. list-after v (normal-positions J Width) (old .widths)) (lists-by false none-short));
@@ -85,22 +85,22 @@ module _ (J : Job) (weight : ℕ → ℕ) (old : Memory) where
     }
 
     -- the table is short: refusal 20 with the words needed, and the table is untouched
-    pub table-short : (n : ℕ) → n ≡ words-needed J (capacity J weight) → length (old .table) < n → new .table ≡ old .table → {floors : List ℕ} → Bounded J weight old new floors (answer.Refused (TableShort n))
+    pub table-short : (n : ℕ) → n ≡ words-needed J q → length (old .table) < n → new .table ≡ old .table → {floors : List ℕ} → Bounded J weight q old new floors (answer.Refused (TableShort n))
     table-short n e h t {floors} =
-        let f : small ≡ true = lt-ltb (length (old .table)) (words-needed J (capacity J weight)) (omega arith) in
+        let f : small ≡ true = lt-ltb (length (old .table)) (words-needed J q) (omega arith) in
         record {
-          answer = ap (λ k. answer.Refused (TableShort k)) e ∙ sym (ap (λ v. answer-by v (bound-report J weight)) (storage-by false true none-short f));
+          answer = ap (λ k. answer.Refused (TableShort k)) e ∙ sym (ap (λ v. answer-by v (bound-report J weight q)) (storage-by false true none-short f));
           memory = leaves true f t;
           mapped = λ b e. unreported e;
         }
 
     -- there is room: the report and the figures
-    pub reported : (r : BoundReport) → r ≡ bound-report J weight → words-needed J (capacity J weight) ≤ length (old .table) → FilledBy J weight (capacity J weight) (old .table) (new .table)
-        → {floors : List ℕ} → BothMapped J floors → Bounded J weight old new floors (answer.Answered r)
+    pub reported : (r : BoundReport) → r ≡ bound-report J weight q → words-needed J q ≤ length (old .table) → FilledBy J weight q (old .table) (new .table)
+        → {floors : List ℕ} → BothMapped J floors → Bounded J weight q old new floors (answer.Answered r)
     reported r e h g {floors} m =
-        let f : small ≡ false = le-ltb (length (old .table)) (words-needed J (capacity J weight)) h in
+        let f : small ≡ false = le-ltb (length (old .table)) (words-needed J q) h in
         record {
-          answer = ap (λ x. answer.Answered x) e ∙ sym (ap (λ v. answer-by v (bound-report J weight)) (storage-by false false none-short f));
+          answer = ap (λ x. answer.Answered x) e ∙ sym (ap (λ v. answer-by v (bound-report J weight q)) (storage-by false false none-short f));
           memory = leaves false f g;
           mapped = λ b e. m;
         }

@@ -9,11 +9,12 @@ use lib.ListN.{length}
 use Rattle.cutting.specs.declared.Direction.the-variants.{Length, Width}
 use Rattle.cutting.specs.Limits.{most-figure}
 use Rattle.cutting.specs.Lists.{over}
-use Rattle.cutting.specs.Job.{Job, capacity, figure-of, bound-of, normal-positions}
+use Rattle.cutting.specs.Job.{Job, capacity, figure-of, normal-positions}
 use Rattle.cutting.specs.Promises.{NoneAbove, MostWithin}
 use Rattle.refusal.specs.Refusals.{Check, Outcome, next, first-refusal, by-check, refused-as, outcome-by}
 use Rattle.refusal.specs.declared.Checked.{Checked}
 use Rattle.refusal.specs.declared.Refusal.the-variants.{ListShort, TableShort}
+use Rattle.job.specs.declared.Choices.{Choices}
 use Rattle.job.specs.Block.{job-checks}
 use Rattle.job.specs.Weights.{block-job, weight-in, weight-checks}
 use Rattle.table.specs.Table.{position-count, words-needed, Figures, Kept}
@@ -33,9 +34,9 @@ table-check J q n = (ltb n (words-needed J q), TableShort (words-needed J q))
 abbrev pub storage-checks : Job → ℕ → ℕ → ℕ → ℕ → List Check
 storage-checks J q m n k = list-check J m n ∷ table-check J q k ∷ []
 
--- what the bound call reports of a job and weights: the bound, Q, p and r
-abbrev pub bound-report : Job → (ℕ → ℕ) → BoundReport
-bound-report J weight = record { bound = bound-of J weight; capacity = capacity J weight; «length_count» = position-count J Length; columns = position-count J Width }
+-- what the bound call reports of a job, weights and a capacity: the bound, Q, p and r
+abbrev pub bound-report : Job → (ℕ → ℕ) → ℕ → BoundReport
+bound-report J weight q = record { bound = figure-of J weight (J .plate .0) (J .plate .1) q; capacity = q; «length_count» = position-count J Length; columns = position-count J Width }
 
 -- the report, or the refusal
 abbrev pub answer-by : Checked → BoundReport → BoundAnswer
@@ -46,8 +47,8 @@ abbrev pub list-after : Checked → List ℕ → List ℕ → List ℕ
 list-after v xs old = by-check v (over xs old) (λ r. old)
 
 -- the table after the call: the figures, and later words as they were; on a refusal all as it was
-abbrev pub TableAfter : Checked → Job → (ℕ → ℕ) → List ℕ → List ℕ → Type 0
-TableAfter v J weight old new = by-check v (Figures J weight (capacity J weight) new × Kept (words-needed J (capacity J weight)) old new) (λ r. new ≡ old)
+abbrev pub TableAfter : Checked → Job → (ℕ → ℕ) → ℕ → List ℕ → List ℕ → Type 0
+TableAfter v J weight q old new = by-check v (Figures J weight q new × Kept (words-needed J q) old new) (λ r. new ≡ old)
 
 -- the memory that a call lends: two lists and a table
 pub record Memory : Type 0 where
@@ -60,26 +61,38 @@ abbrev pub lent : List ℕ → List ℕ → List ℕ → Memory
 lent lengths widths table = record { lengths = lengths; widths = widths; table = table }
 
 -- the storage checks of lent memory
-abbrev pub memory-checks : Job → (ℕ → ℕ) → Memory → List Check
-memory-checks J weight m = storage-checks J (capacity J weight) (length (m .lengths)) (length (m .widths)) (length (m .table))
+abbrev pub memory-checks : Job → ℕ → Memory → List Check
+memory-checks J q m = storage-checks J q (length (m .lengths)) (length (m .widths)) (length (m .table))
 
--- what a call leaves in lent memory, where `before` is the verdict of the checks before the storage's
-pub record Leaves (before : Checked) (J : Job) (weight : ℕ → ℕ) (old new : Memory) : Type 0 where
+-- what a call leaves in lent memory at a capacity q, where `before` is the verdict of the checks before the storage's
+pub record Leaves (before : Checked) (J : Job) (weight : ℕ → ℕ) (q : ℕ) (old new : Memory) : Type 0 where
   pub lengths : new .lengths ≡ list-after (next before (first-refusal (list-check J (length (old .lengths)) (length (old .widths)) ∷ []))) (normal-positions J Length) (old .lengths)
   pub widths : new .widths ≡ list-after (next before (first-refusal (list-check J (length (old .lengths)) (length (old .widths)) ∷ []))) (normal-positions J Width) (old .widths)
-  pub table : TableAfter (next before (first-refusal (memory-checks J weight old))) J weight (old .table) (new .table)
+  pub table : TableAfter (next before (first-refusal (memory-checks J q old))) J weight q (old .table) (new .table)
+
+-- the capacity of a job block and weights
+abbrev pub block-capacity : List ℕ → Choices → List ℕ → ℕ
+block-capacity s choices ws = capacity (block-job s choices) (weight-in ws)
 
 -- the verdict of the checks that stand before the storage's, 1 to 9
-abbrev pub accept-verdict : List ℕ → List ℕ → Checked
-accept-verdict s ws = first-refusal (job-checks s ++ weight-checks (block-job s) ws)
+abbrev pub accept-verdict : List ℕ → Choices → List ℕ → Checked
+accept-verdict s choices ws = first-refusal (job-checks s ++ weight-checks (block-job s choices) ws)
 
 -- the verdict of the bound call: 1 to 9, 19, 20
-abbrev pub bound-verdict : List ℕ → List ℕ → Memory → Checked
-bound-verdict s ws m = next (accept-verdict s ws) (first-refusal (memory-checks (block-job s) (weight-in ws) m))
+abbrev pub bound-verdict : List ℕ → Choices → List ℕ → Memory → Checked
+bound-verdict s choices ws m = next (accept-verdict s choices ws) (first-refusal (memory-checks (block-job s choices) (block-capacity s choices ws) m))
+
+-- what the bound call reports of a job block and weights
+abbrev pub block-report : List ℕ → Choices → List ℕ → BoundReport
+block-report s choices ws = bound-report (block-job s choices) (weight-in ws) (block-capacity s choices ws)
 
 -- what the bound call answers
-abbrev pub bound-answer : List ℕ → List ℕ → Memory → BoundAnswer
-bound-answer s ws m = answer-by (bound-verdict s ws m) (bound-report (block-job s) (weight-in ws))
+abbrev pub bound-answer : List ℕ → Choices → List ℕ → Memory → BoundAnswer
+bound-answer s choices ws m = answer-by (bound-verdict s choices ws m) (block-report s choices ws)
+
+-- what it leaves in lent memory
+abbrev pub BoundLeaves : List ℕ → Choices → List ℕ → Memory → Memory → Type 0
+BoundLeaves s choices ws old new = Leaves (accept-verdict s choices ws) (block-job s choices) (weight-in ws) (block-capacity s choices ws) old new
 
 -- a report's values: the bound, Q, p and r
 abbrev pub report-values : BoundReport → List ℕ
@@ -91,8 +104,8 @@ bound-outcome (answer.Answered b) = (0, report-values b)
 bound-outcome (answer.Refused r) = refused-as r
 
 -- the number and values that the call answers
-abbrev pub bound-said : List ℕ → List ℕ → Memory → Outcome
-bound-said s ws m = outcome-by (bound-verdict s ws m) (report-values (bound-report (block-job s) (weight-in ws)))
+abbrev pub bound-said : List ℕ → Choices → List ℕ → Memory → Outcome
+bound-said s choices ws m = outcome-by (bound-verdict s choices ws m) (report-values (block-report s choices ws))
 
 -- what a bound n at the capacity q is: the most that a guillotine tree of weight at most q earns; no less than any tree that keeps the
 -- demands earns; at most 1,000,000,000,000; the recursion's figure at the plate and q
@@ -103,5 +116,5 @@ pub record BoundHolds (J : Job) (weight : ℕ → ℕ) (q n : ℕ) : Type 0 wher
   pub figure : n ≡ figure-of J weight (J .plate .0) (J .plate .1) q
 
 -- what an answer says: its bound holds at its capacity
-abbrev pub BoundSaid : List ℕ → List ℕ → BoundAnswer → Type 0
-BoundSaid s ws r = (b : BoundReport) → r ≡ answer.Answered b → BoundHolds (block-job s) (weight-in ws) (b .capacity) (b .bound)
+abbrev pub BoundSaid : List ℕ → Choices → List ℕ → BoundAnswer → Type 0
+BoundSaid s choices ws r = (b : BoundReport) → r ≡ answer.Answered b → BoundHolds (block-job s choices) (weight-in ws) (b .capacity) (b .bound)

@@ -1,14 +1,14 @@
--- What only the inner contracts of the bound call cite: what the bound of an accepted job asks and leaves, and the floors of both sides in one array.
+-- What only the inner contracts of the bound call cite: what the bound of pieces asks and leaves, and the floors of both sides in one array.
 use mathlib.Core.Path.{_≡_}
 use mathlib.Core.List.{List}
 use Prim.Native.Nat.{ℕ, _+_, _≤_}
 use lib.ListN.{length, drop}
 use Rattle.cutting.specs.declared.Direction.the-variants.{Length, Width}
 use Rattle.cutting.specs.Limits.{most-capacity}
-use Rattle.cutting.specs.Job.{Job, InRange, capacity}
+use Rattle.cutting.specs.Job.{Job}
+use Rattle.cutting.specs.Listed.{InTableRange}
 use Rattle.refusal.specs.Refusals.{first-refusal}
 use Rattle.refusal.specs.declared.Checked.the-variants.{Passed}
-use Rattle.job.specs.Weights.{weight-in}
 use Rattle.positions.specs.Contracts.{Floors}
 use Rattle.table.specs.declared.TableSize.{TableSize}
 use Rattle.table.specs.Contracts.{Mapped}
@@ -30,15 +30,15 @@ pub record BothMapped (J : Job) (floors : List ℕ) : Type 0 where
   pub lengths : Mapped J Length floors
   pub widths : Mapped J Width (drop 1001 floors)
 
--- a job that was read, and weights that were accepted for it with the capacity q
-pub record Weighed (J : Job) (ws : List ℕ) (q : ℕ) : Type 0 where
-  pub in-range : InRange J
-  pub weights : J .count ≤ length ws
-  pub total : q ≡ capacity J (weight-in ws)
+-- what the bound of pieces asks: a plain job in range, a capacity, and room for the floors of both sides
+pub record Boundable (J : Job) (q : ℕ) (floors : List ℕ) : Type 0 where
+  pub in-range : InTableRange J
   pub most : q ≤ most-capacity
+  pub floors-there : length floors ≡ 2002
 
--- the answer of a job and weights that were accepted, what it leaves in lent memory, and where it has a report the floors of both sides
-pub record Bounded (J : Job) (weight : ℕ → ℕ) (old new : Memory) (floors : List ℕ) (r : BoundAnswer) : Type 0 where
-  pub answer : r ≡ answer-by (first-refusal (memory-checks J weight old)) (bound-report J weight)
-  pub memory : Leaves Passed J weight old new
+-- the answer of a job, weights and a capacity that were accepted, what it leaves in lent memory, and where it has a report the floors of
+-- both sides
+pub record Bounded (J : Job) (weight : ℕ → ℕ) (q : ℕ) (old new : Memory) (floors : List ℕ) (r : BoundAnswer) : Type 0 where
+  pub answer : r ≡ answer-by (first-refusal (memory-checks J q old)) (bound-report J weight q)
+  pub memory : Leaves Passed J weight q old new
   pub mapped : (b : BoundReport) → r ≡ Answered b → BothMapped J floors

@@ -1,6 +1,9 @@
 // The bound call: a job block and weights are accepted or refused, the normal positions of both sides go into the lent lists, the
 // figures into the lent table, and the table's last word is the bound. Refusals 1 to 9, 19 and 20.
-use job::JobRecord;
+use cutting::Sides;
+use job::Choices;
+use pieces::list_pieces;
+use pieces::plate_of;
 use positions::map_floors;
 use positions::normal_positions;
 use refusal::Checked;
@@ -13,12 +16,13 @@ ghost use lib.Dec.{ltb};
 ghost use lib.ListN.{length};
 ghost use Rattle.cutting.specs.Limits.{most-side, most-capacity};
 ghost use Rattle.cutting.specs.Promises.{Recursion, NormalSums, FloorFigures};
-ghost use Rattle.job.specs.Block.{job-of};
+ghost use Rattle.cutting.specs.Sides.{rect-of};
+ghost use Rattle.cutting.specs.Listed.{heavy-in, pieces-job};
 ghost use Rattle.job.specs.Weights.{block-job, weight-in, Accepted};
-ghost use Rattle.bound.specs.Bound.{lent, Leaves, accept-verdict, bound-answer, bound-outcome, bound-said, BoundSaid};
+ghost use Rattle.bound.specs.Bound.{lent, bound-answer, bound-outcome, bound-said, BoundLeaves, BoundSaid};
 ghost use Rattle.positions.specs.Contracts.{Mappable};
-ghost use Rattle.table.specs.Contracts.{size-job, each, Fillable, FilledBy};
-ghost use Rattle.bound.specs.Contracts.{SidesMapped, Weighed, Bounded};
+ghost use Rattle.table.specs.Contracts.{size-job, Fillable, FilledBy};
+ghost use Rattle.bound.specs.Contracts.{SidesMapped, Boundable, Bounded};
 
 // What the bound call reports: the bound, the capacity Q, and the numbers p and r of normal lengths and widths.
 pub struct BoundReport {
@@ -61,86 +65,49 @@ fn map_sides(size: TableSize, lengths: &[u16], widths: &[u16], floors: &mut [u16
     map_floors(widths, size.columns, size.width, &mut floors[1001..]);
 }
 
-// The figures of a job, into a table that is long enough: the fill for one share or for many.
-fn fill_table<'a>(
+// The figures of pieces, into a table that is long enough: the fill for one share or for many.
+fn fill_table(
     size: TableSize,
-    kind_lengths: &'a [u16; 64],
-    kind_widths: &'a [u16; 64],
-    prices: &'a [u32; 64],
-    weights: &[u8],
+    pieces: &[u32; 640],
     normal_lengths: &[u16],
     normal_widths: &[u16],
     floors: &[u16],
     table: &mut [u64],
 )
-    requires { ⌜ Fillable (size-job size (now «kind_lengths») (now «kind_widths») (now prices)) (now weights) size (now «normal_lengths») (now «normal_widths») (now floors) (now table) ⌝ }
-    ensures { λ _. ⌜ FilledBy (size-job size (now («kind_lengths» .entry)) (now («kind_widths» .entry)) (now (prices .entry))) (each (now (weights .entry))) (size .capacity) (now (table .entry)) (now (table .exit)) ⌝ }
+    requires { ⌜ Fillable size (now pieces) (now «normal_lengths») (now «normal_widths») (now floors) (now table) ⌝ }
+    ensures { λ _. ⌜ FilledBy (size-job size (now (pieces .entry))) (heavy-in (now (pieces .entry))) (size .capacity) (now (table .entry)) (now (table .exit)) ⌝ }
 {
     if size.capacity == 0 {
-        row_fill::fill(
-            size,
-            kind_lengths,
-            kind_widths,
-            prices,
-            weights,
-            normal_lengths,
-            normal_widths,
-            floors,
-            table,
-        );
+        row_fill::fill(size, pieces, normal_lengths, normal_widths, floors, table);
         return;
     }
-    state_fill::fill_weighed(
-        size,
-        kind_lengths,
-        kind_widths,
-        prices,
-        weights,
-        normal_lengths,
-        normal_widths,
-        floors,
-        table,
-    );
+    state_fill::fill_weighed(size, pieces, normal_lengths, normal_widths, floors, table);
 }
 
-// The bound of a job that was read and weights that were accepted: refusals 19 and 20, then the lists, the floors of both sides, the
-// table and the report. The 2,002 entries for the floors are lent, so that a caller who goes on to write the plan has them.
-pub fn bound_of_job(
-    job: JobRecord,
-    weights: &[u8],
+// The bound of pieces on a plate at a capacity: refusals 19 and 20, then the lists, the floors of both sides, the table and the report. The
+// 2,002 entries for the floors are lent, so that a caller who goes on to write the plan has them.
+pub fn bound_of_pieces(
+    plate: Sides,
+    count: u16,
+    pieces: &[u32; 640],
     q: u16,
     normal_lengths: &mut [u16],
     normal_widths: &mut [u16],
     floors: &mut [u16],
     table: &mut [u64],
 ) -> BoundAnswer
-    requires { ⌜ Weighed (job-of job) (now weights) q × (length (now floors) ≡ 2002) ⌝ }
-    ensures { λ r. ⌜ Bounded (job-of job) (weight-in (now (weights .entry)))
+    requires { ⌜ Boundable (pieces-job (rect-of plate) count (now pieces)) q (now floors) ⌝ }
+    ensures { λ r. ⌜ Bounded (pieces-job (rect-of plate) count (now (pieces .entry))) (heavy-in (now (pieces .entry))) q
         (lent (now («normal_lengths» .entry)) (now («normal_widths» .entry)) (now (table .entry)))
         (lent (now («normal_lengths» .exit)) (now («normal_widths» .exit)) (now (table .exit))) (now (floors .exit)) r ⌝ }
 {
-    let length = job.length;
-    let width = job.width;
-    let count = job.count;
+    let length = plate.length;
+    let width = plate.width;
     if lists_short(normal_lengths.len(), normal_widths.len(), length, width) {
         return BoundAnswer::Refused(Refusal::ListShort);
     }
-    let p = normal_positions(
-        &job.lengths,
-        &job.widths,
-        count,
-        length,
-        width,
-        normal_lengths,
-    );
-    let r = normal_positions(
-        &job.widths,
-        &job.lengths,
-        count,
-        width,
-        length,
-        normal_widths,
-    );
+    let p = normal_positions(pieces, 0, count, length, width, normal_lengths);
+    let r = normal_positions(pieces, 1, count, width, length, normal_widths);
     let needed = words(p, r, q);
     if (table.len() as u64) < needed {
         return BoundAnswer::Refused(Refusal::TableShort(needed));
@@ -156,10 +123,7 @@ pub fn bound_of_job(
     map_sides(size, &normal_lengths[..], &normal_widths[..], floors);
     fill_table(
         size,
-        &job.lengths,
-        &job.widths,
-        &job.prices,
-        weights,
+        pieces,
         &normal_lengths[..],
         &normal_widths[..],
         &floors[..],
@@ -180,27 +144,39 @@ pub fn bound_of_job(
 // largest normal sides it has.
 pub fn bound(
     block: &[u8],
+    choices: Choices,
     weights: &[u8],
     lengths: &mut [u16],
     widths: &mut [u16],
     table: &mut [u64],
 ) -> BoundAnswer
-    ensures answers { λ r. ⌜ r ≡ bound-answer (now (block .entry)) (now (weights .entry)) (lent (now (lengths .entry)) (now (widths .entry)) (now (table .entry))) ⌝ }
-    ensures outcome { λ r. ⌜ bound-outcome r ≡ bound-said (now (block .entry)) (now (weights .entry)) (lent (now (lengths .entry)) (now (widths .entry)) (now (table .entry))) ⌝ }
-    ensures memory { λ _. ⌜ Leaves (accept-verdict (now (block .entry)) (now (weights .entry))) (block-job (now (block .entry))) (weight-in (now (weights .entry)))
-        (lent (now (lengths .entry)) (now (widths .entry)) (now (table .entry))) (lent (now (lengths .exit)) (now (widths .exit)) (now (table .exit))) ⌝ }
-    ensures exact { λ r. ⌜ BoundSaid (now (block .entry)) (now (weights .entry)) r ⌝ }
-    ensures recursion { λ _. ⌜ Recursion (block-job (now (block .entry))) (weight-in (now (weights .entry))) ⌝ }
-    ensures normal { λ _. ⌜ NormalSums (block-job (now (block .entry))) ⌝ }
-    ensures floor { λ _. ⌜ (Accepted (now (block .entry)) (now (weights .entry)) → FloorFigures (block-job (now (block .entry))) (weight-in (now (weights .entry)))) ⌝ }
+    ensures answers { λ r. ⌜ r ≡ bound-answer (now (block .entry)) choices (now (weights .entry)) (lent (now (lengths .entry)) (now (widths .entry)) (now (table .entry))) ⌝ }
+    ensures outcome { λ r. ⌜ bound-outcome r ≡ bound-said (now (block .entry)) choices (now (weights .entry)) (lent (now (lengths .entry)) (now (widths .entry)) (now (table .entry))) ⌝ }
+    ensures memory { λ _. ⌜ BoundLeaves (now (block .entry)) choices (now (weights .entry)) (lent (now (lengths .entry)) (now (widths .entry)) (now (table .entry))) (lent (now (lengths .exit)) (now (widths .exit)) (now (table .exit))) ⌝ }
+    ensures exact { λ r. ⌜ BoundSaid (now (block .entry)) choices (now (weights .entry)) r ⌝ }
+    ensures recursion { λ _. ⌜ Recursion (block-job (now (block .entry)) choices) (weight-in (now (weights .entry))) ⌝ }
+    ensures normal { λ _. ⌜ NormalSums (block-job (now (block .entry)) choices) ⌝ }
+    ensures floor { λ _. ⌜ (Accepted (now (block .entry)) choices (now (weights .entry)) → FloorFigures (block-job (now (block .entry)) choices) (weight-in (now (weights .entry)))) ⌝ }
 {
-    let accepted = job::accept(block, weights);
+    let accepted = job::accept(block, choices, weights);
     let verdict = accepted.verdict;
     if let Checked::Refused(r) = verdict {
         return BoundAnswer::Refused(r);
     }
     let record = accepted.job;
     let q = accepted.capacity;
+    let plate = plate_of(record);
+    let listing = list_pieces(record, weights);
+    let pieces = listing.pieces;
     let mut floors = [0u16; 2002];
-    bound_of_job(record, weights, q, lengths, widths, &mut floors[..], table)
+    bound_of_pieces(
+        plate,
+        listing.count,
+        &pieces,
+        q,
+        lengths,
+        widths,
+        &mut floors[..],
+        table,
+    )
 }

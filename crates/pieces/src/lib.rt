@@ -7,6 +7,7 @@ ghost use mathlib.Core.Path.{_≡_};
 ghost use mathlib.Core.List.{List, _++_};
 ghost use Prim.Native.Nat.{ℕ, _≤_, _<_};
 ghost use lib.ListN.{length};
+ghost use Rattle.cutting.specs.Sides.{sides-of};
 ghost use Rattle.cutting.specs.Pieces as laid;
 ghost use Rattle.cutting.specs.Pieces.{ways};
 ghost use Rattle.cutting.specs.Job.{Job};
@@ -28,6 +29,16 @@ struct Piece {
 pub struct Listing {
     pub count: u16,
     pub pieces: [u32; 640],
+}
+
+// The plate's sides.
+pub fn plate_of(job: JobRecord) -> Sides
+    ensures { λ r. ⌜ r ≡ sides-of (job-of job .plate) ⌝ }
+{
+    Sides {
+        length: job.length,
+        width: job.width,
+    }
 }
 
 // The same piece turned.

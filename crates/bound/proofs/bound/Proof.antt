@@ -1,9 +1,9 @@
--- `bound::bound` meets its contract.
+-- `bound::bound` meets its contract: the pieces of an accepted job are listed, and their bound is the job's.
 use mathlib.Core.Path.{refl}
 use denote.Ref.{now}
-use Rattle.job.proofs.Taken.{taken, refused-both}
+use Rattle.job.proofs.Taken.{Taken, taken, refused-both}
 use Rattle.bound.specs.Bound.{lent}
-use Rattle.bound.proofs.Calls.{weighed, early, accepted}
+use Rattle.bound.proofs.Calls.{listable, boundable, job-bounded, early, accepted}
 use borrow.Author.Needs.{needs}
 use Rattle.bound.proofs.bound.Statement.{statement}
 use Rattle.bound.proofs.bound.Tie as tie
@@ -18,19 +18,28 @@ returns : tie.Need-returns
 returns c =
     let e = c .before .before .before .before .before .before .before .before .before .args in
     let m = lent (now (e .lengths)) (now (e .widths)) (now (e .table)) in
-    early (now (e .block)) (now (e .weights)) m _ (refused-both (now (e .block)) (now (e .weights)) (c .before .before .before .accept .ensures .0) (c .before .verdict .given .1))
+    early (now (e .block)) (e .choices) (now (e .weights)) m _ (refused-both (now (e .block)) (e .choices) (now (e .weights)) (c .before .before .before .accept .ensures .0) (c .before .verdict .given .1))
 
 enum-told : tie.Need-enum-told
 enum-told c = search needs
 
-slice-aggregate-bound-of-job : tie.Need-slice-aggregate-bound-of-job
-slice-aggregate-bound-of-job c = search needs
+plate-of-requires : tie.Need-plate-of-requires
+plate-of-requires c κs = search needs
 
-bound-of-job-requires : tie.Need-bound-of-job-requires
-bound-of-job-requires c κs =
-    let e = c .before .before .before .before .before .before .before .before .before .before .before .before .before .args in
-    let t = taken (now (e .block)) (now (e .weights)) (c .before .before .before .before .before .before .before .accept .ensures .0) (c .before .before .before .before .before .enum-told .given .1) in
-    (weighed (now (e .block)) (now (e .weights)) t, refl)
+list-pieces-requires : tie.Need-list-pieces-requires
+list-pieces-requires c κs =
+    let e = c .before .before .before .before .before .before .before .before .before .before .args in
+    let t = taken (now (e .block)) (e .choices) (now (e .weights)) (c .before .before .before .before .accept .ensures .0) (c .before .before .enum-told .given .1) in
+    listable (now (e .block)) (e .choices) (now (e .weights)) t
+
+slice-aggregate-bound-of-pieces : tie.Need-slice-aggregate-bound-of-pieces
+slice-aggregate-bound-of-pieces c = search needs
+
+bound-of-pieces-requires : tie.Need-bound-of-pieces-requires
+bound-of-pieces-requires c κs =
+    let e = c .before .before .before .before .before .before .before .before .before .before .before .before .before .before .before .before .before .args in
+    let t = taken (now (e .block)) (e .choices) (now (e .weights)) (c .before .before .before .before .before .before .before .before .before .before .before .accept .ensures .0) (c .before .before .before .before .before .before .before .before .before .enum-told .given .1) in
+    boundable (now (e .block)) (e .choices) (now (e .weights)) t (c .before .before .before .before .before .before .before .plate-of .ensures) (c .before .before .before .before .before .before .list-pieces .ensures) refl
 
 same-length : tie.Need-same-length
 same-length c = search needs
@@ -43,9 +52,10 @@ same-length-3 c = search needs
 
 returns-2 : tie.Need-returns-2
 returns-2 c =
-    let e = c .before .before .before .before .before .before .before .before .before .before .before .before .before .before .before .before .before .before .before .before .before .args in
-    let t = taken (now (e .block)) (now (e .weights)) (c .before .before .before .before .before .before .before .before .before .before .before .before .before .before .before .accept .ensures .0) (c .before .before .before .before .before .before .before .before .before .before .before .before .before .enum-told .given .1) in
-    accepted (now (e .block)) (now (e .weights)) _ t _ (c .before .before .before .before .before .before .before .bound-of-job .ensures)
+    let e = c .before .before .before .before .before .before .before .before .before .before .before .before .before .before .before .before .before .before .before .before .before .before .before .before .before .args in
+    let t = taken (now (e .block)) (e .choices) (now (e .weights)) (c .before .before .before .before .before .before .before .before .before .before .before .before .before .before .before .before .before .before .before .accept .ensures .0) (c .before .before .before .before .before .before .before .before .before .before .before .before .before .before .before .before .before .enum-told .given .1) in
+    accepted (now (e .block)) (e .choices) (now (e .weights)) _ (t .accepted) _
+    (job-bounded (now (e .block)) (e .choices) (now (e .weights)) t (c .before .before .before .before .before .before .before .before .before .before .before .before .before .before .before .plate-of .ensures) (c .before .before .before .before .before .before .before .before .before .before .before .before .before .before .list-pieces .ensures) (c .before .before .before .before .before .before .before .bound-of-pieces .ensures))
 
 pub bound-spec : {M : Type 1} → statement M
 bound-spec =
@@ -55,8 +65,10 @@ bound-spec =
     enum-known-verdict
     returns
     enum-told
-    slice-aggregate-bound-of-job
-    bound-of-job-requires
+    plate-of-requires
+    list-pieces-requires
+    slice-aggregate-bound-of-pieces
+    bound-of-pieces-requires
     same-length
     same-length-2
     same-length-3

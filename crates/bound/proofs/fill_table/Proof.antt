@@ -4,13 +4,13 @@ use Rattle.bound.proofs.fill_table.Statement.{statement}
 use Rattle.bound.proofs.fill_table.Tie as tie
 
 fill-requires : tie.Need-fill-requires
-fill-requires c κs = (c .before .before .before .before .before .before .before .before .pre, c .before .if1 .taken)
+fill-requires c κs = (c .before .before .before .before .before .before .before .pre, c .before .if1 .taken)
 
 returns : tie.Need-returns
 returns c = c .before .before .fill .ensures
 
 fill-weighed-requires : tie.Need-fill-weighed-requires
-fill-weighed-requires c κs = c .before .before .before .before .before .before .before .before .pre
+fill-weighed-requires c κs = c .before .before .before .before .before .before .before .pre
 
 returns-2 : tie.Need-returns-2
 returns-2 c = c .before .before .fill-weighed .ensures

@@ -1,0 +1,89 @@
+-- From the pieces back to the job: what is answered and left for the plain job of the array that lists a job's pieces is the job's own.
+use mathlib.Core.Path.{_≡_, refl, sym, _∙_, ap, ap₂, subst}
+use mathlib.Core.List.{List, [], _∷_}
+use Prim.Native.Nat.{ℕ, _+_, _*_, _≤_, _<_}
+use native.Mathlib.Omega.{arith}
+use lib.Dec.{ltb}
+use lib.ListN.{length, getD, drop}
+use Rattle.cutting.specs.declared.Direction.{Direction}
+use Rattle.cutting.specs.declared.Direction.the-variants.{Length, Width}
+use Rattle.cutting.specs.Saws.{floor}
+use Rattle.cutting.specs.Job.{Job, InRange, figure-of, normal-positions}
+use Rattle.cutting.specs.Listed.{InTableRange, size-in, price-in, heavy-in, pieces-job, PieceArray}
+use Rattle.cutting.proofs.Listed.{listed-normal, listed-positions, listed-figure, listed-range}
+use Rattle.refusal.specs.Refusals.{first-refusal}
+use Rattle.refusal.specs.declared.Checked.{Checked}
+use Rattle.refusal.specs.declared.Checked.the-variants.{Passed, Refused}
+use Rattle.refusal.specs.declared.Refusal.the-variants.{TableShort}
+use Rattle.table.specs.Table.{position-count, position, words-needed, Figures, Kept}
+use Rattle.table.specs.Contracts.{Mapped}
+use Rattle.bound.specs.Bound.{Memory, list-check, list-after, TableAfter, memory-checks, answer-by, bound-report}
+use Rattle.bound.specs.Contracts.{BothMapped, Bounded}
+use Rattle.bound.specs.declared.BoundAnswer.{BoundAnswer}
+use Rattle.bound.proofs.Storage.{report-is}
+
+module _ (J : Job) (weight : ℕ → ℕ) (n : ℕ) (pieces : List ℕ) (array : PieceArray J weight n pieces) where
+  -- the plain job of the pieces
+  abbrev N : Job
+  N = pieces-job (J .plate) n pieces
+
+  pub pieces-range : InRange J → InTableRange N
+  pieces-range h = listed-range J weight n (size-in pieces) (price-in pieces) (heavy-in pieces) (array .listing) h
+
+  same-positions : (d : Direction) → normal-positions N d ≡ normal-positions J d
+  same-positions d = listed-positions J weight n (size-in pieces) (price-in pieces) (heavy-in pieces) (array .listing) d
+
+  pub same-figure : (l w c : ℕ) → figure-of N (heavy-in pieces) l w c ≡ figure-of J weight l w c
+  same-figure l w c = listed-figure J weight n (size-in pieces) (price-in pieces) (heavy-in pieces) (array .listing) l w c
+
+  pub same-count : (d : Direction) → position-count N d ≡ position-count J d
+  same-count d = ap length (same-positions d)
+
+  same-position : (d : Direction) (a : ℕ) → position N d a ≡ position J d a
+  same-position d a = ap (λ xs. getD xs a 0) (same-positions d)
+
+  pub same-words : (q : ℕ) → words-needed N q ≡ words-needed J q
+  same-words q = ap₂ (λ p r. p * r * (q + 1)) (same-count Length) (same-count Width)
+
+  -- the figures of the table are the job's
+  pub same-figures : (q : ℕ) (xs : List ℕ) → Figures N (heavy-in pieces) q xs → Figures J weight q xs
+  same-figures q xs f a b c ha hb hc =
+      let p = same-count Length in
+      let r = same-count Width in
+      ap (λ r. getD xs ((a * r + b) * (q + 1) + c) 0) (sym r) ∙ f a b c (omega (arith, p)) (omega (arith, r)) hc
+      ∙ same-figure (position N Length a) (position N Width b) c ∙ ap₂ (λ l w. figure-of J weight l w c) (same-position Length a) (same-position Width b)
+
+  same-mapped : (d : Direction) (floors : List ℕ) → Mapped N d floors → Mapped J d floors
+  same-mapped d floors m x h =
+      let f = m x h in
+      (omega (arith, f .0, same-count d), sym (same-position d (getD floors x 0)) ∙ f .1 ∙ ap (λ t. floor t x) (listed-normal J weight n (size-in pieces) (price-in pieces) (heavy-in pieces) (array .listing) d))
+
+  pub same-both : {floors : List ℕ} → BothMapped N floors → BothMapped J floors
+  same-both {floors} m = record { entries = m .entries; lengths = same-mapped Length floors (m .lengths); widths = same-mapped Width (drop 1001 floors) (m .widths) }
+
+  module _ (q : ℕ) (old new : Memory) where
+    same-checks : first-refusal (memory-checks N q old) ≡ first-refusal (memory-checks J q old)
+    same-checks = ap (λ k. first-refusal (list-check J (length (old .lengths)) (length (old .widths)) ∷ (ltb (length (old .table)) k, TableShort k) ∷ [])) (same-words q)
+
+    -- the verdict of the check of the lists
+    abbrev lists : Checked
+    lists = first-refusal (list-check J (length (old .lengths)) (length (old .widths)) ∷ [])
+
+    same-table : (v : Checked) → TableAfter v N (heavy-in pieces) q (old .table) (new .table) → TableAfter v J weight q (old .table) (new .table)
+    same-table Passed t = (same-figures q (new .table) (t .0), subst (λ k. Kept k (old .table) (new .table)) (same-words q) (t .1))
+    same-table (Refused r) t = t
+
+    same-report : bound-report N (heavy-in pieces) q ≡ bound-report J weight q
+    same-report = report-is (same-figure (J .plate .0) (J .plate .1) q) refl (same-count Length) (same-count Width)
+
+    -- so is the whole answer
+    pub pieces-bounded : (floors : List ℕ) (r : BoundAnswer) → Bounded N (heavy-in pieces) q old new floors r → Bounded J weight q old new floors r
+    pieces-bounded floors r b = record {
+      answer = b .answer ∙ ap₂ answer-by same-checks same-report;
+      memory = record {
+        lengths = b .memory .lengths ∙ ap (λ xs. list-after lists xs (old .lengths)) (same-positions Length);
+        widths = b .memory .widths ∙ ap (λ xs. list-after lists xs (old .widths)) (same-positions Width);
+        table = same-table (first-refusal (memory-checks J q old)) (subst (λ v. TableAfter v N (heavy-in pieces) q (old .table) (new .table)) same-checks (b .memory .table));
+      };
+      mapped = λ x e. same-both (b .mapped x e);
+    }
