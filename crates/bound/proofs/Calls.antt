@@ -38,7 +38,7 @@ module _ (J : Job) (weight : ℕ → ℕ) (q : ℕ) (m : Memory) where
 
 -- what listing the pieces and the bound of them ask, from a job and a capacity that were taken from an accepted block
 module _ (s : List ℕ) (choices : Choices) (ws : List ℕ) {j : JobRecord} {q : ℕ} (t : Taken s choices ws j q) where
-  range-taken : InRange (job-of j)
+  pub range-taken : InRange (job-of j)
   range-taken = rw (t .record-is) (accepted-in-range s choices ws (t .accepted))
 
   pub listable : (j .count ≤ most-kinds) × (j .count ≤ length ws)

@@ -1,5 +1,5 @@
 -- What certify promises, from the verdicts of the job, the weights and the plan and from the bound of an accepted job.
-use mathlib.Core.Path.{_≡_, refl, sym, _∙_, ap, ap₂, subst}
+use mathlib.Core.Path.{_≡_, refl, sym, _∙_, ap, ap₂}
 use mathlib.Core.Bool.{Bool, true, false}
 use mathlib.Core.List.{List, [], _∷_}
 use Prim.Native.Nat.{ℕ, _+_, _-_, _≤_}
@@ -11,6 +11,7 @@ use Rattle.refusal.specs.Refusals.{next, first-refusal, outcome-by}
 use Rattle.refusal.specs.declared.Refusal.{Refusal}
 use Rattle.refusal.specs.declared.Checked.{Checked}
 use Rattle.refusal.specs.declared.Checked.the-variants.{Passed, Refused}
+use Rattle.job.specs.declared.Choices.{Choices}
 use Rattle.job.specs.declared.JobRecord.{JobRecord}
 use Rattle.job.specs.declared.JobAnswer.{JobAnswer}
 use Rattle.job.specs.declared.WeightsAnswer.{WeightsAnswer}
@@ -22,7 +23,7 @@ use Rattle.job.proofs.Weights.{refusal-answered, accepted-both}
 use Rattle.job.proofs.Taken.{Taken, both-by}
 use Rattle.plan.specs.declared.PlanAnswer.{PlanAnswer}
 use Rattle.plan.specs.Plan.{plan-answer}
-use Rattle.bound.specs.Bound.{Memory, Leaves, memory-checks, bound-report, accept-verdict}
+use Rattle.bound.specs.Bound.{Memory, Leaves, memory-checks, block-capacity, block-report, accept-verdict}
 use Rattle.bound.specs.Contracts.{Bounded}
 use Rattle.bound.proofs.Holds.{answered-behind, refused-behind}
 use Rattle.bound.proofs.Calls.{refused-before}
@@ -49,77 +50,74 @@ said-by Passed p b h = compared-said p b (h refl)
 said-by (Refused r) p b h = refl
 
 -- all clauses of the call
-abbrev pub Promised : List ℕ → List ℕ → List ℕ → List ℕ → Memory → Memory → Certificate → Type 0
-Promised s ws kinds operands old new r = (r ≡ certificate-of s ws kinds operands old) × ((certificate-outcome r ≡ certificate-said s ws kinds operands old)
-    × (Leaves (plan-verdict s ws kinds operands) (block-job s) (weight-in ws) old new × (BestSaid (block-job s) (weight-in ws) kinds operands r × GapSaid (block-job s) (weight-in ws) kinds operands r)))
+abbrev pub Promised : List ℕ → Choices → List ℕ → List ℕ → List ℕ → Memory → Memory → Certificate → Type 0
+Promised s choices ws kinds operands old new r = (r ≡ certificate-of s choices ws kinds operands old) × ((certificate-outcome r ≡ certificate-said s choices ws kinds operands old)
+    × (Leaves (plan-verdict s choices ws kinds operands) (block-job s choices) (weight-in ws) (block-capacity s choices ws) old new × (BestSaid (block-job s choices) (weight-in ws) kinds operands r × GapSaid (block-job s choices) (weight-in ws) kinds operands r)))
 
-module _ (s ws kinds operands : List ℕ) (old : Memory) where
-  most : certify-verdict s ws kinds operands old ≡ Passed → plan-answer (block-job s) kinds operands .report .profit ≤ bound-of (block-job s) (weight-in ws)
-  most h = let b = behind s ws kinds operands old h in drawn-most s ws kinds operands (b .0) (b .1)
+module _ (s : List ℕ) (choices : Choices) (ws kinds operands : List ℕ) (old : Memory) where
+  most : certify-verdict s choices ws kinds operands old ≡ Passed → plan-answer (block-job s choices) kinds operands .report .profit ≤ bound-of (block-job s choices) (weight-in ws)
+  most h = let b = behind s choices ws kinds operands old h in drawn-most s choices ws kinds operands (b .0) (b .1)
 
   -- the certificate where no check refuses
   abbrev unrefused : Certificate
-  unrefused = compared (plan-answer (block-job s) kinds operands .report .profit) (bound-of (block-job s) (weight-in ws))
+  unrefused = compared (plan-answer (block-job s choices) kinds operands .report .profit) (bound-of (block-job s choices) (weight-in ws))
 
   -- the answer and the memory give the rest
-  promised : {new : Memory} (r : Certificate) → r ≡ certificate-of s ws kinds operands old → Leaves (plan-verdict s ws kinds operands) (block-job s) (weight-in ws) old new
-      → Promised s ws kinds operands old new r
+  promised : {new : Memory} (r : Certificate) → r ≡ certificate-of s choices ws kinds operands old → Leaves (plan-verdict s choices ws kinds operands) (block-job s choices) (weight-in ws) (block-capacity s choices ws) old new
+      → Promised s choices ws kinds operands old new r
   promised r e l =
-      let hold = certificates-hold s ws kinds operands old in
-      let outcome = ap (λ x. certificate-outcome x) e ∙ said-by (certify-verdict s ws kinds operands old) _ _ most in
-      let best : BestSaid (block-job s) (weight-in ws) kinds operands r = λ n f. hold .0 n (sym e ∙ f) in
-      let gap : GapSaid (block-job s) (weight-in ws) kinds operands r = λ n g f. hold .1 n g (sym e ∙ f) in
+      let hold = certificates-hold s choices ws kinds operands old in
+      let outcome = ap (λ x. certificate-outcome x) e ∙ said-by (certify-verdict s choices ws kinds operands old) _ _ most in
+      let best : BestSaid (block-job s choices) (weight-in ws) kinds operands r = λ n f. hold .0 n (sym e ∙ f) in
+      let gap : GapSaid (block-job s choices) (weight-in ws) kinds operands r = λ n g f. hold .1 n g (sym e ∙ f) in
       (e, (outcome, (l, (best, gap))))
 
   -- a refusal before the storage checks, handed on
-  early : {v : Checked} (r : Refusal) {c : Certificate} → plan-verdict s ws kinds operands ≡ Refused r → v ≡ Refused r → c ≡ handed-on v (compared 0 0) → Promised s ws kinds operands old old c
-  early r {c} e v h = let p = refused-before (block-job s) (weight-in ws) old unrefused certificate.Refused e in promised c (h ∙ ap (λ v. handed-on v (compared 0 0)) v ∙ p .0) (p .1)
+  early : {v : Checked} (r : Refusal) {c : Certificate} → plan-verdict s choices ws kinds operands ≡ Refused r → v ≡ Refused r → c ≡ handed-on v (compared 0 0) → Promised s choices ws kinds operands old old c
+  early r {c} e v h = let p = refused-before (block-job s choices) (weight-in ws) (block-capacity s choices ws) old unrefused certificate.Refused e in promised c (h ∙ ap (λ v. handed-on v (compared 0 0)) v ∙ p .0) (p .1)
 
   -- the plan's verdict after that of job and weights
-  after : {v : Checked} → accept-verdict s ws ≡ v → plan-verdict s ws kinds operands ≡ next v (plan-answer (block-job s) kinds operands .verdict)
-  after e = ap (λ v. next v (plan-answer (block-job s) kinds operands .verdict)) e
+  after : {v : Checked} → accept-verdict s choices ws ≡ v → plan-verdict s choices ws kinds operands ≡ next v (plan-answer (block-job s choices) kinds operands .verdict)
+  after e = ap (λ v. next v (plan-answer (block-job s choices) kinds operands .verdict)) e
 
-  module _ {a : JobAnswer} (read : a ≡ read-of s) where
-    pub job-refused : (r : Refusal) {c : Certificate} → a .verdict ≡ Refused r → c ≡ handed-on (a .verdict) (compared 0 0) → Promised s ws kinds operands old old c
-    job-refused r p h = early r (after (both-by s ws (refused s read p) refl)) p h
+  module _ {a : JobAnswer} (read : a ≡ read-of s choices) where
+    pub job-refused : (r : Refusal) {c : Certificate} → a .verdict ≡ Refused r → c ≡ handed-on (a .verdict) (compared 0 0) → Promised s choices ws kinds operands old old c
+    job-refused r p h = early r (after (both-by s choices ws (refused s choices read p) refl)) p h
 
     pub weights-refused : {w : WeightsAnswer} {v : Checked} (r : Refusal) {c : Certificate} → a .verdict ≡ Passed → w ≡ weights-answer (job-of (a .job)) ws → w ≡ weights.Refused r → v ≡ weights-verdict w
-        → c ≡ handed-on v (compared 0 0) → Promised s ws kinds operands old old c
+        → c ≡ handed-on v (compared 0 0) → Promised s choices ws kinds operands old old c
     weights-refused r p f g u h =
-        let j = answered s read p in
-        let k = refusal-answered (block-job s) ws r (sym (f ∙ ap (λ j. weights-answer (job-of j) ws) (j .1)) ∙ g) in
-        early r (after (both-by s ws (j .0) k)) (u ∙ ap (λ w. weights-verdict w) g) h
+        let j = answered s choices read p in
+        let k = refusal-answered (block-job s choices) ws r (sym (f ∙ ap (λ j. weights-answer (job-of j) ws) (j .1)) ∙ g) in
+        early r (after (both-by s choices ws (j .0) k)) (u ∙ ap (λ w. weights-verdict w) g) h
 
-  module _ {j : JobRecord} {q : ℕ} (t : Taken s ws j q) {a : PlanAnswer} (drawn : a ≡ plan-answer (job-of j) kinds operands) where
-    drawn-is : a ≡ plan-answer (block-job s) kinds operands
+  module _ {j : JobRecord} {q : ℕ} (t : Taken s choices ws j q) {a : PlanAnswer} (drawn : a ≡ plan-answer (job-of j) kinds operands) where
+    drawn-is : a ≡ plan-answer (block-job s choices) kinds operands
     drawn-is = drawn ∙ ap (λ j. plan-answer (job-of j) kinds operands) (t .record-is)
 
-    walked : plan-verdict s ws kinds operands ≡ a .verdict
+    walked : plan-verdict s choices ws kinds operands ≡ a .verdict
     walked = after (t .accepted) ∙ sym (ap (λ (x : PlanAnswer). x .verdict) drawn-is)
 
-    pub plan-refused : (r : Refusal) {c : Certificate} → a .verdict ≡ Refused r → c ≡ handed-on (a .verdict) (compared 0 0) → Promised s ws kinds operands old old c
+    pub plan-refused : (r : Refusal) {c : Certificate} → a .verdict ≡ Refused r → c ≡ handed-on (a .verdict) (compared 0 0) → Promised s choices ws kinds operands old old c
     plan-refused r p h = early r (walked ∙ p) p h
 
-    module _ (passed : a .verdict ≡ Passed) {new : Memory} {floors : List ℕ} {found : BoundAnswer} (bounded : Bounded (job-of j) (weight-in ws) old new floors found) where
-      whole : Bounded (block-job s) (weight-in ws) old new floors found
-      whole = subst (λ j. Bounded (job-of j) (weight-in ws) old new floors found) (t .record-is) bounded
-
-      left : Leaves (plan-verdict s ws kinds operands) (block-job s) (weight-in ws) old new
+    module _ (passed : a .verdict ≡ Passed) {new : Memory} {floors : List ℕ} {found : BoundAnswer} (whole : Bounded (block-job s choices) (weight-in ws) (block-capacity s choices ws) old new floors found) where
+      left : Leaves (plan-verdict s choices ws kinds operands) (block-job s choices) (weight-in ws) (block-capacity s choices ws) old new
       left = rw (walked ∙ passed) (whole .memory)
 
-      answer : {v : Checked} → first-refusal (memory-checks (block-job s) (weight-in ws) old) ≡ v → certificate-of s ws kinds operands old ≡ handed-on v unrefused
+      answer : {v : Checked} → first-refusal (memory-checks (block-job s choices) (block-capacity s choices ws) old) ≡ v → certificate-of s choices ws kinds operands old ≡ handed-on v unrefused
       answer e = ap (λ v. handed-on v unrefused) (ap₂ next (walked ∙ passed) e)
 
-      pub storage-refused : {v : Checked} (r : Refusal) {c : Certificate} → found ≡ bound.Refused r → v ≡ storage-verdict found → c ≡ handed-on v (compared 0 0) → Promised s ws kinds operands old new c
+      pub storage-refused : {v : Checked} (r : Refusal) {c : Certificate} → found ≡ bound.Refused r → v ≡ storage-verdict found → c ≡ handed-on v (compared 0 0) → Promised s choices ws kinds operands old new c
       storage-refused r {c} e u h = promised c (h ∙ ap (λ v. handed-on v (compared 0 0)) (u ∙ ap (λ f. storage-verdict f) e)
-          ∙ sym (answer (refused-behind _ (bound-report (block-job s) (weight-in ws)) (sym e ∙ whole .answer)))) left
+          ∙ sym (answer (refused-behind _ (block-report s choices ws) (sym e ∙ whole .answer)))) left
 
       module _ (x : BoundReport) (e : found ≡ bound.Answered x) where
         -- the report behind a bound that was answered
-        reported : (first-refusal (memory-checks (block-job s) (weight-in ws) old) ≡ Passed) × (x .bound ≡ bound-of (block-job s) (weight-in ws))
-        reported = let v = answered-behind _ (bound-report (block-job s) (weight-in ws)) (sym e ∙ whole .answer) in (v .0, ap (λ (y : BoundReport). y .bound) (v .1))
+        reported : (first-refusal (memory-checks (block-job s choices) (block-capacity s choices ws) old) ≡ Passed) × (x .bound ≡ bound-of (block-job s choices) (weight-in ws))
+        reported = let v = answered-behind _ (block-report s choices ws) (sym e ∙ whole .answer) in (v .0, ap (λ (y : BoundReport). y .bound) (v .1))
 
-        pub certified : {c : Certificate} → c ≡ compared (a .report .profit) (x .bound) → Promised s ws kinds operands old new c
+        pub certified : {c : Certificate} → c ≡ compared (a .report .profit) (x .bound) → Promised s choices ws kinds operands old new c
         certified {c} h = promised c (h ∙ ap₂ compared (ap (λ (x : PlanAnswer). x .report .profit) drawn-is) (reported .1) ∙ sym (answer (reported .0))) left
 
         -- the profit is at most the bound answered
@@ -128,5 +126,5 @@ module _ (s ws kinds operands : List ℕ) (old : Memory) where
           arith,
           ap (λ (x : PlanAnswer). x .report .profit) drawn-is,
           reported .1,
-          drawn-most s ws kinds operands (accepted-both s ws (t .accepted) .0) (sym (ap (λ (x : PlanAnswer). x .verdict) drawn-is) ∙ passed),
+          drawn-most s choices ws kinds operands (accepted-both s choices ws (t .accepted) .0) (sym (ap (λ (x : PlanAnswer). x .verdict) drawn-is) ∙ passed),
         )

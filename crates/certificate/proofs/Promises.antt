@@ -8,6 +8,7 @@ use Rattle.cutting.proofs.Plan.{plan-bound}
 use Rattle.cutting.proofs.Promises as trees
 use Rattle.refusal.specs.Refusals.{first-refusal}
 use Rattle.refusal.specs.declared.Checked.the-variants.{Passed}
+use Rattle.job.specs.declared.Choices.{Choices}
 use Rattle.job.specs.Block.{job-checks}
 use Rattle.job.specs.Weights.{block-job, weight-in, weight-checks}
 use Rattle.job.proofs.Checks.{passed-both, append-passed}
@@ -16,65 +17,65 @@ use Rattle.job.proofs.Weights.{accepted-in-range}
 use Rattle.plan.specs.declared.Report.{Report}
 use Rattle.plan.specs.Plan.{plan-answer}
 use Rattle.plan.proofs.Plans.{plans-checked}
-use Rattle.bound.specs.Bound.{Memory, memory-checks, accept-verdict}
+use Rattle.bound.specs.Bound.{Memory, memory-checks, block-capacity, accept-verdict}
 use Rattle.bound.proofs.Calls.{exact-by}
 use Rattle.certificate.specs.Certificate.{certify-verdict, plan-verdict, certificate-of}
 use Rattle.certificate.specs.Promises.{PlansJudged, BoundsHold, PlansEarn, Earns, BestSaid, GapSaid, CertificatesHold, BoundExact}
 use Rattle.certificate.proofs.Comparison.{best-passed, gap-passed, best-equal, gap-differs}
 
 -- a passed plan's report is its tree's own, and it earns at most the bound
-module _ (s ws kinds operands : List ℕ) (good : first-refusal (job-checks s) ≡ Passed) (walked : plan-answer (block-job s) kinds operands .verdict ≡ Passed) where
+module _ (s : List ℕ) (choices : Choices) (ws kinds operands : List ℕ) (good : first-refusal (job-checks s) ≡ Passed) (walked : plan-answer (block-job s choices) kinds operands .verdict ≡ Passed) where
   abbrev J : Job
-  J = block-job s
+  J = block-job s choices
 
   pub drawn : Earns J kinds operands (plan-answer J kinds operands .report .profit)
   drawn =
-      let t = plans-checked J (read-in-range s good .kinds .1) kinds operands .tree walked in
+      let t = plans-checked J (read-in-range s choices good .kinds .1) kinds operands .tree walked in
       (t .0, t .1, sym (ap (λ (r : Report). r .profit) (t .2 .own)))
 
   pub drawn-most : plan-answer J kinds operands .report .profit ≤ bound-of J (weight-in ws)
   drawn-most = let t = drawn in omega (arith, t .2, trees.none-above J (weight-in ws) (t .0) (t .1 .on-plate) (t .1 .demands))
 
-module _ (s ws kinds operands : List ℕ) (m : Memory) (passed : certify-verdict s ws kinds operands m ≡ Passed) where
+module _ (s : List ℕ) (choices : Choices) (ws kinds operands : List ℕ) (m : Memory) (passed : certify-verdict s choices ws kinds operands m ≡ Passed) where
   -- what stands behind a certificate
-  pub behind : (first-refusal (job-checks s) ≡ Passed) × (plan-answer (block-job s) kinds operands .verdict ≡ Passed)
+  pub behind : (first-refusal (job-checks s) ≡ Passed) × (plan-answer (block-job s choices) kinds operands .verdict ≡ Passed)
   behind =
-      let a = passed-both (plan-verdict s ws kinds operands) (first-refusal (memory-checks (block-job s) (weight-in ws) m)) passed in
-      let b = passed-both (accept-verdict s ws) (plan-answer (block-job s) kinds operands .verdict) (a .0) in
-      (append-passed (job-checks s) (weight-checks (block-job s) ws) (b .0) .0, b .1)
+      let a = passed-both (plan-verdict s choices ws kinds operands) (first-refusal (memory-checks (block-job s choices) (block-capacity s choices ws) m)) passed in
+      let b = passed-both (accept-verdict s choices ws) (plan-answer (block-job s choices) kinds operands .verdict) (a .0) in
+      (append-passed (job-checks s) (weight-checks (block-job s choices) ws) (b .0) .0, b .1)
 
 pub plans-judged : PlansJudged
-plans-judged s kinds operands good =
-    let J = block-job s in
-    let c = plans-checked J (read-in-range s good .kinds .1) kinds operands in
+plans-judged s choices kinds operands good =
+    let J = block-job s choices in
+    let c = plans-checked J (read-in-range s choices good .kinds .1) kinds operands in
     (λ p. (let t = c .tree p in (t .0, t .1, t .2 .own)), λ t h. c .passes tt t h)
 
 pub bounds-hold : BoundsHold
-bounds-hold s ws m = exact-by s ws m
+bounds-hold s choices ws m = exact-by s choices ws m
 
 pub plans-earn : PlansEarn
-plans-earn s ws accepted = let h = accepted-in-range s ws accepted in (trees.plan-follows (block-job s) (weight-in ws) h, plan-bound (block-job s) (weight-in ws) h)
+plans-earn s choices ws accepted = let h = accepted-in-range s choices ws accepted in (trees.plan-follows (block-job s choices) (weight-in ws) h, plan-bound (block-job s choices) (weight-in ws) h)
 
 pub bound-exact : BoundExact
-bound-exact s ws accepted = (trees.bound-exact (block-job s) (weight-in ws), trees.none-above (block-job s) (weight-in ws))
+bound-exact s choices ws accepted = (trees.bound-exact (block-job s choices) (weight-in ws), trees.none-above (block-job s choices) (weight-in ws))
 
-module _ (s ws kinds operands : List ℕ) (m : Memory) where
-  best-holds : BestSaid (block-job s) (weight-in ws) kinds operands (certificate-of s ws kinds operands m)
+module _ (s : List ℕ) (choices : Choices) (ws kinds operands : List ℕ) (m : Memory) where
+  best-holds : BestSaid (block-job s choices) (weight-in ws) kinds operands (certificate-of s choices ws kinds operands m)
   best-holds n e =
       let a = best-passed _ _ n e in
-      let b = behind s ws kinds operands m (a .0) in
+      let b = behind s choices ws kinds operands m (a .0) in
       let f = best-equal _ _ n (a .1) in
-      let d = drawn s ws kinds operands (b .0) (b .1) in
-      ((d .0, d .1, d .2 ∙ f .0), sym (f .1), λ t g k. omega (arith, f .1, trees.none-above (block-job s) (weight-in ws) t g k))
+      let d = drawn s choices ws kinds operands (b .0) (b .1) in
+      ((d .0, d .1, d .2 ∙ f .0), sym (f .1), λ t g k. omega (arith, f .1, trees.none-above (block-job s choices) (weight-in ws) t g k))
 
-  gap-holds : GapSaid (block-job s) (weight-in ws) kinds operands (certificate-of s ws kinds operands m)
+  gap-holds : GapSaid (block-job s choices) (weight-in ws) kinds operands (certificate-of s choices ws kinds operands m)
   gap-holds n gap e =
       let a = gap-passed _ _ n gap e in
-      let b = behind s ws kinds operands m (a .0) in
+      let b = behind s choices ws kinds operands m (a .0) in
       let f = gap-differs _ _ n gap (a .1) in
-      let d = drawn s ws kinds operands (b .0) (b .1) in
-      let most = drawn-most s ws kinds operands (b .0) (b .1) in
-      ((d .0, d .1, d .2 ∙ f .0), omega (arith, f .1, most, f .2), omega (arith, f .0, f .1, most), λ t g k. omega (arith, f .0, f .1, most, trees.none-above (block-job s) (weight-in ws) t g k))
+      let d = drawn s choices ws kinds operands (b .0) (b .1) in
+      let most = drawn-most s choices ws kinds operands (b .0) (b .1) in
+      ((d .0, d .1, d .2 ∙ f .0), omega (arith, f .1, most, f .2), omega (arith, f .0, f .1, most), λ t g k. omega (arith, f .0, f .1, most, trees.none-above (block-job s choices) (weight-in ws) t g k))
 
 pub certificates-hold : CertificatesHold
-certificates-hold s ws kinds operands m = (best-holds s ws kinds operands m, gap-holds s ws kinds operands m)
+certificates-hold s choices ws kinds operands m = (best-holds s choices ws kinds operands m, gap-holds s choices ws kinds operands m)

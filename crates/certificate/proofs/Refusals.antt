@@ -8,7 +8,7 @@ use lib.Dec.{ltb}
 use lib.ListN.{length}
 use Rattle.cutting.specs.declared.Direction.the-variants.{Length, Width}
 use Rattle.cutting.specs.Lists.{over}
-use Rattle.cutting.specs.Job.{Job, capacity, normal-positions}
+use Rattle.cutting.specs.Job.{Job, normal-positions}
 use Rattle.refusal.specs.Refusals.{Check, number-of, next, refuse-when, first-refusal}
 use Rattle.refusal.specs.declared.Refusal.{Refusal}
 use Rattle.refusal.specs.declared.Refusal.the-variants.{ListShort, TableShort}
@@ -46,25 +46,25 @@ memory-is : (old new : Memory) → new .lengths ≡ old .lengths → new .widths
 memory-is old new l w t = let e : lent (new .lengths) (new .widths) (new .table) ≡ lent (old .lengths) (old .widths) (old .table) = cc in e
 
 -- the checks before the storage's passed: by whether a list is short and whether the table is
-stored : (b c : Bool) (n : ℕ) (J : Job) (weight : ℕ → ℕ) (old new : Memory)
+stored : (b c : Bool) (n : ℕ) (J : Job) (weight : ℕ → ℕ) (q : ℕ) (old new : Memory)
     → new .lengths ≡ list-after (next (refuse-when b ListShort) Passed) (normal-positions J Length) (old .lengths)
     → new .widths ≡ list-after (next (refuse-when b ListShort) Passed) (normal-positions J Width) (old .widths)
-    → TableAfter (next (refuse-when b ListShort) (next (refuse-when c (TableShort n)) Passed)) J weight (old .table) (new .table)
+    → TableAfter (next (refuse-when b ListShort) (next (refuse-when c (TableShort n)) Passed)) J weight q (old .table) (new .table)
     → (r : Refusal) → next (refuse-when b ListShort) (next (refuse-when c (TableShort n)) Passed) ≡ Refused r → Left Passed J old new r
-stored true c n J weight old new l w t r e =
+stored true c n J weight q old new l w t r e =
     let f : ListShort ≡ r = cc in
     (λ h. memory-is old new l w t, λ p k. absurd (omega (arith, k, ap number-of f)), t)
-stored false true n J weight old new l w t r e =
+stored false true n J weight q old new l w t r e =
     let f : TableShort n ≡ r = cc in
     (λ h. absurd (omega (arith, h, ap number-of f)), λ p k. (l, w), t)
-stored false false n J weight old new l w t r e = absurd (let z : _≡_ {A = ℕ} 0 1 = cc in omega arith)
+stored false false n J weight q old new l w t r e = absurd (let z : _≡_ {A = ℕ} 0 1 = cc in omega arith)
 
 pub memory-kept : MemoryKept
 unfolding first-refusal
-memory-kept Passed J weight old new h r e =
-    stored (ltb (length (old .lengths)) (J .plate .0 + 1) || ltb (length (old .widths)) (J .plate .1 + 1)) (ltb (length (old .table)) (words-needed J (capacity J weight)))
-    (words-needed J (capacity J weight)) J weight old new (h .lengths) (h .widths) (h .table) r e
-memory-kept (Refused x) J weight old new h r e = (
+memory-kept Passed J weight q old new h r e =
+    stored (ltb (length (old .lengths)) (J .plate .0 + 1) || ltb (length (old .widths)) (J .plate .1 + 1)) (ltb (length (old .table)) (words-needed J q))
+    (words-needed J q) J weight q old new (h .lengths) (h .widths) (h .table) r e
+memory-kept (Refused x) J weight q old new h r e = (
   λ k. memory-is old new (h .lengths) (h .widths) (h .table),
   λ p k. absurd (let z : _≡_ {A = ℕ} 0 1 = cc in omega arith),
   h .table,

@@ -7,19 +7,20 @@ use lib.Dec.{eqb}
 use Rattle.cutting.specs.Job.{bound-of}
 use Rattle.refusal.specs.Refusals.{Outcome, next, first-refusal, by-check, refused-as, outcome-by}
 use Rattle.refusal.specs.declared.Checked.{Checked}
+use Rattle.job.specs.declared.Choices.{Choices}
 use Rattle.job.specs.Weights.{block-job, weight-in}
 use Rattle.plan.specs.Plan.{plan-answer}
-use Rattle.bound.specs.Bound.{Memory, memory-checks, accept-verdict}
+use Rattle.bound.specs.Bound.{Memory, memory-checks, block-capacity, accept-verdict}
 use Rattle.certificate.specs.declared.Certificate.{Certificate}
 use Rattle.certificate.specs.declared.Certificate.the-variants as certificate
 
 -- the verdict of the checks that stand before the storage's: 1 to 9, then the plan's, 10 to 18
-abbrev pub plan-verdict : List ℕ → List ℕ → List ℕ → List ℕ → Checked
-plan-verdict s ws kinds operands = next (accept-verdict s ws) (plan-answer (block-job s) kinds operands .verdict)
+abbrev pub plan-verdict : List ℕ → Choices → List ℕ → List ℕ → List ℕ → Checked
+plan-verdict s choices ws kinds operands = next (accept-verdict s choices ws) (plan-answer (block-job s choices) kinds operands .verdict)
 
 -- the verdict of all checks: then storage, 19 and 20
-abbrev pub certify-verdict : List ℕ → List ℕ → List ℕ → List ℕ → Memory → Checked
-certify-verdict s ws kinds operands m = next (plan-verdict s ws kinds operands) (first-refusal (memory-checks (block-job s) (weight-in ws) m))
+abbrev pub certify-verdict : List ℕ → Choices → List ℕ → List ℕ → List ℕ → Memory → Checked
+certify-verdict s choices ws kinds operands m = next (plan-verdict s choices ws kinds operands) (first-refusal (memory-checks (block-job s choices) (block-capacity s choices ws) m))
 
 abbrev pub compared-by : Bool → ℕ → ℕ → Certificate
 compared-by true profit bound = certificate.Best profit
@@ -34,10 +35,10 @@ abbrev pub handed-on : Checked → Certificate → Certificate
 handed-on v c = by-check v c certificate.Refused
 
 -- what certify answers
-abbrev pub certificate-of : List ℕ → List ℕ → List ℕ → List ℕ → Memory → Certificate
-certificate-of s ws kinds operands m =
-    handed-on (certify-verdict s ws kinds operands m)
-    (compared (plan-answer (block-job s) kinds operands .report .profit) (bound-of (block-job s) (weight-in ws)))
+abbrev pub certificate-of : List ℕ → Choices → List ℕ → List ℕ → List ℕ → Memory → Certificate
+certificate-of s choices ws kinds operands m =
+    handed-on (certify-verdict s choices ws kinds operands m)
+    (compared (plan-answer (block-job s choices) kinds operands .report .profit) (bound-of (block-job s choices) (weight-in ws)))
 
 -- the values of a profit and a bound: the gap, the bound and the profit
 abbrev pub certificate-values : ℕ → ℕ → List ℕ
@@ -50,7 +51,7 @@ certificate-outcome (certificate.Gap profit gap) = (0, gap ∷ (profit + gap) �
 certificate-outcome (certificate.Refused r) = refused-as r
 
 -- the number and values that certify answers
-abbrev pub certificate-said : List ℕ → List ℕ → List ℕ → List ℕ → Memory → Outcome
-certificate-said s ws kinds operands m =
-    outcome-by (certify-verdict s ws kinds operands m)
-    (certificate-values (plan-answer (block-job s) kinds operands .report .profit) (bound-of (block-job s) (weight-in ws)))
+abbrev pub certificate-said : List ℕ → Choices → List ℕ → List ℕ → List ℕ → Memory → Outcome
+certificate-said s choices ws kinds operands m =
+    outcome-by (certify-verdict s choices ws kinds operands m)
+    (certificate-values (plan-answer (block-job s choices) kinds operands .report .profit) (bound-of (block-job s choices) (weight-in ws)))

@@ -8,17 +8,19 @@ use Prim.Native.Nat.{ℕ, _+_, _≤_, _<_}
 use Rattle.cutting.specs.declared.Direction.the-variants.{Length, Width}
 use Rattle.cutting.specs.Lists.{over}
 use Rattle.cutting.specs.Tree.{Tree}
-use Rattle.cutting.specs.Job.{Job, profit, capacity, bound-of, normal-positions, bound-plan}
+use Rattle.cutting.specs.Pieces.{Piece}
+use Rattle.cutting.specs.Job.{Job, profit, bound-of, normal-positions, bound-plan}
 use Rattle.cutting.specs.Promises.{NoneAbove, EarnsWithin, MostWithin, PlanFollows}
 use Rattle.refusal.specs.Refusals.{Check, number-of, next, first-refusal}
 use Rattle.refusal.specs.declared.Refusal.{Refusal}
 use Rattle.refusal.specs.declared.Checked.{Checked}
 use Rattle.refusal.specs.declared.Checked.the-variants.{Passed, Refused}
+use Rattle.job.specs.declared.Choices.{Choices}
 use Rattle.job.specs.Block.{job-checks}
 use Rattle.job.specs.Weights.{block-job, weight-in, Accepted}
 use Rattle.plan.specs.Plan.{plan-answer}
 use Rattle.plan.specs.Trees.{PlanOf, tree-report}
-use Rattle.bound.specs.Bound.{Memory, Leaves, memory-checks, bound-answer, BoundSaid}
+use Rattle.bound.specs.Bound.{Memory, Leaves, block-capacity, memory-checks, bound-answer, BoundSaid}
 use Rattle.certificate.specs.Certificate.{certificate-of}
 use Rattle.certificate.specs.declared.Certificate.{Certificate}
 use Rattle.certificate.specs.declared.Certificate.the-variants.{Best, Gap}
@@ -34,8 +36,8 @@ FirstDecides = (cs : List Check) → (first-refusal cs ≡ Passed → NoneHolds 
 
 -- demand 1, lent memory: numbers 1 to 19 change nothing; on 20 the lists are filled; on every refusal the table is as it was
 abbrev pub MemoryKept : Type 0
-MemoryKept = (before : Checked) (J : Job) (weight : ℕ → ℕ) (old new : Memory) → Leaves before J weight old new
-    → (r : Refusal) → next before (first-refusal (memory-checks J weight old)) ≡ Refused r
+MemoryKept = (before : Checked) (J : Job) (weight : ℕ → ℕ) (q : ℕ) (old new : Memory) → Leaves before J weight q old new
+    → (r : Refusal) → next before (first-refusal (memory-checks J q old)) ≡ Refused r
     → (number-of r ≤ 19 → new ≡ old)
     × (before ≡ Passed → number-of r ≡ 20 → (new .lengths ≡ over (normal-positions J Length) (old .lengths)) × (new .widths ≡ over (normal-positions J Width) (old .widths)))
     × (new .table ≡ old .table)
@@ -43,25 +45,25 @@ MemoryKept = (before : Checked) (J : Job) (weight : ℕ → ℕ) (old new : Memo
 -- demand 2, the plan: for every good job block a plan passes exactly when its arrays are those of a guillotine tree on the plate that
 -- keeps every demand and has at most 4,095 nodes, and what it then reports is that tree's own
 abbrev pub PlansJudged : Type 0
-PlansJudged = (s kinds operands : List ℕ) → first-refusal (job-checks s) ≡ Passed
-    → (plan-answer (block-job s) kinds operands .verdict ≡ Passed
-    → (t : Tree ℕ) × PlanOf (block-job s) t kinds operands × (plan-answer (block-job s) kinds operands .report ≡ tree-report (block-job s) t))
-    × ((t : Tree ℕ) → PlanOf (block-job s) t kinds operands → plan-answer (block-job s) kinds operands .verdict ≡ Passed)
+PlansJudged = (s : List ℕ) (choices : Choices) (kinds operands : List ℕ) → first-refusal (job-checks s) ≡ Passed
+    → (plan-answer (block-job s choices) kinds operands .verdict ≡ Passed
+    → (t : Tree Piece) × PlanOf (block-job s choices) t kinds operands × (plan-answer (block-job s choices) kinds operands .report ≡ tree-report (block-job s choices) t))
+    × ((t : Tree Piece) → PlanOf (block-job s choices) t kinds operands → plan-answer (block-job s choices) kinds operands .verdict ≡ Passed)
 
 -- demand 2, the bound: whatever memory is lent, an answered bound is exact at the answered capacity
 abbrev pub BoundsHold : Type 0
-BoundsHold = (s ws : List ℕ) (m : Memory) → BoundSaid s ws (bound-answer s ws m)
+BoundsHold = (s : List ℕ) (choices : Choices) (ws : List ℕ) (m : Memory) → BoundSaid s choices ws (bound-answer s choices ws m)
 
 -- demand 2, the written plan: for every accepted job and weights the plan behind the bound follows the order of choice, and is a
 -- guillotine tree on the plate that weighs at most the capacity and earns the bound
 abbrev pub PlansEarn : Type 0
-PlansEarn = (s ws : List ℕ) → Accepted s ws
-    → PlanFollows (block-job s) (weight-in ws)
-    × EarnsWithin (block-job s) (weight-in ws) (capacity (block-job s) (weight-in ws)) (bound-of (block-job s) (weight-in ws)) (bound-plan (block-job s) (weight-in ws))
+PlansEarn = (s : List ℕ) (choices : Choices) (ws : List ℕ) → Accepted s choices ws
+    → PlanFollows (block-job s choices) (weight-in ws)
+    × EarnsWithin (block-job s choices) (weight-in ws) (block-capacity s choices ws) (bound-of (block-job s choices) (weight-in ws)) (bound-plan (block-job s choices) (weight-in ws))
 
 -- the arrays are those of a guillotine tree on the plate that keeps every demand, and it earns n
 abbrev pub Earns : Job → List ℕ → List ℕ → ℕ → Type 0
-Earns J kinds operands n = (t : Tree ℕ) × PlanOf J t kinds operands × (profit J t ≡ n)
+Earns J kinds operands n = (t : Tree Piece) × PlanOf J t kinds operands × (profit J t ≡ n)
 
 -- what "best" says: the plan's arrays are those of a tree that keeps every demand and earns the profit named, which is the bound, and
 -- none earns more
@@ -75,13 +77,13 @@ GapSaid J weight kinds operands r = (n gap : ℕ) → r ≡ Gap n gap → Earns 
 
 -- demand 3, best: a plan is called best exactly when its profit is the bound, and is then best, whoever drew it; a gap holds
 abbrev pub CertificatesHold : Type 0
-CertificatesHold = (s ws kinds operands : List ℕ) (m : Memory)
-    → BestSaid (block-job s) (weight-in ws) kinds operands (certificate-of s ws kinds operands m)
-    × GapSaid (block-job s) (weight-in ws) kinds operands (certificate-of s ws kinds operands m)
+CertificatesHold = (s : List ℕ) (choices : Choices) (ws kinds operands : List ℕ) (m : Memory)
+    → BestSaid (block-job s choices) (weight-in ws) kinds operands (certificate-of s choices ws kinds operands m)
+    × GapSaid (block-job s choices) (weight-in ws) kinds operands (certificate-of s choices ws kinds operands m)
 
 -- demand 3, exactness: for every accepted job and weights, storage apart, the bound is the most that a tree within the capacity earns,
 -- one earns it, and no tree that keeps every demand earns more
 abbrev pub BoundExact : Type 0
-BoundExact = (s ws : List ℕ) → Accepted s ws
-    → MostWithin (block-job s) (weight-in ws) (capacity (block-job s) (weight-in ws)) (bound-of (block-job s) (weight-in ws))
-    × NoneAbove (block-job s) (bound-of (block-job s) (weight-in ws))
+BoundExact = (s : List ℕ) (choices : Choices) (ws : List ℕ) → Accepted s choices ws
+    → MostWithin (block-job s choices) (weight-in ws) (block-capacity s choices ws) (bound-of (block-job s choices) (weight-in ws))
+    × NoneAbove (block-job s choices) (bound-of (block-job s choices) (weight-in ws))

@@ -1,14 +1,17 @@
 // The certificate: a checked plan's profit against the bound. "Best" is a statement about every guillotine tree that keeps the demands
 // (specs/Promises). The call hands on the first refusal met, 1 to 20, and leaves lists and table as the bound call does.
 use bound::BoundAnswer;
+use job::Choices;
 use job::WeightsAnswer;
+use pieces::list_pieces;
+use pieces::plate_of;
 use refusal::Checked;
 use refusal::Refusal;
 ghost use mathlib.Core.Path.{_≡_};
 ghost use Prim.Native.Nat.{_≤_};
 ghost use Rattle.refusal.specs.declared.Checked.the-variants.{Passed};
 ghost use Rattle.job.specs.Weights.{block-job, weight-in};
-ghost use Rattle.bound.specs.Bound.{lent, Leaves};
+ghost use Rattle.bound.specs.Bound.{lent, Leaves, block-capacity};
 ghost use Rattle.certificate.specs.Certificate.{certificate-of, plan-verdict, compared, handed-on, certificate-outcome, certificate-said};
 ghost use Rattle.certificate.specs.Contracts.{weights-verdict, storage-verdict};
 ghost use Rattle.certificate.specs.Promises.{BestSaid, GapSaid};
@@ -66,6 +69,7 @@ fn conclude(verdict: Checked, profit: u64, bound: u64) -> Certificate
 // the weights', the plan's and the bound's answers are taken apart in the table's order, and the first refusal met is handed on.
 pub fn certify(
     block: &[u8],
+    choices: Choices,
     weights: &[u8],
     kinds: &[u8],
     operands: &[u16],
@@ -73,14 +77,14 @@ pub fn certify(
     widths: &mut [u16],
     table: &mut [u64],
 ) -> Certificate
-    ensures answers { λ r. ⌜ r ≡ certificate-of (now (block .entry)) (now (weights .entry)) (now (kinds .entry)) (now (operands .entry)) (lent (now (lengths .entry)) (now (widths .entry)) (now (table .entry))) ⌝ }
-    ensures outcome { λ r. ⌜ certificate-outcome r ≡ certificate-said (now (block .entry)) (now (weights .entry)) (now (kinds .entry)) (now (operands .entry)) (lent (now (lengths .entry)) (now (widths .entry)) (now (table .entry))) ⌝ }
-    ensures memory { λ _. ⌜ Leaves (plan-verdict (now (block .entry)) (now (weights .entry)) (now (kinds .entry)) (now (operands .entry))) (block-job (now (block .entry))) (weight-in (now (weights .entry)))
+    ensures answers { λ r. ⌜ r ≡ certificate-of (now (block .entry)) choices (now (weights .entry)) (now (kinds .entry)) (now (operands .entry)) (lent (now (lengths .entry)) (now (widths .entry)) (now (table .entry))) ⌝ }
+    ensures outcome { λ r. ⌜ certificate-outcome r ≡ certificate-said (now (block .entry)) choices (now (weights .entry)) (now (kinds .entry)) (now (operands .entry)) (lent (now (lengths .entry)) (now (widths .entry)) (now (table .entry))) ⌝ }
+    ensures memory { λ _. ⌜ Leaves (plan-verdict (now (block .entry)) choices (now (weights .entry)) (now (kinds .entry)) (now (operands .entry))) (block-job (now (block .entry)) choices) (weight-in (now (weights .entry))) (block-capacity (now (block .entry)) choices (now (weights .entry)))
         (lent (now (lengths .entry)) (now (widths .entry)) (now (table .entry))) (lent (now (lengths .exit)) (now (widths .exit)) (now (table .exit))) ⌝ }
-    ensures best { λ r. ⌜ BestSaid (block-job (now (block .entry))) (weight-in (now (weights .entry))) (now (kinds .entry)) (now (operands .entry)) r ⌝ }
-    ensures gap { λ r. ⌜ GapSaid (block-job (now (block .entry))) (weight-in (now (weights .entry))) (now (kinds .entry)) (now (operands .entry)) r ⌝ }
+    ensures best { λ r. ⌜ BestSaid (block-job (now (block .entry)) choices) (weight-in (now (weights .entry))) (now (kinds .entry)) (now (operands .entry)) r ⌝ }
+    ensures gap { λ r. ⌜ GapSaid (block-job (now (block .entry)) choices) (weight-in (now (weights .entry))) (now (kinds .entry)) (now (operands .entry)) r ⌝ }
 {
-    let answer = job::read_job(block);
+    let answer = job::read_job(block, choices);
     let read = answer.verdict;
     let Checked::Passed = read else {
         return conclude(read, 0, 0);
@@ -96,8 +100,19 @@ pub fn certify(
         return conclude(walked, 0, 0);
     };
     let report = drawn.report;
+    let listing = list_pieces(record, weights);
+    let pieces = listing.pieces;
     let mut floors = [0u16; 2002];
-    let found = bound::bound_of_job(record, weights, q, lengths, widths, &mut floors[..], table);
+    let found = bound::bound_of_pieces(
+        plate_of(record),
+        listing.count,
+        &pieces,
+        q,
+        lengths,
+        widths,
+        &mut floors[..],
+        table,
+    );
     let BoundAnswer::Answered(b) = found else {
         return conclude(storage_verdict(found), 0, 0);
     };

@@ -4,7 +4,7 @@ use denote.Ref.{now}
 use Rattle.job.proofs.Read.{read-in-range, answered}
 use Rattle.job.proofs.Taken.{Taken, taken-apart}
 use Rattle.bound.specs.Bound.{Memory, lent}
-use Rattle.bound.proofs.Calls.{weighed}
+use Rattle.bound.proofs.Calls.{range-taken, listable, boundable, job-bounded}
 use Rattle.certificate.proofs.Calls.{job-refused, weights-refused, plan-refused, storage-refused, certified, profit-most}
 use borrow.Author.Needs.{needs}
 use Rattle.certificate.proofs.certify.Statement.{statement}
@@ -19,8 +19,8 @@ abbrev start : tie.After-accepted → tie.Start
 start k = k .before .before .before .before .before .before .before .before .before .before .before .before .before .before
 
 -- job and weights are accepted, and the record and the capacity are theirs
-took : (k : tie.After-accepted) → Taken (now (start k .args .block)) (now (start k .args .weights)) (k .before .before .before .before .before .before .read-job .result .job) (k .accepted .given .0 .0)
-took k = taken-apart _ _ _ (k .before .before .before .before .before .before .read-job .ensures .0) (k .before .before .before .before .enum-told .given .1) (k .before .before .check-weights .ensures .0) (k .accepted .given .1)
+took : (k : tie.After-accepted) → Taken (now (start k .args .block)) (start k .args .choices) (now (start k .args .weights)) (k .before .before .before .before .before .before .read-job .result .job) (k .accepted .given .0 .0)
+took k = taken-apart _ _ _ _ (k .before .before .before .before .before .before .read-job .ensures .0) (k .before .before .before .before .enum-told .given .1) (k .before .before .check-weights .ensures .0) (k .accepted .given .1)
 
 read-job-requires : tie.Need-read-job-requires
 read-job-requires c κs = search needs
@@ -37,13 +37,13 @@ conclude-requires c κs = search needs
 returns : tie.Need-returns
 returns c =
     let e = c .before .before .before .before .before .before .before .before .before .before .before in
-    job-refused (now (e .args .block)) (now (e .args .weights)) (now (e .args .kinds)) (now (e .args .operands)) (memory e) (c .before .before .before .read-job .ensures .0) _ (c .before .enum-told2 .given .1) (c .conclude .ensures)
+    job-refused (now (e .args .block)) (e .args .choices) (now (e .args .weights)) (now (e .args .kinds)) (now (e .args .operands)) (memory e) (c .before .before .before .read-job .ensures .0) _ (c .before .enum-told2 .given .1) (c .conclude .ensures)
 
 check-weights-requires : tie.Need-check-weights-requires
 check-weights-requires c κs =
     let e = c .before .before .before .before .before .before .before .before .before .before .before in
-    let a = answered (now (e .args .block)) (c .before .before .before .read-job .ensures .0) (c .before .enum-told .given .1) in
-    rw (a .1) (read-in-range (now (e .args .block)) (a .0))
+    let a = answered (now (e .args .block)) (e .args .choices) (c .before .before .before .read-job .ensures .0) (c .before .enum-told .given .1) in
+    rw (a .1) (read-in-range (now (e .args .block)) (e .args .choices) (a .0))
 
 enum-known-accepted : tie.Need-enum-known-accepted
 enum-known-accepted c = search needs
@@ -60,13 +60,13 @@ conclude-requires-2 c κs = search needs
 returns-2 : tie.Need-returns-2
 returns-2 c =
     let e = c .before .before .before .before .before .before .before .before .before .before .before .before .before .before .before .before in
-    weights-refused (now (e .args .block)) (now (e .args .weights)) (now (e .args .kinds)) (now (e .args .operands)) (memory e) (c .before .before .before .before .before .before .before .before .read-job .ensures .0) _
+    weights-refused (now (e .args .block)) (e .args .choices) (now (e .args .weights)) (now (e .args .kinds)) (now (e .args .operands)) (memory e) (c .before .before .before .before .before .before .before .before .read-job .ensures .0) _
     (c .before .before .before .before .before .before .enum-told .given .1) (c .before .before .before .before .check-weights .ensures .0) (c .before .before .enum-told3 .given .1) (c .before .weights-verdict .ensures) (c .conclude2 .ensures)
 
 check-nodes-requires : tie.Need-check-nodes-requires
 check-nodes-requires c κs =
     let k = c .before in
-    weighed (now (start k .args .block)) (now (start k .args .weights)) (took k) .in-range
+    range-taken (now (start k .args .block)) (start k .args .choices) (now (start k .args .weights)) (took k)
 
 enum-told-4 : tie.Need-enum-told-4
 enum-told-4 c = search needs
@@ -81,15 +81,23 @@ returns-3 : tie.Need-returns-3
 returns-3 c =
     let k = c .before .before .before .before .before in
     let e = start k in
-    plan-refused (now (e .args .block)) (now (e .args .weights)) (now (e .args .kinds)) (now (e .args .operands)) (memory e) (took k) (c .before .before .before .check-nodes .ensures) _ (c .before .enum-told5 .given .1) (c .conclude3 .ensures)
+    plan-refused (now (e .args .block)) (e .args .choices) (now (e .args .weights)) (now (e .args .kinds)) (now (e .args .operands)) (memory e) (took k) (c .before .before .before .check-nodes .ensures) _ (c .before .enum-told5 .given .1) (c .conclude3 .ensures)
 
-slice-aggregate-bound-of-job : tie.Need-slice-aggregate-bound-of-job
-slice-aggregate-bound-of-job c = search needs
+list-pieces-requires : tie.Need-list-pieces-requires
+list-pieces-requires c κs =
+    let k = c .before .before .before .before .before in
+    listable (now (start k .args .block)) (start k .args .choices) (now (start k .args .weights)) (took k)
 
-bound-of-job-requires : tie.Need-bound-of-job-requires
-bound-of-job-requires c κs =
-    let k = c .before .before .before .before .before .before .before .before .before in
-    (weighed (now (start k .args .block)) (now (start k .args .weights)) (took k), refl)
+plate-of-requires : tie.Need-plate-of-requires
+plate-of-requires c κs = search needs
+
+slice-aggregate-bound-of-pieces : tie.Need-slice-aggregate-bound-of-pieces
+slice-aggregate-bound-of-pieces c = search needs
+
+bound-of-pieces-requires : tie.Need-bound-of-pieces-requires
+bound-of-pieces-requires c κs =
+    let k = c .before .before .before .before .before .before .before .before .before .before .before .before .before in
+    boundable (now (start k .args .block)) (start k .args .choices) (now (start k .args .weights)) (took k) (c .before .before .before .before .before .plate-of .ensures) (c .before .before .before .before .before .before .before .list-pieces .ensures) refl
 
 enum-known-found : tie.Need-enum-known-found
 enum-known-found c = search needs
@@ -114,17 +122,17 @@ same-length-3 c = search needs
 
 returns-4 : tie.Need-returns-4
 returns-4 c =
-    let k = c .before .before .before .before .before .before .before .before .before .before .before .before .before .before .before .before .before .before .before .before .before in
+    let k = c .before .before .before .before .before .before .before .before .before .before .before .before .before .before .before .before .before .before .before .before .before .before .before .before .before in
     let e = start k in
-    storage-refused (now (e .args .block)) (now (e .args .weights)) (now (e .args .kinds)) (now (e .args .operands)) (memory e) (took k) (c .before .before .before .before .before .before .before .before .before .before .before .before .before .before .before .before .before .before .before .check-nodes .ensures) (c .before .before .before .before .before .before .before .before .before .before .before .before .before .before .before .before .before .enum-told4 .given .1)
-    (c .before .before .before .before .before .before .before .before .before .before .before .bound-of-job .ensures) _ (c .before .before .enum-told6 .given .1) (c .before .storage-verdict .ensures) (c .conclude4 .ensures)
+    storage-refused (now (e .args .block)) (e .args .choices) (now (e .args .weights)) (now (e .args .kinds)) (now (e .args .operands)) (memory e) (took k) (c .before .before .before .before .before .before .before .before .before .before .before .before .before .before .before .before .before .before .before .before .before .before .before .check-nodes .ensures) (c .before .before .before .before .before .before .before .before .before .before .before .before .before .before .before .before .before .before .before .before .before .enum-told4 .given .1)
+    (job-bounded (now (e .args .block)) (e .args .choices) (now (e .args .weights)) (took k) (c .before .before .before .before .before .before .before .before .before .before .before .before .before .before .before .before .before .plate-of .ensures) (c .before .before .before .before .before .before .before .before .before .before .before .before .before .before .before .before .before .before .before .list-pieces .ensures) (c .before .before .before .before .before .before .before .before .before .before .before .bound-of-pieces .ensures)) _ (c .before .before .enum-told6 .given .1) (c .before .storage-verdict .ensures) (c .conclude4 .ensures)
 
 conclude-requires-5 : tie.Need-conclude-requires-5
 conclude-requires-5 c κs =
-    let k = c .before .before .before .before .before .before .before .before .before .before .before .before .before .before .before .before .before .before .before .before in
+    let k = c .before .before .before .before .before .before .before .before .before .before .before .before .before .before .before .before .before .before .before .before .before .before .before .before in
     let e = start k in
-    λ p. profit-most (now (e .args .block)) (now (e .args .weights)) (now (e .args .kinds)) (now (e .args .operands)) (memory e) (took k) (c .before .before .before .before .before .before .before .before .before .before .before .before .before .before .before .before .before .before .check-nodes .ensures) (c .before .before .before .before .before .before .before .before .before .before .before .before .before .before .before .before .enum-told4 .given .1)
-    (c .before .before .before .before .before .before .before .before .before .before .bound-of-job .ensures) _ (c .before .found .given .1)
+    λ p. profit-most (now (e .args .block)) (e .args .choices) (now (e .args .weights)) (now (e .args .kinds)) (now (e .args .operands)) (memory e) (took k) (c .before .before .before .before .before .before .before .before .before .before .before .before .before .before .before .before .before .before .before .before .before .before .check-nodes .ensures) (c .before .before .before .before .before .before .before .before .before .before .before .before .before .before .before .before .before .before .before .before .enum-told4 .given .1)
+    (job-bounded (now (e .args .block)) (e .args .choices) (now (e .args .weights)) (took k) (c .before .before .before .before .before .before .before .before .before .before .before .before .before .before .before .before .plate-of .ensures) (c .before .before .before .before .before .before .before .before .before .before .before .before .before .before .before .before .before .before .list-pieces .ensures) (c .before .before .before .before .before .before .before .before .before .before .bound-of-pieces .ensures)) _ (c .before .found .given .1)
 
 same-length-4 : tie.Need-same-length-4
 same-length-4 c = search needs
@@ -137,10 +145,10 @@ same-length-6 c = search needs
 
 returns-5 : tie.Need-returns-5
 returns-5 c =
-    let k = c .before .before .before .before .before .before .before .before .before .before .before .before .before .before .before .before .before .before .before .before .before in
+    let k = c .before .before .before .before .before .before .before .before .before .before .before .before .before .before .before .before .before .before .before .before .before .before .before .before .before in
     let e = start k in
-    certified (now (e .args .block)) (now (e .args .weights)) (now (e .args .kinds)) (now (e .args .operands)) (memory e) (took k) (c .before .before .before .before .before .before .before .before .before .before .before .before .before .before .before .before .before .before .before .check-nodes .ensures) (c .before .before .before .before .before .before .before .before .before .before .before .before .before .before .before .before .before .enum-told4 .given .1)
-    (c .before .before .before .before .before .before .before .before .before .before .before .bound-of-job .ensures) _ (c .before .before .found .given .1) (c .conclude5 .ensures)
+    certified (now (e .args .block)) (e .args .choices) (now (e .args .weights)) (now (e .args .kinds)) (now (e .args .operands)) (memory e) (took k) (c .before .before .before .before .before .before .before .before .before .before .before .before .before .before .before .before .before .before .before .before .before .before .before .check-nodes .ensures) (c .before .before .before .before .before .before .before .before .before .before .before .before .before .before .before .before .before .before .before .before .before .enum-told4 .given .1)
+    (job-bounded (now (e .args .block)) (e .args .choices) (now (e .args .weights)) (took k) (c .before .before .before .before .before .before .before .before .before .before .before .before .before .before .before .before .before .plate-of .ensures) (c .before .before .before .before .before .before .before .before .before .before .before .before .before .before .before .before .before .before .before .list-pieces .ensures) (c .before .before .before .before .before .before .before .before .before .before .before .bound-of-pieces .ensures)) _ (c .before .before .found .given .1) (c .conclude5 .ensures)
 
 pub certify-spec : {M : Type 1} → statement M
 certify-spec =
@@ -162,8 +170,10 @@ certify-spec =
     enum-told-5
     conclude-requires-3
     returns-3
-    slice-aggregate-bound-of-job
-    bound-of-job-requires
+    list-pieces-requires
+    plate-of-requires
+    slice-aggregate-bound-of-pieces
+    bound-of-pieces-requires
     enum-known-found
     enum-told-6
     storage-verdict-requires
