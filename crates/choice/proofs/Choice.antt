@@ -1,7 +1,7 @@
 -- The choice from a filled table: the two searches over the table answer the definition's searches over figures of the job.
 use mathlib.Core.Path.{_≡_, refl, sym, _∙_, ap, ap₂}
 use mathlib.Core.Bool.{Bool, true, false}
-use mathlib.Core.Option.{Option, none, some, Option·map}
+use mathlib.Core.Option.{Option, none, some}
 use mathlib.Core.List.{List, [], _∷_, _++_, map, map-map, map-append}
 use Prim.Native.Nat.{ℕ, zero, suc, _+_, _-_, _*_, _≤_, _<_}
 use native.Mathlib.Numerals.{add-one}
@@ -12,40 +12,33 @@ use lib.ListN.{length, getD, take, drop, length-drop, length-map}
 use lib.Seq.{ext-getD, take-all}
 use Rattle.cutting.specs.declared.Direction.{Direction}
 use Rattle.cutting.specs.declared.Direction.the-variants.{Length, Width}
-use Rattle.cutting.specs.declared.Node.the-variants.{Waste, Piece, Cut}
+use Rattle.cutting.specs.declared.Node.{Node}
+use Rattle.cutting.specs.declared.Node.the-variants.{Waste, Cut}
 use Rattle.cutting.specs.Lists.{range, filter, first, pairs}
 use Rattle.cutting.specs.Tree.{side, part}
+use Rattle.cutting.specs.Pieces.{Piece, upright}
 use Rattle.cutting.specs.Choice.{or-waste, or-length, or-piece, or-zero}
-use Rattle.cutting.specs.Job.{Job, figure-of, normal-side, normal-positions, normal-floor, pair-earns, first-pair, plan-choice}
-use Rattle.cutting.proofs.Lists.{mem-range, mem-pairs, range-length, range-entry, first-cong}
+use Rattle.cutting.specs.Job.{Job, figure-of, normal-side, normal-positions, normal-floor, pair-earns, first-pair, laid-earns, plan-choice}
+use Rattle.cutting.specs.Listed.{size-in, price-in, heavy-in}
+use Rattle.cutting.proofs.Lists.{through, mem-range, mem-pairs, range-length, range-entry, first-cong, first-map}
+use Rattle.cutting.proofs.Listed.{plain-first}
 use Rattle.cutting.proofs.Positions.{between-length, between-entry}
 use Rattle.cutting.proofs.Table.{normal-zero}
-use Rattle.job.specs.Weights.{weight-in}
+use Rattle.table.specs.declared.TableSize.{TableSize}
 use Rattle.table.specs.Table.{position-count, position}
-use Rattle.table.specs.Contracts.{Listed, Mapped}
+use Rattle.table.specs.Contracts.{Listed, Mapped, size-job}
 use Rattle.choice.specs.declared.Cell.{Cell}
 use Rattle.choice.specs.declared.Chosen.{Chosen}
-use Rattle.choice.specs.declared.Dimensions.{Dimensions}
-use Rattle.choice.specs.declared.KindFound.{KindFound}
-use Rattle.choice.specs.declared.KindFound.the-variants as kind
+use Rattle.choice.specs.declared.PieceFound.{PieceFound}
+use Rattle.choice.specs.declared.PieceFound.the-variants as piece
 use Rattle.choice.specs.declared.CutFound.{CutFound}
 use Rattle.choice.specs.declared.CutFound.the-variants as found
-use Rattle.choice.specs.Search.{kind-test, kind-found, pair-test, first-index, cut-found, or-width-cut, or-length-cut, Searchable}
+use Rattle.choice.specs.Search.{piece-test, piece-found, pair-test, first-index, cut-found, or-width-cut, or-length-cut, Searchable}
 use Rattle.choice.specs.Choice.{Tabled, ChoiceInput, Inside, chosen-of, chosen-at}
 use Rattle.choice.proofs.Rows.{stride-of, base-of, figure-at, row-figure, mapped-figure, cell-figure, cell-there, cell-sizes, searchable}
 
--- searches over mapped lists
+-- an entry of a mapped list
 module _ {A B : Type 0} where
-  first-map : (f : B → Bool) (g : A → B) (xs : List A) → first f (map g xs) ≡ Option·map g (first (λ x. f (g x)) xs)
-  unfolding first
-  first-map f g [] = refl
-  first-map f g (x ∷ xs) = go (f (g x)) (first-map f g xs)
-    where
-      go : (b : Bool) → first f (map g xs) ≡ Option·map g (first (λ x. f (g x)) xs)
-          → elim b [ true ↦ some (g x) | false ↦ first f (map g xs) ] ≡ Option·map g (elim b [ true ↦ some x | false ↦ first (λ x. f (g x)) xs ])
-      go true h = refl
-      go false h = h
-
   getD-map-in : (f : A → B) (xs : List A) (i : ℕ) (d : B) (e : A) → i < length xs → getD (map f xs) i d ≡ f (getD xs i e)
   getD-map-in f [] i d e h = absurd (omega arith)
   getD-map-in f (x ∷ xs) zero d e h = refl
@@ -86,10 +79,10 @@ pair-figures : (J : Job) (weight : ℕ → ℕ) (d : Direction) (l w c : ℕ) (u
 pair-figures J weight Length l w c u = refl
 pair-figures J weight Width l w c u = refl
 
--- the answer as the searches give it: waste where the value is 0, or the kind, or a cut
-abbrev pub or-kind : KindFound → Chosen → Chosen
-or-kind kind.Missing r = r
-or-kind (kind.Kind i) r = record { node = Piece i; share = 0 }
+-- the answer as the searches give it: waste where the value is 0, or the piece, or a cut
+abbrev pub or-laid : PieceFound → Chosen → Chosen
+or-laid piece.Missing r = r
+or-laid (piece.Laid n) r = record { node = n; share = 0 }
 
 abbrev pub or-none : Bool → Chosen → Chosen
 or-none true r = record { node = Waste; share = 0 }
@@ -99,39 +92,40 @@ or-none false r = r
 abbrev pair-of : List ℕ → ℕ → ℕ × ℕ → ℕ × (ℕ × ℕ)
 pair-of positions c u = (getD positions (u .0) 0, (u .1, c - u .1))
 
-searched : (normal-lengths normal-widths : List ℕ) (c : ℕ) (z : Bool) (o : Option ℕ) (i j : Option (ℕ × ℕ)) {p s : Option (ℕ × (ℕ × ℕ))} → p ≡ Option·map (pair-of normal-lengths c) i → s ≡ Option·map (pair-of normal-widths c) j
-    → chosen-of (or-zero z (or-piece o (or-length p (or-waste s)))) ≡ or-none z (or-kind (kind-found o) (or-length-cut (cut-found normal-lengths i) (or-width-cut (cut-found normal-widths j))))
-searched normal-lengths normal-widths c true o i j e f = refl
-searched normal-lengths normal-widths c false (some k) i j e f = refl
-searched normal-lengths normal-widths c false none (some u) j e f = rw e refl
-searched normal-lengths normal-widths c false none none (some v) e f = rw (e, f) refl
-searched normal-lengths normal-widths c false none none none e f = rw (e, f) refl
+searched : (pieces normal-lengths normal-widths : List ℕ) (c : ℕ) (z : Bool) (o : Option ℕ) (i j : Option (ℕ × ℕ)) {n : Option Piece} {p s : Option (ℕ × (ℕ × ℕ))}
+    → n ≡ through upright o → p ≡ through (pair-of normal-lengths c) i → s ≡ through (pair-of normal-widths c) j
+    → chosen-of pieces (or-zero z (or-piece n (or-length p (or-waste s)))) ≡ or-none z (or-laid (piece-found pieces o) (or-length-cut (cut-found normal-lengths i) (or-width-cut (cut-found normal-widths j))))
+searched pieces normal-lengths normal-widths c true o i j d e f = refl
+searched pieces normal-lengths normal-widths c false (some k) i j d e f = rw d refl
+searched pieces normal-lengths normal-widths c false none (some u) j d e f = rw (d, e) refl
+searched pieces normal-lengths normal-widths c false none none (some v) d e f = rw (d, e, f) refl
+searched pieces normal-lengths normal-widths c false none none none d e f = rw (d, e, f) refl
 
-module _ {J : Job} {weights : List ℕ} {columns q : ℕ} {normal-lengths normal-widths length-floors width-floors table : List ℕ} (t : Tabled J weights columns q normal-lengths normal-widths length-floors width-floors table)
+module _ {J : Job} {weight : ℕ → ℕ} {columns q : ℕ} {normal-lengths normal-widths length-floors width-floors table : List ℕ} (t : Tabled J weight columns q normal-lengths normal-widths length-floors width-floors table)
     (l w c : ℕ) (on-length : l ≤ J .plate .0) (on-width : w ≤ J .plate .1) (share : c ≤ q) where
   module _ (d : Direction) (positions floors : List ℕ) (listed : Listed J d positions) (mapped : Mapped J d floors) where
     on-side : side d (l, w) ≤ side d (J .plate)
     on-side = elim d [ Length ↦ on-length | Width ↦ on-width ]
 
     -- the test of a pair reads the figures of its two parts
-    pair-same : (i k : ℕ) → i < position-count J d → k ≤ c → pair-earns J (weight-in weights) d l w c (pair-of positions c (i, k))
-        ≡ pair-test positions floors table (side d (l, w)) (stride-of columns q d) (base-of columns q d (getD length-floors l 0) (getD width-floors w 0)) c (figure-of J (weight-in weights) l w c) (i, k)
-    pair-same i k h g = pair-figures J (weight-in weights) d l w c (pair-of positions c (i, k)) ∙ ap₂ (λ a b. eqb (a + b) (figure-of J (weight-in weights) l w c))
-        (ap (λ x. figure-at J (weight-in weights) (part d x (l, w)) k) (listed .1 i h) ∙ sym (row-figure t l w on-length on-width d i k h (omega arith)))
+    pair-same : (i k : ℕ) → i < position-count J d → k ≤ c → pair-earns J weight d l w c (pair-of positions c (i, k))
+        ≡ pair-test positions floors table (side d (l, w)) (stride-of columns q d) (base-of columns q d (getD length-floors l 0) (getD width-floors w 0)) c (figure-of J weight l w c) (i, k)
+    pair-same i k h g = pair-figures J weight d l w c (pair-of positions c (i, k)) ∙ ap₂ (λ a b. eqb (a + b) (figure-of J weight l w c))
+        (ap (λ x. figure-at J weight (part d x (l, w)) k) (listed .1 i h) ∙ sym (row-figure t l w on-length on-width d i k h (omega arith)))
         (sym (mapped-figure t l w on-length on-width d floors mapped (side d (l, w) - getD positions i 0) (c - k) (omega (arith, on-side)) (omega arith)))
 
     -- the search over indexes answers the definition's search
-    pair-index : first-pair J (weight-in weights) d l w c ≡ Option·map (pair-of positions c)
-        (first-index positions floors table (side d (l, w)) (getD floors (side d (l, w)) 0) (stride-of columns q d) (base-of columns q d (getD length-floors l 0) (getD width-floors w 0)) c (figure-of J (weight-in weights) l w c))
+    pair-index : first-pair J weight d l w c ≡ through (pair-of positions c)
+        (first-index positions floors table (side d (l, w)) (getD floors (side d (l, w)) 0) (stride-of columns q d) (base-of columns q d (getD length-floors l 0) (getD width-floors w 0)) c (figure-of J weight l w c))
     unfolding first-pair first-index
     pair-index =
         let a = getD floors (side d (l, w)) 0 in
         let m = mapped (side d (l, w)) on-side in
         let e : c + 1 ≡ suc c = add-one c in
-        rw e (ap (λ xs. first (pair-earns J (weight-in weights) d l w c) (pairs xs (map (λ k. (k, c - k)) (range 0 (suc c))))) (cuts-listed J d positions a (side d (l, w)) listed (m .0) (m .1))
-        ∙ ap (first (pair-earns J (weight-in weights) d l w c)) (pairs-map (λ i. getD positions i 0) (λ k. (k, c - k)) (range 1 (a - 1)) (range 0 (suc c)))
-        ∙ first-map (pair-earns J (weight-in weights) d l w c) (pair-of positions c) (pairs (range 1 (a - 1)) (range 0 (suc c)))
-        ∙ ap (Option·map (pair-of positions c)) (first-cong _ _ _ (λ u n.
+        rw e (ap (λ xs. first (pair-earns J weight d l w c) (pairs xs (map (λ k. (k, c - k)) (range 0 (suc c))))) (cuts-listed J d positions a (side d (l, w)) listed (m .0) (m .1))
+        ∙ ap (first (pair-earns J weight d l w c)) (pairs-map (λ i. getD positions i 0) (λ k. (k, c - k)) (range 1 (a - 1)) (range 0 (suc c)))
+        ∙ first-map (pair-earns J weight d l w c) (pair-of positions c) (pairs (range 1 (a - 1)) (range 0 (suc c)))
+        ∙ ap (through (pair-of positions c)) (first-cong _ _ _ (λ u n.
         (let p = mem-pairs u (range 1 (a - 1)) (range 0 (suc c)) n in
         let i = mem-range 1 (a - 1) (u .0) (p .0) in
         let k = mem-range 0 (suc c) (u .1) (p .1) in
@@ -141,11 +135,11 @@ module _ {J : Job} {weights : List ℕ} {columns q : ℕ} {normal-lengths normal
 exit-none : (z : Bool) (r : Chosen) → z ≡ true → or-none z r ≡ record { node = Waste; share = 0 }
 exit-none z r e = rw e refl
 
-module _ (z : Bool) (k : KindFound) where
-  exit-kind : (r : Chosen) {i : ℕ} → z ≡ false → k ≡ kind.Kind i → or-none z (or-kind k r) ≡ record { node = Piece i; share = 0 }
-  exit-kind r e f = rw (e, f) refl
+module _ (z : Bool) (k : PieceFound) where
+  exit-piece : (r : Chosen) {n : Node} → z ≡ false → k ≡ piece.Laid n → or-none z (or-laid k r) ≡ record { node = n; share = 0 }
+  exit-piece r e f = rw (e, f) refl
 
-  exit-cut : (r : Chosen) → z ≡ false → k ≡ kind.Missing → or-none z (or-kind k r) ≡ r
+  exit-cut : (r : Chosen) → z ≡ false → k ≡ piece.Missing → or-none z (or-laid k r) ≡ r
   exit-cut r e f = rw (e, f) refl
 
 -- and out of the search for a cut
@@ -159,7 +153,7 @@ pub waste-out : {f g : CutFound} → f ≡ found.Missing → g ≡ found.Missing
 waste-out e h = rw (e, h) refl
 
 -- the searches that the choice makes at a cell of a value
-module _ (J : Job) (weight : ℕ → ℕ) (g : Dimensions) (normal-lengths normal-widths floors table : List ℕ) (cell : Cell) (value : ℕ) where
+module _ (size : TableSize) (pieces normal-lengths normal-widths floors table : List ℕ) (cell : Cell) (value : ℕ) where
   -- the indexes of the tabled length and width
   abbrev pub row-of : ℕ
   row-of = getD floors (cell .sides .length) 0
@@ -167,45 +161,50 @@ module _ (J : Job) (weight : ℕ → ℕ) (g : Dimensions) (normal-lengths norma
   abbrev pub column-of : ℕ
   column-of = getD (drop 1001 floors) (cell .sides .width) 0
 
-  abbrev pub kind-search : Option ℕ
-  kind-search = first (kind-test J weight cell value) (range 0 (J .count))
+  abbrev pub piece-search : Option ℕ
+  piece-search = first (piece-test pieces cell value) (range 0 (size .count))
 
   abbrev pub length-search : Option (ℕ × ℕ)
-  length-search = first-index normal-lengths floors table (cell .sides .length) row-of (g .columns * (g .capacity + 1)) (column-of * (g .capacity + 1)) (cell .share) value
+  length-search = first-index normal-lengths floors table (cell .sides .length) row-of (size .columns * (size .capacity + 1)) (column-of * (size .capacity + 1)) (cell .share) value
 
   abbrev pub width-search : Option (ℕ × ℕ)
-  width-search = first-index normal-widths (drop 1001 floors) table (cell .sides .width) column-of (g .capacity + 1) (row-of * (g .columns * (g .capacity + 1))) (cell .share) value
+  width-search = first-index normal-widths (drop 1001 floors) table (cell .sides .width) column-of (size .capacity + 1) (row-of * (size .columns * (size .capacity + 1))) (cell .share) value
 
   -- a cut that they find, or waste
   abbrev pub cut-answer : Chosen
   cut-answer = or-length-cut (cut-found normal-lengths length-search) (or-width-cut (cut-found normal-widths width-search))
 
-  -- their answer: waste where the value is 0, or the kind, or the length cut, or the width cut
+  -- their answer: waste where the value is 0, or the piece, or the length cut, or the width cut
   abbrev pub answer : Chosen
-  answer = or-none (eqb value 0) (or-kind (kind-found kind-search) cut-answer)
+  answer = or-none (eqb value 0) (or-laid (piece-found pieces piece-search) cut-answer)
 
 -- the answer is the choice
-module _ {J : Job} {weights : List ℕ} {g : Dimensions} {normal-lengths normal-widths floors table : List ℕ} (t : ChoiceInput J weights g normal-lengths normal-widths floors table) {cell : Cell} (at : Inside J g cell) where
-  answer-figure : answer J (weight-in weights) g normal-lengths normal-widths floors table cell (figure-of J (weight-in weights) (cell .sides .length) (cell .sides .width) (cell .share)) ≡ chosen-at J (weight-in weights) cell
+module _ {size : TableSize} {pieces normal-lengths normal-widths floors table : List ℕ} (t : ChoiceInput size pieces normal-lengths normal-widths floors table) {cell : Cell} (at : Inside (size-job size pieces) size cell) where
+  -- the plain job of the pieces
+  abbrev N : Job
+  N = size-job size pieces
+
+  answer-figure : answer size pieces normal-lengths normal-widths floors table cell (figure-of N (heavy-in pieces) (cell .sides .length) (cell .sides .width) (cell .share)) ≡ chosen-at size pieces cell
   unfolding plan-choice
   answer-figure =
-      let v = figure-of J (weight-in weights) (cell .sides .length) (cell .sides .width) (cell .share) in
-      let pairs-of : (d : Direction) (positions floors : List ℕ) → Listed J d positions → Mapped J d floors → _ = pair-index (t .tabled) (cell .sides .length) (cell .sides .width) (cell .share) (at .on-length) (at .on-width) (at .in-capacity) in
-      sym (searched normal-lengths normal-widths (cell .share) (eqb v 0) (kind-search J (weight-in weights) g normal-lengths normal-widths floors table cell v) (length-search J (weight-in weights) g normal-lengths normal-widths floors table cell v)
-      (width-search J (weight-in weights) g normal-lengths normal-widths floors table cell v)
+      let v = figure-of N (heavy-in pieces) (cell .sides .length) (cell .sides .width) (cell .share) in
+      let pairs-of : (d : Direction) (positions floors : List ℕ) → Listed N d positions → Mapped N d floors → _ = pair-index (t .tabled) (cell .sides .length) (cell .sides .width) (cell .share) (at .on-length) (at .on-width) (at .in-capacity) in
+      sym (searched pieces normal-lengths normal-widths (cell .share) (eqb v 0) (piece-search size pieces normal-lengths normal-widths floors table cell v)
+      (length-search size pieces normal-lengths normal-widths floors table cell v) (width-search size pieces normal-lengths normal-widths floors table cell v)
+      (plain-first (size .length, size .width) (size .count) (size-in pieces) (price-in pieces) (laid-earns N (heavy-in pieces) (cell .sides .length) (cell .sides .width) (cell .share)))
       (pairs-of Length normal-lengths floors (t .tabled .lengths-are) (t .tabled .lengths-floored)) (pairs-of Width normal-widths (drop 1001 floors) (t .tabled .widths-are) (t .tabled .widths-floored)))
 
   -- what the code multiplies and reads is in reach
-  pub sizes : (getD floors (cell .sides .length) 0 < 1002) × (getD (drop 1001 floors) (cell .sides .width) 0 < 1002) × (g .columns * (g .capacity + 1) ≤ 4100096)
-      × (getD floors (cell .sides .length) 0 * (g .columns * (g .capacity + 1)) ≤ 4104196096) × (getD (drop 1001 floors) (cell .sides .width) 0 * (g .capacity + 1) ≤ 4100096)
+  pub sizes : (getD floors (cell .sides .length) 0 < 1002) × (getD (drop 1001 floors) (cell .sides .width) 0 < 1002) × (size .columns * (size .capacity + 1) ≤ 4100096)
+      × (getD floors (cell .sides .length) 0 * (size .columns * (size .capacity + 1)) ≤ 4104196096) × (getD (drop 1001 floors) (cell .sides .width) 0 * (size .capacity + 1) ≤ 4100096)
   sizes = cell-sizes (t .tabled) (cell .sides .length) (cell .sides .width) (at .on-length) (at .on-width)
 
-  pub there : getD floors (cell .sides .length) 0 * (g .columns * (g .capacity + 1)) + getD (drop 1001 floors) (cell .sides .width) 0 * (g .capacity + 1) + cell .share < length table
+  pub there : getD floors (cell .sides .length) 0 * (size .columns * (size .capacity + 1)) + getD (drop 1001 floors) (cell .sides .width) 0 * (size .capacity + 1) + cell .share < length table
   there = cell-there (t .tabled) (cell .sides .length) (cell .sides .width) (at .on-length) (at .on-width) (cell .share) (at .in-capacity)
 
   pub cuts-searchable : {a b : ℕ} → a ≡ getD floors (cell .sides .length) 0 → b ≡ getD (drop 1001 floors) (cell .sides .width) 0
-      → Searchable normal-lengths floors table (cell .sides .length) a (g .columns * (g .capacity + 1)) (b * (g .capacity + 1)) (cell .share)
-      × Searchable normal-widths (drop 1001 floors) table (cell .sides .width) b (g .capacity + 1) (a * (g .columns * (g .capacity + 1))) (cell .share)
+      → Searchable normal-lengths floors table (cell .sides .length) a (size .columns * (size .capacity + 1)) (b * (size .capacity + 1)) (cell .share)
+      × Searchable normal-widths (drop 1001 floors) table (cell .sides .width) b (size .capacity + 1) (a * (size .columns * (size .capacity + 1))) (cell .share)
   cuts-searchable e f = rw (e, f) (
     searchable (t .tabled) (cell .sides .length) (cell .sides .width) (at .on-length) (at .on-width) Length normal-lengths floors (t .tabled .lengths-are) (t .tabled .lengths-floored) (omega (arith, t .floors-there)) (cell .share) (at .in-capacity),
     searchable (t .tabled) (cell .sides .length) (cell .sides .width) (at .on-length) (at .on-width) Width normal-widths (drop 1001 floors) (t .tabled .widths-are) (t .tabled .widths-floored) (omega (arith, t .floors-there, length-drop 1001 floors)) (cell .share) (at .in-capacity),
@@ -213,26 +212,26 @@ module _ {J : Job} {weights : List ℕ} {g : Dimensions} {normal-lengths normal-
 
   -- the value of the cell
   abbrev pub word-at : ℕ
-  word-at = getD table (getD floors (cell .sides .length) 0 * (g .columns * (g .capacity + 1)) + getD (drop 1001 floors) (cell .sides .width) 0 * (g .capacity + 1) + cell .share) 0
+  word-at = getD table (getD floors (cell .sides .length) 0 * (size .columns * (size .capacity + 1)) + getD (drop 1001 floors) (cell .sides .width) 0 * (size .capacity + 1) + cell .share) 0
 
-  answer-choice : answer J (weight-in weights) g normal-lengths normal-widths floors table cell word-at ≡ chosen-at J (weight-in weights) cell
-  answer-choice = ap (λ v. answer J (weight-in weights) g normal-lengths normal-widths floors table cell v) (cell-figure (t .tabled) (cell .sides .length) (cell .sides .width) (at .on-length) (at .on-width) (cell .share) (at .in-capacity)) ∙ answer-figure
+  answer-choice : answer size pieces normal-lengths normal-widths floors table cell word-at ≡ chosen-at size pieces cell
+  answer-choice = ap (λ v. answer size pieces normal-lengths normal-widths floors table cell v) (cell-figure (t .tabled) (cell .sides .length) (cell .sides .width) (at .on-length) (at .on-width) (cell .share) (at .in-capacity)) ∙ answer-figure
 
   -- each way out of the code answers the choice
   module _ {a b value : ℕ} (e : a ≡ getD floors (cell .sides .length) 0) (f : b ≡ getD (drop 1001 floors) (cell .sides .width) 0)
-      (v : value ≡ getD table (a * (g .columns * (g .capacity + 1)) + b * (g .capacity + 1) + cell .share) 0) where
+      (v : value ≡ getD table (a * (size .columns * (size .capacity + 1)) + b * (size .capacity + 1) + cell .share) 0) where
     word-is : value ≡ word-at
-    word-is = v ∙ ap₂ (λ a b. getD table (a * (g .columns * (g .capacity + 1)) + b * (g .capacity + 1) + cell .share) 0) e f
+    word-is = v ∙ ap₂ (λ a b. getD table (a * (size .columns * (size .capacity + 1)) + b * (size .capacity + 1) + cell .share) 0) e f
 
-    pub none-chosen : value ≡ 0 → record { node = Waste; share = 0 } ≡ chosen-at J (weight-in weights) cell
+    pub none-chosen : value ≡ 0 → record { node = Waste; share = 0 } ≡ chosen-at size pieces cell
     none-chosen z = sym (exit-none _ _ (eq-eqb word-at 0 (sym word-is ∙ z))) ∙ answer-choice
 
     module _ (z : value ≡ 0 → ⊥) where
-      pub kind-chosen : {i : ℕ} → kind-found (kind-search J (weight-in weights) g normal-lengths normal-widths floors table cell value) ≡ kind.Kind i → record { node = Piece i; share = 0 } ≡ chosen-at J (weight-in weights) cell
-      kind-chosen k = sym (exit-kind _ _ _ (ne-eqb value 0 z) k) ∙ ap (λ v. answer J (weight-in weights) g normal-lengths normal-widths floors table cell v) word-is ∙ answer-choice
+      pub piece-chosen : {n : Node} → piece-found pieces (piece-search size pieces normal-lengths normal-widths floors table cell value) ≡ piece.Laid n → record { node = n; share = 0 } ≡ chosen-at size pieces cell
+      piece-chosen k = sym (exit-piece _ _ _ (ne-eqb value 0 z) k) ∙ ap (λ v. answer size pieces normal-lengths normal-widths floors table cell v) word-is ∙ answer-choice
 
-      pub cut-chosen : {r : Chosen} → kind-found (kind-search J (weight-in weights) g normal-lengths normal-widths floors table cell value) ≡ kind.Missing
-          → r ≡ or-length-cut (cut-found normal-lengths (first-index normal-lengths floors table (cell .sides .length) a (g .columns * (g .capacity + 1)) (b * (g .capacity + 1)) (cell .share) value))
-          (or-width-cut (cut-found normal-widths (first-index normal-widths (drop 1001 floors) table (cell .sides .width) b (g .capacity + 1) (a * (g .columns * (g .capacity + 1))) (cell .share) value)))
-          → r ≡ chosen-at J (weight-in weights) cell
-      cut-chosen k c = rw (e, f) at c ∙ sym (exit-cut _ _ _ (ne-eqb value 0 z) k) ∙ ap (λ v. answer J (weight-in weights) g normal-lengths normal-widths floors table cell v) word-is ∙ answer-choice
+      pub cut-chosen : {r : Chosen} → piece-found pieces (piece-search size pieces normal-lengths normal-widths floors table cell value) ≡ piece.Missing
+          → r ≡ or-length-cut (cut-found normal-lengths (first-index normal-lengths floors table (cell .sides .length) a (size .columns * (size .capacity + 1)) (b * (size .capacity + 1)) (cell .share) value))
+          (or-width-cut (cut-found normal-widths (first-index normal-widths (drop 1001 floors) table (cell .sides .width) b (size .capacity + 1) (a * (size .columns * (size .capacity + 1))) (cell .share) value)))
+          → r ≡ chosen-at size pieces cell
+      cut-chosen k c = rw (e, f) at c ∙ sym (exit-cut _ _ _ (ne-eqb value 0 z) k) ∙ ap (λ v. answer size pieces normal-lengths normal-widths floors table cell v) word-is ∙ answer-choice

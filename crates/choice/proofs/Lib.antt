@@ -1,3 +1,4 @@
 pub mod Search
 pub mod Rows
 pub mod Choice
+pub mod Laid

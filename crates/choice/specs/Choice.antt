@@ -1,25 +1,26 @@
--- What the contracts of the choice cite, all of them inner ones: what the choice reads, a job with its weights and a filled table, and the
--- choice as the code answers it.
+-- What the contracts of the choice cite, all of them inner ones: what the choice reads, an array of pieces and the filled table of its
+-- plain job, and the choice as the code answers it.
 use mathlib.Core.Path.{_≡_}
 use mathlib.Core.List.{List}
 use Prim.Native.Nat.{ℕ, _≤_}
 use lib.ListN.{length, drop}
 use Rattle.cutting.specs.declared.Direction.the-variants.{Length, Width}
-use Rattle.cutting.specs.declared.Node.the-variants.{Waste, Piece, Cut}
+use Rattle.cutting.specs.declared.Node.the-variants.{Waste, Piece, Turned, Cut}
 use Rattle.cutting.specs.Limits.{most-capacity}
+use Rattle.cutting.specs.Pieces as laid
 use Rattle.cutting.specs.Choice.{Choice, as-waste, as-piece, as-cut}
-use Rattle.cutting.specs.Job.{Job, InRange, plan-choice}
-use Rattle.job.specs.Weights.{weight-in}
+use Rattle.cutting.specs.Job.{Job, plan-choice}
+use Rattle.cutting.specs.Listed.{InTableRange, heavy-in, node-in}
+use Rattle.table.specs.declared.TableSize.{TableSize}
 use Rattle.table.specs.Table.{position-count, words-needed, Figures}
-use Rattle.table.specs.Contracts.{Listed, Mapped}
+use Rattle.table.specs.Contracts.{Listed, Mapped, size-job}
 use Rattle.choice.specs.declared.Cell.{Cell}
 use Rattle.choice.specs.declared.Chosen.{Chosen}
-use Rattle.choice.specs.declared.Dimensions.{Dimensions}
+use Rattle.choice.specs.Search.{node-of, Numbered}
 
--- a job in range with its weights, both lists of normal positions, the floors of both sides and the filled table
-pub record Tabled (J : Job) (weights : List ℕ) (columns q : ℕ) (normal-lengths normal-widths length-floors width-floors table : List ℕ) : Type 0 where
-  pub in-range : InRange J
-  pub weighed : J .count ≤ length weights
+-- a plain job in range with its weights, both lists of normal positions, the floors of both sides and the filled table
+pub record Tabled (J : Job) (weight : ℕ → ℕ) (columns q : ℕ) (normal-lengths normal-widths length-floors width-floors table : List ℕ) : Type 0 where
+  pub in-range : InTableRange J
   pub columns-are : columns ≡ position-count J Width
   pub capacity-most : q ≤ most-capacity
   pub lengths-are : Listed J Length normal-lengths
@@ -27,27 +28,35 @@ pub record Tabled (J : Job) (weights : List ℕ) (columns q : ℕ) (normal-lengt
   pub lengths-floored : Mapped J Length length-floors
   pub widths-floored : Mapped J Width width-floors
   pub words-there : words-needed J q ≤ length table
-  pub figures : Figures J (weight-in weights) q table
+  pub figures : Figures J weight q table
 
--- the same with the floors in one array: those of the lengths first, those of the widths from entry 1001 on
-pub record ChoiceInput (J : Job) (weights : List ℕ) (g : Dimensions) (normal-lengths normal-widths floors table : List ℕ) : Type 0 where
+-- the same of an array of pieces, with the floors in one array: those of the lengths first, those of the widths from entry 1001 on
+pub record ChoiceInput (size : TableSize) (pieces normal-lengths normal-widths floors table : List ℕ) : Type 0 where
+  pub numbered : Numbered (size .count) pieces
   pub floors-there : length floors ≡ 2002
-  pub tabled : Tabled J weights (g .columns) (g .capacity) normal-lengths normal-widths floors (drop 1001 floors) table
+  pub tabled : Tabled (size-job size pieces) (heavy-in pieces) (size .columns) (size .capacity) normal-lengths normal-widths floors (drop 1001 floors) table
 
 -- a cell whose rectangle lies on the plate, no side 0, with a share up to the capacity
-pub record Inside (J : Job) (g : Dimensions) (cell : Cell) : Type 0 where
+pub record Inside (J : Job) (size : TableSize) (cell : Cell) : Type 0 where
   pub some-length : 1 ≤ cell .sides .length
   pub on-length : cell .sides .length ≤ J .plate .0
   pub some-width : 1 ≤ cell .sides .width
   pub on-width : cell .sides .width ≤ J .plate .1
-  pub in-capacity : cell .share ≤ g .capacity
+  pub in-capacity : cell .share ≤ size .capacity
 
--- the choice as the code answers it: the node, and of a cut the first part's share
-abbrev pub chosen-of : Choice ℕ ℕ → Chosen
-chosen-of as-waste = record { node = Waste; share = 0 }
-chosen-of (as-piece i) = record { node = Piece i; share = 0 }
-chosen-of (as-cut d x q) = record { node = Cut d x; share = q .0 }
+-- the choice among the pieces of an array as the code answers it: the node, and of a cut the first part's share
+abbrev pub chosen-of : List ℕ → Choice laid.Piece ℕ → Chosen
+chosen-of pieces as-waste = record { node = Waste; share = 0 }
+chosen-of pieces (as-piece p) = record { node = node-of (node-in pieces (laid.kind p)); share = 0 }
+chosen-of pieces (as-cut d x q) = record { node = Cut d x; share = q .0 }
 
 -- the choice at a cell
-abbrev pub chosen-at : Job → (ℕ → ℕ) → Cell → Chosen
-chosen-at J weight cell = chosen-of (plan-choice J weight (cell .sides .length) (cell .sides .width) (cell .share))
+abbrev pub chosen-at : TableSize → List ℕ → Cell → Chosen
+chosen-at size pieces cell = chosen-of pieces (plan-choice (size-job size pieces) (heavy-in pieces) (cell .sides .length) (cell .sides .width) (cell .share))
+
+-- the choice of a job in the same form: the pieces in it are the job's own (chosen-laid of proofs/Laid)
+abbrev pub laid-choice : Choice laid.Piece ℕ → Chosen
+laid-choice as-waste = record { node = Waste; share = 0 }
+laid-choice (as-piece (laid.upright i)) = record { node = Piece i; share = 0 }
+laid-choice (as-piece (laid.turned i)) = record { node = Turned i; share = 0 }
+laid-choice (as-cut d x q) = record { node = Cut d x; share = q .0 }

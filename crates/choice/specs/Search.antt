@@ -1,33 +1,48 @@
--- What the inner contracts of the choice's two searches cite: the lowest-numbered kind that earns a value, and the first pair of position
--- and share whose two words of the table sum to it.
-use mathlib.Core.Bool.{Bool, _&&_}
+-- What the inner contracts of the choice's two searches cite: the lowest-numbered piece that earns a value and the node that lays it, and
+-- the first pair of position and share whose two words of the table sum to it.
+use mathlib.Core.Bool.{Bool, true, false, _&&_}
 use mathlib.Core.Option.{Option, none, some}
 use mathlib.Core.List.{List}
-use Prim.Native.Nat.{ℕ, _+_, _-_, _*_, _≤_, _<_}
+use Prim.Native.Nat.{ℕ, _+_, _-_, _*_, _/_, _%_, _≤_, _<_}
 use lib.Dec.{leb, eqb}
 use lib.ListN.{length, getD}
 use Rattle.cutting.specs.declared.Direction.the-variants.{Length, Width}
-use Rattle.cutting.specs.declared.Node.the-variants.{Waste, Cut}
-use Rattle.cutting.specs.Limits.{most-capacity, most-figure}
+use Rattle.cutting.specs.declared.Node.{Node}
+use Rattle.cutting.specs.declared.Node.the-variants.{Waste, Piece, Turned, Cut}
+use Rattle.cutting.specs.Limits.{most-pieces, most-capacity, most-figure}
 use Rattle.cutting.specs.Lists.{range, first, pairs}
 use Rattle.cutting.specs.Pieces.{fits-in}
 use Rattle.cutting.specs.Sides.{rect-of}
-use Rattle.cutting.specs.Job.{Job}
+use Rattle.cutting.specs.Listed.{size-in, price-in, heavy-in, node-in}
 use Rattle.choice.specs.declared.Cell.{Cell}
 use Rattle.choice.specs.declared.Chosen.{Chosen}
-use Rattle.choice.specs.declared.KindFound.{KindFound}
-use Rattle.choice.specs.declared.KindFound.the-variants as kind
+use Rattle.choice.specs.declared.PieceFound.{PieceFound}
+use Rattle.choice.specs.declared.PieceFound.the-variants as piece
 use Rattle.choice.specs.declared.CutFound.{CutFound}
 use Rattle.choice.specs.declared.CutFound.the-variants as cut
 
--- whether kind i fits the cell, weighs at most its share and has the value as its price
-abbrev pub kind-test : Job → (ℕ → ℕ) → Cell → ℕ → ℕ → Bool
-kind-test J weight cell value i = (fits-in (J .size i) (rect-of (cell .sides)) && leb (weight i) (cell .share)) && eqb (J .price i) value
+-- the node that lays a kind, upright or turned
+abbrev pub laying : Bool → ℕ → Node
+laying true i = Piece i
+laying false i = Turned i
 
--- the kind that a search found
-abbrev pub kind-found : Option ℕ → KindFound
-kind-found none = kind.Missing
-kind-found (some i) = kind.Kind i
+-- the node of a number: 2i lays kind i upright, and 2i + 1 lays it turned
+abbrev pub node-of : ℕ → Node
+node-of number = laying (eqb (number % 2) 0) (number / 2)
+
+-- whether piece j fits the cell, weighs at most its share and has the value as its price
+abbrev pub piece-test : List ℕ → Cell → ℕ → ℕ → Bool
+piece-test pieces cell value j = (fits-in (size-in pieces j) (rect-of (cell .sides)) && leb (heavy-in pieces j) (cell .share)) && eqb (price-in pieces j) value
+
+-- the node of the piece that a search found
+abbrev pub piece-found : List ℕ → Option ℕ → PieceFound
+piece-found pieces none = piece.Missing
+piece-found pieces (some j) = piece.Laid (node-of (node-in pieces j))
+
+-- so many pieces stand in the array, each with the number of a node
+pub record Numbered (count : ℕ) (pieces : List ℕ) : Type 0 where
+  pub counted : count ≤ most-pieces
+  pub nodes : (j : ℕ) → j < count → node-in pieces j < 128
 
 -- whether the i-th position with share k for the first part earns the value: the first part has row i of the table, the second the row
 -- of the floor of the true remainder

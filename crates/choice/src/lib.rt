@@ -1,22 +1,19 @@
 // The choice at a cell of a filled table, a rectangle and a share: what the plan behind the bound does there. Waste where the figure is
-// 0, or the lowest-numbered kind that earns the figure, or the first length cut that earns it, or the first width cut.
+// 0, or the first piece of the array that earns the figure, or the first length cut that earns it, or the first width cut.
 use cutting::Direction;
 use cutting::Node;
 use cutting::Sides;
-use cutting::fits;
-use job::JobRecord;
+use table::TableSize;
 ghost use mathlib.Core.Path.{_≡_};
 ghost use mathlib.Core.Bool.{_&&_};
-ghost use Prim.Native.Nat.{_+_, _*_, _≤_, _<_};
+ghost use Prim.Native.Nat.{_+_, _*_, _<_};
 ghost use lib.Dec.{leb, eqb};
-ghost use lib.ListN.{length, drop};
-ghost use Rattle.cutting.specs.Limits.{most-kinds};
+ghost use lib.ListN.{drop};
 ghost use Rattle.cutting.specs.Lists.{range, first};
 ghost use Rattle.cutting.specs.Pieces.{fits-in};
 ghost use Rattle.cutting.specs.Sides.{rect-of};
-ghost use Rattle.job.specs.Block.{job-of};
-ghost use Rattle.job.specs.Weights.{weight-in};
-ghost use Rattle.choice.specs.Search.{kind-test, kind-found, first-index, cut-found, or-width-cut, or-length-cut, Searchable};
+ghost use Rattle.table.specs.Contracts.{size-job};
+ghost use Rattle.choice.specs.Search.{node-of, piece-test, piece-found, Numbered, first-index, cut-found, or-width-cut, or-length-cut, Searchable};
 ghost use Rattle.choice.specs.Choice.{ChoiceInput, Inside, chosen-at};
 
 // A cell: a rectangle and a share.
@@ -25,21 +22,15 @@ pub struct Cell {
     pub share: u16,
 }
 
-// The dimensions of a table: the normal widths, and the capacity.
-pub struct Dimensions {
-    pub columns: u16,
-    pub capacity: u16,
-}
-
 // What the plan does with a rectangle: the node, and of a cut the first part's share.
 pub struct Chosen {
     pub node: Node,
     pub share: u16,
 }
 
-// What a search over the kinds found.
-pub enum KindFound {
-    Kind(u16),
+// What a search over the pieces found: the node that lays the piece.
+pub enum PieceFound {
+    Laid(Node),
     Missing,
 }
 
@@ -56,13 +47,6 @@ fn widen(n: u16) -> usize
     n as usize
 }
 
-// A weight as a share.
-fn share_of(weight: u8) -> u16
-    ensures { λ r. ⌜ (r ≡ weight) × (r < 256) ⌝ }
-{
-    weight as u16
-}
-
 // The choice of a node, and for a cut of the first part's share.
 fn choice_of(node: Node, share: u16) -> Chosen
     ensures { λ r. ⌜ r ≡ record { node = node; share = share } ⌝ }
@@ -73,34 +57,60 @@ fn choice_of(node: Node, share: u16) -> Chosen
     }
 }
 
-// Whether one kind fits the cell, weighs at most the share and has the value as its price.
-fn kind_earns(piece: Sides, price: u32, weight: u8, cell: Cell, value: u64) -> bool
-    ensures { λ r. ⌜ r ≡ ((fits-in (rect-of piece) (rect-of (cell .sides)) && leb weight (cell .share)) && eqb price value) ⌝ }
+// The node of a number: 2i lays kind i upright, and 2i + 1 lays it turned.
+fn node_of(number: u32) -> Node
+    requires { ⌜ number < 128 ⌝ }
+    ensures { λ r. ⌜ r ≡ node-of number ⌝ }
 {
-    if fits(piece, cell.sides) {
-        if share_of(weight) <= cell.share {
-            return price as u64 == value;
+    let kind = (number / 2) as u16;
+    if number % 2 == 0 {
+        Node::Piece(kind)
+    } else {
+        Node::Turned(kind)
+    }
+}
+
+// Whether one piece fits the cell, weighs at most the share and has the value as its price.
+fn piece_earns(
+    piece_length: u32,
+    piece_width: u32,
+    price: u32,
+    weight: u32,
+    cell: Cell,
+    value: u64,
+) -> bool
+    ensures { λ r. ⌜ r ≡ ((fits-in («piece_length», «piece_width») (rect-of (cell .sides)) && leb weight (cell .share)) && eqb price value) ⌝ }
+{
+    if piece_length <= cell.sides.length as u32 {
+        if piece_width <= cell.sides.width as u32 {
+            if weight <= cell.share as u32 {
+                return price as u64 == value;
+            }
         }
     }
     false
 }
 
-// The lowest-numbered kind that earns a value alone.
-fn find_kind(job: JobRecord, weights: &[u8], cell: Cell, value: u64) -> KindFound
-    requires { ⌜ (job .count ≤ most-kinds) × (job .count ≤ length (now weights)) ⌝ }
-    ensures { λ r. ⌜ r ≡ kind-found (first (kind-test (job-of job) (weight-in (now (weights .entry))) cell value) (range 0 (job .count))) ⌝ }
+// The lowest-numbered piece that earns a value alone.
+fn find_piece(count: u16, pieces: &[u32; 640], cell: Cell, value: u64) -> PieceFound
+    requires { ⌜ Numbered count (now pieces) ⌝ }
+    ensures { λ r. ⌜ r ≡ piece-found (now (pieces .entry)) (first (piece-test (now (pieces .entry)) cell value) (range 0 count)) ⌝ }
 {
-    for i in 0..job.count {
-        let k = i as usize;
-        let piece = Sides {
-            length: job.lengths[k],
-            width: job.widths[k],
-        };
-        if kind_earns(piece, job.prices[k], weights[k], cell, value) {
-            return KindFound::Kind(i);
+    for j in 0..count as usize {
+        let at = 5 * j;
+        let earns = piece_earns(
+            pieces[at],
+            pieces[at + 1],
+            pieces[at + 2],
+            pieces[at + 3],
+            cell,
+            value,
+        );
+        if earns {
+            return PieceFound::Laid(node_of(pieces[at + 4]));
         }
     }
-    KindFound::Missing
+    PieceFound::Missing
 }
 
 // The first pair of position and share that earns a value: positions rising, and for each the first part's share. The row of the i-th
@@ -143,23 +153,23 @@ fn choose_cut(
     value: u64,
     a: usize,
     b: usize,
-    g: Dimensions,
+    size: TableSize,
     normal_lengths: &[u16],
     normal_widths: &[u16],
     floors: &[u16],
     table: &[u64],
 ) -> Chosen
-    requires { ⌜ Searchable (now «normal_lengths») (now floors) (now table) (cell .sides .length) a (g .columns * (g .capacity + 1)) (b * (g .capacity + 1)) (cell .share)
-        × Searchable (now «normal_widths») (drop 1001 (now floors)) (now table) (cell .sides .width) b (g .capacity + 1) (a * (g .columns * (g .capacity + 1))) (cell .share) ⌝ }
+    requires { ⌜ Searchable (now «normal_lengths») (now floors) (now table) (cell .sides .length) a (size .columns * (size .capacity + 1)) (b * (size .capacity + 1)) (cell .share)
+        × Searchable (now «normal_widths») (drop 1001 (now floors)) (now table) (cell .sides .width) b (size .capacity + 1) (a * (size .columns * (size .capacity + 1))) (cell .share) ⌝ }
     ensures { λ r. ⌜ r ≡ or-length-cut
-        (cut-found (now («normal_lengths» .entry)) (first-index (now («normal_lengths» .entry)) (now (floors .entry)) (now (table .entry)) (cell .sides .length) a (g .columns * (g .capacity + 1)) (b * (g .capacity + 1)) (cell .share) value))
-        (or-width-cut (cut-found (now («normal_widths» .entry)) (first-index (now («normal_widths» .entry)) (drop 1001 (now (floors .entry))) (now (table .entry)) (cell .sides .width) b (g .capacity + 1) (a * (g .columns * (g .capacity + 1))) (cell .share) value))) ⌝ }
+        (cut-found (now («normal_lengths» .entry)) (first-index (now («normal_lengths» .entry)) (now (floors .entry)) (now (table .entry)) (cell .sides .length) a (size .columns * (size .capacity + 1)) (b * (size .capacity + 1)) (cell .share) value))
+        (or-width-cut (cut-found (now («normal_widths» .entry)) (first-index (now («normal_widths» .entry)) (drop 1001 (now (floors .entry))) (now (table .entry)) (cell .sides .width) b (size .capacity + 1) (a * (size .columns * (size .capacity + 1))) (cell .share) value))) ⌝ }
 {
     let l = cell.sides.length as usize;
     let w = cell.sides.width as usize;
     let c = cell.share as usize;
-    let shares = g.capacity as usize + 1;
-    let row = g.columns as usize * shares;
+    let shares = size.capacity as usize + 1;
+    let row = size.columns as usize * shares;
     let column = b * shares;
     let start = a * row;
     let width_floors = &floors[1001..];
@@ -184,39 +194,38 @@ fn choose_cut(
     choice_of(Node::Waste, 0)
 }
 
-// The choice at a cell: figure 0 gives waste; otherwise the lowest-numbered kind that earns the figure; otherwise a cut. The floors are
+// The choice at a cell: figure 0 gives waste; otherwise the lowest-numbered piece that earns the figure; otherwise a cut. The floors are
 // those of the lengths from entry 0 on, and those of the widths from entry 1001 on.
 pub fn choose(
     cell: Cell,
-    job: JobRecord,
-    weights: &[u8],
-    g: Dimensions,
+    size: TableSize,
+    pieces: &[u32; 640],
     normal_lengths: &[u16],
     normal_widths: &[u16],
     floors: &[u16],
     table: &[u64],
 ) -> Chosen
-    requires { ⌜ ChoiceInput (job-of job) (now weights) g (now «normal_lengths») (now «normal_widths») (now floors) (now table) × Inside (job-of job) g cell ⌝ }
-    ensures { λ r. ⌜ r ≡ chosen-at (job-of job) (weight-in (now (weights .entry))) cell ⌝ }
+    requires { ⌜ ChoiceInput size (now pieces) (now «normal_lengths») (now «normal_widths») (now floors) (now table) × Inside (size-job size (now pieces)) size cell ⌝ }
+    ensures { λ r. ⌜ r ≡ chosen-at size (now (pieces .entry)) cell ⌝ }
 {
     let a = floors[cell.sides.length as usize] as usize;
     let b = floors[1001 + cell.sides.width as usize] as usize;
-    let shares = g.capacity as usize + 1;
-    let row = g.columns as usize * shares;
+    let shares = size.capacity as usize + 1;
+    let row = size.columns as usize * shares;
     let value = table[a * row + b * shares + cell.share as usize];
     if value == 0 {
         return choice_of(Node::Waste, 0);
     }
-    let kind = find_kind(job, weights, cell, value);
-    if let KindFound::Kind(i) = kind {
-        return choice_of(Node::Piece(i), 0);
+    let alone = find_piece(size.count, pieces, cell, value);
+    if let PieceFound::Laid(node) = alone {
+        return choice_of(node, 0);
     }
     choose_cut(
         cell,
         value,
         a,
         b,
-        g,
+        size,
         normal_lengths,
         normal_widths,
         floors,

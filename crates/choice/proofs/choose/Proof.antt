@@ -1,5 +1,5 @@
 -- `choice::choose` meets its contract.
-use Rattle.choice.proofs.Choice.{sizes, there, cuts-searchable, none-chosen, kind-chosen, cut-chosen}
+use Rattle.choice.proofs.Choice.{sizes, there, cuts-searchable, none-chosen, piece-chosen, cut-chosen}
 use native.Mathlib.Omega.{arith}
 use lib.Seq.{getD-drop}
 use lib.ListN.{getD, drop}
@@ -25,7 +25,7 @@ shared-slice-read-a c = search needs
 
 cast-a-2 : tie.Need-cast-a-2
 cast-a-2 c =
-    let e = c .before .before .before .before .before .before .before in
+    let e = c .before .before .before .before .before .before in
     omega (arith, sizes (e .pre .0) (e .pre .1))
 
 cast-b : tie.Need-cast-b
@@ -42,7 +42,7 @@ shared-slice-read-b c = search needs
 
 cast-b-2 : tie.Need-cast-b-2
 cast-b-2 c =
-    let e = c .before .before .before .before .before .before .before .before .before in
+    let e = c .before .before .before .before .before .before .before .before in
     rw (column e) (omega (arith, sizes (e .pre .0) (e .pre .1)))
 
 cast-shares : tie.Need-cast-shares
@@ -56,22 +56,22 @@ cast-row c = search needs
 
 mul-row : tie.Need-mul-row
 mul-row c =
-    let e = c .before .before .before .before .before .before .before .before .before .before .before in
+    let e = c .before .before .before .before .before .before .before .before .before .before in
     omega (arith, sizes (e .pre .0) (e .pre .1))
 
 mul-value : tie.Need-mul-value
 mul-value c =
-    let e = c .before .before .before .before .before .before .before .before .before .before .before in
+    let e = c .before .before .before .before .before .before .before .before .before .before in
     omega (arith, sizes (e .pre .0) (e .pre .1))
 
 mul-value-2 : tie.Need-mul-value-2
 mul-value-2 c =
-    let e = c .before .before .before .before .before .before .before .before .before .before .before in
+    let e = c .before .before .before .before .before .before .before .before .before .before in
     rw (column e) (omega (arith, sizes (e .pre .0) (e .pre .1)))
 
 add-value : tie.Need-add-value
 add-value c =
-    let e = c .before .before .before .before .before .before .before .before .before .before .before in
+    let e = c .before .before .before .before .before .before .before .before .before .before in
     rw (column e) (omega (arith, sizes (e .pre .0) (e .pre .1)))
 
 cast-value : tie.Need-cast-value
@@ -79,17 +79,17 @@ cast-value c = search needs
 
 add-value-2 : tie.Need-add-value-2
 add-value-2 c =
-    let e = c .before .before .before .before .before .before .before .before .before .before .before .before in
+    let e = c .before .before .before .before .before .before .before .before .before .before .before in
     rw (column e) (omega (arith, sizes (e .pre .0) (e .pre .1)))
 
 mul-value-3 : tie.Need-mul-value-3
 mul-value-3 c =
-    let e = c .before .before .before .before .before .before .before .before .before .before .before .before in
+    let e = c .before .before .before .before .before .before .before .before .before .before .before in
     rw (column e) (omega (arith, sizes (e .pre .0) (e .pre .1)))
 
 shared-slice-read-value : tie.Need-shared-slice-read-value
 shared-slice-read-value c =
-    let e = c .before .before .before .before .before .before .before .before .before .before .before .before .before in
+    let e = c .before .before .before .before .before .before .before .before .before .before .before .before in
     rw (column e) (there (e .pre .0) (e .pre .1))
 
 choice-of-requires : tie.Need-choice-of-requires
@@ -97,35 +97,35 @@ choice-of-requires c κs = search needs
 
 returns : tie.Need-returns
 returns c =
-    let e = c .before .before .before .before .before .before .before .before .before .before .before .before .before .before .before in
+    let e = c .before .before .before .before .before .before .before .before .before .before .before .before .before .before in
     c .choice-of .ensures ∙ none-chosen (e .pre .0) (e .pre .1) refl (column e) refl (c .before .if1 .taken)
 
-find-kind-requires : tie.Need-find-kind-requires
-find-kind-requires c κs = search needs
+find-piece-requires : tie.Need-find-piece-requires
+find-piece-requires c κs = search needs
 
-enum-known-kind : tie.Need-enum-known-kind
-enum-known-kind c = search needs
+enum-known-alone : tie.Need-enum-known-alone
+enum-known-alone c = search needs
 
 choice-of-requires-2 : tie.Need-choice-of-requires-2
 choice-of-requires-2 c κs = search needs
 
 returns-2 : tie.Need-returns-2
 returns-2 c =
-    let e = c .before .before .before .before .before .before .before .before .before .before .before .before .before .before .before .before .before .before .before in
-    c .choice-of2 .ensures ∙ kind-chosen (e .pre .0) (e .pre .1) refl (column e) refl (c .before .before .before .before .before .if1 .left) (sym (c .before .before .before .before .find-kind .ensures) ∙ c .before .before .kind .given .1)
+    let e = c .before .before .before .before .before .before .before .before .before .before .before .before .before .before .before .before .before .before in
+    c .choice-of2 .ensures ∙ piece-chosen (e .pre .0) (e .pre .1) refl (column e) refl (c .before .before .before .before .before .if1 .left) (sym (c .before .before .before .before .find-piece .ensures) ∙ c .before .before .alone .given .1)
 
 enum-told : tie.Need-enum-told
 enum-told c = search needs
 
 choose-cut-requires : tie.Need-choose-cut-requires
 choose-cut-requires c κs =
-    let e = c .before .before .before .before .before .before .before .before .before .before .before .before .before .before .before .before .before in
+    let e = c .before .before .before .before .before .before .before .before .before .before .before .before .before .before .before .before in
     cuts-searchable (e .pre .0) (e .pre .1) refl (column e)
 
 returns-3 : tie.Need-returns-3
 returns-3 c =
-    let e = c .before .before .before .before .before .before .before .before .before .before .before .before .before .before .before .before .before .before in
-    cut-chosen (e .pre .0) (e .pre .1) refl (column e) refl (c .before .before .before .before .if1 .left) (sym (c .before .before .before .find-kind .ensures) ∙ c .before .enum-told .given .1) (c .choose-cut .ensures)
+    let e = c .before .before .before .before .before .before .before .before .before .before .before .before .before .before .before .before .before in
+    cut-chosen (e .pre .0) (e .pre .1) refl (column e) refl (c .before .before .before .before .if1 .left) (sym (c .before .before .before .find-piece .ensures) ∙ c .before .enum-told .given .1) (c .choose-cut .ensures)
 
 pub choose-spec : {M : Type 1} → statement M
 choose-spec =
@@ -153,8 +153,8 @@ choose-spec =
     shared-slice-read-value
     choice-of-requires
     returns
-    find-kind-requires
-    enum-known-kind
+    find-piece-requires
+    enum-known-alone
     choice-of-requires-2
     returns-2
     enum-told

@@ -13,7 +13,7 @@ use Rattle.choice.proofs.choose_cut.Tie as tie
 
 -- the floors of the widths are a part of the floors, and searched by it
 width-searchable : (s : tie.Start) → Searchable (now (s .args .normal-widths)) (take (length (now (s .args .floors)) - 1001) (drop 1001 (now (s .args .floors)))) (now (s .args .table)) (s .args .cell .sides .width) (s .args .b)
-    (s .args .g .capacity + 1) (s .args .a * (s .args .g .columns * (s .args .g .capacity + 1))) (s .args .cell .share)
+    (s .args .size .capacity + 1) (s .args .a * (s .args .size .columns * (s .args .size .capacity + 1))) (s .args .cell .share)
 width-searchable s = rw (rest-part 1001 (now (s .args .floors))) (s .pre .1)
 
 cast-l : tie.Need-cast-l
@@ -37,15 +37,20 @@ cast-row c = search needs
 mul-row : tie.Need-mul-row
 mul-row c =
     let e = c .before .before .before .before .before .before .before .before .before in
-    let a : e .args .g .columns ≤ 65535 = search needs in
-    let b : e .args .g .capacity + 1 ≤ 65536 = search needs in
+    let a : e .args .size .columns ≤ 65535 = search needs in
+    let b : e .args .size .capacity + 1 ≤ 65536 = search needs in
     omega (arith, mul-le-mul a b)
 
+-- the length of the table is listed, because it stands too deep to be found
 mul-column : tie.Need-mul-column
-mul-column c = omega (arith, c .before .before .before .before .before .before .before .before .before .pre .0 .remainders 0 (omega arith) 0 (omega arith))
+mul-column c =
+    let e = c .before .before .before .before .before .before .before .before .before in
+    omega (arith, e .good .1 .1 .1 .1 .1 .1 .1 .1, e .pre .0 .remainders 0 (omega arith) 0 (omega arith))
 
 mul-start : tie.Need-mul-start
-mul-start c = omega (arith, c .before .before .before .before .before .before .before .before .before .pre .1 .remainders 0 (omega arith) 0 (omega arith))
+mul-start c =
+    let e = c .before .before .before .before .before .before .before .before .before in
+    omega (arith, e .good .1 .1 .1 .1 .1 .1 .1 .1, e .pre .1 .remainders 0 (omega arith) 0 (omega arith))
 
 sub-width-floors : tie.Need-sub-width-floors
 sub-width-floors c =
