@@ -27,3 +27,5 @@ pub mod Laws
 pub mod Listed
 pub mod Plan
 pub mod Promises
+pub mod Sound
+pub mod Laid

@@ -14,18 +14,17 @@ use Rattle.cutting.specs.Pieces.{Piece, kind, _⊑_, fits-in, sized}
 use Rattle.cutting.specs.Saws.{saw, saw-written}
 use Rattle.cutting.specs.Shares.{by-weight}
 use Rattle.cutting.specs.Choice.{Choice, as-waste, as-piece, as-cut, or-waste, or-length, or-piece, or-zero, cut-earns, first-cut, choice, follow, written}
-use Rattle.cutting.specs.Job.{Job, laid, GuillotineTree, OnPlate, profit, weight-of, capacity, members, pieces, by-kind, figure-of, bound-of, normal-side, plan-of, bound-plan, pair-earns, first-pair, plan-choice, plan-after, InRange}
+use Rattle.cutting.specs.Job.{Job, laid, GuillotineTree, OnPlate, profit, weight-of, capacity, members, pieces, by-kind, figure-of, bound-of, normal-side, plan-of, bound-plan, pair-earns, first-pair, plan-choice, plan-after, SolidKinds}
 use Rattle.cutting.proofs.Lists.{first-cong, mem-pairs}
 use Rattle.cutting.proofs.Choice.{written-earns, written-eq}
 use Rattle.cutting.proofs.Saws.{saw-cut}
 use Rattle.cutting.proofs.Transfer.{recut}
 use Rattle.cutting.proofs.Weights.{within-weight}
 use Rattle.cutting.proofs.Reduction.{CutsAt, saw-written-cuts, cuts-proper}
-use Rattle.cutting.proofs.Members.{range-solid}
 use Rattle.cutting.proofs.Job.{guillotine-plain}
 use Rattle.cutting.proofs.Table.{sides-suffice, figure-saw}
 
-module _ (J : Job) (weight : ℕ → ℕ) (h : InRange J) where
+module _ (J : Job) (weight : ℕ → ℕ) (solid : SolidKinds J) where
   -- the saw of the written plan
   abbrev C : Saw
   C = saw-written (normal-side J)
@@ -38,7 +37,7 @@ module _ (J : Job) (weight : ℕ → ℕ) (h : InRange J) where
 
   -- its figures are those of the job, on the plate
   plan-figure : (r : Rect) (c : ℕ) → r ⊑ J .plate → figure (pieces J) C (by-kind weight) r c ≡ figure-of J weight (r .0) (r .1) c
-  plan-figure r c on = sym (figure-saw J weight (range-solid J h) C cuts-at r c on)
+  plan-figure r c on = sym (figure-saw J weight solid C cuts-at r c on)
 
   -- and its trees are trees cut at whole units
   plan-units : (t : Tree Piece) (r : Rect) → Guillotine (pieces J) C r t → Guillotine (pieces J) (saw 0) r t

@@ -39,4 +39,4 @@ module _ (J : Job) (weight : ℕ → ℕ) where
     floor-figures l w c on-length on-width = figure-floor J weight (range-solid J h) l w c on-length on-width
 
     pub plan-follows : PlanFollows J weight
-    plan-follows l w c on-length on-width = plan-recursion J weight h l w c on-length on-width
+    plan-follows l w c on-length on-width = plan-recursion J weight (range-solid J h) l w c on-length on-width

@@ -1,12 +1,13 @@
 -- The pieces that may lie as the inner functions read them, by their numbers and from one array. They then are the kinds of a plain job,
 -- and code that knows no turned pieces serves every job (proofs/Listed). Only inner contracts cite this file.
 use mathlib.Core.Path.{_≡_}
-use mathlib.Core.Bool.{false}
+use mathlib.Core.Bool.{Bool, true, false}
 use mathlib.Core.List.{List}
-use Prim.Native.Nat.{ℕ, _+_, _*_, _≤_, _<_}
+use Prim.Native.Nat.{ℕ, _+_, _*_, _/_, _%_, _≤_, _<_}
+use lib.Dec.{eqb}
 use lib.ListN.{length, getD}
 use Rattle.cutting.specs.Limits.{most-side, most-pieces, most-price}
-use Rattle.cutting.specs.Tree.{Rect}
+use Rattle.cutting.specs.Tree.{Rect, Tree, waste, piece, cut}
 use Rattle.cutting.specs.Pieces.{Piece, upright, turned, kind}
 use Rattle.cutting.specs.Job.{Job, laid, members}
 
@@ -52,6 +53,20 @@ node-in pieces j = getD pieces (5 * j + 4) 0
 abbrev pub node-number : Piece → ℕ
 node-number (upright i) = 2 * i
 node-number (turned i) = 2 * i + 1
+
+-- the piece of a node's number
+abbrev pub piece-way : Bool → ℕ → Piece
+piece-way true i = upright i
+piece-way false i = turned i
+
+abbrev pub numbered-piece : ℕ → Piece
+numbered-piece number = piece-way (eqb (number % 2) 0) (number / 2)
+
+-- a tree of numbered pieces with the pieces that the numbers stand for
+abbrev pub laid-tree : List ℕ → Tree Piece → Tree Piece
+laid-tree pieces waste = waste
+laid-tree pieces (piece p) = piece (numbered-piece (node-in pieces (kind p)))
+laid-tree pieces (cut d x a b) = cut d x (laid-tree pieces a) (laid-tree pieces b)
 
 -- the plain job of an array of n pieces on a plate
 abbrev pub pieces-job : Rect → ℕ → List ℕ → Job
