@@ -4,6 +4,7 @@ use mathlib.Core.List.{List}
 use Prim.Native.Nat.{ℕ, _≤_}
 use native.Mathlib.Omega.{arith}
 use Rattle.cutting.specs.Job.{Job, bound-of}
+use Rattle.cutting.proofs.Members.{range-solid}
 use Rattle.cutting.proofs.Plan.{plan-bound}
 use Rattle.cutting.proofs.Promises as trees
 use Rattle.refusal.specs.Refusals.{first-refusal}
@@ -54,7 +55,7 @@ pub bounds-hold : BoundsHold
 bounds-hold s choices ws m = exact-by s choices ws m
 
 pub plans-earn : PlansEarn
-plans-earn s choices ws accepted = let h = accepted-in-range s choices ws accepted in (trees.plan-follows (block-job s choices) (weight-in ws) h, plan-bound (block-job s choices) (weight-in ws) h)
+plans-earn s choices ws accepted = let h = accepted-in-range s choices ws accepted in (trees.plan-follows (block-job s choices) (weight-in ws) h, plan-bound (block-job s choices) (weight-in ws) (range-solid (block-job s choices) h))
 
 pub bound-exact : BoundExact
 bound-exact s choices ws accepted = (trees.bound-exact (block-job s choices) (weight-in ws), trees.none-above (block-job s choices) (weight-in ws))

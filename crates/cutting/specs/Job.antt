@@ -124,9 +124,13 @@ plan-choice J weight l w c = or-zero (eqb (figure-of J weight l w c) 0)
 unfoldable pub plan-of : Job → (ℕ → ℕ) → ℕ → ℕ → ℕ → Tree Piece
 plan-of J weight l w c = written (pieces J) (saw-written (normal-side J)) (by-kind weight) (l, w) c
 
+-- the plan of the plate and a capacity
+abbrev pub plan-under : Job → (ℕ → ℕ) → ℕ → Tree Piece
+plan-under J weight q = plan-of J weight (J .plate .0) (J .plate .1) q
+
 -- the plan behind the bound itself
 abbrev pub bound-plan : Job → (ℕ → ℕ) → Tree Piece
-bound-plan J weight = plan-of J weight (J .plate .0) (J .plate .1) (capacity J weight)
+bound-plan J weight = plan-under J weight (capacity J weight)
 
 -- the plan's tree after a choice: the second part of a cut is the true remainder (plan-recursion of proofs/Plan)
 abbrev pub plan-after : Job → (ℕ → ℕ) → ℕ → ℕ → Choice Piece ℕ → Tree Piece

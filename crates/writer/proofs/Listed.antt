@@ -9,6 +9,7 @@ use lib.Seq.{sets, paste, paste-zero, paste-suc, take-at}
 use Rattle.cutting.specs.declared.Node.{Node}
 use Rattle.cutting.specs.Lists.{over}
 use Rattle.cutting.specs.Tree.{Tree}
+use Rattle.cutting.specs.Pieces.{Piece}
 use Rattle.cutting.specs.Preorder.{preorder, kind-of, operand-of, kinds-of, operands-of}
 use Rattle.cutting.proofs.Lists.{over-sets}
 
@@ -24,7 +25,7 @@ module _ (f : Node → ℕ) where
   all-listed old at e q = sym (ap (λ ns. sets old at (map f ns)) e) ∙ q
 
 -- all of a tree is still to be listed
-module _ (t : Tree ℕ) {nodes : List Node} (e : nodes ≡ preorder t) (old : List ℕ) where
+module _ (t : Tree Piece) {nodes : List Node} (e : nodes ≡ preorder t) (old : List ℕ) where
   pub kinds-begin : sets old 0 (map (λ n. kind-of n) nodes) ≡ sets old 0 (kinds-of t)
   unfolding kinds-of
   kinds-begin = ap (λ ns. sets old 0 (map (λ n. kind-of n) ns)) e

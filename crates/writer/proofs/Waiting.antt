@@ -15,12 +15,13 @@ use Rattle.cutting.specs.declared.Sides.{Sides}
 use Rattle.cutting.specs.Tree.{side}
 use Rattle.cutting.specs.Sides.{rect-of}
 use Rattle.cutting.specs.Preorder.{preorder, node-count}
-use Rattle.cutting.specs.Job.{Job, InRange, capacity, plan-of, bound-plan}
+use Rattle.cutting.specs.Listed.{InTableRange}
+use Rattle.table.specs.declared.TableSize.{TableSize}
+use Rattle.table.specs.Contracts.{size-job}
 use Rattle.choice.specs.declared.Cell.{Cell}
 use Rattle.choice.specs.declared.Chosen.{Chosen}
-use Rattle.choice.specs.declared.Dimensions.{Dimensions}
 use Rattle.choice.specs.Choice.{Inside, chosen-at}
-use Rattle.writer.specs.Contracts.{cell-at, with-cell, plan-at, nodes-left, Waiting, Stepped}
+use Rattle.writer.specs.Contracts.{cell-at, with-cell, plan-at, plate-cell, whole-plan, nodes-left, Waiting, Stepped}
 use Rattle.writer.proofs.Plan.{first-cell, second-cell, half-of, Parts, plan-nodes, leaf-nodes, cut-position, cut-parts, cut-nodes}
 
 module _ (xs : List ℕ) (i : ℕ) (cell : Cell) where
@@ -52,26 +53,26 @@ module _ (xs : List ℕ) (i : ℕ) (cell : Cell) where
       same n a b c = getD-set-other (set (set xs (3 * i) (cell .sides .length)) (3 * i + 1) (cell .sides .width)) (3 * i + 2) n (cell .share) 0 c
           ∙ getD-set-other (set xs (3 * i) (cell .sides .length)) (3 * i + 1) n (cell .sides .width) 0 b ∙ getD-set-other xs (3 * i) n (cell .sides .length) 0 a
 
-module _ (J : Job) (weight : ℕ → ℕ) where
+module _ (size : TableSize) (pieces : List ℕ) where
   -- the nodes to come depend on the cells that wait
-  nodes-same : (xs ys : List ℕ) (n : ℕ) → ((i : ℕ) → i < n → cell-at xs i ≡ cell-at ys i) → nodes-left J weight xs n ≡ nodes-left J weight ys n
+  nodes-same : (xs ys : List ℕ) (n : ℕ) → ((i : ℕ) → i < n → cell-at xs i ≡ cell-at ys i) → nodes-left size pieces xs n ≡ nodes-left size pieces ys n
   unfolding nodes-left
   nodes-same xs ys zero h = refl
-  nodes-same xs ys (suc n) h = ap₂ (λ c r. preorder (plan-at J weight c) ++ r) (h n (omega arith)) (nodes-same xs ys n (λ i l. h i (omega arith)))
+  nodes-same xs ys (suc n) h = ap₂ (λ c r. preorder (plan-at size pieces c) ++ r) (h n (omega arith)) (nodes-same xs ys n (λ i l. h i (omega arith)))
 
-  nodes-top : (xs : List ℕ) (n : ℕ) → nodes-left J weight xs (n + 1) ≡ preorder (plan-at J weight (cell-at xs n)) ++ nodes-left J weight xs n
+  nodes-top : (xs : List ℕ) (n : ℕ) → nodes-left size pieces xs (n + 1) ≡ preorder (plan-at size pieces (cell-at xs n)) ++ nodes-left size pieces xs n
   unfolding nodes-left
   nodes-top xs n = rw (add-one n) refl
 
-  pub none-left : (xs : List ℕ) → nodes-left J weight xs 0 ≡ []
+  pub none-left : (xs : List ℕ) → nodes-left size pieces xs 0 ≡ []
   unfolding nodes-left
   none-left xs = refl
 
   -- the cell on top of n gives the next nodes
-  nodes-next : (xs : List ℕ) (n : ℕ) → 0 < n → nodes-left J weight xs n ≡ preorder (plan-at J weight (cell-at xs (n - 1))) ++ nodes-left J weight xs (n - 1)
-  nodes-next xs n h = let e : n ≡ n - 1 + 1 = omega arith in ap (nodes-left J weight xs) e ∙ nodes-top xs (n - 1)
+  nodes-next : (xs : List ℕ) (n : ℕ) → 0 < n → nodes-left size pieces xs n ≡ preorder (plan-at size pieces (cell-at xs (n - 1))) ++ nodes-left size pieces xs (n - 1)
+  nodes-next xs n h = let e : n ≡ n - 1 + 1 = omega arith in ap (nodes-left size pieces xs) e ∙ nodes-top xs (n - 1)
 
-module _ {J : Job} {g : Dimensions} (h : InRange J) {xs : List ℕ} {n : ℕ} (w : Waiting J g xs n) (some : 0 < n) where
+module _ {size : TableSize} {pieces : List ℕ} (h : InTableRange (size-job size pieces)) {xs : List ℕ} {n : ℕ} (w : Waiting size pieces xs n) (some : 0 < n) where
   -- a cell on top of many is small: at most 1,999 wait
   pub place : n < 2000
   place =
@@ -79,15 +80,15 @@ module _ {J : Job} {g : Dimensions} (h : InRange J) {xs : List ℕ} {n : ℕ} (w
       let c = w .inside (n - 1) l in
       omega (arith, c .some-length, c .some-width, w .smaller (n - 1) l, h .plate-length, h .plate-width)
 
-  pub top-inside : Inside J g (cell-at xs (n - 1))
+  pub top-inside : Inside (size-job size pieces) size (cell-at xs (n - 1))
   top-inside = w .inside (n - 1) (omega arith)
 
   -- after a node without parts the cells below it wait
-  below-wait : Waiting J g xs (n - 1)
+  below-wait : Waiting size pieces xs (n - 1)
   below-wait = record { entries = w .entries; inside = λ i l. w .inside i (omega arith); smaller = λ i l. w .smaller i (omega arith) }
 
   -- after a cut its parts wait besides, the second below the first
-  module _ {a b : Cell} (p : Parts J g (cell-at xs (n - 1)) a b) where
+  module _ {a b : Cell} (p : Parts (size-job size pieces) size (cell-at xs (n - 1)) a b) where
     abbrev new : List ℕ
     new = with-cell (with-cell xs (n - 1) b) n a
 
@@ -112,85 +113,78 @@ module _ {J : Job} {g : Dimensions} (h : InRange J) {xs : List ℕ} {n : ℕ} (w
         go (no z) (yes y) = subst (λ i. P (cell-at new i) i) (sym y) (subst (λ c. P c (n - 1)) (sym second-there) v)
         go (no z) (no y) = let m : i < n - 1 = omega arith in subst (λ c. P c i) (sym (below-there i m)) (below i m)
 
-    parts-wait : Waiting J g new (n + 1)
+    parts-wait : Waiting size pieces new (n + 1)
     parts-wait =
         let m = w .smaller (n - 1) (omega arith) in
         record {
           entries = entries-new;
-          inside = each (λ c i. Inside J g c) (p .first-inside) (p .second-inside) (λ i l. w .inside i (omega arith));
-          smaller = each (λ c i. half-of c + i ≤ J .plate .0 + J .plate .1) (omega (arith, p .first-less)) (omega (arith, p .second-less)) (λ i l. w .smaller i (omega arith));
+          inside = each (λ c i. Inside (size-job size pieces) size c) (p .first-inside) (p .second-inside) (λ i l. w .inside i (omega arith));
+          smaller = each (λ c i. half-of c + i ≤ size .length + size .width) (omega (arith, p .first-less)) (omega (arith, p .second-less)) (λ i l. w .smaller i (omega arith));
         }
 
     -- and its node is taken
-    cut-taken : (weight : ℕ → ℕ) {node : Node} → preorder (plan-at J weight (cell-at xs (n - 1))) ≡ node ∷ (preorder (plan-at J weight a) ++ preorder (plan-at J weight b))
-        → nodes-left J weight xs n ≡ node ∷ nodes-left J weight new (n + 1)
-    cut-taken weight {node} q =
-        let A = preorder (plan-at J weight a) in
-        let B = preorder (plan-at J weight b) in
-        let rest = nodes-left J weight xs (n - 1) in
-        let lower : nodes-left J weight new n ≡ B ++ rest = nodes-next J weight new n some ∙ ap₂ (λ c r. preorder (plan-at J weight c) ++ r) second-there (nodes-same J weight new xs (n - 1) below-there) in
-        let upper : nodes-left J weight new (n + 1) ≡ A ++ (B ++ rest) = nodes-top J weight new n ∙ ap₂ (λ c r. preorder (plan-at J weight c) ++ r) first-there lower in
-        nodes-next J weight xs n some ∙ ap (λ ns. ns ++ rest) q ∙ ap (λ ns. node ∷ ns) (append-assoc A B rest ∙ sym upper)
+    cut-taken : {node : Node} → preorder (plan-at size pieces (cell-at xs (n - 1))) ≡ node ∷ (preorder (plan-at size pieces a) ++ preorder (plan-at size pieces b))
+        → nodes-left size pieces xs n ≡ node ∷ nodes-left size pieces new (n + 1)
+    cut-taken {node} q =
+        let A = preorder (plan-at size pieces a) in
+        let B = preorder (plan-at size pieces b) in
+        let rest = nodes-left size pieces xs (n - 1) in
+        let lower : nodes-left size pieces new n ≡ B ++ rest = nodes-next size pieces new n some ∙ ap₂ (λ c r. preorder (plan-at size pieces c) ++ r) second-there (nodes-same size pieces new xs (n - 1) below-there) in
+        let upper : nodes-left size pieces new (n + 1) ≡ A ++ (B ++ rest) = nodes-top size pieces new n ∙ ap₂ (λ c r. preorder (plan-at size pieces c) ++ r) first-there lower in
+        nodes-next size pieces xs n some ∙ ap (λ ns. ns ++ rest) q ∙ ap (λ ns. node ∷ ns) (append-assoc A B rest ∙ sym upper)
 
   -- a step, by the choice at the cell on top
-  module _ (weight : ℕ → ℕ) {cell : Cell} (at : cell ≡ cell-at xs (n - 1)) {r : Chosen} (e : r ≡ chosen-at J weight cell) where
-    cell-inside : Inside J g cell
+  module _ {cell : Cell} (at : cell ≡ cell-at xs (n - 1)) {r : Chosen} (e : r ≡ chosen-at size pieces cell) where
+    cell-inside : Inside (size-job size pieces) size cell
     cell-inside = rw at top-inside
 
-    pub leaf-stepped : ((d : Direction) (x : ℕ) → r .node ≡ Cut d x → ⊥) → Stepped J weight g xs xs n (record { node = r .node; depth = n - 1 })
+    pub leaf-stepped : ((d : Direction) (x : ℕ) → r .node ≡ Cut d x → ⊥) → Stepped size pieces xs xs n (record { node = r .node; depth = n - 1 })
     leaf-stepped k = record {
-      nodes = nodes-next J weight xs n some ∙ ap (λ ns. ns ++ nodes-left J weight xs (n - 1)) (rw at at (leaf-nodes weight h cell cell-inside e k));
+      nodes = nodes-next size pieces xs n some ∙ ap (λ ns. ns ++ nodes-left size pieces xs (n - 1)) (rw at at (leaf-nodes size pieces h cell cell-inside e k));
       waits = below-wait;
     }
 
     module _ {d : Direction} {x : ℕ} (f : r .node ≡ Cut d x) where
       pub cut-ready : (x ≤ side d (rect-of (cell .sides))) × (r .share ≤ cell .share)
-      cut-ready = cut-position weight h cell cell-inside e f
+      cut-ready = cut-position size pieces h cell cell-inside e f
 
       pub cut-stepped : {a b : Sides} → a ≡ first-cell cell d x (r .share) .sides → b ≡ second-cell cell d x (r .share) .sides → {middle new : List ℕ}
           → middle ≡ with-cell xs (n - 1) (record { sides = b; share = cell .share - r .share }) → new ≡ with-cell middle n (record { sides = a; share = r .share })
-          → Stepped J weight g xs new n (record { node = Cut d x; depth = n + 1 })
+          → Stepped size pieces xs new n (record { node = Cut d x; depth = n + 1 })
       cut-stepped {a} {b} p q {middle} {new} u v =
           let first = first-cell cell d x (r .share) in
           let second = second-cell cell d x (r .share) in
-          let parts : Parts J g (cell-at xs (n - 1)) first second = subst (λ c. Parts J g c first second) at (cut-parts weight h cell cell-inside e f) in
+          let parts : Parts (size-job size pieces) size (cell-at xs (n - 1)) first second = subst (λ c. Parts (size-job size pieces) size c first second) at (cut-parts size pieces h cell cell-inside e f) in
           let list : new ≡ with-cell (with-cell xs (n - 1) second) n first = v ∙ ap₂ (λ ys s. with-cell ys n (record { sides = s; share = r .share })) (u ∙ ap (λ s. with-cell xs (n - 1) (record { sides = s; share = cell .share - r .share })) q) p in
-          subst (λ ys. Stepped J weight g xs ys n (record { node = Cut d x; depth = n + 1 })) (sym list) (record {
-            nodes = cut-taken parts weight (ap (λ c. preorder (plan-at J weight c)) (sym at) ∙ cut-nodes weight h cell cell-inside e f);
+          subst (λ ys. Stepped size pieces xs ys n (record { node = Cut d x; depth = n + 1 })) (sym list) (record {
+            nodes = cut-taken parts (ap (λ c. preorder (plan-at size pieces c)) (sym at) ∙ cut-nodes size pieces h cell cell-inside e f);
             waits = parts-wait parts;
           })
 
--- the cell of the plate with all of the capacity
-abbrev pub plate-of : Job → Dimensions → Cell
-plate-of J g = record { sides = record { length = J .plate .0; width = J .plate .1 }; share = g .capacity }
-
--- it waits alone at the start, and all nodes are to come
-module _ {J : Job} (weight : ℕ → ℕ) (h : InRange J) (g : Dimensions) (e : g .capacity ≡ capacity J weight) where
-  plate-inside : Inside J g (plate-of J g)
+-- the cell of the plate waits alone at the start, and all nodes are to come
+module _ (size : TableSize) (pieces : List ℕ) (h : InTableRange (size-job size pieces)) where
+  plate-inside : Inside (size-job size pieces) size (plate-cell size)
   plate-inside = record { some-length = h .plate-length .0; on-length = omega arith; some-width = h .plate-width .0; on-width = omega arith; in-capacity = omega arith }
 
-  plate-plan : plan-at J weight (plate-of J g) ≡ bound-plan J weight
-  plate-plan = ap (λ q. plan-of J weight (J .plate .0) (J .plate .1) q) e
-
   -- the plan has at most 1,999,999 nodes
-  pub bound-nodes : node-count (bound-plan J weight) < 2000000
-  bound-nodes = subst (λ t. node-count t < 2000000) plate-plan (plan-nodes weight h (plate-of J g) plate-inside)
+  pub whole-nodes : node-count (whole-plan size pieces) < 2000000
+  whole-nodes = plan-nodes size pieces h (plate-cell size) plate-inside
 
-  module _ (xs : List ℕ) (k : length xs ≡ 6000) {new : List ℕ} (p : new ≡ with-cell xs 0 (plate-of J g)) where
-    plate-there : cell-at new 0 ≡ plate-of J g
-    plate-there = ap (λ ys. cell-at ys 0) p ∙ put-there xs 0 (plate-of J g) (omega arith)
+  module _ (xs : List ℕ) (k : length xs ≡ 6000) {new : List ℕ} (p : new ≡ with-cell xs 0 (plate-cell size)) where
+    plate-there : cell-at new 0 ≡ plate-cell size
+    plate-there = ap (λ ys. cell-at ys 0) p ∙ put-there xs 0 (plate-cell size) (omega arith)
 
-    pub plate-waits : Waiting J g new 1
+    pub plate-waits : Waiting size pieces new 1
     plate-waits = record {
-      entries = ap length p ∙ put-length xs 0 (plate-of J g) ∙ k;
-      inside = λ i l. (let z : i ≡ 0 = omega arith in subst (λ i. Inside J g (cell-at new i)) (sym z) (subst (λ c. Inside J g c) (sym plate-there) plate-inside));
-      smaller = λ i l. (let z : i ≡ 0 = omega arith in subst (λ i. half-of (cell-at new i) + i ≤ J .plate .0 + J .plate .1) (sym z) (subst (λ c. half-of c + 0 ≤ J .plate .0 + J .plate .1) (sym plate-there) (omega arith)));
+      entries = ap length p ∙ put-length xs 0 (plate-cell size) ∙ k;
+      inside = λ i l. (let z : i ≡ 0 = omega arith in subst (λ i. Inside (size-job size pieces) size (cell-at new i)) (sym z) (subst (λ c. Inside (size-job size pieces) size c) (sym plate-there) plate-inside));
+      smaller = λ i l. (let z : i ≡ 0 = omega arith in subst (λ i. half-of (cell-at new i) + i ≤ size .length + size .width) (sym z) (subst (λ c. half-of c + 0 ≤ size .length + size .width) (sym plate-there) (omega arith)));
     }
 
-    pub plan-left : nodes-left J weight new 1 ≡ preorder (bound-plan J weight)
-    plan-left = nodes-next J weight new 1 (omega arith) ∙ ap₂ (λ c r. preorder (plan-at J weight c) ++ r) plate-there (none-left J weight new) ∙ append-nil _ ∙ ap preorder plate-plan
+    pub plan-left : nodes-left size pieces new 1 ≡ preorder (whole-plan size pieces)
+    plan-left = nodes-next size pieces new 1 (omega arith) ∙ ap₂ (λ c r. preorder (plan-at size pieces c) ++ r) plate-there (none-left size pieces new) ∙ append-nil _
 
     -- all nodes are to come
-    pub count-left : length (nodes-left J weight new 1) ≡ node-count (bound-plan J weight)
+    pub count-left : length (nodes-left size pieces new 1) ≡ node-count (whole-plan size pieces)
     unfolding node-count
     count-left = ap length plan-left

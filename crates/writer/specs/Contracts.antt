@@ -8,18 +8,22 @@ use lib.Seq.{sets}
 use Rattle.cutting.specs.declared.Node.{Node}
 use Rattle.cutting.specs.Tree.{Tree}
 use Rattle.cutting.specs.Preorder.{preorder, kinds-of, operands-of, node-count}
-use Rattle.cutting.specs.Job.{Job, plan-of, bound-plan}
+use Rattle.cutting.specs.Limits.{most-capacity}
+use Rattle.cutting.specs.Pieces.{Piece}
+use Rattle.cutting.specs.declared.Sides.{Sides}
+use Rattle.cutting.specs.Job.{Job, InRange, plan-of}
+use Rattle.cutting.specs.Listed.{heavy-in, laid-tree}
 use Rattle.refusal.specs.Refusals.{next, first-refusal}
 use Rattle.refusal.specs.declared.Checked.{Checked}
+use Rattle.table.specs.declared.TableSize.{TableSize}
+use Rattle.table.specs.Contracts.{size-job}
 use Rattle.bound.specs.declared.BoundReport.{BoundReport}
 use Rattle.bound.specs.Bound.{Memory, memory-checks, list-after}
 use Rattle.choice.specs.declared.Cell.{Cell}
-use Rattle.choice.specs.declared.Dimensions.{Dimensions}
 use Rattle.choice.specs.Choice.{Inside}
 use Rattle.writer.specs.declared.nodes.Step.{Step}
-use Rattle.writer.specs.declared.WriteReport.{WriteReport}
 use Rattle.writer.specs.declared.WriteAnswer.{WriteAnswer}
-use Rattle.writer.specs.Write.{write-report, write-answer-by, nodes-verdict}
+use Rattle.writer.specs.Write.{nodes-verdict, reported, write-answer-by}
 
 -- the cell at place i: its length, width and share
 abbrev pub cell-at : List ℕ → ℕ → Cell
@@ -29,28 +33,35 @@ cell-at waiting i = record { sides = record { length = getD waiting (3 * i) 0; w
 abbrev pub with-cell : List ℕ → ℕ → Cell → List ℕ
 with-cell waiting i cell = set (set (set waiting (3 * i) (cell .sides .length)) (3 * i + 1) (cell .sides .width)) (3 * i + 2) (cell .share)
 
--- the plan from a cell downward
-abbrev pub plan-at : Job → (ℕ → ℕ) → Cell → Tree ℕ
-plan-at J weight cell = plan-of J weight (cell .sides .length) (cell .sides .width) (cell .share)
+-- the plan from a cell downward: that of the plain job of the array, with the pieces that the numbers stand for
+abbrev pub plan-at : TableSize → List ℕ → Cell → Tree Piece
+plan-at size pieces cell = laid-tree pieces (plan-of (size-job size pieces) (heavy-in pieces) (cell .sides .length) (cell .sides .width) (cell .share))
+
+-- the cell of the plate with all of the capacity, and the plan from it
+abbrev pub plate-cell : TableSize → Cell
+plate-cell size = record { sides = record { length = size .length; width = size .width }; share = size .capacity }
+
+abbrev pub whole-plan : TableSize → List ℕ → Tree Piece
+whole-plan size pieces = plan-at size pieces (plate-cell size)
 
 -- the nodes to come: the plans of the first n waiting cells in preorder, the last cell's first
-unfoldable pub nodes-left : Job → (ℕ → ℕ) → List ℕ → ℕ → List Node
-nodes-left J weight waiting zero = []
-nodes-left J weight waiting (suc n) = preorder (plan-at J weight (cell-at waiting n)) ++ nodes-left J weight waiting n
+unfoldable pub nodes-left : TableSize → List ℕ → List ℕ → ℕ → List Node
+nodes-left size pieces waiting zero = []
+nodes-left size pieces waiting (suc n) = preorder (plan-at size pieces (cell-at waiting n)) ++ nodes-left size pieces waiting n
 
 -- each of the first n cells lies on the plate, and its half perimeter and its place are at most the plate's half perimeter
-pub record Waiting (J : Job) (g : Dimensions) (waiting : List ℕ) (n : ℕ) : Type 0 where
+pub record Waiting (size : TableSize) (pieces waiting : List ℕ) (n : ℕ) : Type 0 where
   pub entries : length waiting ≡ 6000
-  pub inside : (i : ℕ) → i < n → Inside J g (cell-at waiting i)
-  pub smaller : (i : ℕ) → i < n → cell-at waiting i .sides .length + cell-at waiting i .sides .width + i ≤ J .plate .0 + J .plate .1
+  pub inside : (i : ℕ) → i < n → Inside (size-job size pieces) size (cell-at waiting i)
+  pub smaller : (i : ℕ) → i < n → cell-at waiting i .sides .length + cell-at waiting i .sides .width + i ≤ size .length + size .width
 
 -- a step takes the first of the nodes to come
-pub record Stepped (J : Job) (weight : ℕ → ℕ) (g : Dimensions) (old new : List ℕ) (n : ℕ) (step : Step) : Type 0 where
-  pub nodes : nodes-left J weight old n ≡ step .node ∷ nodes-left J weight new (step .depth)
-  pub waits : Waiting J g new (step .depth)
+pub record Stepped (size : TableSize) (pieces old new : List ℕ) (n : ℕ) (step : Step) : Type 0 where
+  pub nodes : nodes-left size pieces old n ≡ step .node ∷ nodes-left size pieces new (step .depth)
+  pub waits : Waiting size pieces new (step .depth)
 
 -- the nodes of a tree are counted, and listed from the first entries of two lists on, as far as the lists go
-pub record NodesListed (t : Tree ℕ) (kinds operands new-kinds new-operands : List ℕ) (n : ℕ) : Type 0 where
+pub record NodesListed (t : Tree Piece) (kinds operands new-kinds new-operands : List ℕ) (n : ℕ) : Type 0 where
   pub number : n ≡ node-count t
   pub kinds-listed : new-kinds ≡ sets kinds 0 (kinds-of t)
   pub operands-listed : new-operands ≡ sets operands 0 (operands-of t)
@@ -62,20 +73,22 @@ pub record Copyable (n : ℕ) (listed-kinds listed-operands kinds operands : Lis
   pub kinds-fit : n ≤ length kinds
   pub operands-fit : n ≤ length operands
 
--- the dimensions of the table that a report is of
-abbrev pub table-of : BoundReport → Dimensions
-table-of report = record { columns = report .columns; capacity = report .capacity }
+-- the size of the table that a report is of
+abbrev pub table-of : Sides → ℕ → BoundReport → TableSize
+table-of plate count report = record { length = plate .length; width = plate .width; count = count; rows = report .«length_count»; columns = report .columns; capacity = report .capacity }
 
--- a bound's report with the number of the plan's nodes
-abbrev pub reported : BoundReport → ℕ → WriteReport
-reported b n = record { bound = b .bound; capacity = b .capacity; «length_count» = b .«length_count»; columns = b .columns; nodes = n }
+-- a job that was read, and weights and a capacity that were accepted for it
+pub record Weighed (J : Job) (ws : List ℕ) (q : ℕ) : Type 0 where
+  pub in-range : InRange J
+  pub weights : J .count ≤ length ws
+  pub most : q ≤ most-capacity
 
 -- the verdict of the checks that an accepted job is left to: 19, 20, then 21
-abbrev pub room-verdict : Job → (ℕ → ℕ) → Memory → List ℕ → List ℕ → Checked
-room-verdict J weight m kinds operands = next (first-refusal (memory-checks J weight m)) (nodes-verdict J weight kinds operands)
+abbrev pub room-verdict : Job → ℕ → Memory → Tree Piece → List ℕ → List ℕ → Checked
+room-verdict J q m t kinds operands = next (first-refusal (memory-checks J q m)) (nodes-verdict t kinds operands)
 
 -- what a verdict makes of the answer, and of the plan arrays: the plan over their old contents, or as they were
-pub record Planned (v : Checked) (J : Job) (weight : ℕ → ℕ) (kinds operands new-kinds new-operands : List ℕ) (r : WriteAnswer) : Type 0 where
-  pub answer : r ≡ write-answer-by v (write-report J weight)
-  pub kinds-left : new-kinds ≡ list-after v (kinds-of (bound-plan J weight)) kinds
-  pub operands-left : new-operands ≡ list-after v (operands-of (bound-plan J weight)) operands
+pub record Planned (v : Checked) (b : BoundReport) (t : Tree Piece) (kinds operands new-kinds new-operands : List ℕ) (r : WriteAnswer) : Type 0 where
+  pub answer : r ≡ write-answer-by v (reported b (node-count t))
+  pub kinds-left : new-kinds ≡ list-after v (kinds-of t) kinds
+  pub operands-left : new-operands ≡ list-after v (operands-of t) operands

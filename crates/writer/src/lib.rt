@@ -3,26 +3,30 @@ mod nodes;
 
 use bound::BoundAnswer;
 use bound::BoundReport;
-use bound::bound_of_job;
-use choice::Dimensions;
+use bound::bound_of_pieces;
+use cutting::Sides;
+use job::Choices;
 use job::JobRecord;
 use nodes::copy_nodes;
 use nodes::list_nodes;
+use pieces::list_pieces;
+use pieces::plate_of;
 use refusal::Checked;
 use refusal::Refusal;
+use table::TableSize;
 ghost use mathlib.Core.Path.{_≡_};
 ghost use mathlib.Core.Bool.{_||_};
 ghost use lib.Dec.{ltb};
 ghost use Rattle.cutting.specs.Limits.{most-nodes};
+ghost use Rattle.cutting.specs.Job.{plan-under};
 ghost use Rattle.cutting.specs.Preorder.{kinds-of, operands-of};
 ghost use Rattle.job.specs.Block.{job-of};
-ghost use Rattle.job.specs.Weights.{block-job, weight-in};
+ghost use Rattle.job.specs.Weights.{weight-in};
 ghost use Rattle.refusal.specs.declared.Checked.the-variants.{Passed};
-ghost use Rattle.bound.specs.Bound.{bound-report, lent, Leaves, accept-verdict};
-ghost use Rattle.bound.specs.Contracts.{Weighed};
+ghost use Rattle.bound.specs.Bound.{lent, Leaves, bound-report, BoundLeaves};
 ghost use Rattle.choice.specs.Choice.{ChoiceInput};
-ghost use Rattle.writer.specs.Contracts.{table-of, reported, room-verdict, Planned};
-ghost use Rattle.writer.specs.Write.{nodes-verdict, block-plan, write-answer, write-outcome, write-said, array-after, PlanChosen, PlanWritten, BoundWritten};
+ghost use Rattle.writer.specs.Contracts.{table-of, whole-plan, Weighed, room-verdict, Planned};
+ghost use Rattle.writer.specs.Write.{reported, nodes-verdict, block-plan, write-answer, write-outcome, write-said, array-after, PlanChosen, PlanWritten, BoundWritten};
 
 // What the writing call reports: what the bound call does, and the number of the plan's nodes.
 pub struct WriteReport {
@@ -65,10 +69,10 @@ fn with_nodes(report: BoundReport, nodes: u64) -> WriteReport
     }
 }
 
-// The plan of a job whose lists, floors and table are filled: refusal 21 with the nodes needed, or the plan in preorder.
-fn plan_of_job(
-    job: JobRecord,
-    weights: &[u8],
+// The plan of pieces whose lists, floors and table are filled: refusal 21 with the nodes needed, or the plan in preorder.
+fn plan_of_pieces(
+    size: TableSize,
+    pieces: &[u32; 640],
     report: BoundReport,
     normal_lengths: &[u16],
     normal_widths: &[u16],
@@ -77,20 +81,15 @@ fn plan_of_job(
     kinds: &mut [u8],
     operands: &mut [u16],
 ) -> WriteAnswer
-    requires { ⌜ ChoiceInput (job-of job) (now weights) (table-of report) (now «normal_lengths») (now «normal_widths») (now floors) (now table) × (report ≡ bound-report (job-of job) (weight-in (now weights))) ⌝ }
-    ensures { λ r. ⌜ Planned (nodes-verdict (job-of job) (weight-in (now (weights .entry))) (now (kinds .entry)) (now (operands .entry))) (job-of job) (weight-in (now (weights .entry)))
+    requires { ⌜ ChoiceInput size (now pieces) (now «normal_lengths») (now «normal_widths») (now floors) (now table) ⌝ }
+    ensures { λ r. ⌜ Planned (nodes-verdict (whole-plan size (now (pieces .entry))) (now (kinds .entry)) (now (operands .entry))) report (whole-plan size (now (pieces .entry)))
         (now (kinds .entry)) (now (operands .entry)) (now (kinds .exit)) (now (operands .exit)) r ⌝ }
 {
-    let g = Dimensions {
-        columns: report.columns,
-        capacity: report.capacity,
-    };
     let mut own_kinds = [0u8; 4095];
     let mut own_operands = [0u16; 4095];
     let count = list_nodes(
-        job,
-        weights,
-        g,
+        size,
+        pieces,
         normal_lengths,
         normal_widths,
         floors,
@@ -107,6 +106,20 @@ fn plan_of_job(
     WriteAnswer::Written(written)
 }
 
+// The size of the table that a report is of.
+fn table_of(plate: Sides, count: u16, report: BoundReport) -> TableSize
+    ensures { λ r. ⌜ r ≡ table-of plate count report ⌝ }
+{
+    TableSize {
+        length: plate.length,
+        width: plate.width,
+        count: count,
+        rows: report.length_count,
+        columns: report.columns,
+        capacity: report.capacity,
+    }
+}
+
 // The plan of a job that was read and weights that were accepted: refusals 19 to 21, or lists, table and plan.
 fn write_accepted(
     job: JobRecord,
@@ -119,15 +132,20 @@ fn write_accepted(
     operands: &mut [u16],
 ) -> WriteAnswer
     requires { ⌜ Weighed (job-of job) (now weights) q ⌝ }
-    ensures memory { λ _. ⌜ Leaves Passed (job-of job) (weight-in (now (weights .entry)))
+    ensures memory { λ _. ⌜ Leaves Passed (job-of job) (weight-in (now (weights .entry))) q
         (lent (now («normal_lengths» .entry)) (now («normal_widths» .entry)) (now (table .entry))) (lent (now («normal_lengths» .exit)) (now («normal_widths» .exit)) (now (table .exit))) ⌝ }
-    ensures plan { λ r. ⌜ Planned (room-verdict (job-of job) (weight-in (now (weights .entry))) (lent (now («normal_lengths» .entry)) (now («normal_widths» .entry)) (now (table .entry))) (now (kinds .entry)) (now (operands .entry)))
-        (job-of job) (weight-in (now (weights .entry))) (now (kinds .entry)) (now (operands .entry)) (now (kinds .exit)) (now (operands .exit)) r ⌝ }
+    ensures plan { λ r. ⌜ Planned (room-verdict (job-of job) q (lent (now («normal_lengths» .entry)) (now («normal_widths» .entry)) (now (table .entry))) (plan-under (job-of job) (weight-in (now (weights .entry))) q) (now (kinds .entry)) (now (operands .entry)))
+        (bound-report (job-of job) (weight-in (now (weights .entry))) q) (plan-under (job-of job) (weight-in (now (weights .entry))) q) (now (kinds .entry)) (now (operands .entry)) (now (kinds .exit)) (now (operands .exit)) r ⌝ }
 {
+    let plate = plate_of(job);
+    let listing = list_pieces(job, weights);
+    let count = listing.count;
+    let pieces = listing.pieces;
     let mut floors = [0u16; 2002];
-    let bounded = bound_of_job(
-        job,
-        weights,
+    let bounded = bound_of_pieces(
+        plate,
+        count,
+        &pieces,
         q,
         normal_lengths,
         normal_widths,
@@ -136,9 +154,9 @@ fn write_accepted(
     );
     match bounded {
         BoundAnswer::Refused(r) => WriteAnswer::Refused(r),
-        BoundAnswer::Answered(report) => plan_of_job(
-            job,
-            weights,
+        BoundAnswer::Answered(report) => plan_of_pieces(
+            table_of(plate, count, report),
+            &pieces,
             report,
             &normal_lengths[..],
             &normal_widths[..],
@@ -154,6 +172,7 @@ fn write_accepted(
 // leaves them; where a check refuses, the plan arrays are untouched.
 pub fn write_plan(
     block: &[u8],
+    choices: Choices,
     weights: &[u8],
     lengths: &mut [u16],
     widths: &mut [u16],
@@ -161,19 +180,18 @@ pub fn write_plan(
     kinds: &mut [u8],
     operands: &mut [u16],
 ) -> WriteAnswer
-    ensures answers { λ r. ⌜ r ≡ write-answer (now (block .entry)) (now (weights .entry)) (lent (now (lengths .entry)) (now (widths .entry)) (now (table .entry))) (now (kinds .entry)) (now (operands .entry)) ⌝ }
-    ensures outcome { λ r. ⌜ write-outcome r ≡ write-said (now (block .entry)) (now (weights .entry)) (lent (now (lengths .entry)) (now (widths .entry)) (now (table .entry))) (now (kinds .entry)) (now (operands .entry)) ⌝ }
-    ensures memory { λ _. ⌜ Leaves (accept-verdict (now (block .entry)) (now (weights .entry))) (block-job (now (block .entry))) (weight-in (now (weights .entry)))
-        (lent (now (lengths .entry)) (now (widths .entry)) (now (table .entry))) (lent (now (lengths .exit)) (now (widths .exit)) (now (table .exit))) ⌝ }
-    ensures kinds { λ _. ⌜ now (kinds .exit) ≡ array-after (now (block .entry)) (now (weights .entry)) (lent (now (lengths .entry)) (now (widths .entry)) (now (table .entry))) (now (kinds .entry)) (now (operands .entry))
-        (kinds-of (block-plan (now (block .entry)) (now (weights .entry)))) (now (kinds .entry)) ⌝ }
-    ensures operands { λ _. ⌜ now (operands .exit) ≡ array-after (now (block .entry)) (now (weights .entry)) (lent (now (lengths .entry)) (now (widths .entry)) (now (table .entry))) (now (kinds .entry)) (now (operands .entry))
-        (operands-of (block-plan (now (block .entry)) (now (weights .entry)))) (now (operands .entry)) ⌝ }
-    ensures choice { λ _. ⌜ PlanChosen (now (block .entry)) (now (weights .entry)) ⌝ }
-    ensures plan { λ r. ⌜ PlanWritten (now (block .entry)) (now (weights .entry)) (now (kinds .entry)) (now (operands .entry)) (now (kinds .exit)) (now (operands .exit)) r ⌝ }
-    ensures bound { λ r. ⌜ BoundWritten (now (block .entry)) (now (weights .entry)) r ⌝ }
+    ensures answers { λ r. ⌜ r ≡ write-answer (now (block .entry)) choices (now (weights .entry)) (lent (now (lengths .entry)) (now (widths .entry)) (now (table .entry))) (now (kinds .entry)) (now (operands .entry)) ⌝ }
+    ensures outcome { λ r. ⌜ write-outcome r ≡ write-said (now (block .entry)) choices (now (weights .entry)) (lent (now (lengths .entry)) (now (widths .entry)) (now (table .entry))) (now (kinds .entry)) (now (operands .entry)) ⌝ }
+    ensures memory { λ _. ⌜ BoundLeaves (now (block .entry)) choices (now (weights .entry)) (lent (now (lengths .entry)) (now (widths .entry)) (now (table .entry))) (lent (now (lengths .exit)) (now (widths .exit)) (now (table .exit))) ⌝ }
+    ensures kinds { λ _. ⌜ now (kinds .exit) ≡ array-after (now (block .entry)) choices (now (weights .entry)) (lent (now (lengths .entry)) (now (widths .entry)) (now (table .entry))) (now (kinds .entry)) (now (operands .entry))
+        (kinds-of (block-plan (now (block .entry)) choices (now (weights .entry)))) (now (kinds .entry)) ⌝ }
+    ensures operands { λ _. ⌜ now (operands .exit) ≡ array-after (now (block .entry)) choices (now (weights .entry)) (lent (now (lengths .entry)) (now (widths .entry)) (now (table .entry))) (now (kinds .entry)) (now (operands .entry))
+        (operands-of (block-plan (now (block .entry)) choices (now (weights .entry)))) (now (operands .entry)) ⌝ }
+    ensures choice { λ _. ⌜ PlanChosen (now (block .entry)) choices (now (weights .entry)) ⌝ }
+    ensures plan { λ r. ⌜ PlanWritten (now (block .entry)) choices (now (weights .entry)) (now (kinds .entry)) (now (operands .entry)) (now (kinds .exit)) (now (operands .exit)) r ⌝ }
+    ensures bound { λ r. ⌜ BoundWritten (now (block .entry)) choices (now (weights .entry)) r ⌝ }
 {
-    let accepted = job::accept(block, weights);
+    let accepted = job::accept(block, choices, weights);
     let verdict = accepted.verdict;
     if let Checked::Refused(r) = verdict {
         return WriteAnswer::Refused(r);

@@ -3,24 +3,20 @@
 // The half perimeter of a waiting cell and its place are at most the plate's half perimeter, so at most 1,999 cells wait, and one array of
 // 6,000 entries holds them.
 use choice::Cell;
-use choice::Dimensions;
 use choice::choose;
 use cutting::Direction;
 use cutting::Node;
 use cutting::Sides;
 use cutting::first_part;
 use cutting::second_part;
-use job::JobRecord;
+use table::TableSize;
 ghost use mathlib.Core.Path.{_≡_};
 ghost use Prim.Native.Nat.{_<_};
 ghost use lib.ListN.{length, set};
 ghost use lib.Seq.{paste};
 ghost use Rattle.cutting.specs.Preorder.{kind-of, operand-of};
-ghost use Rattle.cutting.specs.Job.{capacity, bound-plan};
-ghost use Rattle.job.specs.Block.{job-of};
-ghost use Rattle.job.specs.Weights.{weight-in};
 ghost use Rattle.choice.specs.Choice.{ChoiceInput};
-ghost use Rattle.writer.specs.Contracts.{cell-at, with-cell, Waiting, Stepped, NodesListed, Copyable};
+ghost use Rattle.writer.specs.Contracts.{cell-at, with-cell, plate-cell, whole-plan, Waiting, Stepped, NodesListed, Copyable};
 
 // A step of the walk: the node that it reached, and how many cells wait after it.
 struct Step {
@@ -29,15 +25,15 @@ struct Step {
 }
 
 // The cell of the plate with all of the capacity.
-fn plate_cell(length: u16, width: u16, capacity: u16) -> Cell
-    ensures { λ r. ⌜ r ≡ record { sides = record { length = length; width = width }; share = capacity } ⌝ }
+fn plate_cell(size: TableSize) -> Cell
+    ensures { λ r. ⌜ r ≡ plate-cell size ⌝ }
 {
     Cell {
         sides: Sides {
-            length: length,
-            width: width,
+            length: size.length,
+            width: size.width,
         },
-        share: capacity,
+        share: size.capacity,
     }
 }
 
@@ -48,6 +44,7 @@ fn kind_number(node: Node) -> u8
     match node {
         Node::Waste => 0,
         Node::Piece(_) => 1,
+        Node::Turned(_) => 4,
         Node::Cut(d, _) => match d {
             Direction::Length => 2,
             Direction::Width => 3,
@@ -62,6 +59,7 @@ fn operand(node: Node) -> u16
     match node {
         Node::Waste => 0,
         Node::Piece(i) => i,
+        Node::Turned(i) => i,
         Node::Cut(_, x) => x,
     }
 }
@@ -96,24 +94,22 @@ fn put_cell(waiting: &mut [u16; 6000], i: usize, cell: Cell)
 fn next_node(
     waiting: &mut [u16; 6000],
     depth: usize,
-    job: JobRecord,
-    weights: &[u8],
-    g: Dimensions,
+    size: TableSize,
+    pieces: &[u32; 640],
     normal_lengths: &[u16],
     normal_widths: &[u16],
     floors: &[u16],
     table: &[u64],
 ) -> Step
-    requires { ⌜ ChoiceInput (job-of job) (now weights) g (now «normal_lengths») (now «normal_widths») (now floors) (now table) × Waiting (job-of job) g (now waiting) depth × (0 < depth) ⌝ }
-    ensures { λ r. ⌜ Stepped (job-of job) (weight-in (now (weights .entry))) g (now (waiting .entry)) (now (waiting .exit)) depth r ⌝ }
+    requires { ⌜ ChoiceInput size (now pieces) (now «normal_lengths») (now «normal_widths») (now floors) (now table) × Waiting size (now pieces) (now waiting) depth × (0 < depth) ⌝ }
+    ensures { λ r. ⌜ Stepped size (now (pieces .entry)) (now (waiting .entry)) (now (waiting .exit)) depth r ⌝ }
 {
     let top = depth - 1;
     let cell = waiting_cell(waiting, top);
     let chosen = choose(
         cell,
-        job,
-        weights,
-        g,
+        size,
+        pieces,
         normal_lengths,
         normal_widths,
         floors,
@@ -160,11 +156,10 @@ fn put_operand(operands: &mut [u16], at: usize, node: Node)
     }
 }
 
-// The number of nodes of the plan behind the bound; lists them in preorder from the first entries on, as far as the lists go.
+// The number of nodes of the plan from the plate downward; lists them in preorder from the first entries on, as far as the lists go.
 pub fn list_nodes(
-    job: JobRecord,
-    weights: &[u8],
-    g: Dimensions,
+    size: TableSize,
+    pieces: &[u32; 640],
     normal_lengths: &[u16],
     normal_widths: &[u16],
     floors: &[u16],
@@ -172,11 +167,11 @@ pub fn list_nodes(
     kinds: &mut [u8],
     operands: &mut [u16],
 ) -> usize
-    requires { ⌜ ChoiceInput (job-of job) (now weights) g (now «normal_lengths») (now «normal_widths») (now floors) (now table) × (g .capacity ≡ capacity (job-of job) (weight-in (now weights))) ⌝ }
-    ensures { λ r. ⌜ NodesListed (bound-plan (job-of job) (weight-in (now (weights .entry)))) (now (kinds .entry)) (now (operands .entry)) (now (kinds .exit)) (now (operands .exit)) r ⌝ }
+    requires { ⌜ ChoiceInput size (now pieces) (now «normal_lengths») (now «normal_widths») (now floors) (now table) ⌝ }
+    ensures { λ r. ⌜ NodesListed (whole-plan size (now (pieces .entry))) (now (kinds .entry)) (now (operands .entry)) (now (kinds .exit)) (now (operands .exit)) r ⌝ }
 {
     let mut waiting = [0u16; 6000];
-    let plate = plate_cell(job.length, job.width, g.capacity);
+    let plate = plate_cell(size);
     put_cell(&mut waiting, 0, plate);
     let mut depth: usize = 1;
     let mut nodes: usize = 0;
@@ -184,9 +179,8 @@ pub fn list_nodes(
         let step = next_node(
             &mut waiting,
             depth,
-            job,
-            weights,
-            g,
+            size,
+            pieces,
             normal_lengths,
             normal_widths,
             floors,

@@ -1,15 +1,22 @@
--- `writer::write_accepted` meets its contract.
+-- `writer::write_accepted` meets its contract: what the bound and the plan of the pieces say is said of the job.
+use mathlib.Core.Path.{refl}
 use borrow.Author.Needs.{needs}
 use denote.Ref.{now}
-use Rattle.writer.proofs.Write.{bound-refused, plan-ready, plan-made}
+use Rattle.writer.proofs.Write.{boundable, memory-left, bound-refused, plan-ready, plan-made}
 use Rattle.writer.proofs.write_accepted.Statement.{statement}
 use Rattle.writer.proofs.write_accepted.Tie as tie
 
-slice-aggregate-bound-of-job : tie.Need-slice-aggregate-bound-of-job
-slice-aggregate-bound-of-job c = search needs
+plate-of-requires : tie.Need-plate-of-requires
+plate-of-requires c κs = search needs
 
-bound-of-job-requires : tie.Need-bound-of-job-requires
-bound-of-job-requires c κs = search needs
+list-pieces-requires : tie.Need-list-pieces-requires
+list-pieces-requires c κs = let given = c .before .before .before .before .before .before .before .pre in (given .in-range .kinds .1, given .weights)
+
+slice-aggregate-bound-of-pieces : tie.Need-slice-aggregate-bound-of-pieces
+slice-aggregate-bound-of-pieces c = search needs
+
+bound-of-pieces-requires : tie.Need-bound-of-pieces-requires
+bound-of-pieces-requires c κs = boundable (c .before .before .before .before .before .before .before .before .before .before .before .before .before .before .pre) (c .before .before .before .before .before .before .before .plate-of .ensures) (c .before .before .before .before .before .before .list-pieces .ensures) refl
 
 enum-known-bounded : tie.Need-enum-known-bounded
 enum-known-bounded c = search needs
@@ -17,11 +24,14 @@ enum-known-bounded c = search needs
 enum-known-bounded-2 : tie.Need-enum-known-bounded-2
 enum-known-bounded-2 c = search needs
 
-slice-aggregate-plan-of-job : tie.Need-slice-aggregate-plan-of-job
-slice-aggregate-plan-of-job c = search needs
+table-of-requires : tie.Need-table-of-requires
+table-of-requires c κs = search needs
 
-plan-of-job-requires : tie.Need-plan-of-job-requires
-plan-of-job-requires c κs = plan-ready (c .before .before .before .before .before .before .before .before .before .before .before .before .before .before .before .before .before .before .before .before .before .before .before .before .before .before .before .pre) (c .before .before .before .before .before .before .before .before .before .before .before .before .before .before .before .before .bound-of-job .ensures) (c .before .before .before .before .before .before .before .bounded2 .given .1)
+slice-aggregate-plan-of-pieces : tie.Need-slice-aggregate-plan-of-pieces
+slice-aggregate-plan-of-pieces c = search needs
+
+plan-of-pieces-requires : tie.Need-plan-of-pieces-requires
+plan-of-pieces-requires c κs = rw (c .before .before .before .before .before .before .before .table-of .ensures) (plan-ready (c .before .before .before .before .before .before .before .before .before .before .before .before .before .before .before .before .before .before .before .before .before .before .before .before .before .before .before .before .before .before .before .before .before .pre) (c .before .before .before .before .before .before .before .before .before .before .before .before .before .before .before .before .before .before .before .before .before .before .before .before .before .before .plate-of .ensures) (c .before .before .before .before .before .before .before .before .before .before .before .before .before .before .before .before .before .before .before .before .before .before .before .before .before .list-pieces .ensures) (c .before .before .before .before .before .before .before .before .before .before .before .before .before .before .before .before .before .before .bound-of-pieces .ensures) (c .before .before .before .before .before .before .before .before .before .bounded2 .given .1))
 
 same-length : tie.Need-same-length
 same-length c = search needs
@@ -34,9 +44,9 @@ same-length-3 c = search needs
 
 returns : tie.Need-returns
 returns c =
-    let left = c .before .before .before .before .before .before .before .before .before .before .bound-of-job .ensures in
-    let e = c .before .before .before .before .before .before .before .before .before .before .before .before .before .before .before .before .before .before .before .before .before in
-    (left .memory, bound-refused (e .pre) left (now (e .args .kinds)) (now (e .args .operands)) (c .before .bounded .given .1))
+    let e = c .before .before .before .before .before .before .before .before .before .before .before .before .before .before .before .before .before .before .before .before .before .before .before .before .before .args in
+    let left = c .before .before .before .before .before .before .before .before .before .before .bound-of-pieces .ensures in
+    (memory-left (c .before .before .before .before .before .before .before .before .before .before .before .before .before .before .before .before .before .before .before .before .before .before .before .before .before .pre) (c .before .before .before .before .before .before .before .before .before .before .before .before .before .before .before .before .before .before .plate-of .ensures) (c .before .before .before .before .before .before .before .before .before .before .before .before .before .before .before .before .before .list-pieces .ensures) left, bound-refused (c .before .before .before .before .before .before .before .before .before .before .before .before .before .before .before .before .before .before .before .before .before .before .before .before .before .pre) (c .before .before .before .before .before .before .before .before .before .before .before .before .before .before .before .before .before .before .plate-of .ensures) (c .before .before .before .before .before .before .before .before .before .before .before .before .before .before .before .before .before .list-pieces .ensures) left (now (e .kinds)) (now (e .operands)) (c .before .bounded .given .1))
 
 same-length-4 : tie.Need-same-length-4
 same-length-4 c = search needs
@@ -55,19 +65,24 @@ same-length-8 c = search needs
 
 returns-2 : tie.Need-returns-2
 returns-2 c =
-    let left = c .before .before .before .before .before .before .before .before .before .before .before .before .before .before .before .before .before .before .before .before .before .bound-of-job .ensures in
-    (left .memory, plan-made (c .before .before .before .before .before .before .before .before .before .before .before .before .before .before .before .before .before .before .before .before .before .before .before .before .before .before .before .before .before .before .before .before .pre) left (c .before .before .before .before .before .before .before .before .before .before .before .before .bounded2 .given .1) (c .before .before .before .before .plan-of-job .ensures))
+    let left = c .before .before .before .before .before .before .before .before .before .before .before .before .before .before .before .before .before .before .before .before .before .before .before .bound-of-pieces .ensures in (
+      memory-left (c .before .before .before .before .before .before .before .before .before .before .before .before .before .before .before .before .before .before .before .before .before .before .before .before .before .before .before .before .before .before .before .before .before .before .before .before .before .before .pre) (c .before .before .before .before .before .before .before .before .before .before .before .before .before .before .before .before .before .before .before .before .before .before .before .before .before .before .before .before .before .before .before .plate-of .ensures) (c .before .before .before .before .before .before .before .before .before .before .before .before .before .before .before .before .before .before .before .before .before .before .before .before .before .before .before .before .before .before .list-pieces .ensures) left,
+      plan-made (c .before .before .before .before .before .before .before .before .before .before .before .before .before .before .before .before .before .before .before .before .before .before .before .before .before .before .before .before .before .before .before .before .before .before .before .before .before .before .pre) (c .before .before .before .before .before .before .before .before .before .before .before .before .before .before .before .before .before .before .before .before .before .before .before .before .before .before .before .before .before .before .before .plate-of .ensures) (c .before .before .before .before .before .before .before .before .before .before .before .before .before .before .before .before .before .before .before .before .before .before .before .before .before .before .before .before .before .before .list-pieces .ensures) left (c .before .before .before .before .before .before .before .before .before .before .before .before .before .before .bounded2 .given .1) (rw (c .before .before .before .before .before .before .before .before .before .before .before .before .table-of .ensures) at (c .before .before .before .before .plan-of-pieces .ensures)),
+    )
 
 pub write-accepted-spec : {M : Type 1} → statement M
 write-accepted-spec =
     tie.close
     (tie.spec
-    slice-aggregate-bound-of-job
-    bound-of-job-requires
+    plate-of-requires
+    list-pieces-requires
+    slice-aggregate-bound-of-pieces
+    bound-of-pieces-requires
     enum-known-bounded
     enum-known-bounded-2
-    slice-aggregate-plan-of-job
-    plan-of-job-requires
+    table-of-requires
+    slice-aggregate-plan-of-pieces
+    plan-of-pieces-requires
     same-length
     same-length-2
     same-length-3

@@ -3,8 +3,7 @@ use borrow.Author.Needs.{needs}
 use denote.Ref.{now}
 use Rattle.job.proofs.Taken.{taken, refused-both}
 use Rattle.bound.specs.Bound.{lent}
-use Rattle.bound.proofs.Calls.{weighed}
-use Rattle.writer.proofs.Call.{unaccepted, accepted}
+use Rattle.writer.proofs.Call.{weighed, unaccepted, accepted}
 use Rattle.writer.proofs.write_plan.Statement.{statement}
 use Rattle.writer.proofs.write_plan.Tie as tie
 
@@ -18,16 +17,16 @@ returns : tie.Need-returns
 returns c =
     let e = c .before .before .before .before .before .before .before .before .before .before .before .args in
     let m = lent (now (e .lengths)) (now (e .widths)) (now (e .table)) in
-    unaccepted (now (e .block)) (now (e .weights)) m (now (e .kinds)) (now (e .operands)) (refused-both (now (e .block)) (now (e .weights)) (c .before .before .before .accept .ensures .0) (c .before .verdict .given .1))
+    unaccepted (now (e .block)) (e .choices) (now (e .weights)) m (now (e .kinds)) (now (e .operands)) (refused-both (now (e .block)) (e .choices) (now (e .weights)) (c .before .before .before .accept .ensures .0) (c .before .verdict .given .1))
 
 enum-told : tie.Need-enum-told
 enum-told c = search needs
 
 write-accepted-requires : tie.Need-write-accepted-requires
 write-accepted-requires c κs =
-    let a = c .before .before .before .before .before .before .before .before in
-    let e = a .before .before .before .before .before .before .before .before .args in
-    weighed (now (e .block)) (now (e .weights)) (taken (now (e .block)) (now (e .weights)) (a .accept .ensures .0) (c .before .before .before .before .before .before .enum-told .given .1))
+    let e = c .before .before .before .before .before .before .before .before .before .before .before .before .before .before .before .before .args in
+    let t = taken (now (e .block)) (e .choices) (now (e .weights)) (c .before .before .before .before .before .before .before .before .accept .ensures .0) (c .before .before .before .before .before .before .enum-told .given .1) in
+    weighed (now (e .block)) (e .choices) (now (e .weights)) t
 
 same-length : tie.Need-same-length
 same-length c = search needs
@@ -46,12 +45,10 @@ same-length-5 c = search needs
 
 returns-2 : tie.Need-returns-2
 returns-2 c =
-    let w = c .before .before .before .before .before .before .before .before .before .before in
-    let a = w .before .before .before .before .before .before .before .before .before in
-    let e = a .before .before .before .before .before .before .before .before .args in
-    let t = taken (now (e .block)) (now (e .weights)) (a .accept .ensures .0) (w .before .before .before .before .before .before .before .enum-told .given .1) in
+    let e = c .before .before .before .before .before .before .before .before .before .before .before .before .before .before .before .before .before .before .before .before .before .before .before .before .before .before .before .args in
+    let t = taken (now (e .block)) (e .choices) (now (e .weights)) (c .before .before .before .before .before .before .before .before .before .before .before .before .before .before .before .before .before .before .before .accept .ensures .0) (c .before .before .before .before .before .before .before .before .before .before .before .before .before .before .before .before .before .enum-told .given .1) in
     let m = lent (now (e .lengths)) (now (e .widths)) (now (e .table)) in
-    accepted (now (e .block)) (now (e .weights)) m (now (e .kinds)) (now (e .operands)) t (w .write-accepted .ensures .0) (w .write-accepted .ensures .1)
+    accepted (now (e .block)) (e .choices) (now (e .weights)) m (now (e .kinds)) (now (e .operands)) t (c .before .before .before .before .before .before .before .before .before .before .write-accepted .ensures .0) (c .before .before .before .before .before .before .before .before .before .before .write-accepted .ensures .1)
 
 pub write-plan-spec : {M : Type 1} → statement M
 write-plan-spec =
