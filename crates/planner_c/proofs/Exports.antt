@@ -1,17 +1,20 @@
--- Values at the front of the answer words, and the two cases of every exported function: too few words, and enough.
+-- Values at the front of the answer words, and the two cases of every exported function: stopped, and called.
 use mathlib.Core.Path.{_≡_, refl, sym, _∙_, ap, ap₂, subst}
+use mathlib.Core.Bool.{Bool, true, false, _||_}
 use mathlib.Core.List.{List, [], _∷_, _++_}
 use Prim.Native.Nat.{ℕ, _+_, _≤_, _<_}
 use native.Mathlib.Numerals.{add-one}
 use native.Mathlib.Omega.{arith}
+use lib.Dec.{ltb}
 use lib.ListN.{length, getD, set, take, drop}
 use lib.Seq.{sets, length-sets, sets-eq, paste, paste-suc, take-length}
-use borrow.Author.Tests.{lt-ltb, le-ltb}
+use borrow.Author.Tests.{ltb-false}
 use Rattle.cutting.specs.Lists.{over}
 use Rattle.cutting.proofs.Lists.{over-sets}
 use Rattle.refusal.specs.Refusals.{Outcome, number-of, place-of, refused-as}
 use Rattle.refusal.specs.declared.Refusal.{Refusal}
-use Rattle.planner_c.specs.Exports.{returned-by, returned, answered-by, answered, Left-by, Left, Gives}
+use Rattle.job.specs.declared.Choices.{Choices}
+use Rattle.planner_c.specs.Exports.{unknown, returned-by, returned, early, answered-by, answered, Left-by, Left, Gives}
 
 -- a run of stores keeps the length
 pub still : (n : ℕ) (values old : List ℕ) {new : List ℕ} → new ≡ sets old 0 values → n ≤ length old → n ≤ length new
@@ -41,22 +44,49 @@ pub values-given : {A : Type 0} (f : A → Outcome) {a b : A} (values old : List
     → new ≡ sets old 0 values → Gives (f a) 0 old new
 values-given f values old e o h p = given f old e (given (λ x. x) old o (refl, p ∙ over-sets values old h))
 
-module _ (n : ℕ) (o : Outcome) (old : List ℕ) where
+-- what holds of the choices that are handed over holds of the word's
+pub of-word : {X : Type 0} (P : Choices → X → Type 0) {chosen wanted : Choices} {x : X} → chosen ≡ wanted → P chosen x → P wanted x
+of-word P {x = x} e h = subst (λ y. P y x) e h
+
+-- a call returns early where one of its two tests holds, and goes on where neither does
+module _ {number : ℕ} where
+  halts : (short strange : Bool) → number ≡ returned-by short strange (0, []) → 0 < number
+      → ((o : Outcome) → number ≡ returned-by short strange o) × ((short || strange) ≡ true)
+  halts true strange e h = (λ o. e, refl)
+  halts false true e h = (λ o. e, refl)
+  halts false false e h = absurd (omega (arith, e, h))
+
+  goes-on : (short strange : Bool) → number ≡ returned-by short strange (0, []) → number ≤ 0 → (short ≡ false) × (strange ≡ false)
+  goes-on true strange e h = absurd (omega (arith, e, h))
+  goes-on false true e h = absurd (omega (arith, e, h))
+  goes-on false false e h = (refl, refl)
+
+module _ (n choices : ℕ) (old : List ℕ) {before : ℕ} (e : before ≡ early n (length old) choices) where
   -- what an exported function answers
-  abbrev pub Answers : ℕ → List ℕ → Type 0
-  Answers number new = (number ≡ returned n old o) × (new ≡ answered n old o)
+  abbrev pub Answers : Outcome → ℕ → List ℕ → Type 0
+  Answers o number new = (number ≡ returned n old choices o) × (new ≡ answered n old choices o)
 
-  pub short : length old < n → Answers 100 old
-  short h = let e = lt-ltb (length old) n h in (sym (ap (λ b. returned-by b o) e), sym (ap (λ b. answered-by b old o) e))
+  pub stops : (o : Outcome) → 0 < before → Answers o before old
+  stops o h =
+      let t = halts (ltb (length old) n) (unknown choices) e h in
+      (t .0 o, sym (ap (λ b. answered-by b old o) (t .1)))
 
-  pub enough : {said : Outcome} {number : ℕ} {new : List ℕ} → n ≤ length old → said ≡ o → Gives said number old new → Answers number new
-  enough h s g =
-      let e = le-ltb (length old) n h in
-      (g .0 ∙ ap (λ x. x .0) s ∙ sym (ap (λ b. returned-by b o) e), g .1 ∙ ap (λ x. over (x .1) old) s ∙ sym (ap (λ b. answered-by b old o) e))
+  -- a call that goes on has its words
+  pub words-enough : before ≤ 0 → n ≤ length old
+  words-enough h = ltb-false (length old) n (goes-on (ltb (length old) n) (unknown choices) e h .0)
 
-module _ {A : Type 0} (n : ℕ) (words : List ℕ) (Leaves : A → A → Type 0) where
-  pub untouched : (m : A) → length words < n → Left n words Leaves m m
-  untouched m h = subst (λ b. Left-by b Leaves m m) (sym (lt-ltb (length words) n h)) refl
+  pub enough : (o : Outcome) {said : Outcome} {number : ℕ} {new : List ℕ} → before ≤ 0 → said ≡ o → Gives said number old new → Answers o number new
+  enough o h s g =
+      let t = goes-on (ltb (length old) n) (unknown choices) e h in (
+        g .0 ∙ ap (λ x. x .0) s ∙ sym (ap₂ (λ a b. returned-by a b o) (t .0) (t .1)),
+        g .1 ∙ ap (λ x. over (x .1) old) s ∙ sym (ap₂ (λ a b. answered-by (a || b) old o) (t .0) (t .1)),
+      )
 
-  pub called : {old new : A} → n ≤ length words → Leaves old new → Left n words Leaves old new
-  called {old} {new} h l = subst (λ b. Left-by b Leaves old new) (sym (le-ltb (length words) n h)) l
+  module _ {A : Type 0} (Leaves : A → A → Type 0) where
+    pub untouched : (m : A) → 0 < before → Left n old choices Leaves m m
+    untouched m h = subst (λ b. Left-by b Leaves m m) (sym (halts (ltb (length old) n) (unknown choices) e h .1)) refl
+
+    pub called : {m new : A} → before ≤ 0 → Leaves m new → Left n old choices Leaves m new
+    called {m} {new} h l =
+        let t = goes-on (ltb (length old) n) (unknown choices) e h in
+        subst (λ b. Left-by b Leaves m new) (sym (ap₂ (λ a b. a || b) (t .0) (t .1))) l

@@ -1,18 +1,19 @@
 -- What an answer's words say of trees: from the proved call's promise about its answer and the words that the answer gives.
-use mathlib.Core.Path.{_≡_, refl, sym, _∙_, ap, subst}
-use mathlib.Core.List.{List, [], _∷_}
+use mathlib.Core.Path.{_≡_, refl, sym, _∙_, ap, ap₂, subst}
+use mathlib.Core.List.{List, []}
 use Prim.Native.Nat.{ℕ, _≤_, _<_}
 use native.Mathlib.Omega.{arith}
 use lib.ListN.{length}
+use borrow.Author.Tests.{le-ltb}
 use Rattle.cutting.specs.Lists.{over}
 use Rattle.cutting.specs.Job.{Job}
-use Rattle.refusal.specs.declared.Refusal.{Refusal}
 use Rattle.refusal.specs.Refusals.{Outcome, outcome-by}
 use Rattle.refusal.proofs.Numbers.{number-some}
 use Rattle.refusal.specs.declared.Checked.{Checked}
 use Rattle.refusal.specs.declared.Checked.the-variants.{Passed, Refused}
 use Rattle.plan.specs.declared.PlanAnswer.{PlanAnswer}
 use Rattle.plan.specs.Trees.{ChecksPlan}
+use Rattle.job.specs.declared.Choices.{Choices}
 use Rattle.job.specs.Weights.{block-job, weight-in}
 use Rattle.bound.specs.declared.BoundAnswer.{BoundAnswer}
 use Rattle.bound.specs.declared.BoundAnswer.the-variants as bound
@@ -25,24 +26,24 @@ use Rattle.certificate.specs.declared.Certificate.the-variants as certificate
 use Rattle.certificate.specs.Certificate.{certificate-outcome}
 use Rattle.certificate.specs.Promises.{BestSaid, GapSaid}
 use Rattle.plan.specs.Calls.{plan-values, plan-outcome}
-use Rattle.planner_c.specs.Exports.{Gives, answer-word, PlanGiven, BoundGiven, TreeChecked, Certified, CertificateGiven, returned, answered}
-use Rattle.planner_c.proofs.Exports.{short, enough}
+use Rattle.planner_c.specs.Exports.{Gives, answer-word, PlanGiven, BoundGiven, TreeChecked, Certified, CertificateGiven, job-with, returned-by, returned, early, answered}
+use Rattle.planner_c.proofs.Exports.{stops, enough}
 
 -- a bound
-pub bound-given : (s ws : List ℕ) {n : ℕ} (old : List ℕ) {new : List ℕ} (a : BoundAnswer) → BoundSaid s ws a → Gives (bound-outcome a) n old new
-    → BoundGiven (block-job s) (weight-in ws) new n
-bound-given s ws old (bound.Answered b) said g e = subst (λ w. BoundHolds (block-job s) (weight-in ws) (answer-word w 1) (answer-word w 0)) (sym (g .1)) (said b refl)
-bound-given s ws old (bound.Refused r) said g e = absurd (omega (arith, number-some r, g .0, e))
+pub bound-given : (s : List ℕ) (choices : Choices) (ws : List ℕ) {n : ℕ} (old : List ℕ) {new : List ℕ} (a : BoundAnswer) → BoundSaid s choices ws a → Gives (bound-outcome a) n old new
+    → BoundGiven (block-job s choices) (weight-in ws) new n
+bound-given s choices ws old (bound.Answered b) said g e = subst (λ w. BoundHolds (block-job s choices) (weight-in ws) (answer-word w 1) (answer-word w 0)) (sym (g .1)) (said b refl)
+bound-given s choices ws old (bound.Refused r) said g e = absurd (omega (arith, number-some r, g .0, e))
 
 -- a written plan
-pub plan-given : (s ws : List ℕ) {n : ℕ} (kinds operands new-kinds new-operands old : List ℕ) {new : List ℕ} (a : WriteAnswer)
-    → PlanWritten s ws kinds operands new-kinds new-operands a → BoundWritten s ws a → Gives (write-outcome a) n old new
-    → n ≡ 0 → PlanGiven (block-job s) (weight-in ws) (kinds, operands) (new-kinds, new-operands) new
-plan-given s ws kinds operands new-kinds new-operands old (write.Written b) plan bound g e =
+pub plan-given : (s : List ℕ) (choices : Choices) (ws : List ℕ) {n : ℕ} (kinds operands new-kinds new-operands old : List ℕ) {new : List ℕ} (a : WriteAnswer)
+    → PlanWritten s choices ws kinds operands new-kinds new-operands a → BoundWritten s choices ws a → Gives (write-outcome a) n old new
+    → n ≡ 0 → PlanGiven (block-job s choices) (weight-in ws) (kinds, operands) (new-kinds, new-operands) new
+plan-given s choices ws kinds operands new-kinds new-operands old (write.Written b) plan bound g e =
     let p = plan b refl in
-    subst (λ w. PlanGiven (block-job s) (weight-in ws) (kinds, operands) (new-kinds, new-operands) w) (sym (g .1))
-    (record { bound = bound b refl; tree = (block-plan s ws, p .earns, p .kinds-hold, p .operands-hold, p .counted) })
-plan-given s ws kinds operands new-kinds new-operands old (write.Refused r) plan bound g e = absurd (omega (arith, number-some r, g .0, e))
+    subst (λ w. PlanGiven (block-job s choices) (weight-in ws) (kinds, operands) (new-kinds, new-operands) w) (sym (g .1))
+    (record { bound = bound b refl; tree = (block-plan s choices ws, p .earns, p .kinds-hold, p .operands-hold, p .counted) })
+plan-given s choices ws kinds operands new-kinds new-operands old (write.Refused r) plan bound g e = absurd (omega (arith, number-some r, g .0, e))
 
 module _ (J : Job) (kinds operands : List ℕ) {n : ℕ} (old : List ℕ) {new : List ℕ} where
   -- a certificate
@@ -56,28 +57,37 @@ module _ (J : Job) (kinds operands : List ℕ) {n : ℕ} (old : List ℕ) {new :
       subst (λ w. Certified J weight kinds operands (answer-word w 2) (answer-word w 1) (answer-word w 0)) (sym (g .1)) (record { earns = b .0; sum = refl; bound-is = b .2; none-above = b .3 })
   certificate-given weight (certificate.Refused r) best gap g e = absurd (omega (arith, number-some r, g .0, e))
 
+module _ (Before : Type 0) (s : List ℕ) (choices : ℕ) (kinds operands : List ℕ) (old : List ℕ) where
   -- a checked plan: 0 is returned exactly where the verdict is that it passes
-  pub tree-given : (Before : Type 0) (a : PlanAnswer) → ChecksPlan Before J kinds operands a → Gives (plan-outcome a) n old new → TreeChecked Before J kinds operands old new n
-  tree-given Before a checks g = record {
+  tree-given : {n : ℕ} {new : List ℕ} (a : PlanAnswer) → ChecksPlan Before (job-with s choices) kinds operands a → Gives (plan-outcome a) n old new → TreeChecked Before s choices kinds operands old new n
+  tree-given {n} a checks g = record {
     tree = λ e. (let p = passed (a .verdict) refl e in let t = checks .tree p in (t .0, t .1, g .1 ∙ ap (λ v. over (outcome-by v (plan-values (a .report)) .1) old) p ∙ ap (λ r. over (plan-values r) old) (t .2 .own)));
-    passes = λ h b t k. g .0 ∙ ap (λ v. outcome-by v (plan-values (a .report)) .0) (checks .passes b t k);
+    passes = λ h u b t k. g .0 ∙ ap (λ v. outcome-by v (plan-values (a .report)) .0) (checks .passes b t k);
   }
     where
       passed : (v : Checked) → a .verdict ≡ v → n ≡ 0 → a .verdict ≡ Passed
       passed Passed p e = p
       passed (Refused r) p e = absurd (omega (arith, number-some r, e, g .0 ∙ ap (λ v. outcome-by v (plan-values (a .report)) .0) p))
 
--- both cases of an exported check, whichever way the plan is given: too few words, and enough
-module _ (Before : Type 0) (J : Job) (kinds operands : List ℕ) (said : Outcome) (old : List ℕ) where
-  abbrev pub ChecksAnswer : ℕ → List ℕ → Type 0
-  ChecksAnswer n new = (n ≡ returned 68 old said) × ((new ≡ answered 68 old said) × TreeChecked Before J kinds operands old new n)
+  -- both cases of an exported check, whichever way the plan is given: stopped, and called
+  module _ (said : Outcome) {before : ℕ} (e : before ≡ early 68 (length old) choices) where
+    abbrev pub ChecksAnswer : ℕ → List ℕ → Type 0
+    ChecksAnswer n new = (n ≡ returned 68 old choices said) × ((new ≡ answered 68 old choices said) × TreeChecked Before s choices kinds operands old new n)
 
-  pub check-short : length old < 68 → ChecksAnswer 100 old
-  check-short h =
-      let s = short 68 said old h in
-      (s .0, (s .1, record { tree = λ e. absurd (omega arith); passes = λ k b t p. absurd (omega (arith, h, k)) }))
+    pub check-stops : 0 < before → ChecksAnswer before old
+    check-stops h =
+        let a = stops 68 choices old e said h in (
+          a .0,
+          (
+            a .1,
+            record {
+              tree = λ z. absurd (omega (arith, z, h));
+              passes = λ k u b t p. e ∙ ap₂ (λ x y. returned-by x y (0, [])) (le-ltb (length old) 68 k) u;
+            },
+          ),
+        )
 
-  pub check-enough : {n : ℕ} {new : List ℕ} {r : PlanAnswer} → 68 ≤ length old → plan-outcome r ≡ said → ChecksPlan Before J kinds operands r → Gives (plan-outcome r) n old new → ChecksAnswer n new
-  check-enough {r = r} h e checks g =
-      let s = enough 68 said old h e g in
-      (s .0, (s .1, tree-given J kinds operands old Before r checks g))
+    pub check-called : {n : ℕ} {new : List ℕ} {r : PlanAnswer} → before ≤ 0 → plan-outcome r ≡ said → ChecksPlan Before (job-with s choices) kinds operands r → Gives (plan-outcome r) n old new → ChecksAnswer n new
+    check-called {r = r} h o checks g =
+        let a = enough 68 choices old e said h o g in
+        (a .0, (a .1, tree-given r checks g))

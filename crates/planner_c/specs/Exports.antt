@@ -1,59 +1,88 @@
 -- The C interface: a call's number is returned, its values or its place stand in the answer words, and the rest of them is as it was.
 use mathlib.Core.Path.{_≡_}
-use mathlib.Core.Bool.{Bool, true, false}
-use mathlib.Core.List.{List, _∷_}
+use mathlib.Core.Bool.{Bool, true, false, _||_}
+use mathlib.Core.List.{List, []}
 use Prim.Native.Nat.{ℕ, _+_, _≤_}
-use lib.Dec.{ltb}
+use lib.Dec.{ltb, eqb}
 use lib.ListN.{length, getD}
 use Rattle.cutting.specs.Limits.{most-figure}
 use Rattle.cutting.specs.Lists.{over}
 use Rattle.cutting.specs.Tree.{Tree}
+use Rattle.cutting.specs.Pieces.{Piece}
 use Rattle.cutting.specs.Job.{Job, bound-of}
 use Rattle.cutting.specs.Promises.{NoneAbove, EarnsWithin}
 use Rattle.cutting.specs.Preorder.{kinds-of, operands-of, node-count}
 use Rattle.refusal.specs.Refusals.{Outcome}
+use Rattle.job.specs.declared.Choices.{Choices}
+use Rattle.job.specs.Weights.{block-job, weight-in}
 use Rattle.plan.specs.Calls.{plan-values}
 use Rattle.plan.specs.Trees.{PlanOf, tree-report}
-use Rattle.bound.specs.Bound.{Memory, BoundHolds}
+use Rattle.bound.specs.Bound.{Memory, Leaves, BoundHolds, block-capacity}
 use Rattle.writer.specs.Write.{array-after, block-plan}
+use Rattle.certificate.specs.Certificate.{plan-verdict}
 use Rattle.certificate.specs.Promises.{Earns}
 use Rattle.certificate.specs.declared.Certificate.{Certificate}
 use Rattle.certificate.specs.declared.Certificate.the-variants.{Gap}
 
-abbrev pub returned-by : Bool → Outcome → ℕ
-returned-by true o = 100
-returned-by false o = o .0
+-- a word of choices has a bit that is no choice
+abbrev pub unknown : ℕ → Bool
+unknown choices = ltb 1 choices
 
--- the number returned: 100 where the answer has fewer than n words, and else the outcome's
-abbrev pub returned : ℕ → List ℕ → Outcome → ℕ
-returned n words o = returned-by (ltb (length words) n) o
+-- the choices of a word: bit 1 is turning
+abbrev pub choices-of : ℕ → Choices
+choices-of choices = record { turning = eqb choices 1 }
+
+-- the job of a block with the choices of a word
+abbrev pub job-with : List ℕ → ℕ → Job
+job-with s choices = block-job s (choices-of choices)
+
+abbrev pub returned-by : Bool → Bool → Outcome → ℕ
+returned-by true u o = 100
+returned-by false true o = 101
+returned-by false false o = o .0
+
+-- the number returned: 100 where the answer has fewer than n words, then 101 where a choice is unknown, and else the outcome's
+abbrev pub returned : ℕ → List ℕ → ℕ → Outcome → ℕ
+returned n words choices o = returned-by (ltb (length words) n) (unknown choices) o
+
+-- what is returned before a call that needs n words and is lent m of them, 0 where it goes on
+abbrev pub early : ℕ → ℕ → ℕ → ℕ
+early n m choices = returned-by (ltb m n) (unknown choices) (0, [])
+
+-- a call that changes nothing: the answer has fewer than n words, or a choice is unknown
+abbrev pub stopped : ℕ → List ℕ → ℕ → Bool
+stopped n words choices = ltb (length words) n || unknown choices
 
 abbrev pub answered-by : Bool → List ℕ → Outcome → List ℕ
 answered-by true words o = words
 answered-by false words o = over (o .1) words
 
--- the answer words after the call: the outcome's values, or its place, over the old ones; as they were where there are too few
-abbrev pub answered : ℕ → List ℕ → Outcome → List ℕ
-answered n words o = answered-by (ltb (length words) n) words o
+-- the answer words after the call: the outcome's values, or its place, over the old ones; as they were where the call is stopped
+abbrev pub answered : ℕ → List ℕ → ℕ → Outcome → List ℕ
+answered n words choices o = answered-by (stopped n words choices) words o
 
 module _ {A : Type 0} where
   abbrev pub Left-by : Bool → (A → A → Type 0) → A → A → Type 0
   Left-by true Leaves old new = new ≡ old
   Left-by false Leaves old new = Leaves old new
 
-  -- lent memory after the call: as the proved call leaves it, and as it was where the answer has fewer than n words
-  abbrev pub Left : ℕ → List ℕ → (A → A → Type 0) → A → A → Type 0
-  Left n words Leaves old new = Left-by (ltb (length words) n) Leaves old new
+  -- lent memory after the call: as the proved call leaves it, and as it was where the call is stopped
+  abbrev pub Left : ℕ → List ℕ → ℕ → (A → A → Type 0) → A → A → Type 0
+  Left n words choices Leaves old new = Left-by (stopped n words choices) Leaves old new
 
 -- an outcome handed over in answer words that are enough: its number is returned, its values stand at the front
 abbrev pub Gives : Outcome → ℕ → List ℕ → List ℕ → Type 0
 Gives o number old new = (number ≡ o .0) × (new ≡ over (o .1) old)
 
 -- what the writing call leaves in the two plan arrays, kinds and operands: the plan over their old contents where all checks pass
-abbrev pub PlanLeft : List ℕ → List ℕ → Memory → List ℕ × List ℕ → List ℕ × List ℕ → Type 0
-PlanLeft s ws m old new =
-    (new .0 ≡ array-after s ws m (old .0) (old .1) (kinds-of (block-plan s ws)) (old .0))
-    × (new .1 ≡ array-after s ws m (old .0) (old .1) (operands-of (block-plan s ws)) (old .1))
+abbrev pub PlanLeft : List ℕ → Choices → List ℕ → Memory → List ℕ × List ℕ → List ℕ × List ℕ → Type 0
+PlanLeft s choices ws m old new =
+    (new .0 ≡ array-after s choices ws m (old .0) (old .1) (kinds-of (block-plan s choices ws)) (old .0))
+    × (new .1 ≡ array-after s choices ws m (old .0) (old .1) (operands-of (block-plan s choices ws)) (old .1))
+
+-- what certify leaves in lent memory
+abbrev pub CertificateLeaves : List ℕ → Choices → (ws kinds operands : List ℕ) → Memory → Memory → Type 0
+CertificateLeaves s choices ws kinds operands old new = Leaves (plan-verdict s choices ws kinds operands) (block-job s choices) (weight-in ws) (block-capacity s choices ws) old new
 
 -- a certificate's profit and gap sum to at most the bound's ceiling
 abbrev pub GapWithin : Certificate → Type 0
@@ -64,10 +93,11 @@ abbrev pub answer-word : List ℕ → ℕ → ℕ
 answer-word answer i = getD answer i 0
 
 -- a plan's check returns 0 only for the preorder of a guillotine tree on the plate that keeps every demand, and its words are then that
--- tree's own report; where the answer has words enough and what stands before the plan's checks holds, it returns 0 for every such plan
-pub record TreeChecked (Before : Type 0) (J : Job) (kinds operands old new : List ℕ) (n : ℕ) : Type 0 where
-  pub tree : n ≡ 0 → (t : Tree ℕ) × PlanOf J t kinds operands × (new ≡ over (plan-values (tree-report J t)) old)
-  pub passes : 68 ≤ length old → Before → (t : Tree ℕ) → PlanOf J t kinds operands → n ≡ 0
+-- tree's own report; where the answer has words enough, the choices are known and what stands before the plan's checks holds, it returns
+-- 0 for every such plan
+pub record TreeChecked (Before : Type 0) (s : List ℕ) (choices : ℕ) (kinds operands old new : List ℕ) (n : ℕ) : Type 0 where
+  pub tree : n ≡ 0 → (t : Tree Piece) × PlanOf (job-with s choices) t kinds operands × (new ≡ over (plan-values (tree-report (job-with s choices) t)) old)
+  pub passes : 68 ≤ length old → unknown choices ≡ false → Before → (t : Tree Piece) → PlanOf (job-with s choices) t kinds operands → n ≡ 0
 
 -- a certificate where 0 is returned: the plan is that of a tree that keeps every demand and earns the profit, profit and gap sum to the
 -- bound, and no tree that keeps every demand earns more than it; so a gap of 0 says that none earns more than the plan
@@ -89,5 +119,5 @@ BoundGiven J weight answer n = n ≡ 0 → BoundHolds J weight (answer-word answ
 -- contents, of a tree that earns the bound within the capacity, with the nodes of word 4
 pub record PlanGiven (J : Job) (weight : ℕ → ℕ) (old new : List ℕ × List ℕ) (answer : List ℕ) : Type 0 where
   pub bound : BoundHolds J weight (answer-word answer 1) (answer-word answer 0)
-  pub tree : (t : Tree ℕ) × EarnsWithin J weight (answer-word answer 1) (answer-word answer 0) t
+  pub tree : (t : Tree Piece) × EarnsWithin J weight (answer-word answer 1) (answer-word answer 0) t
       × (new .0 ≡ over (kinds-of t) (old .0)) × (new .1 ≡ over (operands-of t) (old .1)) × (answer-word answer 4 ≡ node-count t)

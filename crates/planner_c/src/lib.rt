@@ -1,47 +1,56 @@
 // The C interface: exported functions, thin over the proved calls. Each returns 0 and puts the call's values at the front of the
 // answer words, or returns the refusal's number and puts its place in the first word. Where the answer has fewer words than the
-// function states it returns 100 and changes nothing.
+// function states it returns 100, where the word of choices has a bit that is no choice 101, and changes nothing.
+mod choices;
 mod words;
 
 ghost use mathlib.Core.Path.{_≡_};
-ghost use Rattle.job.specs.Weights.{block-job, weight-in};
+ghost use Rattle.job.specs.Weights.{weight-in};
 ghost use Rattle.plan.specs.Calls.{arrays-said, block-said, plan-kinds, plan-operands, JobPasses, BlockPasses};
-ghost use Rattle.bound.specs.Bound.{lent, Leaves, accept-verdict, bound-said};
+ghost use Rattle.bound.specs.Bound.{lent, BoundLeaves, bound-said};
 ghost use Rattle.writer.specs.Write.{write-said};
-ghost use Rattle.certificate.specs.Certificate.{plan-verdict, certificate-said};
-ghost use Rattle.planner_c.specs.Exports.{returned, answered, Left, PlanLeft, PlanGiven, TreeChecked, BoundGiven, CertificateGiven};
+ghost use Rattle.certificate.specs.Certificate.{certificate-said};
+ghost use Rattle.planner_c.specs.Exports.{choices-of, job-with, returned, answered, Left, CertificateLeaves, PlanLeft, PlanGiven, TreeChecked, BoundGiven, CertificateGiven};
 
 // The check of a plan's arrays for a job block. The answer has 68 words: profit, the areas of pieces, waste nodes and trim, and the
 // copies of 64 kinds.
 #[no_mangle]
 pub extern "C" fn planner_check_plan(
     block: &[u8],
+    choices: u32,
     kinds: &[u8],
     operands: &[u16],
     answer: &mut [u64],
 ) -> u32
-    ensures number { λ n. ⌜ n ≡ returned 68 (now (answer .entry)) (arrays-said (now (block .entry)) (now (kinds .entry)) (now (operands .entry))) ⌝ }
-    ensures words { λ _. ⌜ now (answer .exit) ≡ answered 68 (now (answer .entry)) (arrays-said (now (block .entry)) (now (kinds .entry)) (now (operands .entry))) ⌝ }
-    ensures trees { λ n. ⌜ TreeChecked (JobPasses (now (block .entry))) (block-job (now (block .entry))) (now (kinds .entry)) (now (operands .entry)) (now (answer .entry)) (now (answer .exit)) n ⌝ }
+    ensures number { λ n. ⌜ n ≡ returned 68 (now (answer .entry)) choices (arrays-said (now (block .entry)) (choices-of choices) (now (kinds .entry)) (now (operands .entry))) ⌝ }
+    ensures words { λ _. ⌜ now (answer .exit) ≡ answered 68 (now (answer .entry)) choices (arrays-said (now (block .entry)) (choices-of choices) (now (kinds .entry)) (now (operands .entry))) ⌝ }
+    ensures trees { λ n. ⌜ TreeChecked (JobPasses (now (block .entry))) (now (block .entry)) choices (now (kinds .entry)) (now (operands .entry)) (now (answer .entry)) (now (answer .exit)) n ⌝ }
 {
-    if answer.len() < 68 {
-        return 100;
+    let stop = choices::early(answer.len(), 68, choices);
+    if 0 < stop {
+        return stop;
     }
-    let a = plan::check_plan(block, kinds, operands);
+    let a = plan::check_plan(block, choices::choices_of(choices), kinds, operands);
     words::put_plan(a, answer)
 }
 
 // The same for a plan block.
 #[no_mangle]
-pub extern "C" fn planner_check_plan_block(block: &[u8], plan: &[u8], answer: &mut [u64]) -> u32
-    ensures number { λ n. ⌜ n ≡ returned 68 (now (answer .entry)) (block-said (now (block .entry)) (now (plan .entry))) ⌝ }
-    ensures words { λ _. ⌜ now (answer .exit) ≡ answered 68 (now (answer .entry)) (block-said (now (block .entry)) (now (plan .entry))) ⌝ }
-    ensures trees { λ n. ⌜ TreeChecked (JobPasses (now (block .entry)) × BlockPasses (now (plan .entry))) (block-job (now (block .entry))) (plan-kinds (now (plan .entry))) (plan-operands (now (plan .entry))) (now (answer .entry)) (now (answer .exit)) n ⌝ }
+pub extern "C" fn planner_check_plan_block(
+    block: &[u8],
+    choices: u32,
+    plan: &[u8],
+    answer: &mut [u64],
+) -> u32
+    ensures number { λ n. ⌜ n ≡ returned 68 (now (answer .entry)) choices (block-said (now (block .entry)) (choices-of choices) (now (plan .entry))) ⌝ }
+    ensures words { λ _. ⌜ now (answer .exit) ≡ answered 68 (now (answer .entry)) choices (block-said (now (block .entry)) (choices-of choices) (now (plan .entry))) ⌝ }
+    ensures trees { λ n. ⌜ TreeChecked (JobPasses (now (block .entry)) × BlockPasses (now (plan .entry))) (now (block .entry)) choices (plan-kinds (now (plan .entry))) (plan-operands (now (plan .entry))) (now (answer .entry)) (now (answer .exit)) n ⌝ }
 {
-    if answer.len() < 68 {
-        return 100;
+    let stop = choices::early(answer.len(), 68, choices);
+    if 0 < stop {
+        return stop;
     }
-    let a = plan::check_plan_block(block, plan);
+    let a = plan::check_plan_block(block, choices::choices_of(choices), plan);
     words::put_plan(a, answer)
 }
 
@@ -49,23 +58,32 @@ pub extern "C" fn planner_check_plan_block(block: &[u8], plan: &[u8], answer: &m
 #[no_mangle]
 pub extern "C" fn planner_bound(
     block: &[u8],
+    choices: u32,
     weights: &[u8],
     lengths: &mut [u16],
     widths: &mut [u16],
     table: &mut [u64],
     answer: &mut [u64],
 ) -> u32
-    ensures number { λ n. ⌜ n ≡ returned 4 (now (answer .entry)) (bound-said (now (block .entry)) (now (weights .entry)) (lent (now (lengths .entry)) (now (widths .entry)) (now (table .entry)))) ⌝ }
-    ensures words { λ _. ⌜ now (answer .exit) ≡ answered 4 (now (answer .entry)) (bound-said (now (block .entry)) (now (weights .entry)) (lent (now (lengths .entry)) (now (widths .entry)) (now (table .entry)))) ⌝ }
-    ensures memory { λ _. ⌜ Left 4 (now (answer .entry))
-        (Leaves (accept-verdict (now (block .entry)) (now (weights .entry))) (block-job (now (block .entry))) (weight-in (now (weights .entry))))
+    ensures number { λ n. ⌜ n ≡ returned 4 (now (answer .entry)) choices (bound-said (now (block .entry)) (choices-of choices) (now (weights .entry)) (lent (now (lengths .entry)) (now (widths .entry)) (now (table .entry)))) ⌝ }
+    ensures words { λ _. ⌜ now (answer .exit) ≡ answered 4 (now (answer .entry)) choices (bound-said (now (block .entry)) (choices-of choices) (now (weights .entry)) (lent (now (lengths .entry)) (now (widths .entry)) (now (table .entry)))) ⌝ }
+    ensures memory { λ _. ⌜ Left 4 (now (answer .entry)) choices
+        (BoundLeaves (now (block .entry)) (choices-of choices) (now (weights .entry)))
         (lent (now (lengths .entry)) (now (widths .entry)) (now (table .entry))) (lent (now (lengths .exit)) (now (widths .exit)) (now (table .exit))) ⌝ }
-    ensures trees { λ n. ⌜ BoundGiven (block-job (now (block .entry))) (weight-in (now (weights .entry))) (now (answer .exit)) n ⌝ }
+    ensures trees { λ n. ⌜ BoundGiven (job-with (now (block .entry)) choices) (weight-in (now (weights .entry))) (now (answer .exit)) n ⌝ }
 {
-    if answer.len() < 4 {
-        return 100;
+    let stop = choices::early(answer.len(), 4, choices);
+    if 0 < stop {
+        return stop;
     }
-    let a = bound::bound(block, weights, lengths, widths, table);
+    let a = bound::bound(
+        block,
+        choices::choices_of(choices),
+        weights,
+        lengths,
+        widths,
+        table,
+    );
     words::put_bound(a, answer)
 }
 
@@ -74,6 +92,7 @@ pub extern "C" fn planner_bound(
 #[no_mangle]
 pub extern "C" fn planner_write_plan(
     block: &[u8],
+    choices: u32,
     weights: &[u8],
     lengths: &mut [u16],
     widths: &mut [u16],
@@ -82,20 +101,30 @@ pub extern "C" fn planner_write_plan(
     operands: &mut [u16],
     answer: &mut [u64],
 ) -> u32
-    ensures number { λ n. ⌜ n ≡ returned 5 (now (answer .entry)) (write-said (now (block .entry)) (now (weights .entry)) (lent (now (lengths .entry)) (now (widths .entry)) (now (table .entry))) (now (kinds .entry)) (now (operands .entry))) ⌝ }
-    ensures words { λ _. ⌜ now (answer .exit) ≡ answered 5 (now (answer .entry)) (write-said (now (block .entry)) (now (weights .entry)) (lent (now (lengths .entry)) (now (widths .entry)) (now (table .entry))) (now (kinds .entry)) (now (operands .entry))) ⌝ }
-    ensures memory { λ _. ⌜ Left 5 (now (answer .entry))
-        (Leaves (accept-verdict (now (block .entry)) (now (weights .entry))) (block-job (now (block .entry))) (weight-in (now (weights .entry))))
+    ensures number { λ n. ⌜ n ≡ returned 5 (now (answer .entry)) choices (write-said (now (block .entry)) (choices-of choices) (now (weights .entry)) (lent (now (lengths .entry)) (now (widths .entry)) (now (table .entry))) (now (kinds .entry)) (now (operands .entry))) ⌝ }
+    ensures words { λ _. ⌜ now (answer .exit) ≡ answered 5 (now (answer .entry)) choices (write-said (now (block .entry)) (choices-of choices) (now (weights .entry)) (lent (now (lengths .entry)) (now (widths .entry)) (now (table .entry))) (now (kinds .entry)) (now (operands .entry))) ⌝ }
+    ensures memory { λ _. ⌜ Left 5 (now (answer .entry)) choices
+        (BoundLeaves (now (block .entry)) (choices-of choices) (now (weights .entry)))
         (lent (now (lengths .entry)) (now (widths .entry)) (now (table .entry))) (lent (now (lengths .exit)) (now (widths .exit)) (now (table .exit))) ⌝ }
-    ensures plan { λ _. ⌜ Left 5 (now (answer .entry))
-        (PlanLeft (now (block .entry)) (now (weights .entry)) (lent (now (lengths .entry)) (now (widths .entry)) (now (table .entry))))
+    ensures plan { λ _. ⌜ Left 5 (now (answer .entry)) choices
+        (PlanLeft (now (block .entry)) (choices-of choices) (now (weights .entry)) (lent (now (lengths .entry)) (now (widths .entry)) (now (table .entry))))
         (now (kinds .entry), now (operands .entry)) (now (kinds .exit), now (operands .exit)) ⌝ }
-    ensures trees { λ n. ⌜ (n ≡ 0 → PlanGiven (block-job (now (block .entry))) (weight-in (now (weights .entry))) (now (kinds .entry), now (operands .entry)) (now (kinds .exit), now (operands .exit)) (now (answer .exit))) ⌝ }
+    ensures trees { λ n. ⌜ (n ≡ 0 → PlanGiven (job-with (now (block .entry)) choices) (weight-in (now (weights .entry))) (now (kinds .entry), now (operands .entry)) (now (kinds .exit), now (operands .exit)) (now (answer .exit))) ⌝ }
 {
-    if answer.len() < 5 {
-        return 100;
+    let stop = choices::early(answer.len(), 5, choices);
+    if 0 < stop {
+        return stop;
     }
-    let a = writer::write_plan(block, weights, lengths, widths, table, kinds, operands);
+    let a = writer::write_plan(
+        block,
+        choices::choices_of(choices),
+        weights,
+        lengths,
+        widths,
+        table,
+        kinds,
+        operands,
+    );
     words::put_write(a, answer)
 }
 
@@ -104,6 +133,7 @@ pub extern "C" fn planner_write_plan(
 #[no_mangle]
 pub extern "C" fn planner_certify(
     block: &[u8],
+    choices: u32,
     weights: &[u8],
     kinds: &[u8],
     operands: &[u16],
@@ -112,16 +142,26 @@ pub extern "C" fn planner_certify(
     table: &mut [u64],
     answer: &mut [u64],
 ) -> u32
-    ensures number { λ n. ⌜ n ≡ returned 3 (now (answer .entry)) (certificate-said (now (block .entry)) (now (weights .entry)) (now (kinds .entry)) (now (operands .entry)) (lent (now (lengths .entry)) (now (widths .entry)) (now (table .entry)))) ⌝ }
-    ensures words { λ _. ⌜ now (answer .exit) ≡ answered 3 (now (answer .entry)) (certificate-said (now (block .entry)) (now (weights .entry)) (now (kinds .entry)) (now (operands .entry)) (lent (now (lengths .entry)) (now (widths .entry)) (now (table .entry)))) ⌝ }
-    ensures memory { λ _. ⌜ Left 3 (now (answer .entry))
-        (Leaves (plan-verdict (now (block .entry)) (now (weights .entry)) (now (kinds .entry)) (now (operands .entry))) (block-job (now (block .entry))) (weight-in (now (weights .entry))))
+    ensures number { λ n. ⌜ n ≡ returned 3 (now (answer .entry)) choices (certificate-said (now (block .entry)) (choices-of choices) (now (weights .entry)) (now (kinds .entry)) (now (operands .entry)) (lent (now (lengths .entry)) (now (widths .entry)) (now (table .entry)))) ⌝ }
+    ensures words { λ _. ⌜ now (answer .exit) ≡ answered 3 (now (answer .entry)) choices (certificate-said (now (block .entry)) (choices-of choices) (now (weights .entry)) (now (kinds .entry)) (now (operands .entry)) (lent (now (lengths .entry)) (now (widths .entry)) (now (table .entry)))) ⌝ }
+    ensures memory { λ _. ⌜ Left 3 (now (answer .entry)) choices
+        (CertificateLeaves (now (block .entry)) (choices-of choices) (now (weights .entry)) (now (kinds .entry)) (now (operands .entry)))
         (lent (now (lengths .entry)) (now (widths .entry)) (now (table .entry))) (lent (now (lengths .exit)) (now (widths .exit)) (now (table .exit))) ⌝ }
-    ensures trees { λ n. ⌜ CertificateGiven (block-job (now (block .entry))) (weight-in (now (weights .entry))) (now (kinds .entry)) (now (operands .entry)) (now (answer .exit)) n ⌝ }
+    ensures trees { λ n. ⌜ CertificateGiven (job-with (now (block .entry)) choices) (weight-in (now (weights .entry))) (now (kinds .entry)) (now (operands .entry)) (now (answer .exit)) n ⌝ }
 {
-    if answer.len() < 3 {
-        return 100;
+    let stop = choices::early(answer.len(), 3, choices);
+    if 0 < stop {
+        return stop;
     }
-    let a = certificate::certify(block, weights, kinds, operands, lengths, widths, table);
+    let a = certificate::certify(
+        block,
+        choices::choices_of(choices),
+        weights,
+        kinds,
+        operands,
+        lengths,
+        widths,
+        table,
+    );
     words::put_certificate(a, answer)
 }

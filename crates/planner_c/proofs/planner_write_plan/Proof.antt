@@ -1,11 +1,14 @@
--- `planner_c::planner_write_plan` meets its contract: too few words, or the writing call's outcome.
+-- `planner_c::planner_write_plan` meets its contract: stopped, or the writing call's outcome.
+use mathlib.Core.Path.{_∙_, ap}
+use mathlib.Core.List.{List}
+use Prim.Native.Nat.{ℕ}
 use native.Mathlib.Omega.{arith}
 use denote.Ref.{now}
-use Rattle.job.specs.Weights.{block-job, weight-in}
-use Rattle.bound.specs.Bound.{lent, Leaves, accept-verdict}
-use Rattle.writer.specs.Write.{write-said}
-use Rattle.planner_c.specs.Exports.{PlanLeft}
-use Rattle.planner_c.proofs.Exports.{short, enough, untouched, called}
+use Rattle.bound.specs.Bound.{lent, BoundLeaves}
+use Rattle.writer.specs.declared.WriteAnswer.{WriteAnswer}
+use Rattle.writer.specs.Write.{write-said, PlanWritten, BoundWritten}
+use Rattle.planner_c.specs.Exports.{choices-of, PlanLeft}
+use Rattle.planner_c.proofs.Exports.{of-word, stops, words-enough, enough, untouched, called}
 use Rattle.planner_c.proofs.Trees.{plan-given}
 use borrow.Author.Needs.{needs}
 use Rattle.planner_c.proofs.planner_write_plan.Statement.{statement}
@@ -13,29 +16,44 @@ use Rattle.planner_c.proofs.planner_write_plan.Tie as tie
 
 returns : tie.Need-returns
 returns c =
-    let a = c .before .before .before .before .before .before .before .before .before .args in
+    let a = c .before .before .before .before .before .before .before .before .before .before .args in
+    let f = c .before .early .ensures in
     let h = c .if1 .taken in
-    let m = (lent (now (a .lengths)) (now (a .widths)) (now (a .table))) in
-    let s = short 5 (write-said (now (a .block)) (now (a .weights)) m (now (a .kinds)) (now (a .operands))) (now (a .answer)) h in
-    let l = Leaves (accept-verdict (now (a .block)) (now (a .weights))) (block-job (now (a .block))) (weight-in (now (a .weights))) in
-    (s .0, (s .1, (untouched 5 (now (a .answer)) l m h, (untouched 5 (now (a .answer)) (PlanLeft (now (a .block)) (now (a .weights)) m) (now (a .kinds), now (a .operands)) h, λ e. absurd (omega arith)))))
-
-returns-2 : tie.Need-returns-2
-returns-2 c =
-    let a = c .before .before .before .before .before .before .before .before .before .before .before .before .before .before .before .before .before .before .before .before .before .before .before .before .before .before .before .before .before .args in
-    let h = c .before .before .before .before .before .before .before .before .before .before .before .before .before .before .before .before .before .before .before .before .if1 .left in
-    let e = c .before .before .before .before .before .before .before .before .before .before .before .before .before .before .write-plan .ensures in
-    let m = (lent (now (a .lengths)) (now (a .widths)) (now (a .table))) in
-    let s = enough 5 (write-said (now (a .block)) (now (a .weights)) m (now (a .kinds)) (now (a .operands))) (now (a .answer)) h (e .1 .0) (c .before .before .put-write .ensures) in
-    let l = Leaves (accept-verdict (now (a .block)) (now (a .weights))) (block-job (now (a .block))) (weight-in (now (a .weights))) in (
+    let m = lent (now (a .lengths)) (now (a .widths)) (now (a .table)) in
+    let s = stops 5 (a .choices) (now (a .answer)) f (write-said (now (a .block)) (choices-of (a .choices)) (now (a .weights)) m (now (a .kinds)) (now (a .operands))) h in (
       s .0,
       (
         s .1,
         (
-          called 5 (now (a .answer)) l h (e .1 .1 .0),
+          untouched 5 (a .choices) (now (a .answer)) f (BoundLeaves (now (a .block)) (choices-of (a .choices)) (now (a .weights))) m h,
+          (untouched 5 (a .choices) (now (a .answer)) f (PlanLeft (now (a .block)) (choices-of (a .choices)) (now (a .weights)) m) (now (a .kinds), now (a .operands)) h, λ e. absurd (omega (arith, h, e))),
+        ),
+      ),
+    )
+
+put-write-requires : tie.Need-put-write-requires
+put-write-requires c κs = let a = c .before .before .before .before .before .before .before .before .before .before .before .before .before .before .before .before .before .before .before .before .before .before .before .before .before .before .before .before .args in words-enough 5 (a .choices) (now (a .answer)) (c .before .before .before .before .before .before .before .before .before .before .before .before .before .before .before .before .before .before .before .early .ensures) (c .before .before .before .before .before .before .before .before .before .before .before .before .before .before .before .before .before .before .if1 .left)
+
+returns-2 : tie.Need-returns-2
+returns-2 c =
+    let a = c .before .before .before .before .before .before .before .before .before .before .before .before .before .before .before .before .before .before .before .before .before .before .before .before .before .before .before .before .before .before .before .args in
+    let f = c .before .before .before .before .before .before .before .before .before .before .before .before .before .before .before .before .before .before .before .before .before .before .early .ensures in
+    let h = c .before .before .before .before .before .before .before .before .before .before .before .before .before .before .before .before .before .before .before .before .before .if1 .left in
+    let e = c .before .before .before .before .before .before .before .before .before .before .before .before .before .before .write-plan .ensures in
+    let k = c .before .before .before .before .before .before .before .before .before .before .before .before .before .before .before .before .before .before .before .before .choices-of .ensures in
+    let g = c .before .before .put-write .ensures in
+    let m = lent (now (a .lengths)) (now (a .widths)) (now (a .table)) in
+    let s = enough 5 (a .choices) (now (a .answer)) f (write-said (now (a .block)) (choices-of (a .choices)) (now (a .weights)) m (now (a .kinds)) (now (a .operands))) h (e .1 .0 ∙ ap (λ x. write-said (now (a .block)) x (now (a .weights)) m (now (a .kinds)) (now (a .operands))) k) g in (
+      s .0,
+      (
+        s .1,
+        (
+          called 5 (a .choices) (now (a .answer)) f (BoundLeaves (now (a .block)) (choices-of (a .choices)) (now (a .weights))) h (of-word (λ x r. BoundLeaves (now (a .block)) x (now (a .weights)) m r) k (e .1 .1 .0)),
           (
-            called 5 (now (a .answer)) (PlanLeft (now (a .block)) (now (a .weights)) m) h (e .1 .1 .1 .0, e .1 .1 .1 .1 .0),
-            plan-given (now (a .block)) (now (a .weights)) (now (a .kinds)) (now (a .operands)) _ _ (now (a .answer)) _ (e .1 .1 .1 .1 .1 .1 .0) (e .1 .1 .1 .1 .1 .1 .1) (c .before .before .put-write .ensures),
+            called 5 (a .choices) (now (a .answer)) f (PlanLeft (now (a .block)) (choices-of (a .choices)) (now (a .weights)) m) h (of-word (λ x r. PlanLeft (now (a .block)) x (now (a .weights)) m (now (a .kinds), now (a .operands)) r) k (e .1 .1 .1 .0, e .1 .1 .1 .1 .0)),
+            plan-given (now (a .block)) (choices-of (a .choices)) (now (a .weights)) (now (a .kinds)) (now (a .operands)) _ _ (now (a .answer)) _
+                (of-word {X = (List ℕ × List ℕ) × WriteAnswer} (λ x r. PlanWritten (now (a .block)) x (now (a .weights)) (now (a .kinds)) (now (a .operands)) (r .0 .0) (r .0 .1) (r .1)) k (e .1 .1 .1 .1 .1 .1 .0))
+                (of-word (λ x r. BoundWritten (now (a .block)) x (now (a .weights)) r) k (e .1 .1 .1 .1 .1 .1 .1)) g,
           ),
         ),
       ),
@@ -45,9 +63,11 @@ pub planner-write-plan-spec : {M : Type 1} → statement M
 planner-write-plan-spec =
     tie.close
     (tie.spec
+    (search needs)
     returns
     (search needs)
     (search needs)
+    put-write-requires
     (search needs)
     (search needs)
     (search needs)

@@ -1,0 +1,34 @@
+// The word of choices, a bit for each, and the two tests that stand before every call: words enough for the answer, and no bit without
+// meaning.
+use job::Choices;
+ghost use mathlib.Core.Path.{_≡_};
+ghost use Rattle.planner_c.specs.Exports.{unknown, choices-of, early};
+
+// Whether a bit of the word is no choice.
+fn unknown(choices: u32) -> bool
+    ensures { λ r. ⌜ r ≡ unknown choices ⌝ }
+{
+    1 < choices
+}
+
+// The choices of a word whose bits all have a meaning.
+pub fn choices_of(choices: u32) -> Choices
+    ensures { λ r. ⌜ r ≡ choices-of choices ⌝ }
+{
+    Choices {
+        turning: choices == 1,
+    }
+}
+
+// What is returned before a call: 100 where the answer has fewer words than are needed, 101 where a choice is unknown, and else 0.
+pub fn early(words: usize, needed: usize, choices: u32) -> u32
+    ensures { λ r. ⌜ r ≡ early needed words choices ⌝ }
+{
+    if words < needed {
+        return 100;
+    }
+    if unknown(choices) {
+        return 101;
+    }
+    0
+}
