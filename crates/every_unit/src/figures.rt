@@ -1,5 +1,5 @@
-// The figures of every rectangle and share, by the definition: 0; the price of any kind that fits and weighs at most the share; every
-// length cut with every division of the share; every width cut likewise.
+// The figures of every rectangle and share, by the definition: 0; the price of any kind that fits, upright or as the choice of turning
+// allows, and weighs at most the share; every length cut with every division of the share; every width cut likewise.
 use crate::job::BOUND;
 use crate::job::CAPACITY;
 use crate::job::FIGURES;
@@ -7,11 +7,13 @@ use crate::job::LENGTH_COUNT;
 use crate::job::NORMAL_LENGTHS;
 use crate::job::NORMAL_WIDTHS;
 use crate::job::PRICE;
+use crate::job::TURNING;
 use crate::job::WEIGHT;
 use crate::job::WIDTH_COUNT;
 use crate::job::WORD_COUNT;
+use crate::job::fits;
 use crate::job::kind_count;
-use crate::job::kind_side;
+use crate::job::may_turn;
 use crate::job::note_capacity;
 use crate::job::plate_side;
 use crate::job::shares;
@@ -32,12 +34,20 @@ fn cell(t: &Words, l: usize, w: usize) -> usize {
     plus(FIGURES, times(plus(times(l, widths(t)), w), shares(t)))
 }
 
-// The price of a kind where it fits and weighs at most the share, and else 0.
-fn price_within(t: &Words, i: usize, l: usize, w: usize, c: usize) -> usize {
-    if l < kind_side(t, 0, i) {
-        return 0;
+// Whether a kind lies in a rectangle: upright, or turned where that is chosen.
+fn lies_within(t: &Words, i: usize, l: usize, w: usize) -> bool {
+    if fits(t, i, l, w) {
+        return true;
     }
-    if w < kind_side(t, 1, i) {
+    if may_turn(t) {
+        return fits(t, i, w, l);
+    }
+    false
+}
+
+// The price of a kind where it lies in the rectangle and weighs at most the share, and else 0.
+fn price_within(t: &Words, i: usize, l: usize, w: usize, c: usize) -> usize {
+    if !lies_within(t, i, l, w) {
         return 0;
     }
     if c < word(t, WEIGHT, i) {
@@ -148,7 +158,8 @@ fn keep_normal(t: &mut Words) {
 }
 
 // Computes what is expected of a job: bound, capacity, both lists and the table.
-pub fn compute(t: &mut Words) {
+pub fn compute(t: &mut Words, turning: bool) {
+    put(t, TURNING, 0, turning as usize);
     note_capacity(t);
     list_positions(t, 0);
     list_positions(t, 1);

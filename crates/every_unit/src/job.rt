@@ -8,6 +8,9 @@ use test_tools::word;
 // Plate length, plate width, number of kinds.
 pub const PLATE: usize = 9000;
 
+// 1 where pieces may be turned, and 0 where they may not.
+pub const TURNING: usize = 9003;
+
 // What is left of the capacity while a job is drawn, and the state of the random numbers.
 pub const LEFT: usize = 9005;
 
@@ -60,6 +63,18 @@ pub fn kind_count(t: &Words) -> usize {
 // A side of a kind: 0 the length, 1 the width.
 pub fn kind_side(t: &Words, side: usize, i: usize) -> usize {
     word(t, plus(KIND_LENGTH, times(70, side)), i)
+}
+
+pub fn may_turn(t: &Words) -> bool {
+    word(t, TURNING, 0) == 1
+}
+
+// Whether a kind lies upright in a rectangle. It lies turned in l by w where it lies upright in w by l.
+pub fn fits(t: &Words, i: usize, l: usize, w: usize) -> bool {
+    if l < kind_side(t, 0, i) {
+        return false;
+    }
+    kind_side(t, 1, i) <= w
 }
 
 // How many widths there are, counted from 0.

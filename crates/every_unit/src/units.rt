@@ -1,9 +1,12 @@
-// Normal positions by reachability: 0 is normal, and so is what a kind that fits the plate leads to from a normal position.
+// Normal positions by reachability: 0 is normal, and so is what a kind leads to from a normal position. An upright kind leads by its own
+// side, a turned one by its other side, and each only where it fits the plate as it lies.
 use crate::job::LENGTH_COUNT;
 use crate::job::MARKS;
 use crate::job::NORMAL_LENGTHS;
+use crate::job::fits;
 use crate::job::kind_count;
 use crate::job::kind_side;
+use crate::job::may_turn;
 use crate::job::plate_side;
 use test_tools::Words;
 use test_tools::minus;
@@ -12,23 +15,37 @@ use test_tools::put;
 use test_tools::times;
 use test_tools::word;
 
-fn fits_plate(t: &Words, i: usize) -> bool {
-    if plate_side(t, 0) < kind_side(t, 0, i) {
-        return false;
-    }
-    kind_side(t, 1, i) <= plate_side(t, 1)
-}
-
-// Whether a kind leads to a position from a normal one before it.
-fn leads_to(t: &Words, side: usize, i: usize, x: usize) -> bool {
-    if !fits_plate(t, i) {
-        return false;
-    }
-    let size = kind_side(t, side, i);
+// Whether a size leads to a position from a normal one before it.
+fn leads_by(t: &Words, size: usize, x: usize) -> bool {
     if x < size {
         return false;
     }
     word(t, MARKS, minus(x, size)) == 1
+}
+
+fn leads_upright(t: &Words, side: usize, i: usize, x: usize) -> bool {
+    if fits(t, i, plate_side(t, 0), plate_side(t, 1)) {
+        return leads_by(t, kind_side(t, side, i), x);
+    }
+    false
+}
+
+fn leads_turned(t: &Words, side: usize, i: usize, x: usize) -> bool {
+    if fits(t, i, plate_side(t, 1), plate_side(t, 0)) {
+        return leads_by(t, kind_side(t, minus(1, side), i), x);
+    }
+    false
+}
+
+// Whether a kind leads to a position, upright or turned where that is chosen.
+fn leads_to(t: &Words, side: usize, i: usize, x: usize) -> bool {
+    if leads_upright(t, side, i, x) {
+        return true;
+    }
+    if may_turn(t) {
+        return leads_turned(t, side, i, x);
+    }
+    false
 }
 
 // Whether a position is normal, where all before it are marked.

@@ -5,6 +5,7 @@ use mathlib.Core.List.{List}
 use Prim.Native.Nat.{ℕ, _+_, _*_, min}
 use lib.ListN.{length}
 use Rattle.cutting.specs.Tree.{Tree}
+use Rattle.cutting.specs.Pieces.{Piece}
 use Rattle.cutting.specs.Job.{Job}
 use Rattle.job.specs.Block.{count-at}
 use Rattle.plan.specs.Trees.{PlanOf}
@@ -16,5 +17,5 @@ job-end s = min (length s) (6 + 10 * count-at s)
 -- where the job passes, the answer is true exactly for the plan of a tree that keeps every demand; a true answer is about such a tree
 pub record Keeps (JobPassed : Type 0) (J : Job) (ks os : List ℕ) (r : Bool) : Type 0 where
   pub passed : r ≡ true → JobPassed
-  pub tree : r ≡ true → (t : Tree ℕ) × PlanOf J t ks os
-  pub complete : JobPassed → (t : Tree ℕ) → PlanOf J t ks os → r ≡ true
+  pub tree : r ≡ true → (t : Tree Piece) × PlanOf J t ks os
+  pub complete : JobPassed → (t : Tree Piece) → PlanOf J t ks os → r ≡ true

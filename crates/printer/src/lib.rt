@@ -1,5 +1,6 @@
 // The bound printer: splits the input into a job block and weights, and prints the bound and the plan behind it, or the refusal.
 // What decides is proved here or in the crates below: where the job ends, the plan with its profit, whether it keeps the demands.
+use job::Choices;
 use job::read_job;
 use job::read_u16;
 use libc::STDOUT_FILENO;
@@ -32,10 +33,10 @@ pub fn job_end(input: &[u8]) -> usize
 }
 
 // Whether two arrays are a plan of the job that keeps every demand.
-pub fn keeps_demands(block: &[u8], kinds: &[u8], operands: &[u16]) -> bool
-    ensures { λ r. ⌜ Keeps (JobPasses (now (block .entry))) (block-job (now (block .entry))) (now (kinds .entry)) (now (operands .entry)) r ⌝ }
+pub fn keeps_demands(block: &[u8], choices: Choices, kinds: &[u8], operands: &[u16]) -> bool
+    ensures { λ r. ⌜ Keeps (JobPasses (now (block .entry))) (block-job (now (block .entry)) choices) (now (kinds .entry)) (now (operands .entry)) r ⌝ }
 {
-    let answer = check_plan(block, kinds, operands);
+    let answer = check_plan(block, choices, kinds, operands);
     let verdict = answer.verdict;
     match verdict {
         Checked::Passed => true,
@@ -69,8 +70,8 @@ fn print_refusal(r: Refusal) {
 }
 
 // The line of the plate's sides and the number of kinds.
-fn print_plate(block: &[u8]) {
-    let read = read_job(block);
+fn print_plate(block: &[u8], choices: Choices) {
+    let read = read_job(block, choices);
     let job = read.job;
     print_word(b"plate ");
     print_small(job.length);
@@ -138,18 +139,25 @@ fn print_profit(profit: u64, best: bool) {
 }
 
 // The lines of a written plan.
-fn print_report(block: &[u8], weights: &[u8], report: WriteReport, kinds: &[u8], operands: &[u16])
+fn print_report(
+    block: &[u8],
+    choices: Choices,
+    weights: &[u8],
+    report: WriteReport,
+    kinds: &[u8],
+    operands: &[u16],
+)
     requires { ⌜ length (now kinds) ≡ length (now operands) ⌝ }
 {
-    print_plate(block);
+    print_plate(block, choices);
     print_weights(weights, report.capacity);
     print_bound(report.bound);
     print_nodes(kinds, operands);
-    print_profit(report.bound, keeps_demands(block, kinds, operands));
+    print_profit(report.bound, keeps_demands(block, choices, kinds, operands));
 }
 
 // The bound and the plan of a job block and weights, or the refusal.
-fn print_answer(block: &[u8], weights: &[u8]) {
+fn print_answer(block: &[u8], choices: Choices, weights: &[u8]) {
     let mut lengths = [0u16; 1001];
     let mut widths = [0u16; 1001];
     let mut table = [0u64; 8192];
@@ -157,6 +165,7 @@ fn print_answer(block: &[u8], weights: &[u8]) {
     let mut operands = [0u16; 4095];
     let answer = write_plan(
         block,
+        choices,
         weights,
         &mut lengths,
         &mut widths,
@@ -168,13 +177,20 @@ fn print_answer(block: &[u8], weights: &[u8]) {
         WriteAnswer::Refused(r) => print_refusal(r),
         WriteAnswer::Written(report) => {
             let nodes = report.nodes as usize;
-            print_report(block, weights, report, &kinds[..nodes], &operands[..nodes]);
+            print_report(
+                block,
+                choices,
+                weights,
+                report,
+                &kinds[..nodes],
+                &operands[..nodes],
+            );
         }
     }
 }
 
-// The bound and the plan of an input: a job block, then its weights.
+// The bound and the plan of an input: a job block, then its weights. No piece is turned.
 pub fn print_plan(input: &[u8]) {
     let end = job_end(input);
-    print_answer(&input[..end], &input[end..]);
+    print_answer(&input[..end], Choices { turning: false }, &input[end..]);
 }

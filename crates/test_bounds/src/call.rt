@@ -10,6 +10,7 @@ use every_unit::WEIGHTS;
 use every_unit::WIDTH_COUNT;
 use every_unit::WORD_COUNT;
 use every_unit::write_block;
+use job::Choices;
 use refusal::Refusal;
 use test_tools::Words;
 use test_tools::bytes;
@@ -80,9 +81,10 @@ fn note_left(t: &mut Words, lengths: &[u16; 1008], widths: &[u16; 1008], table: 
     note_table(t, table);
 }
 
-// The bound call on the job's block and weights.
+// The bound call on the job's block and weights, with the choice of turning.
 fn call_bound(
     t: &Words,
+    turning: bool,
     lengths: &mut [u16],
     widths: &mut [u16],
     table: &mut [u64],
@@ -91,6 +93,7 @@ fn call_bound(
     let weights = bytes(t, WEIGHTS);
     bound::bound(
         first_bytes(&block, word(t, BLOCK, 0)),
+        Choices { turning: turning },
         first_bytes(&weights, word(t, WEIGHTS, 0)),
         lengths,
         widths,
@@ -99,12 +102,13 @@ fn call_bound(
 }
 
 // Makes the call with the parts of lists and table that are lent, and notes its answer and what it left.
-fn call_lent(t: &mut Words) {
+fn call_lent(t: &mut Words, turning: bool) {
     let mut lengths = marked_list();
     let mut widths = marked_list();
     let mut table = marked_table();
     let answer = call_bound(
         t,
+        turning,
         lend_numbers(&mut lengths, word(t, LENT_LENGTHS, 0)),
         lend_numbers(&mut widths, word(t, LENT_WIDTHS, 0)),
         lend_words(&mut table, word(t, LENT_WORDS, 0)),
@@ -113,7 +117,7 @@ fn call_lent(t: &mut Words) {
     note_left(t, &lengths, &widths, &table);
 }
 
-pub fn try_bound(t: &mut Words) {
+pub fn try_bound(t: &mut Words, turning: bool) {
     write_block(t);
-    call_lent(t);
+    call_lent(t, turning);
 }

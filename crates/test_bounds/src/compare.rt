@@ -1,4 +1,5 @@
-// Generated jobs of one shape: the second computation, the bound call, and what differs.
+// Generated jobs of one shape: the second computation, the bound call, and what differs. Each job is compared in two ways: 0 with upright
+// pieces alone, 1 with pieces that may be turned.
 use crate::call::ANSWER;
 use crate::call::LENT_LENGTHS;
 use crate::call::LENT_WIDTHS;
@@ -16,6 +17,7 @@ use every_unit::draw_job;
 use test_tools::Words;
 use test_tools::add;
 use test_tools::clear;
+use test_tools::copy;
 use test_tools::larger;
 use test_tools::plus;
 use test_tools::print_numbers;
@@ -25,26 +27,28 @@ use test_tools::text;
 use test_tools::times;
 use test_tools::word;
 
-const JOBS: usize = 140;
+const JOBS: usize = 70;
 
-// Of a shape: jobs that agreed, table words compared, sum of the bounds, greatest capacity.
+// Of a shape and each way: jobs that agreed, table words compared, sum of the bounds. Then the greatest capacity.
 const AGREED: usize = 60050;
 
-const TABLE_WORDS: usize = 60051;
+const TABLE_WORDS: usize = 60052;
 
-const BOUNDS: usize = 60052;
+const BOUNDS: usize = 60054;
 
-const GREATEST: usize = 60053;
+const GREATEST: usize = 60056;
 
-// Of all shapes: jobs compared and jobs that agreed.
-const ALL_COMPARED: usize = 60060;
+// Of all shapes: jobs drawn, and jobs that agreed each way.
+const ALL_DRAWN: usize = 60060;
 
 const ALL_AGREED: usize = 60061;
 
-// The first job that does not agree, counted from 1, and what differs.
-const FIRST: usize = 60062;
+// The first job that does not agree, counted from 1, its way, and what differs.
+const FIRST: usize = 60063;
 
-const FIRST_OTHER: usize = 60063;
+const FIRST_WAY: usize = 60064;
+
+const FIRST_OTHER: usize = 60065;
 
 // Lends as much as a word says, and some more.
 fn lend(t: &mut Words, at: usize, from: usize, i: usize, spare: usize) {
@@ -91,44 +95,51 @@ fn note_capacity(t: &mut Words) {
     put(t, GREATEST, 0, most);
 }
 
-fn note_sizes(t: &mut Words) {
-    add(t, TABLE_WORDS, word(t, WORD_COUNT, 0));
-    add(t, BOUNDS, word(t, BOUND, 0));
+fn note_sizes(t: &mut Words, way: usize) {
+    add(t, plus(TABLE_WORDS, way), word(t, WORD_COUNT, 0));
+    add(t, plus(BOUNDS, way), word(t, BOUND, 0));
     note_capacity(t);
 }
 
-fn note_agreed(t: &mut Words) {
-    add(t, AGREED, 1);
-    add(t, ALL_AGREED, 1);
+fn note_agreed(t: &mut Words, way: usize) {
+    add(t, plus(AGREED, way), 1);
+    add(t, plus(ALL_AGREED, way), 1);
 }
 
 // Notes what differs in a job, where it is the first.
-fn note_first(t: &mut Words, number: usize, other: usize) {
+fn note_first(t: &mut Words, way: usize, other: usize) {
     if word(t, FIRST, 0) == 0 {
-        put(t, FIRST, 0, number);
+        copy(t, FIRST, ALL_DRAWN, 1);
+        put(t, FIRST_WAY, 0, way);
         put(t, FIRST_OTHER, 0, other);
     }
 }
 
-fn note_difference(t: &mut Words, number: usize) {
+fn note_difference(t: &mut Words, way: usize) {
     let other = difference(t);
     if other == 0 {
-        note_agreed(t);
+        note_agreed(t, way);
     } else {
-        note_first(t, number, other);
+        note_first(t, way, other);
     }
 }
 
-// Draws the next job, and compares it.
+// Compares the job at hand in one way.
+fn compare_way(t: &mut Words, way: usize) {
+    let turning = way == 1;
+    compute(t, turning);
+    lend_all(t, word(t, ALL_DRAWN, 0));
+    try_bound(t, turning);
+    note_sizes(t, way);
+    note_difference(t, way);
+}
+
+// Draws the next job, and compares it in both ways.
 fn compare_job(t: &mut Words) {
-    let number = word(t, ALL_COMPARED, 0);
-    add(t, ALL_COMPARED, 1);
+    add(t, ALL_DRAWN, 1);
     draw_job(t);
-    compute(t);
-    lend_all(t, number);
-    try_bound(t);
-    note_sizes(t);
-    note_difference(t, plus(number, 1));
+    compare_way(t, 0);
+    compare_way(t, 1);
 }
 
 fn compare_jobs(t: &mut Words, n: usize) {
@@ -139,30 +150,30 @@ fn compare_jobs(t: &mut Words, n: usize) {
 
 // Compares the jobs of the shape in the row.
 pub fn compare_shape(t: &mut Words) {
-    clear(t, AGREED, 4);
+    clear(t, AGREED, 7);
     compare_jobs(t, JOBS);
     print_shape(t);
 }
 
 fn print_shape(t: &Words) {
-    print_numbers(b": # compared, ", &[JOBS as u64]);
+    print_numbers(b": # jobs; ", &[JOBS as u64]);
     print_words(
-        b"# agreed; table words #, sum of bounds #, greatest capacity #",
+        b"agreed # upright, # turned; table words #, #; sums of bounds #, #; greatest capacity #",
         t,
         AGREED,
     );
 }
 
-// The first job that does not agree, and the number of what differs; or none.
+// The first job that does not agree, its way, and the number of what differs; or none.
 fn print_first(t: &Words) {
     if word(t, FIRST, 0) == 0 {
         text(b"first difference: none");
     } else {
-        print_words(b"first difference: job #, #", t, FIRST);
+        print_words(b"first difference: job #, way #, #", t, FIRST);
     }
 }
 
 pub fn print_total(t: &Words) {
-    print_words(b": # compared, # agreed\n", t, ALL_COMPARED);
+    print_words(b": # jobs; agreed # upright, # turned\n", t, ALL_DRAWN);
     print_first(t);
 }

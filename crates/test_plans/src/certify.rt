@@ -6,6 +6,7 @@ use crate::lent::LENT_WIDTHS;
 use crate::lent::LENT_WORDS;
 use crate::lent::OPERANDS;
 use crate::lent::WEIGHTS;
+use crate::lent::choices;
 use crate::lent::count;
 use crate::lent::print_refusal;
 use certificate::Certificate;
@@ -58,6 +59,7 @@ fn certify_plan(t: &Words, block: &[u8], weights: &[u8], kinds: &[u8], operands:
     let mut table = marked_table();
     print_certificate(certify(
         block,
+        choices(t),
         weights,
         kinds,
         operands,

@@ -3,6 +3,7 @@ use crate::lent::JOB;
 use crate::lent::KINDS;
 use crate::lent::OPERANDS;
 use crate::lent::PLAN;
+use crate::lent::choices;
 use crate::lent::count;
 use crate::lent::print_refusal;
 use crate::lent::widen;
@@ -49,6 +50,7 @@ pub fn run_arrays(t: &Words) {
     let operands = numbers(t, OPERANDS);
     print_answer(check_plan(
         first_bytes(&block, count(t, JOB)),
+        choices(t),
         first_bytes(&kinds, count(t, KINDS)),
         first_numbers(&operands, count(t, OPERANDS)),
     ));
@@ -59,6 +61,7 @@ pub fn run_block(t: &Words) {
     let plan = bytes(t, PLAN);
     print_answer(check_plan_block(
         first_bytes(&block, count(t, JOB)),
+        choices(t),
         first_bytes(&plan, count(t, PLAN)),
     ));
 }

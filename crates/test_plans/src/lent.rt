@@ -1,4 +1,5 @@
-// Where the words stand that a call runs on: how many there are, and then each. How a refusal is printed.
+// Where the words stand that a call runs on: how many there are, and then each. The choices of a call. How a refusal is printed.
+use job::Choices;
 use refusal::Refusal;
 use test_tools::Words;
 use test_tools::print_numbers;
@@ -19,6 +20,9 @@ pub const LENT_WIDTHS: usize = 12002;
 
 pub const LENT_WORDS: usize = 12003;
 
+// Whether pieces may be turned: 1, or 0.
+pub const TURNING: usize = 12500;
+
 pub const REMARK: usize = 13000;
 
 pub const KINDS: usize = 20000;
@@ -27,6 +31,11 @@ pub const OPERANDS: usize = 30000;
 
 pub fn count(t: &Words, from: usize) -> usize {
     word(t, from, 0)
+}
+
+pub fn choices(t: &Words) -> Choices {
+    let turning = word(t, TURNING, 1) == 1;
+    Choices { turning: turning }
 }
 
 pub fn widen(n: u16) -> u64 {

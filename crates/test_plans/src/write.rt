@@ -3,9 +3,11 @@ use crate::lent::JOB;
 use crate::lent::KINDS;
 use crate::lent::OPERANDS;
 use crate::lent::WEIGHTS;
+use crate::lent::choices;
 use crate::lent::count;
 use crate::lent::print_refusal;
 use crate::lent::widen;
+use job::Choices;
 use test_tools::Words;
 use test_tools::bytes;
 use test_tools::first_bytes;
@@ -60,12 +62,13 @@ fn print_entries(kinds: &[u8; 5000], operands: &[u16; 5000]) {
 }
 
 // The writing call with lists of 1,001 entries and a table of 4,096 words.
-fn write(block: &[u8], weights: &[u8], kinds: &mut [u8], operands: &mut [u16]) {
+fn write(block: &[u8], choices: Choices, weights: &[u8], kinds: &mut [u8], operands: &mut [u16]) {
     let mut lengths = [0u16; 1001];
     let mut widths = [0u16; 1001];
     let mut table = [0u64; 4096];
     print_answer(write_plan(
         block,
+        choices,
         weights,
         &mut lengths,
         &mut widths,
@@ -80,6 +83,7 @@ fn write_into(t: &Words, kinds: &mut [u8], operands: &mut [u16]) {
     let weights = bytes(t, WEIGHTS);
     write(
         first_bytes(&block, count(t, JOB)),
+        choices(t),
         first_bytes(&weights, count(t, WEIGHTS)),
         kinds,
         operands,
