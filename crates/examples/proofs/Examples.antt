@@ -5,7 +5,7 @@ use mathlib.Core.List.{List, [], _∷_, List·Memᴰ, List·Memᴰ·not-nil, Lis
 use Prim.Native.Nat.{ℕ, _+_, _*_, _≤_}
 use native.Mathlib.Omega.{arith}
 use borrow.Author.Tests.{le-ltb}
-use Rattle.cutting.specs.Lists.{range, sum, filter, any, greatest}
+use Rattle.cutting.specs.Lists.{range, sum, filter, each, any, greatest}
 use Rattle.cutting.specs.Figure.{leaf, best, step, after, figure}
 use Rattle.cutting.specs.Pieces.{sized}
 use Rattle.cutting.specs.Saws.{floor, saw-normal, saw-written}
@@ -13,7 +13,7 @@ use Rattle.cutting.specs.Shares.{by-weight}
 use Rattle.cutting.specs.Normal.{summed, normal?, sides}
 use Rattle.cutting.specs.Choice.{choice, plan-within, written}
 use Rattle.cutting.specs.Preorder.{preorder, kinds-of, operands-of, node-count}
-use Rattle.cutting.specs.Job.{pieces, normal-positions, plan-of}
+use Rattle.cutting.specs.Job.{members, pieces, normal-positions, plan-of}
 use Rattle.refusal.specs.Refusals.{first-refusal}
 use Rattle.refusal.specs.declared.Checked.the-variants.{Passed}
 use Rattle.job.specs.Block.{price-at, demand-at, each-kind, job-checks, entries, record-of}
@@ -22,7 +22,7 @@ use Rattle.plan.specs.Plan.{walk, plan-answer}
 use Rattle.plan.specs.Calls.{JobPasses}
 use Rattle.writer.specs.Write.{block-plan}
 use Rattle.examples.specs.Examples as line
-use Rattle.examples.specs.Examples.{Example, RefusedAs, PassedTo, ExampleHolds, misfit-job, marked}
+use Rattle.examples.specs.Examples.{Example, no-choice, RefusedAs, PassedTo, ExampleHolds, misfit-job, marked}
 use Rattle.examples.proofs.Calls as call
 use Rattle.examples.proofs.Calls.{words-in, values-in, certificate-in}
 use Rattle.examples.proofs.Plans.{first-verdict, begins-refused, begins-passed}
@@ -30,16 +30,16 @@ use Rattle.examples.proofs.Plans.{first-verdict, begins-refused, begins
 -- what is left to compute of a line
 abbrev Computed : Example → Type 0
 Computed (line.positions s d xs) = ExampleHolds (line.positions s d xs)
-Computed (line.bounds s ws words bound q p r) = Accepted s ws × (words-in s ws ≡ words) × (values-in s ws ≡ bound ∷ q ∷ p ∷ r ∷ [])
+Computed (line.bounds s ws words bound q p r) = Accepted s no-choice ws × (words-in s ws ≡ words) × (values-in s ws ≡ bound ∷ q ∷ p ∷ r ∷ [])
 Computed (line.writes s ws words bound q p r nodes kinds operands) =
-    Accepted s ws × (words-in s ws ≡ words) × (values-in s ws ≡ bound ∷ q ∷ p ∷ r ∷ []) × (node-count (block-plan s ws) ≡ nodes) × (nodes ≤ 4095)
-    × (kinds-of (block-plan s ws) ≡ kinds) × (operands-of (block-plan s ws) ≡ operands)
+    Accepted s no-choice ws × (words-in s ws ≡ words) × (values-in s ws ≡ bound ∷ q ∷ p ∷ r ∷ []) × (node-count (block-plan s no-choice ws) ≡ nodes) × (nodes ≤ 4095)
+    × (kinds-of (block-plan s no-choice ws) ≡ kinds) × (operands-of (block-plan s no-choice ws) ≡ operands)
 Computed (line.passes s kinds operands profit copies pieces waste trim) = ExampleHolds (line.passes s kinds operands profit copies pieces waste trim)
 Computed (line.refused s kinds operands number place) = ExampleHolds (line.refused s kinds operands number place)
-Computed (line.first-refused s kind operand number place) = JobPasses s × RefusedAs number place (first-verdict (block-job s) kind operand)
-Computed (line.first-passes s kind operand) = JobPasses s × PassedTo 0 (first-verdict (block-job s) kind operand)
+Computed (line.first-refused s kind operand number place) = JobPasses s × RefusedAs number place (first-verdict (block-job s no-choice) kind operand)
+Computed (line.first-passes s kind operand) = JobPasses s × PassedTo 0 (first-verdict (block-job s no-choice) kind operand)
 Computed (line.certifies s ws kinds operands words gap bound profit) =
-    Accepted s ws × (words-in s ws ≡ words) × (plan-answer (block-job s) kinds operands .verdict ≡ Passed) × (certificate-in s ws kinds operands ≡ gap ∷ bound ∷ profit ∷ [])
+    Accepted s no-choice ws × (words-in s ws ≡ words) × (plan-answer (block-job s no-choice) kinds operands .verdict ≡ Passed) × (certificate-in s ws kinds operands ≡ gap ∷ bound ∷ profit ∷ [])
 
 -- a line holds from what is computed of it
 holds : (e : Example) → Computed e → ExampleHolds e
@@ -81,15 +81,15 @@ module _ (a b c d e f weight : ℕ) where
   priced = misfit-job (a ∷ b ∷ c ∷ d ∷ e ∷ f ∷ [])
 
   -- it is accepted where its price, its demand and the capacity are in range
-  pub misfit-accepted : price-at priced 0 ≤ 1000000 → demand-at priced 0 ≤ 255 → demand-at priced 0 * weight ≤ 4095 → Accepted priced (weight ∷ [])
+  pub misfit-accepted : price-at priced 0 ≤ 1000000 → demand-at priced 0 ≤ 255 → demand-at priced 0 * weight ≤ 4095 → Accepted priced no-choice (weight ∷ [])
   unfolding range sum first-refusal each-kind job-checks entries record-of
   misfit-accepted price demand q =
       simp (le-ltb 1000000 (price-at priced 0) price, le-ltb 255 (demand-at priced 0) demand, le-ltb 4095 (0 + demand-at priced 0 * weight) (omega (arith, q)))
 
-module _ (pair ws : List ℕ) (good : Accepted (misfit-job pair) ws) where
+module _ (pair ws : List ℕ) (good : Accepted (misfit-job pair) no-choice ws) where
   -- the table's computations, line by line
   computed : AllComputed (marked pair ws)
-  unfolding marked range sum filter any greatest leaf best step after figure sized floor saw-normal saw-written by-weight summed normal? sides choice plan-within written preorder kinds-of operands-of node-count pieces normal-positions plan-of first-refusal each-kind job-checks entries record-of walk plan-answer
+  unfolding marked range sum filter each any greatest leaf best step after figure sized floor saw-normal saw-written by-weight summed normal? sides choice plan-within written preorder kinds-of operands-of node-count members pieces normal-positions plan-of first-refusal each-kind job-checks entries record-of walk plan-answer
   computed =
       refl
       and refl

@@ -1,6 +1,7 @@
 -- The marked examples of the scope as one table, in its order. A job is its block's bytes, and each line says what a call answers on them,
 -- as a number and values. That every line holds is `marked-hold` of proofs/Examples.
 use mathlib.Core.Path.{_≡_}
+use mathlib.Core.Bool.{false}
 use mathlib.Core.List.{List, [], _∷_, _++_}
 use Prim.Native.Nat.{ℕ, _+_, _-_, _≤_, _<_}
 use lib.ListN.{length, replicate}
@@ -12,6 +13,7 @@ use Rattle.cutting.specs.Preorder.{kinds-of, operands-of}
 use Rattle.refusal.specs.Refusals.{place-of, refused-as}
 use Rattle.refusal.specs.declared.Checked.{Checked}
 use Rattle.refusal.specs.declared.Checked.the-variants.{Passed, Refused}
+use Rattle.job.specs.declared.Choices.{Choices}
 use Rattle.job.specs.Weights.{block-job, weight-in}
 use Rattle.plan.specs.Calls.{arrays-answer}
 use Rattle.bound.specs.Bound.{Memory, bound-said}
@@ -36,9 +38,13 @@ pub data Example : Type 0 where
   -- the certificate of a plan under weights answers the gap, 0 for best, the bound and the profit
   certifies : (job weights kinds operands : List ℕ) (words gap bound profit : ℕ) → Example
 
+-- the marked examples make no choice
+abbrev pub no-choice : Choices
+no-choice = record { turning = false }
+
 -- lent lists that hold every length up to the plate's sides
 abbrev pub LongLists : List ℕ → Memory → Type 0
-LongLists s m = (block-job s .plate .0 < length (m .lengths)) × (block-job s .plate .1 < length (m .widths))
+LongLists s m = (block-job s no-choice .plate .0 < length (m .lengths)) × (block-job s no-choice .plate .1 < length (m .widths))
 
 -- lent memory of any contents that is long enough: such lists, and a table of so many words
 abbrev pub Enough : List ℕ → ℕ → Memory → Type 0
@@ -60,7 +66,7 @@ PassedTo k (Refused r) = k < place-of r
 
 -- the verdict of every plan with this first node, as many kinds as operands and at most 4,095 nodes, has a property
 abbrev pub Beginning : List ℕ → ℕ → ℕ → (Checked → Type 0) → Type 0
-Beginning s kind operand P = (kinds operands : List ℕ) → length kinds ≡ length operands → length kinds < most-nodes → P (arrays-answer s (kind ∷ kinds) (operand ∷ operands) .verdict)
+Beginning s kind operand P = (kinds operands : List ℕ) → length kinds ≡ length operands → length kinds < most-nodes → P (arrays-answer s no-choice (kind ∷ kinds) (operand ∷ operands) .verdict)
 
 -- copies as a report has them: 64 numbers, 0 past the job's kinds
 abbrev pub padded : List ℕ → List ℕ
@@ -68,19 +74,19 @@ padded xs = xs ++ replicate (most-kinds - length xs) 0
 
 -- what each line means; where the table is too short the call gives refusal 20 with the words needed
 abbrev pub ExampleHolds : Example → Type 0
-ExampleHolds (positions s d xs) = normal-positions (block-job s) d ≡ xs
+ExampleHolds (positions s d xs) = normal-positions (block-job s no-choice) d ≡ xs
 ExampleHolds (bounds s ws words bound q p r) =
-    ((m : Memory) → Enough s words m → bound-said s ws m ≡ (0, bound ∷ q ∷ p ∷ r ∷ []))
-    × ((m : Memory) → TooShort s words m → bound-said s ws m ≡ (20, words ∷ []))
+    ((m : Memory) → Enough s words m → bound-said s no-choice ws m ≡ (0, bound ∷ q ∷ p ∷ r ∷ []))
+    × ((m : Memory) → TooShort s words m → bound-said s no-choice ws m ≡ (20, words ∷ []))
 ExampleHolds (writes s ws words bound q p r nodes kinds operands) =
-    ((m : Memory) (ks os : List ℕ) → Enough s words m → nodes ≤ length ks → nodes ≤ length os → write-said s ws m ks os ≡ (0, bound ∷ q ∷ p ∷ r ∷ nodes ∷ []))
-    × (kinds-of (block-plan s ws) ≡ kinds) × (operands-of (block-plan s ws) ≡ operands)
+    ((m : Memory) (ks os : List ℕ) → Enough s words m → nodes ≤ length ks → nodes ≤ length os → write-said s no-choice ws m ks os ≡ (0, bound ∷ q ∷ p ∷ r ∷ nodes ∷ []))
+    × (kinds-of (block-plan s no-choice ws) ≡ kinds) × (operands-of (block-plan s no-choice ws) ≡ operands)
 ExampleHolds (passes s kinds operands profit copies pieces waste trim) =
-    arrays-answer s kinds operands ≡ record { verdict = Passed; report = record { profit = profit; copies = padded copies; pieces = pieces; waste = waste; trim = trim } }
-ExampleHolds (refused s kinds operands number place) = RefusedAs number place (arrays-answer s kinds operands .verdict)
+    arrays-answer s no-choice kinds operands ≡ record { verdict = Passed; report = record { profit = profit; copies = padded copies; pieces = pieces; waste = waste; trim = trim } }
+ExampleHolds (refused s kinds operands number place) = RefusedAs number place (arrays-answer s no-choice kinds operands .verdict)
 ExampleHolds (first-refused s kind operand number place) = Beginning s kind operand (RefusedAs number place)
 ExampleHolds (first-passes s kind operand) = Beginning s kind operand (PassedTo 0)
-ExampleHolds (certifies s ws kinds operands words gap bound profit) = (m : Memory) → Enough s words m → certificate-said s ws kinds operands m ≡ (0, gap ∷ bound ∷ profit ∷ [])
+ExampleHolds (certifies s ws kinds operands words gap bound profit) = (m : Memory) → Enough s words m → certificate-said s no-choice ws kinds operands m ≡ (0, gap ∷ bound ∷ profit ∷ [])
 
 -- job S: plate 5 by 3, three kinds; sizes 2 by 3, 3 by 1, 2 by 2; price 7, demand 1; price 4, demand 2; price 5, demand 1
 abbrev pub job-s : List ℕ
@@ -98,7 +104,7 @@ misfit-job pair = 1 ∷ 0 ∷ 1 ∷ 0 ∷ 1 ∷ 0 ∷ 2 ∷ 0 ∷ 2 ∷ 0 ∷ pa
 
 -- its capacity
 abbrev pub misfit-capacity : List ℕ → List ℕ → ℕ
-misfit-capacity pair ws = capacity (block-job (misfit-job pair)) (weight-in ws)
+misfit-capacity pair ws = capacity (block-job (misfit-job pair) no-choice) (weight-in ws)
 
 -- plate 2 by 3, only kind 0 of S, with demand 0
 abbrev pub undemanded-job : List ℕ
