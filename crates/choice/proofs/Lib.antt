@@ -1,4 +1,4 @@
 pub mod Search
 pub mod Rows
 pub mod Choice
-pub mod Laid
+pub mod Numbers

@@ -5,7 +5,7 @@ use mathlib.Core.List.{List}
 use Prim.Native.Nat.{ℕ, _≤_}
 use lib.ListN.{length, drop}
 use Rattle.cutting.specs.declared.Direction.the-variants.{Length, Width}
-use Rattle.cutting.specs.declared.Node.the-variants.{Waste, Piece, Turned, Cut}
+use Rattle.cutting.specs.declared.Node.the-variants.{Waste, Cut}
 use Rattle.cutting.specs.Limits.{most-capacity}
 use Rattle.cutting.specs.Pieces as laid
 use Rattle.cutting.specs.Choice.{Choice, as-waste, as-piece, as-cut}
@@ -53,10 +53,3 @@ chosen-of pieces (as-cut d x q) = record { node = Cut d x; share = q .0 }
 -- the choice at a cell
 abbrev pub chosen-at : TableSize → List ℕ → Cell → Chosen
 chosen-at size pieces cell = chosen-of pieces (plan-choice (size-job size pieces) (heavy-in pieces) (cell .sides .length) (cell .sides .width) (cell .share))
-
--- the choice of a job in the same form: the pieces in it are the job's own (chosen-laid of proofs/Laid)
-abbrev pub laid-choice : Choice laid.Piece ℕ → Chosen
-laid-choice as-waste = record { node = Waste; share = 0 }
-laid-choice (as-piece (laid.upright i)) = record { node = Piece i; share = 0 }
-laid-choice (as-piece (laid.turned i)) = record { node = Turned i; share = 0 }
-laid-choice (as-cut d x q) = record { node = Cut d x; share = q .0 }

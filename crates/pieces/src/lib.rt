@@ -1,5 +1,5 @@
 // The pieces that may lie, numbered: the kinds in their order, each upright, and then turned where pieces may be turned. Normal positions,
-// fills and the choice read them from one array and know nothing of turning.
+// fills and the choice read them from one array; what they compute knows nothing of turning.
 use cutting::Sides;
 use cutting::turn;
 use job::JobRecord;

@@ -39,7 +39,7 @@ use Rattle.bound.proofs.Listed.{pieces-range, pieces-bounded}
 use Rattle.bound.proofs.Holds.{answered-behind, refused-behind}
 use Rattle.choice.specs.Search.{Numbered}
 use Rattle.choice.specs.Choice.{ChoiceInput}
-use Rattle.choice.proofs.Laid.{array-numbered}
+use Rattle.choice.proofs.Numbers.{array-numbered}
 use Rattle.writer.specs.declared.WriteReport.{WriteReport}
 use Rattle.writer.specs.declared.WriteAnswer.{WriteAnswer}
 use Rattle.writer.specs.declared.WriteAnswer.the-variants as answer
