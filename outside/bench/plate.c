@@ -27,10 +27,12 @@ static void read_job(Job *job, const uint8_t *block, uint32_t choices, const uin
         const uint8_t *pair = pairs + 6 * i;
         Size size = {two(sizes + 4 * i), two(sizes + 4 * i + 2)}, turned = {size.width, size.length};
         uint64_t price = (uint64_t)two(pair) | (uint64_t)two(pair + 2) << 16;
-        add_piece(job, size, price, weights[i], (Node){PIECE, i});
-        if (choices & TURNING)
+        int demand = two(pair + 4);
+        if (demand > 0)
+            add_piece(job, size, price, weights[i], (Node){PIECE, i});
+        if (demand > 0 && choices & TURNING)
             add_piece(job, turned, price, weights[i], (Node){TURNED_PIECE, i});
-        job->capacity += two(pair + 4) * weights[i];
+        job->capacity += demand * weights[i];
     }
 }
 

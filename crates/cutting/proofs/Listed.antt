@@ -1,5 +1,5 @@
 -- The pieces that may lie as kinds of a plain job, by their numbers: it has the same normal positions, figures and choices. So code that
--- knows no turned pieces serves every job.
+-- knows neither turned pieces nor cancelled kinds serves every job.
 use mathlib.Core.Path.{_≡_, refl, sym, _∙_, ap, ap₂}
 use mathlib.Core.Bool.{Bool, true, false, _&&_}
 use mathlib.Core.Option.{Option, none, some}
@@ -18,7 +18,7 @@ use Rattle.cutting.specs.Saws.{saw, floor}
 use Rattle.cutting.specs.Shares.{by-weight}
 use Rattle.cutting.specs.Normal.{sides, normal?, normal}
 use Rattle.cutting.specs.Choice.{Choice, as-waste, as-piece, as-cut, or-waste, or-length, or-piece, or-zero}
-use Rattle.cutting.specs.Job.{Job, laid, members, pieces, by-kind, figure-of, normal-side, normal-positions, normal-floor, laid-earns, pair-earns, first-pair, plan-choice, SolidKinds, InRange}
+use Rattle.cutting.specs.Job.{Job, laid, ordered, members, pieces, by-kind, figure-of, normal-side, normal-positions, normal-floor, laid-earns, pair-earns, first-pair, plan-choice, SolidKinds, InRange}
 use Rattle.cutting.specs.Listed.{plain, member-at, Listing, InTableRange}
 use Rattle.cutting.proofs.Lists.{mem-range, through, first-cong, entries, filter-map, first-map, filter-map-cong}
 use Rattle.cutting.proofs.Greatest.{greatest-map, greatest-cong}
@@ -28,8 +28,8 @@ use Rattle.cutting.proofs.Members.{member-kind, members-count}
 use Rattle.cutting.proofs.Table.{figure-half}
 
 -- kinds that are all ordered and not to be turned lie upright each
-all-upright : (a n : ℕ) → each (ways false) (range a n) ≡ map upright (range a n)
-unfolding range each
+all-upright : (a n : ℕ) → each (ways false) (filter (λ j. leb 1 1) (range a n)) ≡ map upright (range a n)
+unfolding range filter each
 all-upright a zero = refl
 all-upright a (suc n) = ap (λ ps. upright a ∷ ps) (all-upright (suc a) n)
 
@@ -67,7 +67,7 @@ module _ (r : Rect) (n : ℕ) (size : ℕ → Rect) (price : ℕ → ℕ) where
   N = plain r n size price
 
   pub plain-members : members N ≡ map upright (range 0 n)
-  unfolding members
+  unfolding ordered members
   plain-members = all-upright 0 n
 
   pub plain-greatest : (f : Piece → ℕ) → greatest f (members N) ≡ greatest (λ i. f (upright i)) (range 0 n)
@@ -166,6 +166,7 @@ module _ (J : Job) (weight : ℕ → ℕ) (n : ℕ) (size : ℕ → Rect) (price
   pub listed-range : InRange J → InTableRange L
   listed-range h = record {
     fixed = refl;
+    demands = λ j l. omega arith;
     plate-length = h .plate-length;
     plate-width = h .plate-width;
     kinds = omega (arith, given .number, members-count J, h .kinds);

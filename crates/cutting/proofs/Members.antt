@@ -5,13 +5,13 @@ use mathlib.Core.Bool.{Bool, true, false}
 use mathlib.Core.List.{[], _∷_, List·Memᴰ, List·Memᴰ·head, List·Memᴰ·tail, List·Memᴰ·not-nil, List·Memᴰ·cases-cons}
 use Prim.Native.Nat.{ℕ, _+_, _*_, _≤_, _<_}
 use native.Mathlib.Omega.{arith}
-use lib.Dec.{T}
+use lib.Dec.{T, leb, leb→le, le→leb}
 use lib.ListN.{length}
-use Rattle.cutting.specs.Lists.{range}
+use Rattle.cutting.specs.Lists.{range, filter}
 use Rattle.cutting.specs.Pieces.{Piece, upright, turned, kind, ways, Solid}
-use Rattle.cutting.specs.Job.{Job, laid, MayLie, members, SolidKinds, InRange}
+use Rattle.cutting.specs.Job.{Job, laid, MayLie, ordered, members, SolidKinds, InRange}
 use Rattle.cutting.specs.Listed.{InTableRange}
-use Rattle.cutting.proofs.Lists.{range-mem, mem-range, range-length, each-length, each-mem, mem-each}
+use Rattle.cutting.proofs.Lists.{range-mem, mem-range, range-length, filter-length, filter-mem, mem-filter, each-length, each-mem, mem-each}
 
 upright-way : (b : Bool) (i : ℕ) → List·Memᴰ (upright i) (ways b i)
 upright-way false i = List·Memᴰ·head refl
@@ -39,28 +39,37 @@ way-of true i p m = go (List·Memᴰ·cases-cons m)
     go (inr k) = more (List·Memᴰ·cases-cons k)
 
 module _ (J : Job) where
+  -- the kinds that are ordered
+  kind-ordered : (i : ℕ) → i < J .count → 1 ≤ J .demand i → List·Memᴰ i (ordered J)
+  unfolding ordered
+  kind-ordered i h l = filter-mem _ (range 0 (J .count)) (range-mem 0 (J .count) i (omega arith) (omega arith)) (le→leb 1 (J .demand i) l)
+
+  ordered-kind : (i : ℕ) → List·Memᴰ i (ordered J) → (i < J .count) × (1 ≤ J .demand i)
+  unfolding ordered
+  ordered-kind i m = let e = mem-filter _ (range 0 (J .count)) m in (omega (arith, mem-range 0 (J .count) i (e .0)), leb→le 1 (J .demand i) (e .1))
+
   -- the members are exactly the pieces that may lie
   pub lie-member : (p : Piece) → MayLie J p → List·Memᴰ p (members J)
   unfolding members
-  lie-member (upright i) h = each-mem (ways (J .turning)) (range 0 (J .count)) (range-mem 0 (J .count) i (omega arith) (omega (arith, h))) (upright-way (J .turning) i)
-  lie-member (turned i) h = each-mem (ways (J .turning)) (range 0 (J .count)) (range-mem 0 (J .count) i (omega arith) (omega (arith, h .0))) (turned-way (J .turning) i (h .1))
+  lie-member (upright i) h = each-mem (ways (J .turning)) (ordered J) (kind-ordered i (h .0) (h .1)) (upright-way (J .turning) i)
+  lie-member (turned i) h = each-mem (ways (J .turning)) (ordered J) (kind-ordered i (h .0) (h .1)) (turned-way (J .turning) i (h .2))
 
   pub member-lies : (p : Piece) → List·Memᴰ p (members J) → MayLie J p
   unfolding members
   member-lies p m = go (way-of (J .turning) (e .0) p (e .2))
     where
-      e : (i : ℕ) × List·Memᴰ i (range 0 (J .count)) × List·Memᴰ p (ways (J .turning) i)
-      e = mem-each (ways (J .turning)) p (range 0 (J .count)) m
+      e : (i : ℕ) × List·Memᴰ i (ordered J) × List·Memᴰ p (ways (J .turning) i)
+      e = mem-each (ways (J .turning)) p (ordered J) m
 
-      l : (0 ≤ e .0) × (e .0 < 0 + J .count)
-      l = mem-range 0 (J .count) (e .0) (e .1)
+      l : (e .0 < J .count) × (1 ≤ J .demand (e .0))
+      l = ordered-kind (e .0) (e .1)
 
       go : (p ≡ upright (e .0)) ⊎ ((p ≡ turned (e .0)) × T (J .turning)) → MayLie J p
-      go (inl q) = subst (MayLie J) (sym q) (omega (arith, l))
-      go (inr q) = subst (MayLie J) (sym (q .0)) (omega (arith, l), q .1)
+      go (inl q) = subst (MayLie J) (sym q) l
+      go (inr q) = subst (MayLie J) (sym (q .0)) (l .0, l .1, q .1)
 
   pub lie-kind : (p : Piece) → MayLie J p → kind p < J .count
-  lie-kind (upright i) h = h
+  lie-kind (upright i) h = h .0
   lie-kind (turned i) h = h .0
 
   pub member-kind : (p : Piece) → List·Memᴰ p (members J) → kind p < J .count
@@ -84,16 +93,16 @@ ways-count true i = omega arith
 ways-count false i = omega arith
 
 pub members-count : (J : Job) → length (members J) ≤ 2 * J .count
-unfolding members
-members-count J = omega (arith, each-length (ways (J .turning)) 2 (λ i. ways-count (J .turning) i) (range 0 (J .count)), range-length 0 (J .count))
+unfolding ordered members
+members-count J = omega (arith, each-length (ways (J .turning)) 2 (λ i. ways-count (J .turning) i) (ordered J), filter-length (λ i. leb 1 (J .demand i)) (range 0 (J .count)), range-length 0 (J .count))
 
 -- numbered pieces in the table's ranges: no side is 0, each may lie, and no other piece may
 pub table-solid : (J : Job) → InTableRange J → SolidKinds J
 table-solid J h i l = (h .lengths i l .0, h .widths i l .0)
 
 pub table-lies : (J : Job) → InTableRange J → (i : ℕ) → i < J .count → MayLie J (upright i)
-table-lies J h i l = l
+table-lies J h i l = (l, h .demands i l)
 
 pub table-upright : (J : Job) → InTableRange J → (p : Piece) → MayLie J p → p ≡ upright (kind p)
 table-upright J h (upright i) l = refl
-table-upright J h (turned i) l = absurd (subst T (h .fixed) (l .1))
+table-upright J h (turned i) l = absurd (subst T (h .fixed) (l .2))

@@ -31,10 +31,10 @@ pub record Job : Type 0 where
 abbrev pub laid : Job → Piece → Rect
 laid J p = lying (J .size) p
 
--- a piece that may lie: its kind is one of the job's, and it is turned only where pieces may be turned
+-- a piece that may lie: its kind is one of the job's and is ordered, and it is turned only where pieces may be turned
 abbrev pub MayLie : Job → Piece → Type 0
-MayLie J (upright i) = (i < J .count)
-MayLie J (turned i) = (i < J .count) × T (J .turning)
+MayLie J (upright i) = (i < J .count) × (1 ≤ J .demand i)
+MayLie J (turned i) = (i < J .count) × (1 ≤ J .demand i) × T (J .turning)
 
 -- a guillotine tree of a job on a rectangle l by w: waste; or a piece that may lie, neither side greater than the rectangle's; or a cut
 -- at a whole position x, with a tree on the first part, which has that size, and on the second, the side less x; both at least 1
@@ -68,9 +68,13 @@ KeepsDemands J t = (i : ℕ) → i < J .count → copies-of i t ≤ J .demand i
 abbrev pub capacity : Job → (ℕ → ℕ) → ℕ
 capacity J weight = sum (J .count) (λ i. J .demand i * weight i)
 
+-- the kinds that are ordered: a kind of demand 0 is cancelled, and its number stays its own
+unfoldable pub ordered : Job → List ℕ
+ordered J = filter (λ i. leb 1 (J .demand i)) (range 0 (J .count))
+
 -- the pieces that may lie, kinds rising, each upright before turned
 unfoldable pub members : Job → List Piece
-members J = each (ways (J .turning)) (range 0 (J .count))
+members J = each (ways (J .turning)) (ordered J)
 
 -- a piece may lie where neither side is greater than the rectangle's, and earns its kind's price
 unfoldable pub pieces : Job → Pieces Piece

@@ -1,5 +1,5 @@
 -- The pieces that may lie as the inner functions read them, by their numbers and from one array. They then are the kinds of a plain job,
--- and code that knows no turned pieces serves every job (proofs/Listed). Only inner contracts cite this file.
+-- and code that knows neither turned pieces nor cancelled kinds serves every job (proofs/Listed). Only inner contracts cite this file.
 use mathlib.Core.Path.{_≡_}
 use mathlib.Core.Bool.{Bool, true, false}
 use mathlib.Core.List.{List}
@@ -18,6 +18,7 @@ plain r n size price = record { plate = r; turning = false; count = n; size = si
 -- a plain job in the ranges that lists and table read, as that of a job in range is
 pub record InTableRange (J : Job) : Type 0 where
   pub fixed : J .turning ≡ false
+  pub demands : (i : ℕ) → i < J .count → 1 ≤ J .demand i
   pub plate-length : (1 ≤ J .plate .0) × (J .plate .0 ≤ most-side)
   pub plate-width : (1 ≤ J .plate .1) × (J .plate .1 ≤ most-side)
   pub kinds : J .count ≤ most-pieces

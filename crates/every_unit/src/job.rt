@@ -69,8 +69,11 @@ pub fn may_turn(t: &Words) -> bool {
     word(t, TURNING, 0) == 1
 }
 
-// Whether a kind lies upright in a rectangle. It lies turned in l by w where it lies upright in w by l.
+// Whether a kind that is ordered lies upright in a rectangle. It lies turned in l by w where it lies upright in w by l.
 pub fn fits(t: &Words, i: usize, l: usize, w: usize) -> bool {
+    if word(t, DEMAND, i) == 0 {
+        return false;
+    }
     if l < kind_side(t, 0, i) {
         return false;
     }

@@ -5,6 +5,8 @@ use mathlib.Core.List.{List, [], _∷_, List·Memᴰ, List·Memᴰ·not-nil, Lis
 use Prim.Native.Nat.{ℕ, _+_, _*_, _≤_}
 use native.Mathlib.Omega.{arith}
 use borrow.Author.Tests.{le-ltb}
+use Rattle.cutting.specs.declared.Direction.{Direction}
+use Rattle.cutting.specs.declared.Direction.the-variants.{Length, Width}
 use Rattle.cutting.specs.Lists.{range, sum, filter, each, any, greatest}
 use Rattle.cutting.specs.Figure.{leaf, best, step, after, figure}
 use Rattle.cutting.specs.Pieces.{sized}
@@ -13,7 +15,7 @@ use Rattle.cutting.specs.Shares.{by-weight}
 use Rattle.cutting.specs.Normal.{summed, normal?, sides}
 use Rattle.cutting.specs.Choice.{choice, plan-within, written}
 use Rattle.cutting.specs.Preorder.{preorder, kinds-of, operands-of, node-count}
-use Rattle.cutting.specs.Job.{members, pieces, normal-positions, plan-of}
+use Rattle.cutting.specs.Job.{ordered, members, pieces, normal-positions, plan-of}
 use Rattle.refusal.specs.Refusals.{first-refusal}
 use Rattle.refusal.specs.declared.Checked.the-variants.{Passed}
 use Rattle.job.specs.Block.{price-at, demand-at, each-kind, job-checks, entries, record-of}
@@ -26,6 +28,7 @@ use Rattle.examples.specs.Examples.{Example, no-choice, RefusedAs, Passe
 use Rattle.examples.proofs.Calls as call
 use Rattle.examples.proofs.Calls.{words-in, values-in, certificate-in}
 use Rattle.examples.proofs.Plans.{first-verdict, begins-refused, begins-passed}
+use Rattle.examples.proofs.Misfit as misfit
 
 -- what is left to compute of a line
 abbrev Computed : Example → Type 0
@@ -89,7 +92,7 @@ module _ (a b c d e f weight : ℕ) where
 module _ (pair ws : List ℕ) (good : Accepted (misfit-job pair) no-choice ws) where
   -- the table's computations, line by line
   computed : AllComputed (marked pair ws)
-  unfolding marked range sum filter each any greatest leaf best step after figure sized floor saw-normal saw-written by-weight summed normal? sides choice plan-within written preorder kinds-of operands-of node-count members pieces normal-positions plan-of first-refusal each-kind job-checks entries record-of walk plan-answer
+  unfolding marked range sum filter each any greatest leaf best step after figure sized floor saw-normal saw-written by-weight summed normal? sides choice plan-within written preorder kinds-of operands-of node-count ordered members pieces normal-positions plan-of first-refusal each-kind job-checks entries record-of walk plan-answer
   computed =
       refl
       and refl
@@ -105,11 +108,12 @@ module _ (pair ws : List ℕ) (good : Accepted (misfit-job pair) no-choice ws) w
       and (refl, tt)
       and refl
       and refl
-      and (good, omega arith, refl)
-      and refl
-      and refl
-      and (good, omega arith, refl, refl, omega arith, refl, refl)
+      and (good, misfit.words pair ws, misfit.values pair ws)
+      and misfit.alone pair ws Length
+      and misfit.alone pair ws Width
+      and (good, misfit.words pair ws, misfit.values pair ws, ap node-count (misfit.wasted pair ws), omega arith, ap kinds-of (misfit.wasted pair ws), ap operands-of (misfit.wasted pair ws))
       and (refl, refl, refl)
+      and (refl, refl, refl, refl, omega arith, refl, refl)
       and done
 
   -- every marked example holds

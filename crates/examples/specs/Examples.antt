@@ -107,8 +107,8 @@ abbrev pub misfit-capacity : List ℕ → List ℕ → ℕ
 misfit-capacity pair ws = capacity (block-job (misfit-job pair) no-choice) (weight-in ws)
 
 -- plate 2 by 3, only kind 0 of S, with demand 0
-abbrev pub undemanded-job : List ℕ
-undemanded-job = 2 ∷ 0 ∷ 3 ∷ 0 ∷ 1 ∷ 0 ∷ 2 ∷ 0 ∷ 3 ∷ 0 ∷ 7 ∷ 0 ∷ 0 ∷ 0 ∷ 0 ∷ 0 ∷ []
+abbrev pub cancelled-job : List ℕ
+cancelled-job = 2 ∷ 0 ∷ 3 ∷ 0 ∷ 1 ∷ 0 ∷ 2 ∷ 0 ∷ 3 ∷ 0 ∷ 7 ∷ 0 ∷ 0 ∷ 0 ∷ 0 ∷ 0 ∷ []
 
 -- the lines; the scope leaves the price, the demand and the weight of the kind 2 by 2 free
 unfoldable pub marked : (pair ws : List ℕ) → List Example
@@ -142,6 +142,7 @@ marked pair ws =
     ∷ positions (misfit-job pair) Length (0 ∷ [])
     ∷ positions (misfit-job pair) Width (0 ∷ [])
     ∷ writes (misfit-job pair) ws (misfit-capacity pair ws + 1) 0 (misfit-capacity pair ws) 1 1 1 (0 ∷ []) (0 ∷ [])
-    -- Plate 2 by 3, only kind 0 of S with demand 0, weight 0: bound 7.
-    ∷ bounds undemanded-job (0 ∷ []) 4 7 0 2 2
+    -- Plate 2 by 3, only kind 0 of S with demand 0, weight 0: bound 0, plan one waste node.
+    ∷ bounds cancelled-job (0 ∷ []) 1 0 0 1 1
+    ∷ writes cancelled-job (0 ∷ []) 1 0 0 1 1 1 (0 ∷ []) (0 ∷ [])
     ∷ []

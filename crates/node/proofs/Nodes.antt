@@ -172,8 +172,8 @@ cut-kind b Width x = omega (arith, least-kind b)
 -- such a node passes
 pub node-passes : (J : Job) (c : List ℕ) (r : Rect) (k : ℕ) (n : Node) → NodeFits J c r n → first-refusal (node-checks J c r k (kind-of n) (operand-of n)) ≡ Passed
 node-passes J c r k Waste h = waste-checks J c r k 0
-node-passes J c r k (Piece i) h = piece-passes J c r k 1 i (omega (arith, least-kind (J .turning))) false i refl (h .0) (h .1) (h .2)
-node-passes J c r k (Turned i) h = piece-passes J c r k 4 i (turned-kind (J .turning) (h .0 .1)) true i refl (h .0 .0) (h .1) (h .2)
+node-passes J c r k (Piece i) h = piece-passes J c r k 1 i (omega (arith, least-kind (J .turning))) false i refl (h .0 .0) (h .1) (h .2)
+node-passes J c r k (Turned i) h = piece-passes J c r k 4 i (turned-kind (J .turning) (h .0 .2)) true i refl (h .0 .0) (h .1) (h .2)
 node-passes J c r k (Cut d x) h = cut-checks J c r k (kind-of (Cut d x)) x (cut-kind (J .turning) d x) d x (node-back (Cut d x)) ∙ ap (λ b. refuse-when b (Operand k)) (inside (side d r) x (h .0) (h .1))
 
 -- and only such a node
@@ -181,12 +181,14 @@ node-read : (J : Job) (c : List ℕ) (r : Rect) (k o : ℕ) (n : Node) → Read 
     → ((k, o) ≡ pair-of n) × NodeFits J c r n
 node-read J c r k o Waste (is-waste e) a b d f g = (ap₂ (λ x y. (x, y)) e (eqb-true o 0 (not-false (eqb o 0) d)), tt)
 node-read J c r k o (Piece i) (is-piece e) a b d f g =
-    (ap (λ x. (x, o)) e, (leb-false (J .count) o b, not-false (fits-in (J .size o) r) f, leb-false (J .demand o) (getD c o 0) g))
+    let left = leb-false (J .demand o) (getD c o 0) g in
+    (ap (λ x. (x, o)) e, ((leb-false (J .count) o b, omega (arith, left)), not-false (fits-in (J .size o) r) f, left))
 node-read J c r k o (Cut Length x) (is-length e) a b d f g = (ap (λ x. (x, o)) e, inside-range (r .0) o d)
 node-read J c r k o (Cut Width x) (is-width e) a b d f g = (ap (λ x. (x, o)) e, inside-range (r .1) o d)
 node-read J c r k o (Turned i) (is-turned h) a b d f g =
     let e = kind-turned (J .turning) k h (ltb-false (most-kind (J .turning)) k a) in
-    (ap (λ x. (x, o)) (e .0), ((leb-false (J .count) o b, e .1), not-false (fits-in (laid J (laid.turned o)) r) f, leb-false (J .demand o) (getD c o 0) g))
+    let left = leb-false (J .demand o) (getD c o 0) g in
+    (ap (λ x. (x, o)) (e .0), ((leb-false (J .count) o b, omega (arith, left), e .1), not-false (fits-in (laid J (laid.turned o)) r) f, left))
 
 pub node-passed : (J : Job) (c : List ℕ) (r : Rect) (at k o : ℕ) → first-refusal (node-checks J c r at k o) ≡ Passed
     → ((k, o) ≡ pair-of (node-of k o)) × NodeFits J c r (node-of k o)

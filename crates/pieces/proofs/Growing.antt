@@ -5,17 +5,27 @@ use mathlib.Core.List.{List, [], _∷_, _++_, append-nil, append-assoc}
 use Prim.Native.Nat.{ℕ, zero, suc, _+_, _*_, _≤_, _<_}
 use native.Mathlib.Decide.{ℕ-discrete}
 use native.Mathlib.Omega.{arith}
+use borrow.Author.Tests.{le-leb}
+use lib.Dec.{leb}
 use lib.ListN.{length, getD, set, length-set, length-append, List·getD-append}
 use lib.Seq.{getD-set-same, getD-set-other}
-use Rattle.cutting.specs.Lists.{range, each}
+use Rattle.cutting.specs.Lists.{range, keep, filter, each}
 use Rattle.cutting.specs.Pieces as laid
 use Rattle.cutting.specs.Pieces.{ways}
-use Rattle.cutting.specs.Job.{Job, members}
+use Rattle.cutting.specs.Job.{Job, ordered, members}
 use Rattle.cutting.specs.Listed.{PieceArray}
-use Rattle.cutting.proofs.Lists.{range-length, each-length}
+use Rattle.cutting.proofs.Lists.{range-length, filter-length, each-length}
 use Rattle.cutting.proofs.Members.{ways-count}
 use Rattle.pieces.specs.declared.Piece.{Piece}
 use Rattle.pieces.specs.Contracts.{entry-of, turned-piece, with-piece, At, Listed}
+
+-- the pieces of the kinds below i, as many as are ordered
+abbrev pub kinds-below : Job → ℕ → List laid.Piece
+kinds-below J i = each (ways (J .turning)) (filter (λ j. leb 1 (J .demand j)) (range 0 i))
+
+-- an array of pieces under another writing of their list
+pub listed-as : {J : Job} {weight : ℕ → ℕ} {ps qs : List laid.Piece} {n : ℕ} {a : List ℕ} → ps ≡ qs → Listed J weight ps n a → Listed J weight qs n a
+listed-as {J} {weight} {ps} {qs} {n} {a} e w = subst (λ ps. Listed J weight ps n a) e w
 
 -- a number put at a place is there, unless another is put elsewhere
 other : (a : List ℕ) (i k v : ℕ) {x : ℕ} → (k ≡ i → ⊥) → getD a k 0 ≡ x → getD (set a i v) k 0 ≡ x
@@ -108,22 +118,43 @@ module _ (J : Job) (weight : ℕ → ℕ) where
           subst (λ z. At (with-piece a n e) k z) (ap (entry-of J weight) (sym f)) (put-other a n e k _ (omega arith) (w .each k (omega arith)))
 
   -- an array of no pieces yet
-  pub listed-none : (turning : Bool) (a : List ℕ) → length a ≡ 640 → Listed J weight (each (ways turning) (range 0 0)) 0 a
-  unfolding each range
-  listed-none turning a h = record { number = refl; entries = h; each = λ j l. absurd (omega arith) }
+  pub listed-none : (a : List ℕ) → length a ≡ 640 → Listed J weight (kinds-below J 0) 0 a
+  unfolding each filter range
+  listed-none a h = record { number = refl; entries = h; each = λ j l. absurd (omega arith) }
+
+-- a kind that is ordered gives all its pieces, and one that is cancelled none
+pub when-ordered : (f : ℕ → List laid.Piece) (ps : List laid.Piece) (i d : ℕ) → 1 ≤ d → ps ++ f i ≡ ps ++ each f (keep (leb 1 d) i [])
+unfolding each
+when-ordered f ps i d h = rw (le-leb 1 d h) (ap (λ qs. ps ++ qs) (sym (append-nil (f i))))
+
+pub when-cancelled : (f : ℕ → List laid.Piece) (ps : List laid.Piece) (i d : ℕ) → d ≡ 0 → ps ≡ ps ++ each f (keep (leb 1 d) i [])
+unfolding each
+when-cancelled f ps i d e = rw e (sym (append-nil ps))
 
 -- the pieces of one kind more
-each-more : (f : ℕ → List laid.Piece) (a n k : ℕ) → k ≡ a + n → each f (range a (suc n)) ≡ each f (range a n) ++ f k
-unfolding range each
-each-more f a zero k e = append-nil (f a) ∙ (let z : a ≡ k = omega arith in ap f z)
-each-more f a (suc n) k e = ap (λ ps. f a ++ ps) (each-more f (suc a) n k (omega arith)) ∙ sym (append-assoc (f a) (each f (range (suc a) n)) (f k))
+each-more : (f : ℕ → List laid.Piece) (test : ℕ → Bool) (a n k : ℕ) → k ≡ a + n → each f (filter test (range a (suc n))) ≡ each f (filter test (range a n)) ++ each f (keep (test k) k [])
+unfolding range filter each
+each-more f test a zero k e = let z : a ≡ k = omega arith in ap (λ k. each f (keep (test k) k [])) z
+each-more f test a (suc n) k e = go (test a) (each-more f test (suc a) n k (omega arith))
+  where
+    go : (b : Bool) → each f (filter test (range (suc a) (suc n))) ≡ each f (filter test (range (suc a) n)) ++ each f (keep (test k) k [])
+        → each f (keep b a (filter test (range (suc a) (suc n)))) ≡ each f (keep b a (filter test (range (suc a) n))) ++ each f (keep (test k) k [])
+    go true h = ap (λ ps. f a ++ ps) h ∙ sym (append-assoc (f a) (each f (filter test (range (suc a) n))) (each f (keep (test k) k [])))
+    go false h = h
 
-pub kinds-more : (turning : Bool) (i : ℕ) → each (ways turning) (range 0 (i + 1)) ≡ each (ways turning) (range 0 i) ++ ways turning i
-kinds-more turning i = let e : i + 1 ≡ suc i = omega arith in ap (λ n. each (ways turning) (range 0 n)) e ∙ each-more (ways turning) 0 i i (omega arith)
+module _ (J : Job) (i : ℕ) where
+  pub kinds-more : kinds-below J (i + 1) ≡ kinds-below J i ++ each (ways (J .turning)) (keep (leb 1 (J .demand i)) i [])
+  kinds-more = let e : i + 1 ≡ suc i = omega arith in ap (kinds-below J) e ∙ each-more (ways (J .turning)) (λ j. leb 1 (J .demand j)) 0 i i (omega arith)
 
--- there are at most two pieces a kind
-pub kinds-count : {J : Job} {weight : ℕ → ℕ} {n : ℕ} {a : List ℕ} (turning : Bool) (i : ℕ) → Listed J weight (each (ways turning) (range 0 i)) n a → n ≤ 2 * i
-kinds-count turning i w = omega (arith, w .number, each-length (ways turning) 2 (ways-count turning) (range 0 i), range-length 0 i)
+  -- there are at most two pieces a kind
+  pub kinds-count : {weight : ℕ → ℕ} {n : ℕ} {a : List ℕ} → Listed J weight (kinds-below J i) n a → n ≤ 2 * i
+  kinds-count w = omega (
+    arith,
+    w .number,
+    each-length (ways (J .turning)) 2 (ways-count (J .turning)) (filter (λ j. leb 1 (J .demand j)) (range 0 i)),
+    filter-length (λ j. leb 1 (J .demand j)) (range 0 i),
+    range-length 0 i,
+  )
 
 -- two pieces more, upright and turned
 pub listed-twice : (J : Job) (weight : ℕ → ℕ) (ps : List laid.Piece) (i n : ℕ) (a b c : List ℕ) (e t : Piece) → n < 127 → Listed J weight ps n a → e ≡ entry-of J weight (laid.upright i)
@@ -132,11 +163,11 @@ listed-twice J weight ps i n a b c e t h w p q r s =
     let x = listed-more J weight ps (laid.upright i) n a b e (omega arith) w p q in
     let y = listed-more J weight (ps ++ (laid.upright i ∷ [])) (laid.turned i) (n + 1) b c t (omega arith) x (r ∙ ap turned-piece p) s in
     let k : n + 1 + 1 ≡ n + 2 = omega arith in
-    subst (λ n. Listed J weight (ps ++ ways true i) n c) k (subst (λ ps. Listed J weight ps (n + 1 + 1) c) (append-assoc ps (laid.upright i ∷ []) (laid.turned i ∷ [])) y)
+    subst (λ n. Listed J weight (ps ++ ways true i) n c) k (listed-as (append-assoc ps (laid.upright i ∷ []) (laid.turned i ∷ [])) y)
 
 -- at the end the array lists the pieces of the job
-pub listed-all : (J : Job) (weight : ℕ → ℕ) (n : ℕ) (a : List ℕ) → Listed J weight (each (ways (J .turning)) (range 0 (J .count))) n a → PieceArray J weight n a
-unfolding members
+pub listed-all : (J : Job) (weight : ℕ → ℕ) (n : ℕ) (a : List ℕ) → Listed J weight (kinds-below J (J .count)) n a → PieceArray J weight n a
+unfolding ordered members
 listed-all J weight n a w = record {
   entries = w .entries;
   listing = record {

@@ -1,12 +1,14 @@
-// The pieces that may lie, numbered: the kinds in their order, each upright, and then turned where pieces may be turned. Normal positions,
-// fills and the choice read them from one array; what they compute knows nothing of turning.
+// The pieces that may lie, numbered: the kinds that are ordered, rising, each upright, and then turned where pieces may be turned. Normal
+// positions, fills and the choice read them from one array; what they compute knows nothing of turning and of cancelled kinds.
 use cutting::Sides;
 use cutting::turn;
 use job::JobRecord;
 ghost use mathlib.Core.Path.{_≡_};
-ghost use mathlib.Core.List.{List, _++_};
+ghost use mathlib.Core.List.{List, [], _++_};
 ghost use Prim.Native.Nat.{ℕ, _≤_, _<_};
+ghost use lib.Dec.{leb};
 ghost use lib.ListN.{length};
+ghost use Rattle.cutting.specs.Lists.{keep, each};
 ghost use Rattle.cutting.specs.Sides.{sides-of};
 ghost use Rattle.cutting.specs.Pieces as laid;
 ghost use Rattle.cutting.specs.Pieces.{ways};
@@ -67,12 +69,15 @@ fn put_piece(pieces: &mut [u32; 640], j: usize, piece: Piece)
     pieces[at + 4] = piece.node;
 }
 
-// Puts a kind behind n pieces in every way in which it may lie; answers how many pieces there are then.
-fn put_kind(pieces: &mut [u32; 640], n: usize, piece: Piece, turning: bool) -> usize
+// Puts a kind behind n pieces in every way in which it may lie, none where it is cancelled; answers how many pieces there are then.
+fn put_kind(pieces: &mut [u32; 640], n: usize, piece: Piece, demand: u16, turning: bool) -> usize
     requires { ⌜ (n < 127) × (length (now pieces) ≡ 640) × (piece .node < 128) ⌝ }
     ensures { λ r. ⌜ ((J : Job) (weight : ℕ → ℕ) (ps : List laid.Piece) (i : ℕ) → Listed J weight ps n (now (pieces .entry)) → piece ≡ entry-of J weight (laid.upright i)
-        → Listed J weight (ps ++ ways turning i) r (now (pieces .exit))) ⌝ }
+        → Listed J weight (ps ++ each (ways turning) (keep (leb 1 demand) i [])) r (now (pieces .exit))) ⌝ }
 {
+    if demand == 0 {
+        return n;
+    }
     put_piece(pieces, n, piece);
     if turning {
         put_piece(pieces, n + 1, turned(piece));
@@ -99,7 +104,7 @@ pub fn list_pieces(job: JobRecord, weights: &[u8]) -> Listing
             weight: weights[k],
             node: 2 * (i as u32),
         };
-        n = put_kind(&mut pieces, n, piece, job.turning);
+        n = put_kind(&mut pieces, n, piece, job.demands[k], job.turning);
     }
     Listing {
         count: n as u16,

@@ -84,7 +84,7 @@ module _ (J : Job) (few : J .count ≤ 64) where
   unfolding added preorder node-count
   after-node m parse k Waste ns r rs s l h f p = record { tree = waste; left = ns; nodes = refl; on = tt; goes = node-walks J k Waste ns r rs s f; kept = h }
   after-node m parse k (Piece i) ns r rs s l h f p =
-      record { tree = piece (laid.upright i); left = ns; nodes = refl; on = piece-lies (s .copies) (laid.upright i) r f; goes = node-walks J k (Piece i) ns r rs s f; kept = kept-piece i (s .copies) h (f .0) (f .2) }
+      record { tree = piece (laid.upright i); left = ns; nodes = refl; on = piece-lies (s .copies) (laid.upright i) r f; goes = node-walks J k (Piece i) ns r rs s f; kept = kept-piece i (s .copies) h (f .0 .0) (f .2) }
   after-node m parse k (Turned i) ns r rs s l h f p =
       record { tree = piece (laid.turned i); left = ns; nodes = refl; on = piece-lies (s .copies) (laid.turned i) r f; goes = node-walks J k (Turned i) ns r rs s f; kept = kept-piece i (s .copies) h (f .0 .0) (f .2) }
   after-node m parse k (Cut d x) ns r rs s l h f p =

@@ -38,10 +38,10 @@ impl Job {
         Piece { kind, turned, length, width }
     }
 
-    /// Every kind as it may lie, upright before turned.
+    /// Every kind that is ordered as it may lie, upright before turned. A kind of demand 0 is cancelled.
     pub fn pieces(&self) -> impl Iterator<Item = Piece> + '_ {
         let ways: &[bool] = if self.turning { &[false, true] } else { &[false] };
-        let kinds = 0..self.kinds.len();
+        let kinds = (0..self.kinds.len()).filter(|&i| self.kinds[i].demand > 0);
         kinds.flat_map(move |i| ways.iter().map(move |&turned| self.piece(i, turned)))
     }
 

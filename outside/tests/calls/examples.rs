@@ -57,6 +57,23 @@ pub fn writes(expected: &Input, bound: u64) {
     }
 }
 
+/// Expects two inputs to leave the same memory, the second's written nodes being renumbered.
+pub fn writes_alike(inputs: &[Input; 2], renumber: impl Fn(Node) -> Node) {
+    for calls in IMPLEMENTATIONS {
+        let [first, mut second] = inputs.each_ref().map(|input| {
+            let mut lent = Lent::new(AMPLE);
+            assert_eq!(Call::WritePlan.run(&calls, input, &mut lent), 0, "{}", calls.name);
+            lent
+        });
+        let nodes = second.answer.words()[4] as usize;
+        let plan = second.split().1;
+        for (kind, operand) in plan.kinds.iter_mut().zip(plan.operands).take(nodes) {
+            (*kind, *operand) = renumber((*kind, *operand));
+        }
+        assert_eq!(first.differences(&second), [""; 0], "{} {inputs:?}", calls.name);
+    }
+}
+
 /// Expects the lists that a bound leaves.
 pub fn lists(input: &Input, lengths: &[u16], widths: &[u16]) {
     for calls in IMPLEMENTATIONS {
@@ -151,7 +168,8 @@ fn nothing_fits() {
 }
 
 #[test]
-fn demand_zero_is_open_to_the_bound() {
-    let job = job_block(2, 3, &[(2, 3, 7, 0)]);
-    answers(Call::Bound, &input(job, &[0], &[]), &[7, 0, 2, 2]);
+fn zero_ordered_means_zero() {
+    let waste = input(job_block(2, 3, &[(2, 3, 7, 0)]), &[0], &[(0, 0)]);
+    answers(Call::Bound, &waste, &[0, 0, 1, 1]);
+    writes(&waste, 0);
 }

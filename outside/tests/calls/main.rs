@@ -1,6 +1,7 @@
 // Tests of the calls of planner.h: the proved archive and the reference on the paper's examples,
 // and the one against the other, with all lent memory, on generated inputs.
 mod baselines;
+mod cancelled;
 mod damage;
 mod deep;
 mod examples;

@@ -89,10 +89,10 @@ fn kinds_larger_than_the_plate_count_in_the_capacity() {
 }
 
 #[test]
-fn kinds_of_demand_zero_are_open() {
+fn cancelled_kinds_count_nowhere() {
     let job = job_block(2, 1, &[(1, 1, 1, 2), (1, 1, 5, 0)]);
-    answers(Call::Bound, &input(job.clone(), &[1, 1], &[]), &[10, 2, 3, 2]);
-    answers(Call::Bound, &input(job, &[1, 2], &[]), &[5, 2, 3, 2]);
+    answers(Call::Bound, &input(job.clone(), &[1, 1], &[]), &[2, 2, 3, 2]);
+    answers(Call::Bound, &input(job, &[1, 2], &[]), &[2, 2, 3, 2]);
 }
 
 #[test]

@@ -1,8 +1,7 @@
 // Pieces that may be turned: one case for each sentence of the request, and turning against a job
 // that lists every kind twice.
-use crate::examples::{answers, input, lists, plan_refused, reports, writes, Node};
-use crate::lent::{Lent, Sizes};
-use crate::run::{Call, Input, IMPLEMENTATIONS};
+use crate::examples::{answers, input, lists, plan_refused, reports, writes, writes_alike, Node};
+use crate::run::{Call, Input};
 use outside::answers::TURNING;
 use outside::blocks::{job_block, job_s, Kind};
 use outside::random::Random;
@@ -95,33 +94,14 @@ fn draw_both(random: &mut Random) -> [Input; 2] {
     ]
 }
 
-/// Numbers the pieces of a written plan by the kinds that are listed once.
-fn renumber(lent: &mut Lent) {
-    let nodes = lent.answer.words()[4] as usize;
-    let plan = lent.split().1;
-    for (kind, operand) in plan.kinds.iter_mut().zip(plan.operands).take(nodes) {
-        if *kind == 1 {
-            *kind = if *operand % 2 == 0 { 1 } else { 4 };
-            *operand /= 2;
-        }
-    }
-}
-
 #[test]
 fn turning_is_to_list_every_kind_twice() {
-    let sizes =
-        Sizes { lengths: 9, widths: 9, table: 1 << 12, kinds: 127, operands: 127, answer: 5 };
     let random = &mut Random::new(31);
     for _ in 0..2000 {
-        let inputs = draw_both(random);
-        for calls in IMPLEMENTATIONS {
-            let [turning, mut twice] = inputs.each_ref().map(|input| {
-                let mut lent = Lent::new(sizes);
-                assert_eq!(Call::WritePlan.run(&calls, input, &mut lent), 0, "{}", calls.name);
-                lent
-            });
-            renumber(&mut twice);
-            assert_eq!(turning.differences(&twice), [""; 0], "{} {inputs:?}", calls.name);
-        }
+        writes_alike(&draw_both(random), |(kind, operand)| match (kind, operand % 2) {
+            (1, 0) => (1, operand / 2),
+            (1, _) => (4, operand / 2),
+            _ => (kind, operand),
+        });
     }
 }

@@ -5,32 +5,30 @@ use native.Mathlib.Omega.{arith}
 use borrow.Author.Needs.{needs}
 use denote.Ref.{now}
 use lib.ListN.{length}
-use Rattle.cutting.specs.Lists.{range, each}
-use Rattle.cutting.specs.Pieces.{ways}
 use Rattle.job.specs.Block.{job-of}
 use Rattle.job.specs.Weights.{weight-in}
 use Rattle.pieces.specs.Contracts.{Listed}
-use Rattle.pieces.proofs.Growing.{listed-none, kinds-more, kinds-count, listed-all}
+use Rattle.pieces.proofs.Growing.{kinds-below, listed-as, listed-none, kinds-more, kinds-count, listed-all}
 use Rattle.pieces.proofs.list_pieces.Statement.{statement}
 use Rattle.pieces.proofs.list_pieces.Tie as tie
 
 abbrev Inv-loop : tie.InvT-loop
-Inv-loop weights job pieces₀ n₀ i₀ i-end pieces n i = (i ≤ job .count) × (i-end ≡ job .count) × Listed (job-of job) (weight-in weights) (each (ways (job .turning)) (range 0 i)) n pieces
+Inv-loop weights job pieces₀ n₀ i₀ i-end pieces n i = (i ≤ job .count) × (i-end ≡ job .count) × Listed (job-of job) (weight-in weights) (kinds-below (job-of job) i) n pieces
 
 abbrev μ-loop : tie.MeasureT-loop
 μ-loop weights job pieces₀ n₀ i₀ i-end pieces n i = i-end - i
 
 loop-holds : tie.Need-loop-holds Inv-loop μ-loop
-loop-holds c = let e = c .before .args in (search needs, refl, listed-none (job-of (e .t1)) (weight-in (now (e .weights))) (e .t1 .turning) _ refl)
+loop-holds c = let e = c .before .args in (search needs, refl, listed-none (job-of (e .t1)) (weight-in (now (e .weights))) _ refl)
 
 cast-k : tie.Need-cast-k Inv-loop μ-loop
 cast-k c = search needs
 
-mul-t11 : tie.Need-mul-t11 Inv-loop μ-loop
-mul-t11 c = search needs
+mul-put-kind : tie.Need-mul-put-kind Inv-loop μ-loop
+mul-put-kind c = search needs
 
-element-copy-out-t14 : tie.Need-element-copy-out-t14 Inv-loop μ-loop
-element-copy-out-t14 c = search needs
+element-copy-out-put-kind : tie.Need-element-copy-out-put-kind Inv-loop μ-loop
+element-copy-out-put-kind c = search needs
 
 mul-t15 : tie.Need-mul-t15 Inv-loop μ-loop
 mul-t15 c = search needs
@@ -53,11 +51,17 @@ cast-t26 c = search needs
 mul-t27 : tie.Need-mul-t27 Inv-loop μ-loop
 mul-t27 c = search needs
 
+mul-put-kind-2 : tie.Need-mul-put-kind-2 Inv-loop μ-loop
+mul-put-kind-2 c = search needs
+
+element-copy-out-put-kind-2 : tie.Need-element-copy-out-put-kind-2 Inv-loop μ-loop
+element-copy-out-put-kind-2 c = search needs
+
 put-kind-requires : tie.Need-put-kind-requires Inv-loop μ-loop
 put-kind-requires c κs =
-    let e = c .before .before .before .before .before .before .before .before in
-    let turn = c .before .before .before .before .before .before .loop in
-    let n = kinds-count (e .args .t1 .turning) (turn .i) (turn .inv .2) in
+    let e = c .before .before .before .before .before .before .before .before .before in
+    let turn = c .before .before .before .before .before .before .before .loop in
+    let n = kinds-count (job-of (e .args .t1)) (turn .i) (turn .inv .2) in
     (omega (arith, n, e .pre .0), turn .inv .2 .entries, omega (arith, e .pre .0))
 
 add-i : tie.Need-add-i Inv-loop μ-loop
@@ -68,26 +72,26 @@ loop-less c = search needs
 
 loop-again : tie.Need-loop-again Inv-loop μ-loop
 loop-again c =
-    let e = c .before .before .before .before .before .before .before .before .before .args in
-    let turn = c .before .before .before .before .before .before .before .loop in (
+    let e = c .before .before .before .before .before .before .before .before .before .before .args in
+    let turn = c .before .before .before .before .before .before .before .before .loop in (
       search needs,
       refl,
-      subst (λ ps. Listed (job-of (e .t1)) (weight-in (now (e .weights))) ps (c .put-kind .result) (c .put-kind .last .0)) (sym (kinds-more (e .t1 .turning) (turn .i)))
+      listed-as (sym (kinds-more (job-of (e .t1)) (turn .i)))
           (c .put-kind .ensures (job-of (e .t1)) (weight-in (now (e .weights))) _ (turn .i) (turn .inv .2) refl),
     )
 
-cast-t29 : tie.Need-cast-t29 Inv-loop μ-loop
-cast-t29 c =
+cast-t31 : tie.Need-cast-t31 Inv-loop μ-loop
+cast-t31 c =
     let e = c .before .before .before in
     let turn = c .before .loop in
-    omega (arith, kinds-count (e .args .t1 .turning) (turn .i) (turn .inv .2), turn .inv .0, e .pre .0)
+    omega (arith, kinds-count (job-of (e .args .t1)) (turn .i) (turn .inv .2), turn .inv .0, e .pre .0)
 
 returns : tie.Need-returns Inv-loop μ-loop
 returns c =
     let e = c .before .before .before .args in
     let turn = c .before .loop in
     let n : turn .i ≡ e .t1 .count = omega (arith, turn .inv .0, turn .inv .1) in
-    listed-all (job-of (e .t1)) (weight-in (now (e .weights))) _ _ (subst (λ n. Listed (job-of (e .t1)) (weight-in (now (e .weights))) (each (ways (e .t1 .turning)) (range 0 n)) (turn .n) (turn .pieces)) n (turn .inv .2))
+    listed-all (job-of (e .t1)) (weight-in (now (e .weights))) _ _ (listed-as (ap (kinds-below (job-of (e .t1))) n) (turn .inv .2))
 
 pub list-pieces-spec : {M : Type 1} → statement M
 list-pieces-spec =
@@ -97,8 +101,8 @@ list-pieces-spec =
     μ-loop
     loop-holds
     cast-k
-    mul-t11
-    element-copy-out-t14
+    mul-put-kind
+    element-copy-out-put-kind
     mul-t15
     element-copy-out-t18
     mul-t20
@@ -106,9 +110,11 @@ list-pieces-spec =
     shared-slice-read-t25
     cast-t26
     mul-t27
+    mul-put-kind-2
+    element-copy-out-put-kind-2
     put-kind-requires
     add-i
     loop-less
     loop-again
-    cast-t29
+    cast-t31
     returns)

@@ -37,7 +37,11 @@ impl Plate {
             let [length, width] = [two(sizes, 4 * i), two(sizes, 4 * i + 2)];
             let price = (two(pairs, 6 * i) + (two(pairs, 6 * i + 2) << 16)) as u64;
             let weight = usize::from(weight);
-            capacity += two(pairs, 6 * i + 4) * weight;
+            let demand = two(pairs, 6 * i + 4);
+            capacity += demand * weight;
+            if demand == 0 {
+                continue;
+            }
             pieces.push(Piece { side: [length, width], price, weight, node: (1, i) });
             if choices & TURNING != 0 {
                 pieces.push(Piece { side: [width, length], price, weight, node: (4, i) });

@@ -1,0 +1,68 @@
+-- The marked example whose kind 2 by 2 does not fit the plate 1 by 1. Its demand is free, so that it is ordered or cancelled: neither gives
+-- a position or a figure.
+use mathlib.Core.Path.{_≡_, refl, ap}
+use mathlib.Core.Bool.{Bool, true, false}
+use mathlib.Core.List.{List, [], _∷_}
+use Prim.Native.Nat.{ℕ, suc, _+_}
+use native.Mathlib.Omega.{arith}
+use lib.Dec.{leb}
+use lib.ListN.{length}
+use Rattle.cutting.specs.declared.Direction.{Direction}
+use Rattle.cutting.specs.declared.Direction.the-variants.{Length, Width}
+use Rattle.cutting.specs.Lists.{range, keep, filter, each, any, greatest}
+use Rattle.cutting.specs.Tree.{side, waste}
+use Rattle.cutting.specs.Figure.{leaf, best, step, after, figure}
+use Rattle.cutting.specs.Pieces.{Piece, kind, ways, sized}
+use Rattle.cutting.specs.Saws.{floor, saw-normal, saw-written}
+use Rattle.cutting.specs.Shares.{by-weight}
+use Rattle.cutting.specs.Normal.{summed, normal?, normal, sides}
+use Rattle.cutting.specs.Choice.{choice, plan-within, written}
+use Rattle.cutting.specs.Job.{Job, laid, ordered, members, pieces, by-kind, normal-positions, plan-of}
+use Rattle.job.specs.Block.{entries, record-of}
+use Rattle.job.specs.Weights.{block-job, weight-in}
+use Rattle.writer.specs.Write.{block-plan}
+use Rattle.examples.specs.Examples.{no-choice, misfit-job, misfit-capacity}
+use Rattle.examples.proofs.Calls.{words-in, bound-in, values-in}
+
+module _ (pair ws : List ℕ) where
+  abbrev J : Job
+  J = block-job (misfit-job pair) no-choice
+
+  -- the pieces where a test says that it is ordered
+  abbrev either : Bool → List Piece
+  either b = each (ways false) (keep b 0 [])
+
+  -- so position 0 is the only one
+  pub alone : (d : Direction) → normal-positions J d ≡ 0 ∷ []
+  unfolding range filter each any summed normal? sides ordered members normal-positions entries record-of
+  alone d = go d (leb 1 (J .demand 0))
+    where
+      go : (d : Direction) (b : Bool) → filter (normal (either b) (laid J) (J .plate) d) (range 0 (suc (side d (J .plate)))) ≡ 0 ∷ []
+      go Length true = refl
+      go Length false = refl
+      go Width true = refl
+      go Width false = refl
+
+  -- the bound is 0
+  nothing : bound-in (misfit-job pair) ws ≡ 0
+  unfolding range filter each any greatest leaf best step after figure sized floor saw-normal by-weight summed normal? sides ordered members pieces entries record-of
+  nothing = go (leb 1 (J .demand 0))
+    where
+      go : (b : Bool) → figure (sized (either b) (λ p. J .price (kind p)) (laid J)) (saw-normal (normal (either b) (laid J) (J .plate))) (by-kind (weight-in ws)) (J .plate) (misfit-capacity pair ws) ≡ 0
+      go true = refl
+      go false = refl
+
+  -- and its plan is waste
+  pub wasted : block-plan (misfit-job pair) no-choice ws ≡ waste
+  unfolding range filter each any greatest leaf best step after figure sized floor saw-normal saw-written by-weight summed normal? sides choice plan-within written ordered members pieces plan-of entries record-of
+  wasted = go (leb 1 (J .demand 0))
+    where
+      go : (b : Bool) → written (sized (either b) (λ p. J .price (kind p)) (laid J)) (saw-written (normal (either b) (laid J) (J .plate))) (by-kind (weight-in ws)) (J .plate) (misfit-capacity pair ws) ≡ waste
+      go true = refl
+      go false = refl
+
+  pub words : words-in (misfit-job pair) ws ≡ misfit-capacity pair ws + 1
+  words = let l = ap length (alone Length) in let w = ap length (alone Width) in rw (l, w) (omega arith)
+
+  pub values : values-in (misfit-job pair) ws ≡ 0 ∷ misfit-capacity pair ws ∷ 1 ∷ 1 ∷ []
+  values = let l = ap length (alone Length) in let w = ap length (alone Width) in rw (nothing, l, w) refl
