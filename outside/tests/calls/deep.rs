@@ -157,7 +157,7 @@ fn deepest_plan_is_written_with_turned_strips() {
 /// Whole strips, of these sides and this kind of node, have no weight, and one unit of weight 1 is
 /// dear: the last strip is cut into units, and the dear one comes last.
 fn deepest_plan((length, width): (u16, u16), choices: u32, piece: u8) {
-    let kinds = [(length, width, 2000, 0), (1, 1, 1, 0), (1, 1, 100_000, 1)];
+    let kinds = [(length, width, 2000, 1), (1, 1, 1, 1), (1, 1, 100_000, 1)];
     let input = input(job_block(1000, 1000, &kinds), &[0, 0, 1], &[]).with(choices);
     let sizes = Sizes { table: 2 * 1001 * 1001, kinds: 3997, operands: 3997, ..LARGE };
     let (code, lent) = on_small_stack(Call::WritePlan, &input, sizes);
@@ -182,7 +182,7 @@ fn a_million_pieces_are_counted() {
     let sizes = Sizes { table: 1001 * 1001, ..LARGE };
     let fresh = Lent::new(sizes);
     for choices in [0, TURNING] {
-        let input = input(job_block(1000, 1000, &[(1, 1, 1_000_000, 0)]), &[0], &[]).with(choices);
+        let input = input(job_block(1000, 1000, &[(1, 1, 1_000_000, 1)]), &[0], &[]).with(choices);
         let (code, lent) = on_small_stack(Call::WritePlan, &input, sizes);
         assert_eq!((code, lent.answer.words()[0]), (21, 1_999_999));
         table_is(&lent, |l, w| [l * w * 1_000_000]);
