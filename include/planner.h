@@ -20,6 +20,7 @@ extern "C" {
  *
  * Job block. Plate length, plate width, number n of kinds; then n sizes (length, width); all of two
  * bytes, lowest byte first. Then n pairs of price (four bytes) and demand (two bytes). 6 + 10n bytes.
+ * A kind of demand 0 is cancelled; it keeps its number. The others are ordered.
  *
  * Choices. A word of bits, one for each choice of the call; 0 makes none.
  *   PLANNER_TURNING  any piece may be turned
@@ -34,15 +35,15 @@ extern "C" {
  *   4 turned piece, whose length lies along the width, operand its number; with PLANNER_TURNING only
  * A plan block is the node count (two bytes), the kinds (a byte each), the operands (two bytes each).
  *
- * Tree. A guillotine tree on a rectangle is waste, a piece of a kind of the job that fits there, or
- * a cut with a guillotine tree on each part. With PLANNER_TURNING a piece is upright or turned; a
+ * Tree. A guillotine tree on a rectangle is waste, a piece of an ordered kind that fits there, or a
+ * cut with a guillotine tree on each part. With PLANNER_TURNING a piece is upright or turned; a
  * turned one fits where its sides exchanged fit. A tree may have any number of nodes. It earns the
  * sum of its pieces' prices, weighs the sum of their weights, and keeps every demand when no kind
  * has more copies in it, upright and turned together, than its demand.
  *
- * Normal lengths. 0 and all sums, with repetition, of lengths of kinds that fit the plate, up to the
- * plate's length; normal widths likewise. With PLANNER_TURNING the lengths are those of kinds that
- * fit the plate upright and the widths of kinds that fit it turned; normal widths the other way
+ * Normal lengths. 0 and all sums, with repetition, of lengths of ordered kinds that fit the plate, up
+ * to the plate's length; normal widths likewise. With PLANNER_TURNING the lengths are those of kinds
+ * that fit the plate upright and the widths of kinds that fit it turned; normal widths the other way
  * about.
  *
  * Storage. `lengths` needs plate length + 1 words, `widths` plate width + 1, `table` p * r *
