@@ -1,13 +1,12 @@
--- What the scope asks of a job, its weights and its trees, from the general theory: the recursion, exactness, the bound over the trees
--- that keep every demand, the ceiling, and the three areas.
+-- What the scope asks of a job, its weights and its trees, from the general theory: the recursion, exactness, the ceiling, and the three
+-- areas. Of the bound itself speaks proofs/Bound.
 use mathlib.Core.Path.{_≡_, _∙_}
 use mathlib.Core.Bool.{_&&_}
 use Prim.Native.Nat.{ℕ, suc, _+_, _-_, _*_, _≤_, _<_, max}
-use native.Mathlib.Nat.{sub-zero, mul-le-mul}
+use native.Mathlib.Nat.{sub-zero}
 use native.Mathlib.Omega.{arith}
 use lib.Dec.{leb}
 use Rattle.cutting.specs.declared.Direction.the-variants.{Length, Width}
-use Rattle.cutting.specs.Limits.{most-figure}
 use Rattle.cutting.specs.Lists.{range, only, greatest}
 use Rattle.cutting.specs.Tree.{Rect, Tree, waste, piece, cut, Guillotine}
 use Rattle.cutting.specs.Figure.{leaf, best, step}
@@ -15,17 +14,16 @@ use Rattle.cutting.specs.Pieces.{Piece, kind, fits-in, sized}
 use Rattle.cutting.specs.Saws.{saw}
 use Rattle.cutting.specs.Shares.{by-weight}
 use Rattle.cutting.specs.Areas.{waste-area, trim-area}
-use Rattle.cutting.specs.Job.{Job, laid, GuillotineTree, OnPlate, profit, weight-of, KeepsDemands, capacity, members, pieces, by-kind, figure-of, bound-of, pieces-area-of, waste-area-of, trim-area-of, SolidKinds, InRange}
+use Rattle.cutting.specs.Job.{Job, laid, GuillotineTree, profit, weight-of, members, pieces, by-kind, figure-of, pieces-area-of, waste-area-of, trim-area-of, SolidKinds}
 use Rattle.cutting.proofs.Greatest.{greatest-map}
 use Rattle.cutting.proofs.Recursion.{figure-eq}
 use Rattle.cutting.proofs.Exact.{figure-upper, figure-attained}
 use Rattle.cutting.proofs.Saws.{saw-cut, cut-saw, saw-proper}
 use Rattle.cutting.proofs.Pieces.{fits-in-true, true-fits-in}
 use Rattle.cutting.proofs.Weights.{within-weight, weight-within}
-use Rattle.cutting.proofs.Demands.{keeps-weight}
 use Rattle.cutting.proofs.Areas.{areas}
 use Rattle.cutting.proofs.Ceiling.{figure-area}
-use Rattle.cutting.proofs.Members.{lie-member, member-lies, member-kind, members-solid, range-solid}
+use Rattle.cutting.proofs.Members.{lie-member, member-lies, member-kind, members-solid}
 
 module _ (J : Job) where
   -- the plain trees are those of the theory, both ways
@@ -70,35 +68,12 @@ module _ (J : Job) (weight : ℕ → ℕ) where
       let e = figure-attained (pieces J) (saw 0) (by-kind weight) (saw-proper 0) (l, w) c in
       (e .0, guillotine-plain J (e .0) (l, w) (e .1), within-weight (λ p. weight (kind p)) (e .0) c (e .2), e .3)
 
-  -- the same of the bound: no tree on the plate of weight at most the capacity earns more
-  pub bound-most : (t : Tree Piece) → OnPlate J t → weight-of weight t ≤ capacity J weight → profit J t ≤ bound-of J weight
-  bound-most t g h = figure-most t (J .plate .0) (J .plate .1) (capacity J weight) g h
-
-  -- and some such tree earns it
-  pub bound-earned : (t : Tree Piece) × OnPlate J t × (weight-of weight t ≤ capacity J weight) × (profit J t ≡ bound-of J weight)
-  bound-earned = figure-earned (J .plate .0) (J .plate .1) (capacity J weight)
-
-  -- a tree on the plate that keeps every demand weighs at most the capacity
-  pub demands-weight : (t : Tree Piece) → OnPlate J t → KeepsDemands J t → weight-of weight t ≤ capacity J weight
-  unfolding pieces sized
-  demands-weight t g k = keeps-weight kind (pieces J) (saw 0) (J .count) (member-kind J) weight (J .demand)
-      t (J .plate) (plain-guillotine J t (J .plate) g) k
-
-  -- so it earns at most the bound
-  pub bound-holds : (t : Tree Piece) → OnPlate J t → KeepsDemands J t → profit J t ≤ bound-of J weight
-  bound-holds t g k = bound-most t g (demands-weight t g k)
-
 module _ (J : Job) (weight : ℕ → ℕ) (solid : SolidKinds J) (priced : (i : ℕ) → i < J .count → J .price i ≤ 1000000) where
   -- no figure is above the area times the greatest price
   pub figure-ceiling : (l w c : ℕ) → figure-of J weight l w c ≤ l * w * 1000000
   unfolding figure-of pieces
   figure-ceiling l w c = figure-area (members J) (λ p. J .price (kind p)) (laid J) (members-solid J solid) (by-kind weight) 1000000
       (λ p m. priced (kind p) (member-kind J p m)) (l, w) c
-
--- so the bound is at most 1,000,000,000,000
-pub bound-ceiling : (J : Job) (weight : ℕ → ℕ) → InRange J → bound-of J weight ≤ most-figure
-bound-ceiling J weight h =
-    omega (arith, figure-ceiling J weight (range-solid J h) (h .prices) (J .plate .0) (J .plate .1) (capacity J weight), mul-le-mul (h .plate-length .1) (h .plate-width .1))
 
 -- the three areas of a tree sum to the rectangle's
 pub areas-sum : (J : Job) (t : Tree Piece) (l w : ℕ) → GuillotineTree J l w t → pieces-area-of J t + waste-area-of l w t + trim-area-of J l w t ≡ l * w

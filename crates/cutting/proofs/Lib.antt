@@ -24,6 +24,7 @@ pub mod Members
 pub mod Job
 pub mod Table
 pub mod Laws
+pub mod Bound
 pub mod Listed
 pub mod Plan
 pub mod Promises

@@ -7,12 +7,16 @@ use Rattle.cutting.specs.declared.Direction.{Direction}
 use Rattle.cutting.specs.Tree.{side}
 use Rattle.cutting.specs.Lists.{range}
 use Rattle.cutting.specs.Job.{Job, InRange, capacity, bound-of, normal-positions, normal-side}
-use Rattle.cutting.specs.Promises.{NoneAbove, MostWithin, Recursion, NormalSums, FloorFigures, PlanFollows}
+use Rattle.cutting.specs.Promises.{NoneAbove, PlateHolds, MostWithin, Recursion, NormalSums, FloorFigures, PlanFollows}
 use Rattle.cutting.proofs.Lists.{range-mem, mem-range, filter-mem, mem-filter}
 use Rattle.cutting.proofs.Members.{range-solid}
-use Rattle.cutting.proofs.Job.{figure-recursion, bound-most, bound-earned, bound-holds}
+use Rattle.cutting.proofs.Job.{figure-recursion}
+use Rattle.cutting.proofs.Bound.{copies-plate, bound-most, bound-earned, bound-holds}
 use Rattle.cutting.proofs.Table.{normal-sums, figure-floor}
 use Rattle.cutting.proofs.Plan.{plan-recursion}
+
+pub plate-holds : (J : Job) → InRange J → PlateHolds J
+plate-holds J h t g i known = copies-plate J (range-solid J h) i known t g
 
 pub normal-listed : (J : Job) → NormalSums J
 unfolding normal-positions
@@ -30,11 +34,11 @@ module _ (J : Job) (weight : ℕ → ℕ) where
   pub bound-exact : MostWithin J weight (capacity J weight) (bound-of J weight)
   bound-exact = let e = bound-earned J weight in (bound-most J weight, (e .0, (e .1, e .2, e .3)))
 
-  -- and no tree within the demands earns more
-  pub none-above : NoneAbove J (bound-of J weight)
-  none-above = bound-holds J weight
-
   module _ (h : InRange J) where
+    -- and no tree within the demands earns more
+    pub none-above : NoneAbove J (bound-of J weight)
+    none-above = bound-holds J weight (range-solid J h)
+
     pub floor-figures : FloorFigures J weight
     floor-figures l w c on-length on-width = figure-floor J weight (range-solid J h) l w c on-length on-width
 

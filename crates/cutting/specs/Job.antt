@@ -1,27 +1,29 @@
 -- The scope as definitions: a job, its guillotine trees and what they earn, the figure and the bound, the normal positions and the plan
 -- behind the bound. The general definitions stand in the other modules; proofs/Job, Table and Plan have what is proved of these.
-use mathlib.Core.Bool.{Bool, _&&_}
+use mathlib.Core.Bool.{Bool, true, false, _&&_}
 use mathlib.Core.Option.{Option}
 use mathlib.Core.List.{List, map}
-use Prim.Native.Nat.{ℕ, suc, _+_, _-_, _*_, _≤_, _<_}
+use Prim.Native.Nat.{ℕ, suc, _+_, _-_, _*_, _/_, _≤_, _<_, min}
 use lib.Dec.{T, leb, eqb}
 use Rattle.cutting.specs.declared.Direction.{Direction}
 use Rattle.cutting.specs.declared.Direction.the-variants.{Length, Width}
 use Rattle.cutting.specs.Limits.{most-side, most-kinds, most-price, most-demand}
-use Rattle.cutting.specs.Lists.{range, sum, filter, first, each, pairs}
+use Rattle.cutting.specs.Lists.{range, sum, only, filter, first, each, pairs}
 use Rattle.cutting.specs.Tree.{Rect, side, Tree, waste, piece, cut, Pieces, Shares, total, copies}
 use Rattle.cutting.specs.Figure.{figure}
-use Rattle.cutting.specs.Pieces.{Piece, upright, turned, kind, ways, lying, fits-in, sized}
+use Rattle.cutting.specs.Pieces.{Piece, upright, turned, kind, ways, lying, fits-in, fits-either, sized}
 use Rattle.cutting.specs.Saws.{saw, floor, saw-written}
 use Rattle.cutting.specs.Shares.{by-weight}
 use Rattle.cutting.specs.Normal.{normal}
 use Rattle.cutting.specs.Choice.{Choice, as-waste, as-piece, as-cut, or-waste, or-length, or-piece, or-zero, written}
-use Rattle.cutting.specs.Areas.{pieces-area, waste-area, trim-area}
+use Rattle.cutting.specs.Areas.{area, pieces-area, waste-area, trim-area}
 
--- a job: the plate, whether pieces may be turned, and kinds numbered from 0 with their sizes, prices and demands
+-- a job: the plate, whether pieces may be turned, whether the capacity is that of the full demands, and kinds numbered from 0 with their
+-- sizes, prices and demands
 pub record Job : Type 0 where
   pub plate : Rect
   pub turning : Bool
+  pub full-demand : Bool
   pub count : ℕ
   pub size : ℕ → Rect
   pub price : ℕ → ℕ
@@ -64,9 +66,33 @@ copies-of i t = copies kind i t
 abbrev pub KeepsDemands : Job → Tree Piece → Type 0
 KeepsDemands J t = (i : ℕ) → i < J .count → copies-of i t ≤ J .demand i
 
--- the capacity: the sum of demand times weight
+-- the copies of a size q that can lie on a rectangle r: length over length times width over width, each rounded down; where pieces may
+-- be turned, area over area, rounded down, or none if neither way fits
+abbrev pub copies-on : Bool → Rect → Rect → ℕ
+copies-on false r q = r .0 / q .0 * (r .1 / q .1)
+copies-on true r q = only (fits-either q r) (area r / area q)
+
+-- the copies of kind i that can lie on the plate
+abbrev pub plate-copies : Job → ℕ → ℕ
+plate-copies J i = copies-on (J .turning) (J .plate) (J .size i)
+
+-- the copies that the capacity counts of a kind, where so many can lie on the plate: in the full-demand form its demand, and else the
+-- lesser of the two
+abbrev pub counted-of : Bool → ℕ → ℕ → ℕ
+counted-of true demand held = demand
+counted-of false demand held = min demand held
+
+-- the copies of kind i that the capacity counts
+abbrev pub counted : Job → ℕ → ℕ
+counted J i = counted-of (J .full-demand) (J .demand i) (plate-copies J i)
+
+-- the capacity: the sum of counted copies times weight
 abbrev pub capacity : Job → (ℕ → ℕ) → ℕ
-capacity J weight = sum (J .count) (λ i. J .demand i * weight i)
+capacity J weight = sum (J .count) (λ i. counted J i * weight i)
+
+-- the same job with the capacity of the full demands
+abbrev pub at-full-demand : Job → Job
+at-full-demand J = record { plate = J .plate; turning = J .turning; full-demand = true; count = J .count; size = J .size; price = J .price; demand = J .demand }
 
 -- the kinds that are ordered: a kind of demand 0 is cancelled, and its number stays its own
 unfoldable pub ordered : Job → List ℕ

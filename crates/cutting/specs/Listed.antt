@@ -11,9 +11,9 @@ use Rattle.cutting.specs.Tree.{Rect, Tree, waste, piece, cut}
 use Rattle.cutting.specs.Pieces.{Piece, upright, turned, kind}
 use Rattle.cutting.specs.Job.{Job, laid, members}
 
--- numbered pieces as a job: n of them, each ordered once and not to be turned
+-- numbered pieces as a job: n of them, each ordered once and not to be turned; its capacity is never read
 abbrev pub plain : Rect → ℕ → (ℕ → Rect) → (ℕ → ℕ) → Job
-plain r n size price = record { plate = r; turning = false; count = n; size = size; price = price; demand = λ i. 1 }
+plain r n size price = record { plate = r; turning = false; full-demand = false; count = n; size = size; price = price; demand = λ i. 1 }
 
 -- a plain job in the ranges that lists and table read, as that of a job in range is
 pub record InTableRange (J : Job) : Type 0 where

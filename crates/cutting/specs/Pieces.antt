@@ -1,5 +1,5 @@
 -- A piece of a plan, and pieces with a size: when one fits a rectangle.
-use mathlib.Core.Bool.{Bool, true, false, _&&_}
+use mathlib.Core.Bool.{Bool, true, false, _&&_, _||_}
 use mathlib.Core.List.{List, [], _∷_, List·Memᴰ}
 use Prim.Native.Nat.{ℕ, _≤_, _<_}
 use lib.Dec.{leb}
@@ -36,6 +36,10 @@ q ⊑ r = (q .0 ≤ r .0) × (q .1 ≤ r .1)
 -- the same as a test: neither side is greater
 abbrev pub fits-in : Rect → Rect → Bool
 fits-in q r = leb (q .0) (r .0) && leb (q .1) (r .1)
+
+-- whether a size fits upright or turned
+abbrev pub fits-either : Rect → Rect → Bool
+fits-either q r = fits-in q r || fits-in (quarter q) r
 
 module _ {P : Type 0} where
   -- pieces with a size: one fits where neither side is greater than the rectangle's

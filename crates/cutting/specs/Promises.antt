@@ -4,7 +4,7 @@ use mathlib.Core.Path.{_≡_}
 use mathlib.Core.Bool.{_&&_}
 use mathlib.Core.Logic.{_↔_}
 use mathlib.Core.List.{List·Memᴰ}
-use Prim.Native.Nat.{ℕ, suc, _+_, _-_, _≤_, max}
+use Prim.Native.Nat.{ℕ, suc, _+_, _-_, _≤_, _<_, max}
 use lib.Dec.{leb}
 use Rattle.cutting.specs.declared.Direction.{Direction}
 use Rattle.cutting.specs.declared.Direction.the-variants.{Length, Width}
@@ -12,11 +12,15 @@ use Rattle.cutting.specs.Lists.{range, only, greatest}
 use Rattle.cutting.specs.Tree.{side, Tree}
 use Rattle.cutting.specs.Pieces.{Piece, kind, fits-in}
 use Rattle.cutting.specs.Normal.{Sum, sides}
-use Rattle.cutting.specs.Job.{Job, laid, members, OnPlate, KeepsDemands, profit, weight-of, figure-of, normal-positions, normal-floor, plan-of, plan-choice, plan-after}
+use Rattle.cutting.specs.Job.{Job, laid, members, OnPlate, KeepsDemands, profit, weight-of, copies-of, plate-copies, figure-of, normal-positions, normal-floor, plan-of, plan-choice, plan-after}
 
 -- no guillotine tree on the plate that keeps every demand earns more than n
 abbrev pub NoneAbove : Job → ℕ → Type 0
 NoneAbove J n = (t : Tree Piece) → OnPlate J t → KeepsDemands J t → profit J t ≤ n
+
+-- no guillotine tree on the plate has more copies of a kind than can lie there by the count of the capacity
+abbrev pub PlateHolds : Job → Type 0
+PlateHolds J = (t : Tree Piece) → OnPlate J t → (i : ℕ) → i < J .count → copies-of i t ≤ plate-copies J i
 
 -- a guillotine tree on the plate of weight at most q that earns n
 abbrev pub EarnsWithin : Job → (ℕ → ℕ) → ℕ → ℕ → Tree Piece → Type 0
