@@ -1,5 +1,6 @@
 -- What is known of weights that were accepted, what each answer says, and the capacity as a loop sums it.
 use mathlib.Core.Path.{_≡_, refl, sym, _∙_, ap}
+use mathlib.Core.Bool.{Bool, true, false}
 use mathlib.Core.List.{List, [], _∷_}
 use Prim.Native.Nat.{ℕ, suc, _+_, _*_, _≤_, _<_}
 use native.Mathlib.Nat.{mul-le-mul}
@@ -7,7 +8,7 @@ use native.Mathlib.Omega.{arith}
 use borrow.Author.Tests.{ltb-false, lt-ltb, le-ltb, eqb-true, eq-eqb, ne-eqb, not-false}
 use lib.Dec.{eqb}
 use lib.ListN.{length}
-use Rattle.cutting.specs.Job.{Job, capacity, InRange}
+use Rattle.cutting.specs.Job.{Job, counted-of, capacity, InRange}
 use Rattle.cutting.specs.Lists.{sum}
 use Rattle.refusal.specs.Refusals.{first-refusal, by-check, outcome-by}
 use Rattle.refusal.specs.declared.Checked.{Checked}
@@ -97,3 +98,13 @@ accepted-weights s choices ws p = weights-passed (block-job s choices) ws (accep
 -- the job of an accepted block is in the scope's ranges
 pub accepted-in-range : (s : List ℕ) (choices : Choices) (ws : List ℕ) → Accepted s choices ws → InRange (block-job s choices)
 accepted-in-range s choices ws p = read-in-range s choices (accepted-both s choices ws p .0)
+
+-- the copies that the capacity counts of a kind: at most the demand, and the lesser of the demand and of what can lie on the plate
+pub counted-full : {b : Bool} (demand held : ℕ) → b ≡ true → demand ≡ counted-of b demand held
+counted-full demand held e = sym (ap (λ b. counted-of b demand held) e)
+
+pub counted-held : {b : Bool} {n : ℕ} (demand held : ℕ) → b ≡ false → n ≡ held → n < demand → (n ≡ counted-of b demand held) × (n ≤ demand)
+counted-held {b} {n} demand held e f h = rw e (omega arith, omega arith)
+
+pub counted-demand : {b : Bool} {n : ℕ} (demand held : ℕ) → b ≡ false → n ≡ held → demand ≤ n → (demand ≡ counted-of b demand held) × (demand ≤ demand)
+counted-demand {b} {n} demand held e f h = rw e (omega arith, omega arith)

@@ -1,6 +1,6 @@
 -- The job block: where each field stands, when a block is refused, the record that a good one gives with its job, and the number and
 -- values of what reading it answers.
-use mathlib.Core.Bool.{Bool, false, _||_, not}
+use mathlib.Core.Bool.{Bool, true, false, _||_, not}
 use mathlib.Core.List.{List, [], _∷_, _++_, map}
 use Prim.Native.Nat.{ℕ, zero, suc, _+_, _*_}
 use lib.Dec.{ltb, eqb}
@@ -14,6 +14,10 @@ use Rattle.refusal.specs.declared.Refusal.the-variants.{ShortHeader, PlateSide,
 use Rattle.job.specs.declared.Choices.{Choices}
 use Rattle.job.specs.declared.JobRecord.{JobRecord}
 use Rattle.job.specs.declared.JobAnswer.{JobAnswer}
+
+-- the same choices, and the capacity of the full demands
+abbrev pub with-full-demand : Choices → Choices
+with-full-demand choices = record { turning = choices .turning; «full_demand» = true }
 
 -- a field of two bytes, lowest byte first
 abbrev pub u16-at : List ℕ → ℕ → ℕ
@@ -88,6 +92,7 @@ record-of s choices = record {
   width = plate-width-at s;
   count = count-at s;
   turning = choices .turning;
+  «full_demand» = choices .«full_demand»;
   lengths = entries (length-at s) (count-at s);
   widths = entries (width-at s) (count-at s);
   prices = entries (price-at s) (count-at s);
@@ -96,16 +101,16 @@ record-of s choices = record {
 
 -- the record where a block is refused
 abbrev pub empty-record : JobRecord
-empty-record = record { length = 0; width = 0; count = 0; turning = false; lengths = entries (λ i. 0) 0; widths = entries (λ i. 0) 0; prices = entries (λ i. 0) 0; demands = entries (λ i. 0) 0 }
+empty-record = record { length = 0; width = 0; count = 0; turning = false; «full_demand» = false; lengths = entries (λ i. 0) 0; widths = entries (λ i. 0) 0; prices = entries (λ i. 0) 0; demands = entries (λ i. 0) 0 }
 
 -- what reading a block answers: its record, or the first refusal of its checks
 abbrev pub read-of : List ℕ → Choices → JobAnswer
 read-of s choices = by-check (first-refusal (job-checks s)) (record { verdict = Passed; job = record-of s choices }) (λ r. record { verdict = Refused r; job = empty-record })
 
--- a record's values: the plate's sides, the number of kinds, whether pieces may be turned (1 or 0), then the lengths, widths, prices and
--- demands of 64 kinds
+-- a record's values: the plate's sides, the number of kinds, the choices of turning and of full demand (1 or 0), then the lengths, widths,
+-- prices and demands of 64 kinds
 abbrev pub job-values : JobRecord → List ℕ
-job-values j = j .length ∷ j .width ∷ j .count ∷ only (j .turning) 1 ∷ (j .lengths ++ j .widths ++ j .prices ++ j .demands)
+job-values j = j .length ∷ j .width ∷ j .count ∷ only (j .turning) 1 ∷ only (j .«full_demand») 1 ∷ (j .lengths ++ j .widths ++ j .prices ++ j .demands)
 
 -- an answer's number and values
 abbrev pub job-outcome : JobAnswer → Outcome
@@ -116,10 +121,11 @@ abbrev pub job-said : List ℕ → Choices → Outcome
 job-said s choices = outcome-by (first-refusal (job-checks s)) (job-values (record-of s choices))
 
 -- the job of lent arrays
-abbrev pub job-from : ℕ → ℕ → Bool → ℕ → List ℕ → List ℕ → List ℕ → List ℕ → Job
-job-from l w turning n lengths widths prices demands = record {
+abbrev pub job-from : ℕ → ℕ → Bool → Bool → ℕ → List ℕ → List ℕ → List ℕ → List ℕ → Job
+job-from l w turning full n lengths widths prices demands = record {
   plate = (l, w);
   turning = turning;
+  full-demand = full;
   count = n;
   size = λ i. (getD lengths i 0, getD widths i 0);
   price = λ i. getD prices i 0;
@@ -128,4 +134,4 @@ job-from l w turning n lengths widths prices demands = record {
 
 -- the job of a record
 abbrev pub job-of : JobRecord → Job
-job-of j = job-from (j .length) (j .width) (j .turning) (j .count) (j .lengths) (j .widths) (j .prices) (j .demands)
+job-of j = job-from (j .length) (j .width) (j .turning) (j .«full_demand») (j .count) (j .lengths) (j .widths) (j .prices) (j .demands)

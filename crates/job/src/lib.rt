@@ -1,31 +1,49 @@
 // A job and its weights: the job block is read into a record, the weights give the capacity. Refusals 1 to 9.
 // Fields are two or four bytes, lowest byte first; specs/Block says where each stands and when a block is refused.
+use cutting::Sides;
+use cutting::fits;
+use cutting::turn;
 use refusal::Checked;
 use refusal::Refusal;
 use refusal::refuse_if;
 ghost use mathlib.Core.Path.{_≡_};
-ghost use mathlib.Core.Bool.{_||_};
+ghost use mathlib.Core.Bool.{true, false, _||_};
 ghost use mathlib.Core.List.{[], _∷_};
-ghost use Prim.Native.Nat.{ℕ, _+_, _*_, _≤_, _<_};
+ghost use Prim.Native.Nat.{ℕ, _+_, _*_, _/_, _≤_, _<_};
 ghost use lib.ListN.{length};
 ghost use Rattle.refusal.specs.Refusals.{first-refusal};
-ghost use Rattle.cutting.specs.Job.{InRange, capacity};
-ghost use Rattle.job.specs.Block.{u16-at, u32-at, count-at, price-at, outside, header-checks, size-check, pair-checks, each-kind, job-checks, entries, record-of, empty-record, read-of, job-outcome, job-said, job-of};
+ghost use Rattle.cutting.specs.Areas as measured;
+ghost use Rattle.cutting.specs.Pieces.{fits-either};
+ghost use Rattle.cutting.specs.Sides.{rect-of};
+ghost use Rattle.cutting.specs.Job.{InRange, capacity, copies-on, counted-of};
+ghost use Rattle.job.specs.Block.{with-full-demand, u16-at, u32-at, count-at, price-at, outside, header-checks, size-check, pair-checks, each-kind, job-checks, entries, record-of, empty-record, read-of, job-outcome, job-said, job-of};
 ghost use Rattle.job.specs.Weights.{weight-in, weights-answer, weights-outcome, weights-said, acceptance-of, acceptance-outcome, acceptance-said};
-ghost use Rattle.job.specs.Contracts.{HoldsKinds, Weighable, demands-job};
+ghost use Rattle.job.specs.Contracts.{HoldsKinds};
 
-// What a call chooses beside the job: whether pieces may be turned.
+// What a call chooses beside the job: whether pieces may be turned, and whether the capacity is that of the full demands.
 pub struct Choices {
     pub turning: bool,
+    pub full_demand: bool,
 }
 
-// The job record: the plate's sides, the number of kinds, whether they may be turned, and for each kind its sides, price and demand; 0 past
-// the last kind.
+// The same choices, and the capacity of the full demands.
+pub fn with_full_demand(choices: Choices) -> Choices
+    ensures { λ r. ⌜ r ≡ with-full-demand choices ⌝ }
+{
+    Choices {
+        turning: choices.turning,
+        full_demand: true,
+    }
+}
+
+// The job record: the plate's sides, the number of kinds, the choices, and for each kind its sides, price and demand; 0 past the last
+// kind.
 pub struct JobRecord {
     pub length: u16,
     pub width: u16,
     pub count: u16,
     pub turning: bool,
+    pub full_demand: bool,
     pub lengths: [u16; 64],
     pub widths: [u16; 64],
     pub prices: [u32; 64],
@@ -241,6 +259,7 @@ fn read_record(block: &[u8], choices: Choices) -> JobRecord
         width: width,
         count: n,
         turning: choices.turning,
+        full_demand: choices.full_demand,
         lengths: lengths,
         widths: widths,
         prices: prices,
@@ -257,6 +276,7 @@ fn empty_record() -> JobRecord
         width: 0,
         count: 0,
         turning: false,
+        full_demand: false,
         lengths: [0u16; 64],
         widths: [0u16; 64],
         prices: [0u32; 64],
@@ -282,41 +302,107 @@ pub fn read_job(block: &[u8], choices: Choices) -> JobAnswer
     }
 }
 
-// A demand times a weight.
-fn weigh(demand: u16, weight: u8) -> u32
-    requires { ⌜ demand ≤ 255 ⌝ }
-    ensures { λ r. ⌜ (r ≡ demand * weight) × (r ≤ 65025) ⌝ }
+// The area of a rectangle.
+fn area(r: Sides) -> u32
+    ensures { λ n. ⌜ n ≡ measured.area (rect-of r) ⌝ }
 {
-    (demand as u32) * wider(weight)
+    (r.length as u32) * (r.width as u32)
 }
 
-// The capacity of as many weights as demands: at most 64 times 65,025.
-fn sum_capacity(demands: &[u16; 64], count: u16, weights: &[u8]) -> u32
-    requires { ⌜ Weighable (now demands) count × (length (now weights) ≡ count) ⌝ }
-    ensures { λ r. ⌜ r ≡ capacity (demands-job (now (demands .entry)) count) (weight-in (now (weights .entry))) ⌝ }
+// Whether a size fits a rectangle upright or turned.
+fn fits_some_way(size: Sides, room: Sides) -> bool
+    ensures { λ r. ⌜ r ≡ fits-either (rect-of size) (rect-of room) ⌝ }
 {
+    either(fits(size, room), fits(turn(size), room))
+}
+
+// How often a piece's side goes into a side of the plate.
+fn times_in(side: u16, piece: u16) -> u16
+    requires { ⌜ 1 ≤ piece ⌝ }
+    ensures { λ r. ⌜ r ≡ side / piece ⌝ }
+{
+    side / piece
+}
+
+// The copies of a size that can lie on a rectangle, none of them turned.
+fn upright_copies(room: Sides, size: Sides) -> u32
+    requires { ⌜ (1 ≤ size .length) × (1 ≤ size .width) ⌝ }
+    ensures { λ r. ⌜ r ≡ copies-on false (rect-of room) (rect-of size) ⌝ }
+{
+    let along = times_in(room.length, size.length);
+    let across = times_in(room.width, size.width);
+    (along as u32) * (across as u32)
+}
+
+// The same where they may be turned.
+fn turning_copies(room: Sides, size: Sides) -> u32
+    requires { ⌜ (1 ≤ size .length) × (1 ≤ size .width) ⌝ }
+    ensures { λ r. ⌜ r ≡ copies-on true (rect-of room) (rect-of size) ⌝ }
+{
+    if fits_some_way(size, room) {
+        return area(room) / area(size);
+    }
+    0
+}
+
+// The copies of a size that can lie on a rectangle.
+fn copies_on(turning: bool, room: Sides, size: Sides) -> u32
+    requires { ⌜ (1 ≤ size .length) × (1 ≤ size .width) ⌝ }
+    ensures { λ r. ⌜ r ≡ copies-on turning (rect-of room) (rect-of size) ⌝ }
+{
+    if turning {
+        return turning_copies(room, size);
+    }
+    upright_copies(room, size)
+}
+
+// The copies of a kind that the capacity counts: its demand, or the lesser of it and what can lie on the plate.
+fn counted_copies(choices: Choices, plate: Sides, size: Sides, demand: u16) -> u16
+    requires { ⌜ (1 ≤ size .length) × (1 ≤ size .width) ⌝ }
+    ensures { λ r. ⌜ (r ≡ counted-of (choices .«full_demand») demand (copies-on (choices .turning) (rect-of plate) (rect-of size))) × (r ≤ demand) ⌝ }
+{
+    if choices.full_demand {
+        return demand;
+    }
+    let held = copies_on(choices.turning, plate, size);
+    if held < (demand as u32) {
+        return held as u16;
+    }
+    demand
+}
+
+// A number of copies times a weight.
+fn weigh(copies: u16, weight: u8) -> u32
+    requires { ⌜ copies ≤ 255 ⌝ }
+    ensures { λ r. ⌜ (r ≡ copies * weight) × (r ≤ 65025) ⌝ }
+{
+    (copies as u32) * wider(weight)
+}
+
+// The capacity of as many weights as kinds: at most 64 times 65,025.
+fn sum_capacity(job: JobRecord, weights: &[u8]) -> u32
+    requires { ⌜ InRange (job-of job) × (length (now weights) ≡ job .count) ⌝ }
+    ensures { λ r. ⌜ r ≡ capacity (job-of job) (weight-in (now (weights .entry))) ⌝ }
+{
+    let choices = Choices {
+        turning: job.turning,
+        full_demand: job.full_demand,
+    };
+    let plate = Sides {
+        length: job.length,
+        width: job.width,
+    };
     let mut q = 0u32;
-    for i in 0..count {
+    for i in 0..job.count {
         let k = i as usize;
-        q = q + weigh(demands[k], weights[k]);
+        let size = Sides {
+            length: job.lengths[k],
+            width: job.widths[k],
+        };
+        let copies = counted_copies(choices, plate, size, job.demands[k]);
+        q = q + weigh(copies, weights[k]);
     }
     q
-}
-
-// The weights for these demands: the capacity, or refusal 8 or 9.
-fn weigh_demands(demands: &[u16; 64], count: u16, weights: &[u8]) -> WeightsAnswer
-    requires { ⌜ Weighable (now demands) count ⌝ }
-    ensures { λ r. ⌜ r ≡ weights-answer (demands-job (now (demands .entry)) count) (now (weights .entry)) ⌝ }
-{
-    if weights.len() != (count as usize) {
-        return WeightsAnswer::Refused(Refusal::WeightCount);
-    }
-    let q = sum_capacity(demands, count, weights);
-    if 4095 < q {
-        return WeightsAnswer::Refused(Refusal::Capacity);
-    }
-    let capacity = q as u16;
-    WeightsAnswer::Capacity(capacity)
 }
 
 // The weights of a job that was read: the capacity, or refusal 8 or 9.
@@ -326,7 +412,15 @@ pub fn check_weights(job: JobRecord, weights: &[u8]) -> WeightsAnswer
     ensures outcome { λ r. ⌜ weights-outcome r ≡ weights-said (job-of job) (now (weights .entry)) ⌝ }
 {
     let count = job.count;
-    weigh_demands(&job.demands, count, weights)
+    if weights.len() != (count as usize) {
+        return WeightsAnswer::Refused(Refusal::WeightCount);
+    }
+    let q = sum_capacity(job, weights);
+    if 4095 < q {
+        return WeightsAnswer::Refused(Refusal::Capacity);
+    }
+    let capacity = q as u16;
+    WeightsAnswer::Capacity(capacity)
 }
 
 // A refusal of the job or of its weights, without record and capacity.
@@ -350,8 +444,7 @@ pub fn accept(block: &[u8], choices: Choices, weights: &[u8]) -> Acceptance
         return unaccepted(read);
     };
     let job = read_record(block, choices);
-    let count = job.count;
-    let weighed = weigh_demands(&job.demands, count, weights);
+    let weighed = check_weights(job, weights);
     match weighed {
         WeightsAnswer::Refused(r) => unaccepted(Checked::Refused(r)),
         WeightsAnswer::Capacity(q) => Acceptance {

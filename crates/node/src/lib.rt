@@ -184,8 +184,8 @@ fn place_piece(
     t: Tally,
 ) -> NodeAnswer
     requires { ⌜ Sized 4094 t × (count ≤ 64) ⌝ }
-    ensures { λ r. ⌜ ((l w : ℕ) (turning : Bool) (kind operand : ℕ) → kind ≤ most-kind turning → node-of kind operand ≡ laying (node .turned) (node .number)
-        → Placed (job-from l w turning count (now («kind_lengths» .entry)) (now («kind_widths» .entry)) (now (prices .entry)) (now (demands .entry))) (node .at) kind operand (rect-of room) t (now (copies .entry)) r (now (copies .exit))) ⌝ }
+    ensures { λ r. ⌜ ((l w : ℕ) (turning full : Bool) (kind operand : ℕ) → kind ≤ most-kind turning → node-of kind operand ≡ laying (node .turned) (node .number)
+        → Placed (job-from l w turning full count (now («kind_lengths» .entry)) (now («kind_widths» .entry)) (now (prices .entry)) (now (demands .entry))) (node .at) kind operand (rect-of room) t (now (copies .entry)) r (now (copies .exit))) ⌝ }
 {
     let i = node.number;
     if count <= i {
@@ -236,7 +236,7 @@ pub fn check_node(
     t: Tally,
 ) -> NodeAnswer
     requires { ⌜ Sized 4094 t × (kinds .count ≤ 64) ⌝ }
-    ensures { λ r. ⌜ ((l w : ℕ) → Placed (job-from l w (kinds .turning) (kinds .count) (now («kind_lengths» .entry)) (now («kind_widths» .entry)) (now (prices .entry)) (now (demands .entry))) (node .at) (node .kind) (node .operand) (rect-of room) t (now (copies .entry)) r (now (copies .exit))) ⌝ }
+    ensures { λ r. ⌜ ((l w : ℕ) (full : Bool) → Placed (job-from l w (kinds .turning) full (kinds .count) (now («kind_lengths» .entry)) (now («kind_widths» .entry)) (now (prices .entry)) (now (demands .entry))) (node .at) (node .kind) (node .operand) (rect-of room) t (now (copies .entry)) r (now (copies .exit))) ⌝ }
 {
     let at = node.at;
     let operand = node.operand;

@@ -29,11 +29,11 @@ read-record-requires c κs =
     let s = now (c .before .before .before .before .before .args .block) in
     header-holds s _ refl (job-passed s (sym (c .before .before .check-job .ensures) ∙ c .enum-told .given .1) .0)
 
-weigh-demands-requires : tie.Need-weigh-demands-requires
-weigh-demands-requires c κs =
-    let e = c .before .before .before .before .before .before .before .before .args in
-    let h = read-in-range (now (e .block)) (e .choices) (sym (c .before .before .before .before .before .check-job .ensures) ∙ c .before .before .before .enum-told .given .1) in
-    rw (c .before .before .read-record .ensures) (h .kinds .1, h .demands)
+check-weights-requires : tie.Need-check-weights-requires
+check-weights-requires c κs =
+    let e = c .before .before .before .before .before .before .args in
+    let h = read-in-range (now (e .block)) (e .choices) (sym (c .before .before .before .check-job .ensures) ∙ c .before .enum-told .given .1) in
+    rw (c .read-record .ensures) h
 
 enum-known-weighed : tie.Need-enum-known-weighed
 enum-known-weighed c = search needs
@@ -46,15 +46,17 @@ enum-known-weighed-2 c = search needs
 
 returns-2 : tie.Need-returns-2
 returns-2 c =
-    let e = c .before .before .before .before .before .before .before .before .before .before .before .before .before .args in
-    weights-refused (now (e .block)) (e .choices) (now (e .weights)) (c .before .before .before .before .before .before .before .before .before .before .check-job .ensures) (c .before .before .before .before .before .before .before .before .enum-told .given .1) (c .before .before .before .before .before .before .before .read-record .ensures) (c .before .before .before .before .weigh-demands .ensures)
-    _ (c .before .before .weighed .given .1) (c .unaccepted2 .ensures)
+    let read = c .before .before .before .before .before in
+    let e = read .before .before .before .before .before .before .args in
+    weights-refused (now (e .block)) (e .choices) (now (e .weights)) (read .before .before .before .check-job .ensures) (read .before .enum-told .given .1) (read .read-record .ensures)
+    (c .before .before .before .before .check-weights .ensures .0) _ (c .before .before .weighed .given .1) (c .unaccepted2 .ensures)
 
 returns-3 : tie.Need-returns-3
 returns-3 c =
-    let e = c .before .before .before .before .before .before .before .before .before .before .before .before .args in
-    both-taken (now (e .block)) (e .choices) (now (e .weights)) (c .before .before .before .before .before .before .before .before .before .check-job .ensures) (c .before .before .before .before .before .before .before .enum-told .given .1) (c .before .before .before .before .before .before .read-record .ensures) (c .before .before .before .weigh-demands .ensures)
-    _ (c .before .weighed2 .given .1)
+    let read = c .before .before .before .before in
+    let e = read .before .before .before .before .before .before .args in
+    both-taken (now (e .block)) (e .choices) (now (e .weights)) (read .before .before .before .check-job .ensures) (read .before .enum-told .given .1) (read .read-record .ensures)
+    (c .before .before .before .check-weights .ensures .0) _ (c .before .weighed2 .given .1)
 
 pub accept-spec : {M : Type 1} → statement M
 accept-spec =
@@ -66,7 +68,7 @@ accept-spec =
     unaccepted-requires
     returns
     read-record-requires
-    weigh-demands-requires
+    check-weights-requires
     enum-known-weighed
     unaccepted-requires-2
     enum-known-weighed-2

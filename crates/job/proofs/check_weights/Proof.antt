@@ -2,15 +2,22 @@
 use borrow.Author.Needs.{needs}
 use denote.Ref.{now}
 use Rattle.job.specs.Block.{job-of}
-use Rattle.job.proofs.Weights.{weights-told}
+use Rattle.job.proofs.Weights.{weights-told, answer-count, answer-capacity, answer-passed}
 use Rattle.job.proofs.check_weights.Statement.{statement}
 use Rattle.job.proofs.check_weights.Tie as tie
 
-weigh-demands-requires : tie.Need-weigh-demands-requires
-weigh-demands-requires c κs = search needs
-
 returns : tie.Need-returns
-returns c = let e = c .before .before .before .before .args in weights-told (job-of (e .t1)) (now (e .weights)) (c .weigh-demands .ensures)
+returns c = let e = c .before .before .args in weights-told (job-of (e .job)) (now (e .weights)) (answer-count (job-of (e .job)) (now (e .weights)) (c .if1 .taken))
+
+returns-2 : tie.Need-returns-2
+returns-2 c =
+    let e = c .before .before .before .before .args in
+    weights-told (job-of (e .job)) (now (e .weights)) (answer-capacity (job-of (e .job)) (now (e .weights)) (c .before .before .if1 .left) (c .before .sum-capacity .ensures) (c .if2 .taken))
+
+returns-3 : tie.Need-returns-3
+returns-3 c =
+    let e = c .before .before .before .before .args in
+    weights-told (job-of (e .job)) (now (e .weights)) (answer-passed (job-of (e .job)) (now (e .weights)) (c .before .before .if1 .left) (c .before .sum-capacity .ensures) (c .if2 .left))
 
 pub check-weights-spec : {M : Type 1} → statement M
-check-weights-spec = tie.close (tie.spec weigh-demands-requires returns)
+check-weights-spec = tie.close (tie.spec (search needs) returns (λ c κs. search needs) returns-2 (search needs) returns-3)

@@ -18,9 +18,9 @@ refuse-requires : tie.Need-refuse-requires
 refuse-requires c κs = search needs
 
 returns : tie.Need-returns
-returns c l w =
+returns c l w full =
     let a = c .before .before .before .before .args in
-    let J = job-from l w (a .kinds .turning) (a .kinds .count) (now (a .kind-lengths)) (now (a .kind-widths)) (now (a .prices)) (now (a .demands)) in
+    let J = job-from l w (a .kinds .turning) full (a .kinds .count) (now (a .kind-lengths)) (now (a .kind-widths)) (now (a .prices)) (now (a .demands)) in
     stops J (a .node .at) (a .node .kind) (a .node .operand) (rect-of (a .room)) (a .t) (now (a .copies)) (c .refuse .result) _ (c .refuse .ensures)
     (kind-refused J (now (a .copies)) (rect-of (a .room)) (a .node .at) (a .node .kind) (a .node .operand) (omega (arith, c .before .if1 .taken, c .before .before .before .last-kind .ensures)))
 
@@ -58,31 +58,31 @@ place-cut-requires : tie.Need-place-cut-requires
 place-cut-requires c κs = search needs
 
 returns-2 : tie.Need-returns-2
-returns-2 c l w =
+returns-2 c l w full =
     let a = c .before .before .before .before .before .before .before .args in
-    let J = job-from l w (a .kinds .turning) (a .kinds .count) (now (a .kind-lengths)) (now (a .kind-widths)) (now (a .prices)) (now (a .demands)) in
+    let J = job-from l w (a .kinds .turning) full (a .kinds .count) (now (a .kind-lengths)) (now (a .kind-widths)) (now (a .prices)) (now (a .demands)) in
     placed-as {J = J} (waste-kind (a .node .kind) (a .node .operand) (sym (c .before .before .before .decode .ensures) ∙ c .before .enum-told .given .1)) (c .place-waste .ensures J (now (a .copies)))
 
 returns-3 : tie.Need-returns-3
-returns-3 c l w =
+returns-3 c l w full =
     let a = c .before .before .before .before .before .before .before .before .before .before .args in
     let e = c .before .piece-entry .ensures in
     placed-at (sym (ap (λ p. p .at) e))
-    (c .place-piece .ensures l w (a .kinds .turning) (a .node .kind) (a .node .operand) (omega (arith, c .before .before .before .before .before .before .before .if1 .left, c .before .before .before .before .before .before .before .before .before .last-kind .ensures))
+    (c .place-piece .ensures l w (a .kinds .turning) full (a .node .kind) (a .node .operand) (omega (arith, c .before .before .before .before .before .before .before .if1 .left, c .before .before .before .before .before .before .before .before .before .last-kind .ensures))
     (sym (c .before .before .before .before .before .before .decode .ensures) ∙ c .before .before .before .before .decoded .given .1 ∙ sym (ap (λ p. laying (p .turned) (p .number)) e)))
 
 returns-4 : tie.Need-returns-4
-returns-4 c l w =
+returns-4 c l w full =
     let a = c .before .before .before .before .before .before .before .before .before .before .args in
     let e = c .before .piece-entry2 .ensures in
     placed-at (sym (ap (λ p. p .at) e))
-    (c .place-piece2 .ensures l w (a .kinds .turning) (a .node .kind) (a .node .operand) (omega (arith, c .before .before .before .before .before .before .before .if1 .left, c .before .before .before .before .before .before .before .before .before .last-kind .ensures))
+    (c .place-piece2 .ensures l w (a .kinds .turning) full (a .node .kind) (a .node .operand) (omega (arith, c .before .before .before .before .before .before .before .if1 .left, c .before .before .before .before .before .before .before .before .before .last-kind .ensures))
     (sym (c .before .before .before .before .before .before .decode .ensures) ∙ c .before .before .before .before .decoded2 .given .1 ∙ sym (ap (λ p. laying (p .turned) (p .number)) e)))
 
 returns-5 : tie.Need-returns-5
-returns-5 c l w =
+returns-5 c l w full =
     let a = c .before .before .before .before .before .before .before .before .args in
-    let J = job-from l w (a .kinds .turning) (a .kinds .count) (now (a .kind-lengths)) (now (a .kind-widths)) (now (a .prices)) (now (a .demands)) in
+    let J = job-from l w (a .kinds .turning) full (a .kinds .count) (now (a .kind-lengths)) (now (a .kind-widths)) (now (a .prices)) (now (a .demands)) in
     c .place-cut .ensures J (now (a .copies)) (a .node .kind) (a .node .operand) (omega (arith, c .before .before .before .before .before .if1 .left, c .before .before .before .before .before .before .before .last-kind .ensures)) (sym (c .before .before .before .before .decode .ensures) ∙ c .before .before .decoded3 .given .1)
 
 pub check-node-spec : {M : Type 1} → statement M

@@ -16,9 +16,9 @@ refuse-requires : tie.Need-refuse-requires
 refuse-requires c κs = search needs
 
 returns : tie.Need-returns
-returns c l w turning kind operand h e =
+returns c l w turning full kind operand h e =
     let a = c .before .before .args in
-    let J = job-from l w turning (a .count) (now (a .kind-lengths)) (now (a .kind-widths)) (now (a .prices)) (now (a .demands)) in
+    let J = job-from l w turning full (a .count) (now (a .kind-lengths)) (now (a .kind-widths)) (now (a .prices)) (now (a .demands)) in
     stops J (a .node .at) kind operand (rect-of (a .room)) (a .t) (now (a .copies)) (c .refuse .result) _ (c .refuse .ensures)
     (number-refused J (now (a .copies)) (rect-of (a .room)) (a .node .at) kind operand h (a .node .turned) (a .node .number) e (c .before .if1 .taken))
 
@@ -47,9 +47,9 @@ refuse-requires-2 : tie.Need-refuse-requires-2
 refuse-requires-2 c κs = search needs
 
 returns-2 : tie.Need-returns-2
-returns-2 c l w turning kind operand h e =
+returns-2 c l w turning full kind operand h e =
     let a = c .before .before .before .before .before .before .before .args in
-    let J = job-from l w turning (a .count) (now (a .kind-lengths)) (now (a .kind-widths)) (now (a .prices)) (now (a .demands)) in
+    let J = job-from l w turning full (a .count) (now (a .kind-lengths)) (now (a .kind-widths)) (now (a .prices)) (now (a .demands)) in
     stops J (a .node .at) kind operand (rect-of (a .room)) (a .t) (now (a .copies)) (c .refuse2 .result) _ (c .refuse2 .ensures)
     (misfit-refused J (now (a .copies)) (rect-of (a .room)) (a .node .at) kind operand h (a .node .turned) (a .node .number) e (c .before .before .before .before .before .before .if1 .left)
     (sym (ap (λ s. fits-in (rect-of s) (rect-of (a .room))) (c .before .before .before .lay .ensures)) ∙ sym (c .before .before .fits2 .ensures) ∙ not-true _ (c .before .if2 .taken)))
@@ -70,9 +70,9 @@ refuse-requires-3 : tie.Need-refuse-requires-3
 refuse-requires-3 c κs = search needs
 
 returns-3 : tie.Need-returns-3
-returns-3 c l w turning kind operand h e =
+returns-3 c l w turning full kind operand h e =
     let a = c .before .before .before .before .before .before .before .before .before .before .args in
-    let J = job-from l w turning (a .count) (now (a .kind-lengths)) (now (a .kind-widths)) (now (a .prices)) (now (a .demands)) in
+    let J = job-from l w turning full (a .count) (now (a .kind-lengths)) (now (a .kind-widths)) (now (a .prices)) (now (a .demands)) in
     stops J (a .node .at) kind operand (rect-of (a .room)) (a .t) (now (a .copies)) (c .refuse3 .result) _ (c .refuse3 .ensures)
     (excess-refused J (now (a .copies)) (rect-of (a .room)) (a .node .at) kind operand h (a .node .turned) (a .node .number) e (c .before .before .before .before .before .before .before .before .before .if1 .left)
     (sym (ap (λ s. fits-in (rect-of s) (rect-of (a .room))) (c .before .before .before .before .before .before .lay .ensures)) ∙ sym (c .before .before .before .before .before .fits2 .ensures) ∙ not-false _ (c .before .before .before .before .if2 .left)) (c .before .if3 .taken))
@@ -96,9 +96,9 @@ add-piece-requires : tie.Need-add-piece-requires
 add-piece-requires c κs = (c .before .before .before .before .before .before .before .before .before .before .before .pre .0, sym (c .before .before .before .before .before .before .fits2 .ensures) ∙ not-false _ (c .before .before .before .before .before .if2 .left))
 
 returns-4 : tie.Need-returns-4
-returns-4 c l w turning kind operand h e =
+returns-4 c l w turning full kind operand h e =
     let a = c .before .before .before .before .before .before .before .before .before .before .before .before .args in
-    let J = job-from l w turning (a .count) (now (a .kind-lengths)) (now (a .kind-widths)) (now (a .prices)) (now (a .demands)) in
+    let J = job-from l w turning full (a .count) (now (a .kind-lengths)) (now (a .kind-widths)) (now (a .prices)) (now (a .demands)) in
     let lay = c .before .before .before .before .before .before .before .before .lay .ensures in
     piece-placed J (a .node .at) kind operand (rect-of (a .room)) (a .t) (now (a .copies)) (c .add-piece .result) (c .before .before .one-more .result) (a .node .turned) (a .node .number) h e
     (c .before .before .before .before .before .before .before .before .before .before .before .if1 .left) (sym (ap (λ s. fits-in (rect-of s) (rect-of (a .room))) lay) ∙ sym (c .before .before .before .before .before .before .before .fits2 .ensures) ∙ not-false _ (c .before .before .before .before .before .before .if2 .left)) (c .before .before .before .if3 .left)
