@@ -9,7 +9,6 @@ use Rattle.cutting.specs.Limits.{most-kinds}
 use Rattle.cutting.specs.Sides.{rect-of, sides-of}
 use Rattle.cutting.specs.Job.{Job, InRange}
 use Rattle.cutting.specs.Listed.{heavy-in, pieces-job, PieceArray}
-use Rattle.cutting.specs.Promises.{Recursion, NormalSums, FloorFigures}
 use Rattle.cutting.proofs.Promises.{recursion, normal-listed, floor-figures}
 use Rattle.refusal.specs.Refusals.{next, first-refusal, by-check, outcome-by}
 use Rattle.refusal.specs.declared.Refusal.{Refusal}
@@ -22,7 +21,7 @@ use Rattle.job.specs.Weights.{block-job, weight-in, Accepted}
 use Rattle.job.proofs.Checks.{passed-both}
 use Rattle.job.proofs.Weights.{weights-passed, accepted-both, accepted-in-range}
 use Rattle.job.proofs.Taken.{Taken}
-use Rattle.bound.specs.Bound.{Memory, Leaves, answer-by, memory-checks, report-values, block-capacity, block-report, accept-verdict, bound-verdict, bound-answer, bound-outcome, bound-said, BoundLeaves, BoundSaid}
+use Rattle.bound.specs.Bound.{Memory, Leaves, answer-by, memory-checks, report-values, block-capacity, block-report, accept-verdict, bound-verdict, bound-answer, bound-outcome, bound-said, BoundLeaves, BoundSaid, BoundPromises}
 use Rattle.bound.specs.Contracts.{Boundable, Bounded}
 use Rattle.bound.specs.declared.BoundReport.{BoundReport}
 use Rattle.bound.specs.declared.BoundAnswer.{BoundAnswer}
@@ -74,28 +73,28 @@ exact-by s choices ws m b e =
     let v = passed-both (accept-verdict s choices ws) (first-refusal (memory-checks (block-job s choices) (block-capacity s choices ws) m)) (w .0) in
     rw (w .1) (bound-held (block-job s choices) (weight-in ws) (accepted-in-range s choices ws (v .0)))
 
--- all clauses of the call
-abbrev pub Promised : List ℕ → Choices → List ℕ → Memory → Memory → BoundAnswer → Type 0
-Promised s choices ws old new r = (r ≡ bound-answer s choices ws old) × ((bound-outcome r ≡ bound-said s choices ws old) × (BoundLeaves s choices ws old new
-    × (BoundSaid s choices ws r × (Recursion (block-job s choices) (weight-in ws) × (NormalSums (block-job s choices) × (Accepted s choices ws → FloorFigures (block-job s choices) (weight-in ws)))))))
-
 module _ (s : List ℕ) (choices : Choices) (ws : List ℕ) (old : Memory) where
   -- the answer and the memory give the rest
-  promised : {new : Memory} (r : BoundAnswer) → r ≡ bound-answer s choices ws old → BoundLeaves s choices ws old new → Promised s choices ws old new r
+  promised : {new : Memory} (r : BoundAnswer) → r ≡ bound-answer s choices ws old → BoundLeaves s choices ws old new → BoundPromises s choices ws old new r
   promised r e l =
-      let outcome = ap (λ x. bound-outcome x) e ∙ said-by (bound-verdict s choices ws old) (block-report s choices ws) in
-      let exact : BoundSaid s choices ws r = λ b f. exact-by s choices ws old b (sym e ∙ f) in
-      let floor : Accepted s choices ws → FloorFigures (block-job s choices) (weight-in ws) = λ a. floor-figures (block-job s choices) (weight-in ws) (accepted-in-range s choices ws a) in
-      (e, (outcome, (l, (exact, (recursion (block-job s choices) (weight-in ws), (normal-listed (block-job s choices), floor))))))
+      record {
+        answers = e;
+        outcome = ap (λ x. bound-outcome x) e ∙ said-by (bound-verdict s choices ws old) (block-report s choices ws);
+        memory = l;
+        exact = λ b f. exact-by s choices ws old b (sym e ∙ f);
+        recursion = recursion (block-job s choices) (weight-in ws);
+        normal = normal-listed (block-job s choices);
+        floor = λ a. floor-figures (block-job s choices) (weight-in ws) (accepted-in-range s choices ws a);
+      }
 
   -- the job or its weights are refused
-  pub early : (r : Refusal) → accept-verdict s choices ws ≡ Refused r → Promised s choices ws old old (answer.Refused r)
+  pub early : (r : Refusal) → accept-verdict s choices ws ≡ Refused r → BoundPromises s choices ws old old (answer.Refused r)
   early r v =
       let p = refused-before (block-job s choices) (weight-in ws) (block-capacity s choices ws) old (answer.Answered (block-report s choices ws)) answer.Refused v in
       promised (answer.Refused r) (p .0) (p .1)
 
   -- both are accepted
   pub accepted : Accepted s choices ws → {new : Memory} {floors : List ℕ} (r : BoundAnswer) → Bounded (block-job s choices) (weight-in ws) (block-capacity s choices ws) old new floors r
-      → Promised s choices ws old new r
+      → BoundPromises s choices ws old new r
   accepted v {new} {floors} r b =
       promised r (b .answer ∙ sym (ap (λ v. answer-by (next v (first-refusal (memory-checks (block-job s choices) (block-capacity s choices ws) old))) (block-report s choices ws)) v)) (rw v (b .memory))

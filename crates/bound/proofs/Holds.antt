@@ -3,8 +3,8 @@
 use mathlib.Core.Path.{_≡_, refl}
 use Prim.Native.Nat.{ℕ}
 use Rattle.cutting.specs.Job.{Job, InRange, capacity, bound-of}
-use Rattle.cutting.proofs.Job.{bound-ceiling}
-use Rattle.cutting.proofs.Promises.{bound-exact, none-above}
+use Rattle.cutting.proofs.Bound.{bound-ceiling, bound-less}
+use Rattle.cutting.proofs.Promises.{bound-exact, none-above, plate-holds}
 use Rattle.refusal.specs.declared.Refusal.{Refusal}
 use Rattle.refusal.specs.declared.Checked.{Checked}
 use Rattle.refusal.specs.declared.Checked.the-variants.{Passed, Refused}
@@ -14,7 +14,15 @@ use Rattle.bound.specs.declared.BoundAnswer.the-variants as answer
 
 -- the bound of a job in range holds at its capacity
 pub bound-held : (J : Job) (weight : ℕ → ℕ) → InRange J → BoundHolds J weight (capacity J weight) (bound-of J weight)
-bound-held J weight h = record { most = bound-exact J weight; demands = none-above J weight; ceiling = bound-ceiling J weight h; figure = refl }
+bound-held J weight h = record {
+  most = bound-exact J weight;
+  demands = none-above J weight h;
+  ceiling = bound-ceiling J weight h;
+  figure = refl;
+  capacity-is = refl;
+  held = plate-holds J h;
+  full-demand = bound-less J weight;
+}
 
 -- an answer with a report: the verdict passed, and it is the report
 pub answered-behind : (v : Checked) (b : BoundReport) {x : BoundReport} → answer.Answered x ≡ answer-by v b → (v ≡ Passed) × (x ≡ b)

@@ -9,14 +9,14 @@ use lib.ListN.{length}
 use Rattle.cutting.specs.declared.Direction.the-variants.{Length, Width}
 use Rattle.cutting.specs.Limits.{most-figure}
 use Rattle.cutting.specs.Lists.{over}
-use Rattle.cutting.specs.Job.{Job, capacity, figure-of, normal-positions}
-use Rattle.cutting.specs.Promises.{NoneAbove, MostWithin}
+use Rattle.cutting.specs.Job.{Job, capacity, at-full-demand, figure-of, bound-of, normal-positions}
+use Rattle.cutting.specs.Promises.{NoneAbove, PlateHolds, MostWithin, Recursion, NormalSums, FloorFigures}
 use Rattle.refusal.specs.Refusals.{Check, Outcome, next, first-refusal, by-check, refused-as, outcome-by}
 use Rattle.refusal.specs.declared.Checked.{Checked}
 use Rattle.refusal.specs.declared.Refusal.the-variants.{ListShort, TableShort}
 use Rattle.job.specs.declared.Choices.{Choices}
 use Rattle.job.specs.Block.{job-checks}
-use Rattle.job.specs.Weights.{block-job, weight-in, weight-checks}
+use Rattle.job.specs.Weights.{block-job, weight-in, weight-checks, Accepted}
 use Rattle.table.specs.Table.{position-count, words-needed, Figures, Kept}
 use Rattle.bound.specs.declared.BoundReport.{BoundReport}
 use Rattle.bound.specs.declared.BoundAnswer.{BoundAnswer}
@@ -108,13 +108,29 @@ abbrev pub bound-said : List ℕ → Choices → List ℕ → Memory → Outcome
 bound-said s choices ws m = outcome-by (bound-verdict s choices ws m) (report-values (block-report s choices ws))
 
 -- what a bound n at the capacity q is: the most that a guillotine tree of weight at most q earns; no less than any tree that keeps the
--- demands earns; at most 1,000,000,000,000; the recursion's figure at the plate and q
+-- demands earns; at most 1,000,000,000,000; the recursion's figure at the plate and q. The capacity is the job's, no tree on the plate
+-- has more copies of a kind than it counts as what the plate holds, and the bound of the full demands is no less than n
 pub record BoundHolds (J : Job) (weight : ℕ → ℕ) (q n : ℕ) : Type 0 where
   pub most : MostWithin J weight q n
   pub demands : NoneAbove J n
   pub ceiling : n ≤ most-figure
   pub figure : n ≡ figure-of J weight (J .plate .0) (J .plate .1) q
+  pub capacity-is : q ≡ capacity J weight
+  pub held : PlateHolds J
+  pub full-demand : n ≤ bound-of (at-full-demand J) weight
 
 -- what an answer says: its bound holds at its capacity
 abbrev pub BoundSaid : List ℕ → Choices → List ℕ → BoundAnswer → Type 0
 BoundSaid s choices ws r = (b : BoundReport) → r ≡ answer.Answered b → BoundHolds (block-job s choices) (weight-in ws) (b .capacity) (b .bound)
+
+-- what the bound call promises of its answer and of the memory that it is lent: both are the definitions', number and values too; an
+-- answered bound holds; the figures follow the recursion, the normal positions are the sums, and where job and weights are accepted a
+-- tabled figure is that of every rectangle whose largest normal sides it has
+pub record BoundPromises (s : List ℕ) (choices : Choices) (ws : List ℕ) (old new : Memory) (r : BoundAnswer) : Type 0 where
+  pub answers : r ≡ bound-answer s choices ws old
+  pub outcome : bound-outcome r ≡ bound-said s choices ws old
+  pub memory : BoundLeaves s choices ws old new
+  pub exact : BoundSaid s choices ws r
+  pub recursion : Recursion (block-job s choices) (weight-in ws)
+  pub normal : NormalSums (block-job s choices)
+  pub floor : Accepted s choices ws → FloorFigures (block-job s choices) (weight-in ws)

@@ -2,6 +2,7 @@
 // figures into the lent table, and the table's last word is the bound. Refusals 1 to 9, 19 and 20.
 use cutting::Sides;
 use job::Choices;
+use job::with_full_demand;
 use pieces::list_pieces;
 use pieces::plate_of;
 use positions::map_floors;
@@ -15,11 +16,10 @@ ghost use Prim.Native.Nat.{_+_, _*_, _≤_};
 ghost use lib.Dec.{ltb};
 ghost use lib.ListN.{length};
 ghost use Rattle.cutting.specs.Limits.{most-side, most-capacity};
-ghost use Rattle.cutting.specs.Promises.{Recursion, NormalSums, FloorFigures};
 ghost use Rattle.cutting.specs.Sides.{rect-of};
 ghost use Rattle.cutting.specs.Listed.{heavy-in, pieces-job};
-ghost use Rattle.job.specs.Weights.{block-job, weight-in, Accepted};
-ghost use Rattle.bound.specs.Bound.{lent, bound-answer, bound-outcome, bound-said, BoundLeaves, BoundSaid};
+ghost use Rattle.job.specs.Block.{with-full-demand};
+ghost use Rattle.bound.specs.Bound.{lent, BoundPromises};
 ghost use Rattle.positions.specs.Contracts.{Mappable};
 ghost use Rattle.table.specs.Contracts.{size-job, Fillable, FilledBy};
 ghost use Rattle.bound.specs.Contracts.{SidesMapped, Boundable, Bounded};
@@ -138,10 +138,8 @@ pub fn bound_of_pieces(
     })
 }
 
-// The bound of a job block and weights. The answer, its number and values and the memory it leaves are the definitions'. An answered
-// bound is exact: the most that a guillotine tree within the answered capacity earns, and no tree that keeps the demands earns more.
-// The figures behind it follow the recursion, the listed positions are the sums, and a tabled figure is that of every rectangle whose
-// largest normal sides it has.
+// The bound of a job block and weights. An answered bound is exact: the most that a guillotine tree within the answered capacity earns,
+// and no tree that keeps the demands earns more.
 pub fn bound(
     block: &[u8],
     choices: Choices,
@@ -150,13 +148,8 @@ pub fn bound(
     widths: &mut [u16],
     table: &mut [u64],
 ) -> BoundAnswer
-    ensures answers { λ r. ⌜ r ≡ bound-answer (now (block .entry)) choices (now (weights .entry)) (lent (now (lengths .entry)) (now (widths .entry)) (now (table .entry))) ⌝ }
-    ensures outcome { λ r. ⌜ bound-outcome r ≡ bound-said (now (block .entry)) choices (now (weights .entry)) (lent (now (lengths .entry)) (now (widths .entry)) (now (table .entry))) ⌝ }
-    ensures memory { λ _. ⌜ BoundLeaves (now (block .entry)) choices (now (weights .entry)) (lent (now (lengths .entry)) (now (widths .entry)) (now (table .entry))) (lent (now (lengths .exit)) (now (widths .exit)) (now (table .exit))) ⌝ }
-    ensures exact { λ r. ⌜ BoundSaid (now (block .entry)) choices (now (weights .entry)) r ⌝ }
-    ensures recursion { λ _. ⌜ Recursion (block-job (now (block .entry)) choices) (weight-in (now (weights .entry))) ⌝ }
-    ensures normal { λ _. ⌜ NormalSums (block-job (now (block .entry)) choices) ⌝ }
-    ensures floor { λ _. ⌜ (Accepted (now (block .entry)) choices (now (weights .entry)) → FloorFigures (block-job (now (block .entry)) choices) (weight-in (now (weights .entry)))) ⌝ }
+    ensures { λ r. ⌜ BoundPromises (now (block .entry)) choices (now (weights .entry)) (lent (now (lengths .entry)) (now (widths .entry)) (now (table .entry)))
+        (lent (now (lengths .exit)) (now (widths .exit)) (now (table .exit))) r ⌝ }
 {
     let accepted = job::accept(block, choices, weights);
     let verdict = accepted.verdict;
@@ -177,6 +170,28 @@ pub fn bound(
         lengths,
         widths,
         &mut floors[..],
+        table,
+    )
+}
+
+// The same with the capacity of the full demands, whatever the choices say of it: demand times weight over all kinds.
+pub fn bound_full_demand(
+    block: &[u8],
+    choices: Choices,
+    weights: &[u8],
+    lengths: &mut [u16],
+    widths: &mut [u16],
+    table: &mut [u64],
+) -> BoundAnswer
+    ensures { λ r. ⌜ BoundPromises (now (block .entry)) (with-full-demand choices) (now (weights .entry)) (lent (now (lengths .entry)) (now (widths .entry)) (now (table .entry)))
+        (lent (now (lengths .exit)) (now (widths .exit)) (now (table .exit))) r ⌝ }
+{
+    bound(
+        block,
+        with_full_demand(choices),
+        weights,
+        lengths,
+        widths,
         table,
     )
 }

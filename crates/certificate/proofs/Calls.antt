@@ -30,9 +30,9 @@ use Rattle.bound.proofs.Calls.{refused-before}
 use Rattle.bound.specs.declared.BoundReport.{BoundReport}
 use Rattle.bound.specs.declared.BoundAnswer.{BoundAnswer}
 use Rattle.bound.specs.declared.BoundAnswer.the-variants as bound
-use Rattle.certificate.specs.Certificate.{plan-verdict, certify-verdict, certificate-of, compared, compared-by, handed-on, certificate-values, certificate-outcome, certificate-said}
+use Rattle.certificate.specs.Certificate.{plan-verdict, certify-verdict, certificate-of, compared, compared-by, handed-on, certificate-values, certificate-outcome}
 use Rattle.certificate.specs.Contracts.{weights-verdict, storage-verdict}
-use Rattle.certificate.specs.Promises.{BestSaid, GapSaid}
+use Rattle.certificate.specs.Promises.{CertifyPromises}
 use Rattle.certificate.specs.declared.Certificate.{Certificate}
 use Rattle.certificate.specs.declared.Certificate.the-variants as certificate
 use Rattle.certificate.proofs.Promises.{behind, drawn-most, certificates-hold}
@@ -49,11 +49,6 @@ said-by : (v : Checked) (p b : ℕ) → (v ≡ Passed → p ≤ b) → certifica
 said-by Passed p b h = compared-said p b (h refl)
 said-by (Refused r) p b h = refl
 
--- all clauses of the call
-abbrev pub Promised : List ℕ → Choices → List ℕ → List ℕ → List ℕ → Memory → Memory → Certificate → Type 0
-Promised s choices ws kinds operands old new r = (r ≡ certificate-of s choices ws kinds operands old) × ((certificate-outcome r ≡ certificate-said s choices ws kinds operands old)
-    × (Leaves (plan-verdict s choices ws kinds operands) (block-job s choices) (weight-in ws) (block-capacity s choices ws) old new × (BestSaid (block-job s choices) (weight-in ws) kinds operands r × GapSaid (block-job s choices) (weight-in ws) kinds operands r)))
-
 module _ (s : List ℕ) (choices : Choices) (ws kinds operands : List ℕ) (old : Memory) where
   most : certify-verdict s choices ws kinds operands old ≡ Passed → plan-answer (block-job s choices) kinds operands .report .profit ≤ bound-of (block-job s choices) (weight-in ws)
   most h = let b = behind s choices ws kinds operands old h in drawn-most s choices ws kinds operands (b .0) (b .1)
@@ -64,16 +59,19 @@ module _ (s : List ℕ) (choices : Choices) (ws kinds operands : List ℕ) (old 
 
   -- the answer and the memory give the rest
   promised : {new : Memory} (r : Certificate) → r ≡ certificate-of s choices ws kinds operands old → Leaves (plan-verdict s choices ws kinds operands) (block-job s choices) (weight-in ws) (block-capacity s choices ws) old new
-      → Promised s choices ws kinds operands old new r
+      → CertifyPromises s choices ws kinds operands old new r
   promised r e l =
       let hold = certificates-hold s choices ws kinds operands old in
-      let outcome = ap (λ x. certificate-outcome x) e ∙ said-by (certify-verdict s choices ws kinds operands old) _ _ most in
-      let best : BestSaid (block-job s choices) (weight-in ws) kinds operands r = λ n f. hold .0 n (sym e ∙ f) in
-      let gap : GapSaid (block-job s choices) (weight-in ws) kinds operands r = λ n g f. hold .1 n g (sym e ∙ f) in
-      (e, (outcome, (l, (best, gap))))
+      record {
+        answers = e;
+        outcome = ap (λ x. certificate-outcome x) e ∙ said-by (certify-verdict s choices ws kinds operands old) _ _ most;
+        memory = l;
+        best = λ n f. hold .0 n (sym e ∙ f);
+        gap = λ n g f. hold .1 n g (sym e ∙ f);
+      }
 
   -- a refusal before the storage checks, handed on
-  early : {v : Checked} (r : Refusal) {c : Certificate} → plan-verdict s choices ws kinds operands ≡ Refused r → v ≡ Refused r → c ≡ handed-on v (compared 0 0) → Promised s choices ws kinds operands old old c
+  early : {v : Checked} (r : Refusal) {c : Certificate} → plan-verdict s choices ws kinds operands ≡ Refused r → v ≡ Refused r → c ≡ handed-on v (compared 0 0) → CertifyPromises s choices ws kinds operands old old c
   early r {c} e v h = let p = refused-before (block-job s choices) (weight-in ws) (block-capacity s choices ws) old unrefused certificate.Refused e in promised c (h ∙ ap (λ v. handed-on v (compared 0 0)) v ∙ p .0) (p .1)
 
   -- the plan's verdict after that of job and weights
@@ -81,11 +79,11 @@ module _ (s : List ℕ) (choices : Choices) (ws kinds operands : List ℕ) (old 
   after e = ap (λ v. next v (plan-answer (block-job s choices) kinds operands .verdict)) e
 
   module _ {a : JobAnswer} (read : a ≡ read-of s choices) where
-    pub job-refused : (r : Refusal) {c : Certificate} → a .verdict ≡ Refused r → c ≡ handed-on (a .verdict) (compared 0 0) → Promised s choices ws kinds operands old old c
+    pub job-refused : (r : Refusal) {c : Certificate} → a .verdict ≡ Refused r → c ≡ handed-on (a .verdict) (compared 0 0) → CertifyPromises s choices ws kinds operands old old c
     job-refused r p h = early r (after (both-by s choices ws (refused s choices read p) refl)) p h
 
     pub weights-refused : {w : WeightsAnswer} {v : Checked} (r : Refusal) {c : Certificate} → a .verdict ≡ Passed → w ≡ weights-answer (job-of (a .job)) ws → w ≡ weights.Refused r → v ≡ weights-verdict w
-        → c ≡ handed-on v (compared 0 0) → Promised s choices ws kinds operands old old c
+        → c ≡ handed-on v (compared 0 0) → CertifyPromises s choices ws kinds operands old old c
     weights-refused r p f g u h =
         let j = answered s choices read p in
         let k = refusal-answered (block-job s choices) ws r (sym (f ∙ ap (λ j. weights-answer (job-of j) ws) (j .1)) ∙ g) in
@@ -98,7 +96,7 @@ module _ (s : List ℕ) (choices : Choices) (ws kinds operands : List ℕ) (old 
     walked : plan-verdict s choices ws kinds operands ≡ a .verdict
     walked = after (t .accepted) ∙ sym (ap (λ (x : PlanAnswer). x .verdict) drawn-is)
 
-    pub plan-refused : (r : Refusal) {c : Certificate} → a .verdict ≡ Refused r → c ≡ handed-on (a .verdict) (compared 0 0) → Promised s choices ws kinds operands old old c
+    pub plan-refused : (r : Refusal) {c : Certificate} → a .verdict ≡ Refused r → c ≡ handed-on (a .verdict) (compared 0 0) → CertifyPromises s choices ws kinds operands old old c
     plan-refused r p h = early r (walked ∙ p) p h
 
     module _ (passed : a .verdict ≡ Passed) {new : Memory} {floors : List ℕ} {found : BoundAnswer} (whole : Bounded (block-job s choices) (weight-in ws) (block-capacity s choices ws) old new floors found) where
@@ -108,7 +106,7 @@ module _ (s : List ℕ) (choices : Choices) (ws kinds operands : List ℕ) (old 
       answer : {v : Checked} → first-refusal (memory-checks (block-job s choices) (block-capacity s choices ws) old) ≡ v → certificate-of s choices ws kinds operands old ≡ handed-on v unrefused
       answer e = ap (λ v. handed-on v unrefused) (ap₂ next (walked ∙ passed) e)
 
-      pub storage-refused : {v : Checked} (r : Refusal) {c : Certificate} → found ≡ bound.Refused r → v ≡ storage-verdict found → c ≡ handed-on v (compared 0 0) → Promised s choices ws kinds operands old new c
+      pub storage-refused : {v : Checked} (r : Refusal) {c : Certificate} → found ≡ bound.Refused r → v ≡ storage-verdict found → c ≡ handed-on v (compared 0 0) → CertifyPromises s choices ws kinds operands old new c
       storage-refused r {c} e u h = promised c (h ∙ ap (λ v. handed-on v (compared 0 0)) (u ∙ ap (λ f. storage-verdict f) e)
           ∙ sym (answer (refused-behind _ (block-report s choices ws) (sym e ∙ whole .answer)))) left
 
@@ -117,7 +115,7 @@ module _ (s : List ℕ) (choices : Choices) (ws kinds operands : List ℕ) (old 
         reported : (first-refusal (memory-checks (block-job s choices) (block-capacity s choices ws) old) ≡ Passed) × (x .bound ≡ bound-of (block-job s choices) (weight-in ws))
         reported = let v = answered-behind _ (block-report s choices ws) (sym e ∙ whole .answer) in (v .0, ap (λ (y : BoundReport). y .bound) (v .1))
 
-        pub certified : {c : Certificate} → c ≡ compared (a .report .profit) (x .bound) → Promised s choices ws kinds operands old new c
+        pub certified : {c : Certificate} → c ≡ compared (a .report .profit) (x .bound) → CertifyPromises s choices ws kinds operands old new c
         certified {c} h = promised c (h ∙ ap₂ compared (ap (λ (x : PlanAnswer). x .report .profit) drawn-is) (reported .1) ∙ sym (answer (reported .0))) left
 
         -- the profit is at most the bound answered

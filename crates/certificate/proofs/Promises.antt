@@ -35,7 +35,7 @@ module _ (s : List ℕ) (choices : Choices) (ws kinds operands : List ℕ) (good
       (t .0, t .1, sym (ap (λ (r : Report). r .profit) (t .2 .own)))
 
   pub drawn-most : plan-answer J kinds operands .report .profit ≤ bound-of J (weight-in ws)
-  drawn-most = let t = drawn in omega (arith, t .2, trees.none-above J (weight-in ws) (t .0) (t .1 .on-plate) (t .1 .demands))
+  drawn-most = let t = drawn in omega (arith, t .2, trees.none-above J (weight-in ws) (read-in-range s choices good) (t .0) (t .1 .on-plate) (t .1 .demands))
 
 module _ (s : List ℕ) (choices : Choices) (ws kinds operands : List ℕ) (m : Memory) (passed : certify-verdict s choices ws kinds operands m ≡ Passed) where
   -- what stands behind a certificate
@@ -58,7 +58,7 @@ pub plans-earn : PlansEarn
 plans-earn s choices ws accepted = let h = accepted-in-range s choices ws accepted in (trees.plan-follows (block-job s choices) (weight-in ws) h, plan-bound (block-job s choices) (weight-in ws) (range-solid (block-job s choices) h))
 
 pub bound-exact : BoundExact
-bound-exact s choices ws accepted = (trees.bound-exact (block-job s choices) (weight-in ws), trees.none-above (block-job s choices) (weight-in ws))
+bound-exact s choices ws accepted = (trees.bound-exact (block-job s choices) (weight-in ws), trees.none-above (block-job s choices) (weight-in ws) (accepted-in-range s choices ws accepted))
 
 module _ (s : List ℕ) (choices : Choices) (ws kinds operands : List ℕ) (m : Memory) where
   best-holds : BestSaid (block-job s choices) (weight-in ws) kinds operands (certificate-of s choices ws kinds operands m)
@@ -67,7 +67,7 @@ module _ (s : List ℕ) (choices : Choices) (ws kinds operands : List ℕ) (m : 
       let b = behind s choices ws kinds operands m (a .0) in
       let f = best-equal _ _ n (a .1) in
       let d = drawn s choices ws kinds operands (b .0) (b .1) in
-      ((d .0, d .1, d .2 ∙ f .0), sym (f .1), λ t g k. omega (arith, f .1, trees.none-above (block-job s choices) (weight-in ws) t g k))
+      ((d .0, d .1, d .2 ∙ f .0), sym (f .1), λ t g k. omega (arith, f .1, trees.none-above (block-job s choices) (weight-in ws) (read-in-range s choices (b .0)) t g k))
 
   gap-holds : GapSaid (block-job s choices) (weight-in ws) kinds operands (certificate-of s choices ws kinds operands m)
   gap-holds n gap e =
@@ -76,7 +76,7 @@ module _ (s : List ℕ) (choices : Choices) (ws kinds operands : List ℕ) (m : 
       let f = gap-differs _ _ n gap (a .1) in
       let d = drawn s choices ws kinds operands (b .0) (b .1) in
       let most = drawn-most s choices ws kinds operands (b .0) (b .1) in
-      ((d .0, d .1, d .2 ∙ f .0), omega (arith, f .1, most, f .2), omega (arith, f .0, f .1, most), λ t g k. omega (arith, f .0, f .1, most, trees.none-above (block-job s choices) (weight-in ws) t g k))
+      ((d .0, d .1, d .2 ∙ f .0), omega (arith, f .1, most, f .2), omega (arith, f .0, f .1, most), λ t g k. omega (arith, f .0, f .1, most, trees.none-above (block-job s choices) (weight-in ws) (read-in-range s choices (b .0)) t g k))
 
 pub certificates-hold : CertificatesHold
 certificates-hold s choices ws kinds operands m = (best-holds s choices ws kinds operands m, gap-holds s choices ws kinds operands m)

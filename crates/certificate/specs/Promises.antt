@@ -21,7 +21,7 @@ use Rattle.job.specs.Weights.{block-job, weight-in, Accepted}
 use Rattle.plan.specs.Plan.{plan-answer}
 use Rattle.plan.specs.Trees.{PlanOf, tree-report}
 use Rattle.bound.specs.Bound.{Memory, Leaves, block-capacity, memory-checks, bound-answer, BoundSaid}
-use Rattle.certificate.specs.Certificate.{certificate-of}
+use Rattle.certificate.specs.Certificate.{plan-verdict, certificate-of, certificate-outcome, certificate-said}
 use Rattle.certificate.specs.declared.Certificate.{Certificate}
 use Rattle.certificate.specs.declared.Certificate.the-variants.{Best, Gap}
 
@@ -74,6 +74,15 @@ BestSaid J weight kinds operands r = (n : ℕ) → r ≡ Best n → Earns J kind
 -- earns more than that
 abbrev pub GapSaid : Job → (ℕ → ℕ) → List ℕ → List ℕ → Certificate → Type 0
 GapSaid J weight kinds operands r = (n gap : ℕ) → r ≡ Gap n gap → Earns J kinds operands n × (0 < gap) × (n + gap ≡ bound-of J weight) × NoneAbove J (n + gap)
+
+-- what certify promises of its answer and of the memory that it is lent: both are the definitions', number and values too; "best" and a
+-- gap say what they say of every tree
+pub record CertifyPromises (s : List ℕ) (choices : Choices) (ws kinds operands : List ℕ) (old new : Memory) (r : Certificate) : Type 0 where
+  pub answers : r ≡ certificate-of s choices ws kinds operands old
+  pub outcome : certificate-outcome r ≡ certificate-said s choices ws kinds operands old
+  pub memory : Leaves (plan-verdict s choices ws kinds operands) (block-job s choices) (weight-in ws) (block-capacity s choices ws) old new
+  pub best : BestSaid (block-job s choices) (weight-in ws) kinds operands r
+  pub gap : GapSaid (block-job s choices) (weight-in ws) kinds operands r
 
 -- demand 3, best: a plan is called best exactly when its profit is the bound, and is then best, whoever drew it; a gap holds
 abbrev pub CertificatesHold : Type 0

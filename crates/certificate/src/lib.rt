@@ -3,6 +3,7 @@
 use bound::BoundAnswer;
 use job::Choices;
 use job::WeightsAnswer;
+use job::with_full_demand;
 use pieces::list_pieces;
 use pieces::plate_of;
 use refusal::Checked;
@@ -10,11 +11,11 @@ use refusal::Refusal;
 ghost use mathlib.Core.Path.{_≡_};
 ghost use Prim.Native.Nat.{_≤_};
 ghost use Rattle.refusal.specs.declared.Checked.the-variants.{Passed};
-ghost use Rattle.job.specs.Weights.{block-job, weight-in};
-ghost use Rattle.bound.specs.Bound.{lent, Leaves, block-capacity};
-ghost use Rattle.certificate.specs.Certificate.{certificate-of, plan-verdict, compared, handed-on, certificate-outcome, certificate-said};
+ghost use Rattle.job.specs.Block.{with-full-demand};
+ghost use Rattle.bound.specs.Bound.{lent};
+ghost use Rattle.certificate.specs.Certificate.{compared, handed-on};
 ghost use Rattle.certificate.specs.Contracts.{weights-verdict, storage-verdict};
-ghost use Rattle.certificate.specs.Promises.{BestSaid, GapSaid};
+ghost use Rattle.certificate.specs.Promises.{CertifyPromises};
 
 // What certify answers: best, with the profit; or a gap, with the profit and the bound less the profit; or a refusal.
 pub enum Certificate {
@@ -77,12 +78,8 @@ pub fn certify(
     widths: &mut [u16],
     table: &mut [u64],
 ) -> Certificate
-    ensures answers { λ r. ⌜ r ≡ certificate-of (now (block .entry)) choices (now (weights .entry)) (now (kinds .entry)) (now (operands .entry)) (lent (now (lengths .entry)) (now (widths .entry)) (now (table .entry))) ⌝ }
-    ensures outcome { λ r. ⌜ certificate-outcome r ≡ certificate-said (now (block .entry)) choices (now (weights .entry)) (now (kinds .entry)) (now (operands .entry)) (lent (now (lengths .entry)) (now (widths .entry)) (now (table .entry))) ⌝ }
-    ensures memory { λ _. ⌜ Leaves (plan-verdict (now (block .entry)) choices (now (weights .entry)) (now (kinds .entry)) (now (operands .entry))) (block-job (now (block .entry)) choices) (weight-in (now (weights .entry))) (block-capacity (now (block .entry)) choices (now (weights .entry)))
-        (lent (now (lengths .entry)) (now (widths .entry)) (now (table .entry))) (lent (now (lengths .exit)) (now (widths .exit)) (now (table .exit))) ⌝ }
-    ensures best { λ r. ⌜ BestSaid (block-job (now (block .entry)) choices) (weight-in (now (weights .entry))) (now (kinds .entry)) (now (operands .entry)) r ⌝ }
-    ensures gap { λ r. ⌜ GapSaid (block-job (now (block .entry)) choices) (weight-in (now (weights .entry))) (now (kinds .entry)) (now (operands .entry)) r ⌝ }
+    ensures { λ r. ⌜ CertifyPromises (now (block .entry)) choices (now (weights .entry)) (now (kinds .entry)) (now (operands .entry)) (lent (now (lengths .entry)) (now (widths .entry)) (now (table .entry)))
+        (lent (now (lengths .exit)) (now (widths .exit)) (now (table .exit))) r ⌝ }
 {
     let answer = job::read_job(block, choices);
     let read = answer.verdict;
@@ -117,4 +114,30 @@ pub fn certify(
         return conclude(storage_verdict(found), 0, 0);
     };
     conclude(Checked::Passed, report.profit, b.bound)
+}
+
+// The same with the capacity of the full demands, whatever the choices say of it: for certificates that were filed with it.
+pub fn certify_full_demand(
+    block: &[u8],
+    choices: Choices,
+    weights: &[u8],
+    kinds: &[u8],
+    operands: &[u16],
+    lengths: &mut [u16],
+    widths: &mut [u16],
+    table: &mut [u64],
+) -> Certificate
+    ensures { λ r. ⌜ CertifyPromises (now (block .entry)) (with-full-demand choices) (now (weights .entry)) (now (kinds .entry)) (now (operands .entry)) (lent (now (lengths .entry)) (now (widths .entry)) (now (table .entry)))
+        (lent (now (lengths .exit)) (now (widths .exit)) (now (table .exit))) r ⌝ }
+{
+    certify(
+        block,
+        with_full_demand(choices),
+        weights,
+        kinds,
+        operands,
+        lengths,
+        widths,
+        table,
+    )
 }

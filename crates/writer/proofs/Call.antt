@@ -26,7 +26,7 @@ use Rattle.bound.proofs.Calls.{range-taken, listable}
 use Rattle.writer.specs.declared.WriteReport.{WriteReport}
 use Rattle.writer.specs.declared.WriteAnswer.{WriteAnswer}
 use Rattle.writer.specs.declared.WriteAnswer.the-variants as answer
-use Rattle.writer.specs.Write.{plan-check, write-report, write-answer-by, write-values, write-outcome, nodes-verdict, block-plan, write-verdict, write-answer, write-said, array-after, PlanChosen, PlanWritten, BoundWritten}
+use Rattle.writer.specs.Write.{plan-check, write-report, write-answer-by, write-values, write-outcome, nodes-verdict, block-plan, write-verdict, write-answer, PlanChosen, PlanWritten, BoundWritten, WritePromises}
 use Rattle.writer.specs.Contracts.{Weighed, room-verdict, Planned}
 use Rattle.writer.proofs.Write.{none-long, untouched}
 
@@ -47,13 +47,6 @@ written-by (Refused x) b e = absurd (let z : _≡_ {A = ℕ} 0 1 = cc in omega a
 -- the plan of an accepted job and weights
 plan-chosen : (s : List ℕ) (choices : Choices) (ws : List ℕ) → PlanChosen s choices ws
 plan-chosen s choices ws h = let r = accepted-in-range s choices ws h in (plan-follows (block-job s choices) (weight-in ws) r, plan-bound (block-job s choices) (weight-in ws) (range-solid (block-job s choices) r))
-
--- what the call promises, in the order of its contract
-abbrev pub Promised : List ℕ → Choices → List ℕ → (old new : bound.Memory) (kinds operands new-kinds new-operands : List ℕ) → WriteAnswer → Type 0
-Promised s choices ws old new kinds operands new-kinds new-operands r = (r ≡ write-answer s choices ws old kinds operands) × ((write-outcome r ≡ write-said s choices ws old kinds operands)
-    × (bound.BoundLeaves s choices ws old new × ((new-kinds ≡ array-after s choices ws old kinds operands (kinds-of (block-plan s choices ws)) kinds)
-    × ((new-operands ≡ array-after s choices ws old kinds operands (operands-of (block-plan s choices ws)) operands)
-    × (PlanChosen s choices ws × (PlanWritten s choices ws kinds operands new-kinds new-operands r × BoundWritten s choices ws r))))))
 
 module _ (s : List ℕ) (choices : Choices) (ws : List ℕ) (old : bound.Memory) (kinds operands : List ℕ) where
   -- what the call's verdict makes of the answer and of the arrays gives the rest
@@ -78,24 +71,32 @@ module _ (s : List ℕ) (choices : Choices) (ws : List ℕ) (old : bound.Memory)
     bound-kept : BoundWritten s choices ws r
     bound-kept b w = rw (reported w .1) (bound-held (block-job s choices) (weight-in ws) (accepted-in-range s choices ws (accepted-by w)))
 
-    promised : {new : bound.Memory} → bound.BoundLeaves s choices ws old new → Promised s choices ws old new kinds operands new-kinds new-operands r
+    promised : {new : bound.Memory} → bound.BoundLeaves s choices ws old new → WritePromises s choices ws old new kinds operands new-kinds new-operands r
     promised left =
-        let outcome = ap write-outcome (p .answer) ∙ said-by (write-verdict s choices ws old kinds operands) (write-report s choices ws) in
-        (p .answer, (outcome, (left, (p .kinds-left, (p .operands-left, (plan-chosen s choices ws, (plan-kept, bound-kept)))))))
+        record {
+          answers = p .answer;
+          outcome = ap write-outcome (p .answer) ∙ said-by (write-verdict s choices ws old kinds operands) (write-report s choices ws);
+          memory = left;
+          kinds-left = p .kinds-left;
+          operands-left = p .operands-left;
+          choice = plan-chosen s choices ws;
+          plan = plan-kept;
+          bound = bound-kept;
+        }
 
   -- what a verdict before the storage's checks leads to
   abbrev after : Checked → Checked
   after v = next (next v (first-refusal (bound.memory-checks (block-job s choices) (bound.block-capacity s choices ws) old))) (nodes-verdict (block-plan s choices ws) kinds operands)
 
   -- the job or its weights are refused: nothing is changed
-  pub unaccepted : {x : Refusal} → bound.accept-verdict s choices ws ≡ Refused x → Promised s choices ws old old kinds operands kinds operands (answer.Refused x)
+  pub unaccepted : {x : Refusal} → bound.accept-verdict s choices ws ≡ Refused x → WritePromises s choices ws old old kinds operands kinds operands (answer.Refused x)
   unaccepted {x} v = promised (subst (λ v. Planned (after v) (bound.block-report s choices ws) (block-plan s choices ws) kinds operands kinds operands (answer.Refused x)) (sym v) (untouched (bound.block-report s choices ws) (block-plan s choices ws) kinds operands x))
       (rw v (record { lengths = refl; widths = refl; table = refl }))
 
   -- both are accepted: what planning the job answers and leaves is what the call does
   pub accepted : {j : JobRecord} {q : ℕ} → Taken s choices ws j q → {new : bound.Memory} {new-kinds new-operands : List ℕ} {r : WriteAnswer} → bound.Leaves Passed (job-of j) (weight-in ws) q old new
       → Planned (room-verdict (job-of j) q old (plan-under (job-of j) (weight-in ws) q) kinds operands) (bound.bound-report (job-of j) (weight-in ws) q) (plan-under (job-of j) (weight-in ws) q) kinds operands new-kinds new-operands r
-      → Promised s choices ws old new kinds operands new-kinds new-operands r
+      → WritePromises s choices ws old new kinds operands new-kinds new-operands r
   accepted t {new} {new-kinds} {new-operands} {r} left p =
       let v = t .accepted in
       let plan : Planned (after Passed) (bound.block-report s choices ws) (block-plan s choices ws) kinds operands new-kinds new-operands r = rw (t .record-is, t .capacity-is) at p in

@@ -19,7 +19,7 @@ use Rattle.refusal.specs.declared.Refusal.the-variants.{PlanLong}
 use Rattle.job.specs.declared.Choices.{Choices}
 use Rattle.job.specs.Weights.{block-job, weight-in, Accepted}
 use Rattle.bound.specs.declared.BoundReport.{BoundReport}
-use Rattle.bound.specs.Bound.{Memory, list-after, block-capacity, block-report, bound-verdict, BoundHolds}
+use Rattle.bound.specs.Bound.{Memory, list-after, block-capacity, block-report, bound-verdict, BoundLeaves, BoundHolds}
 use Rattle.writer.specs.declared.WriteReport.{WriteReport}
 use Rattle.writer.specs.declared.WriteAnswer.{WriteAnswer}
 use Rattle.writer.specs.declared.WriteAnswer.the-variants as answer
@@ -94,3 +94,15 @@ PlanWritten s choices ws kinds operands new-kinds new-operands r = (b : WriteRep
 -- an answered bound holds at the answered capacity, as the bound call's does
 abbrev pub BoundWritten : List ℕ → Choices → List ℕ → WriteAnswer → Type 0
 BoundWritten s choices ws r = (b : WriteReport) → r ≡ answer.Written b → BoundHolds (block-job s choices) (weight-in ws) (b .capacity) (b .bound)
+
+-- what the writing call promises of its answer and of all that it is lent: answer, lists, table and plan arrays are the definitions',
+-- number and values too; the plan follows the order of choice; an answer reports the plan as it was written, and its bound holds
+pub record WritePromises (s : List ℕ) (choices : Choices) (ws : List ℕ) (old new : Memory) (kinds operands new-kinds new-operands : List ℕ) (r : WriteAnswer) : Type 0 where
+  pub answers : r ≡ write-answer s choices ws old kinds operands
+  pub outcome : write-outcome r ≡ write-said s choices ws old kinds operands
+  pub memory : BoundLeaves s choices ws old new
+  pub kinds-left : new-kinds ≡ array-after s choices ws old kinds operands (kinds-of (block-plan s choices ws)) kinds
+  pub operands-left : new-operands ≡ array-after s choices ws old kinds operands (operands-of (block-plan s choices ws)) operands
+  pub choice : PlanChosen s choices ws
+  pub plan : PlanWritten s choices ws kinds operands new-kinds new-operands r
+  pub bound : BoundWritten s choices ws r

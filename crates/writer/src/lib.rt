@@ -7,6 +7,7 @@ use bound::bound_of_pieces;
 use cutting::Sides;
 use job::Choices;
 use job::JobRecord;
+use job::with_full_demand;
 use nodes::copy_nodes;
 use nodes::list_nodes;
 use pieces::list_pieces;
@@ -19,14 +20,13 @@ ghost use mathlib.Core.Bool.{_||_};
 ghost use lib.Dec.{ltb};
 ghost use Rattle.cutting.specs.Limits.{most-nodes};
 ghost use Rattle.cutting.specs.Job.{plan-under};
-ghost use Rattle.cutting.specs.Preorder.{kinds-of, operands-of};
-ghost use Rattle.job.specs.Block.{job-of};
+ghost use Rattle.job.specs.Block.{with-full-demand, job-of};
 ghost use Rattle.job.specs.Weights.{weight-in};
 ghost use Rattle.refusal.specs.declared.Checked.the-variants.{Passed};
-ghost use Rattle.bound.specs.Bound.{lent, Leaves, bound-report, BoundLeaves};
+ghost use Rattle.bound.specs.Bound.{lent, Leaves, bound-report};
 ghost use Rattle.choice.specs.Choice.{ChoiceInput};
 ghost use Rattle.writer.specs.Contracts.{table-of, whole-plan, Weighed, room-verdict, Planned};
-ghost use Rattle.writer.specs.Write.{reported, nodes-verdict, block-plan, write-answer, write-outcome, write-said, array-after, PlanChosen, PlanWritten, BoundWritten};
+ghost use Rattle.writer.specs.Write.{reported, nodes-verdict, WritePromises};
 
 // What the writing call reports: what the bound call does, and the number of the plan's nodes.
 pub struct WriteReport {
@@ -180,16 +180,8 @@ pub fn write_plan(
     kinds: &mut [u8],
     operands: &mut [u16],
 ) -> WriteAnswer
-    ensures answers { λ r. ⌜ r ≡ write-answer (now (block .entry)) choices (now (weights .entry)) (lent (now (lengths .entry)) (now (widths .entry)) (now (table .entry))) (now (kinds .entry)) (now (operands .entry)) ⌝ }
-    ensures outcome { λ r. ⌜ write-outcome r ≡ write-said (now (block .entry)) choices (now (weights .entry)) (lent (now (lengths .entry)) (now (widths .entry)) (now (table .entry))) (now (kinds .entry)) (now (operands .entry)) ⌝ }
-    ensures memory { λ _. ⌜ BoundLeaves (now (block .entry)) choices (now (weights .entry)) (lent (now (lengths .entry)) (now (widths .entry)) (now (table .entry))) (lent (now (lengths .exit)) (now (widths .exit)) (now (table .exit))) ⌝ }
-    ensures kinds { λ _. ⌜ now (kinds .exit) ≡ array-after (now (block .entry)) choices (now (weights .entry)) (lent (now (lengths .entry)) (now (widths .entry)) (now (table .entry))) (now (kinds .entry)) (now (operands .entry))
-        (kinds-of (block-plan (now (block .entry)) choices (now (weights .entry)))) (now (kinds .entry)) ⌝ }
-    ensures operands { λ _. ⌜ now (operands .exit) ≡ array-after (now (block .entry)) choices (now (weights .entry)) (lent (now (lengths .entry)) (now (widths .entry)) (now (table .entry))) (now (kinds .entry)) (now (operands .entry))
-        (operands-of (block-plan (now (block .entry)) choices (now (weights .entry)))) (now (operands .entry)) ⌝ }
-    ensures choice { λ _. ⌜ PlanChosen (now (block .entry)) choices (now (weights .entry)) ⌝ }
-    ensures plan { λ r. ⌜ PlanWritten (now (block .entry)) choices (now (weights .entry)) (now (kinds .entry)) (now (operands .entry)) (now (kinds .exit)) (now (operands .exit)) r ⌝ }
-    ensures bound { λ r. ⌜ BoundWritten (now (block .entry)) choices (now (weights .entry)) r ⌝ }
+    ensures { λ r. ⌜ WritePromises (now (block .entry)) choices (now (weights .entry)) (lent (now (lengths .entry)) (now (widths .entry)) (now (table .entry)))
+        (lent (now (lengths .exit)) (now (widths .exit)) (now (table .exit))) (now (kinds .entry)) (now (operands .entry)) (now (kinds .exit)) (now (operands .exit)) r ⌝ }
 {
     let accepted = job::accept(block, choices, weights);
     let verdict = accepted.verdict;
@@ -199,4 +191,30 @@ pub fn write_plan(
     let job = accepted.job;
     let q = accepted.capacity;
     write_accepted(job, weights, q, lengths, widths, table, kinds, operands)
+}
+
+// The same with the capacity of the full demands, whatever the choices say of it.
+pub fn write_plan_full_demand(
+    block: &[u8],
+    choices: Choices,
+    weights: &[u8],
+    lengths: &mut [u16],
+    widths: &mut [u16],
+    table: &mut [u64],
+    kinds: &mut [u8],
+    operands: &mut [u16],
+) -> WriteAnswer
+    ensures { λ r. ⌜ WritePromises (now (block .entry)) (with-full-demand choices) (now (weights .entry)) (lent (now (lengths .entry)) (now (widths .entry)) (now (table .entry)))
+        (lent (now (lengths .exit)) (now (widths .exit)) (now (table .exit))) (now (kinds .entry)) (now (operands .entry)) (now (kinds .exit)) (now (operands .exit)) r ⌝ }
+{
+    write_plan(
+        block,
+        with_full_demand(choices),
+        weights,
+        lengths,
+        widths,
+        table,
+        kinds,
+        operands,
+    )
 }
