@@ -4,7 +4,7 @@ use mathlib.Core.List.{List}
 use Prim.Native.Nat.{ℕ}
 use native.Mathlib.Omega.{arith}
 use Rattle.cutting.specs.Job.{bound-of}
-use Rattle.cutting.proofs.Job.{bound-ceiling}
+use Rattle.cutting.proofs.Bound.{bound-ceiling}
 use Rattle.job.specs.declared.Choices.{Choices}
 use Rattle.job.specs.Weights.{block-job, weight-in}
 use Rattle.job.proofs.Read.{read-in-range}

@@ -2,7 +2,7 @@
 use mathlib.Core.Path.{_≡_}
 use mathlib.Core.Bool.{Bool, true, false, _||_}
 use mathlib.Core.List.{List, []}
-use Prim.Native.Nat.{ℕ, _+_, _≤_}
+use Prim.Native.Nat.{ℕ, _+_, _/_, _%_, _≤_}
 use lib.Dec.{ltb, eqb}
 use lib.ListN.{length, getD}
 use Rattle.cutting.specs.Limits.{most-figure}
@@ -26,16 +26,21 @@ use Rattle.certificate.specs.declared.Certificate.the-variants.{Gap}
 
 -- a word of choices has a bit that is no choice
 abbrev pub unknown : ℕ → Bool
-unknown choices = ltb 1 choices
+unknown choices = ltb 3 choices
 
--- the choices of a word: bit 1 is turning
+-- whether a word has the bit of value n
+abbrev pub bit : ℕ → ℕ → Bool
+bit n word = eqb (word / n % 2) 1
+
+-- the choices of a word: bit 1 is turning, bit 2 full demand
 abbrev pub choices-of : ℕ → Choices
-choices-of choices = record { turning = eqb choices 1 }
+choices-of choices = record { turning = bit 1 choices; «full_demand» = bit 2 choices }
 
 -- the job of a block with the choices of a word
 abbrev pub job-with : List ℕ → ℕ → Job
 job-with s choices = block-job s (choices-of choices)
 
+-- the number returned, by whether the answer is short and whether a choice is unknown
 abbrev pub returned-by : Bool → Bool → Outcome → ℕ
 returned-by true u o = 100
 returned-by false true o = 101
@@ -53,6 +58,7 @@ early n m choices = returned-by (ltb m n) (unknown choices) (0, [])
 abbrev pub stopped : ℕ → List ℕ → ℕ → Bool
 stopped n words choices = ltb (length words) n || unknown choices
 
+-- the answer words, by whether the call is stopped
 abbrev pub answered-by : Bool → List ℕ → Outcome → List ℕ
 answered-by true words o = words
 answered-by false words o = over (o .1) words
@@ -62,6 +68,7 @@ abbrev pub answered : ℕ → List ℕ → ℕ → Outcome → List ℕ
 answered n words choices o = answered-by (stopped n words choices) words o
 
 module _ {A : Type 0} where
+  -- what is left, by whether the call is stopped
   abbrev pub Left-by : Bool → (A → A → Type 0) → A → A → Type 0
   Left-by true Leaves old new = new ≡ old
   Left-by false Leaves old new = Leaves old new

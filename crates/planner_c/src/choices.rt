@@ -2,13 +2,22 @@
 // meaning.
 use job::Choices;
 ghost use mathlib.Core.Path.{_≡_};
-ghost use Rattle.planner_c.specs.Exports.{unknown, choices-of, early};
+ghost use Prim.Native.Nat.{_≤_};
+ghost use Rattle.planner_c.specs.Exports.{unknown, bit, choices-of, early};
 
 // Whether a bit of the word is no choice.
 fn unknown(choices: u32) -> bool
     ensures { λ r. ⌜ r ≡ unknown choices ⌝ }
 {
-    1 < choices
+    3 < choices
+}
+
+// Whether a word has the bit of value n.
+fn bit(n: u32, word: u32) -> bool
+    requires { ⌜ 1 ≤ n ⌝ }
+    ensures { λ r. ⌜ r ≡ bit n word ⌝ }
+{
+    word / n % 2 == 1
 }
 
 // The choices of a word whose bits all have a meaning.
@@ -16,7 +25,8 @@ pub fn choices_of(choices: u32) -> Choices
     ensures { λ r. ⌜ r ≡ choices-of choices ⌝ }
 {
     Choices {
-        turning: choices == 1,
+        turning: bit(1, choices),
+        full_demand: bit(2, choices),
     }
 }
 

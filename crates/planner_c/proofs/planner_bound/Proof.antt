@@ -1,10 +1,9 @@
 -- `planner_c::planner_bound` meets its contract: stopped, or the bound call's outcome.
-use mathlib.Core.Path.{_∙_, ap}
 use native.Mathlib.Omega.{arith}
 use denote.Ref.{now}
-use Rattle.bound.specs.Bound.{lent, BoundLeaves, BoundSaid, bound-said}
+use Rattle.bound.specs.Bound.{lent, BoundLeaves, bound-said}
 use Rattle.planner_c.specs.Exports.{choices-of}
-use Rattle.planner_c.proofs.Exports.{of-word, stops, words-enough, enough, untouched, called}
+use Rattle.planner_c.proofs.Exports.{stops, words-enough, enough, untouched, called}
 use Rattle.planner_c.proofs.Trees.{bound-given}
 use borrow.Author.Needs.{needs}
 use Rattle.planner_c.proofs.planner_bound.Statement.{statement}
@@ -27,17 +26,16 @@ returns-2 c =
     let a = c .before .before .before .before .before .before .before .before .before .before .before .before .before .before .before .before .before .before .before .before .before .before .before .args in
     let f = c .before .before .before .before .before .before .before .before .before .before .before .before .before .before .before .before .early .ensures in
     let h = c .before .before .before .before .before .before .before .before .before .before .before .before .before .before .before .if1 .left in
-    let e = c .before .before .before .before .before .before .before .before .before .before .bound .ensures in
-    let k = c .before .before .before .before .before .before .before .before .before .before .before .before .before .before .choices-of .ensures in
+    let e = rw (c .before .before .before .before .before .before .before .before .before .before .before .before .before .before .choices-of .ensures) at (c .before .before .before .before .before .before .before .before .before .before .bound .ensures) in
     let g = c .before .before .put-bound .ensures in
     let m = lent (now (a .lengths)) (now (a .widths)) (now (a .table)) in
-    let s = enough 4 (a .choices) (now (a .answer)) f (bound-said (now (a .block)) (choices-of (a .choices)) (now (a .weights)) m) h (e .1 .0 ∙ ap (λ x. bound-said (now (a .block)) x (now (a .weights)) m) k) g in (
+    let s = enough 4 (a .choices) (now (a .answer)) f (bound-said (now (a .block)) (choices-of (a .choices)) (now (a .weights)) m) h (e .outcome) g in (
       s .0,
       (
         s .1,
         (
-          called 4 (a .choices) (now (a .answer)) f (BoundLeaves (now (a .block)) (choices-of (a .choices)) (now (a .weights))) h (of-word (λ x r. BoundLeaves (now (a .block)) x (now (a .weights)) m r) k (e .1 .1 .0)),
-          bound-given (now (a .block)) (choices-of (a .choices)) (now (a .weights)) (now (a .answer)) _ (of-word (λ x r. BoundSaid (now (a .block)) x (now (a .weights)) r) k (e .1 .1 .1 .0)) g,
+          called 4 (a .choices) (now (a .answer)) f (BoundLeaves (now (a .block)) (choices-of (a .choices)) (now (a .weights))) h (e .memory),
+          bound-given (now (a .block)) (choices-of (a .choices)) (now (a .weights)) (now (a .answer)) _ (e .exact) g,
         ),
       ),
     )

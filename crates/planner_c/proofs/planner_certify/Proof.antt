@@ -1,13 +1,11 @@
 -- `planner_c::planner_certify` meets its contract: stopped, or the certificate's outcome.
-use mathlib.Core.Path.{_∙_, ap}
 use native.Mathlib.Omega.{arith}
 use denote.Ref.{now}
-use Rattle.job.specs.Weights.{block-job, weight-in}
+use Rattle.job.specs.Weights.{weight-in}
 use Rattle.bound.specs.Bound.{lent}
 use Rattle.certificate.specs.Certificate.{certificate-said}
-use Rattle.certificate.specs.Promises.{BestSaid, GapSaid}
 use Rattle.planner_c.specs.Exports.{choices-of, job-with, CertificateLeaves}
-use Rattle.planner_c.proofs.Exports.{of-word, stops, words-enough, enough, untouched, called}
+use Rattle.planner_c.proofs.Exports.{stops, words-enough, enough, untouched, called}
 use Rattle.planner_c.proofs.Calls.{certificate-sums}
 use Rattle.planner_c.proofs.Trees.{certificate-given}
 use borrow.Author.Needs.{needs}
@@ -26,27 +24,26 @@ returns c =
 put-certificate-requires : tie.Need-put-certificate-requires
 put-certificate-requires c κs =
     let a = c .before .before .before .before .before .before .before .before .before .before .before .before .before .before .before .before .before .before .before .before .before .before .args in
-    (words-enough 3 (a .choices) (now (a .answer)) (c .before .before .before .before .before .before .before .before .before .before .before .before .before .early .ensures) (c .before .before .before .before .before .before .before .before .before .before .before .before .if1 .left), certificate-sums (now (a .block)) _ (now (a .weights)) (now (a .kinds)) (now (a .operands)) (lent (now (a .lengths)) (now (a .widths)) (now (a .table))) (c .before .before .before .before .before .before .before .certify .ensures .0))
+    (words-enough 3 (a .choices) (now (a .answer)) (c .before .before .before .before .before .before .before .before .before .before .before .before .before .early .ensures) (c .before .before .before .before .before .before .before .before .before .before .before .before .if1 .left), certificate-sums (now (a .block)) _ (now (a .weights)) (now (a .kinds)) (now (a .operands)) (lent (now (a .lengths)) (now (a .widths)) (now (a .table))) (c .before .before .before .before .before .before .before .certify .ensures .answers))
 
 returns-2 : tie.Need-returns-2
 returns-2 c =
     let a = c .before .before .before .before .before .before .before .before .before .before .before .before .before .before .before .before .before .before .before .before .before .before .before .before .before .args in
     let f = c .before .before .before .before .before .before .before .before .before .before .before .before .before .before .before .before .early .ensures in
     let h = c .before .before .before .before .before .before .before .before .before .before .before .before .before .before .before .if1 .left in
-    let e = c .before .before .before .before .before .before .before .before .before .before .certify .ensures in
-    let k = c .before .before .before .before .before .before .before .before .before .before .before .before .before .before .choices-of .ensures in
+    let e = rw (c .before .before .before .before .before .before .before .before .before .before .before .before .before .before .choices-of .ensures) at (c .before .before .before .before .before .before .before .before .before .before .certify .ensures) in
     let g = c .before .before .put-certificate .ensures in
     let m = lent (now (a .lengths)) (now (a .widths)) (now (a .table)) in
-    let s = enough 3 (a .choices) (now (a .answer)) f (certificate-said (now (a .block)) (choices-of (a .choices)) (now (a .weights)) (now (a .kinds)) (now (a .operands)) m) h (e .1 .0 ∙ ap (λ x. certificate-said (now (a .block)) x (now (a .weights)) (now (a .kinds)) (now (a .operands)) m) k) g in (
+    let s = enough 3 (a .choices) (now (a .answer)) f (certificate-said (now (a .block)) (choices-of (a .choices)) (now (a .weights)) (now (a .kinds)) (now (a .operands)) m) h (e .outcome) g in (
       s .0,
       (
         s .1,
         (
           called 3 (a .choices) (now (a .answer)) f (CertificateLeaves (now (a .block)) (choices-of (a .choices)) (now (a .weights)) (now (a .kinds)) (now (a .operands))) h
-              (of-word (λ x r. CertificateLeaves (now (a .block)) x (now (a .weights)) (now (a .kinds)) (now (a .operands)) m r) k (e .1 .1 .0)),
+              (e .memory),
           certificate-given (job-with (now (a .block)) (a .choices)) (now (a .kinds)) (now (a .operands)) (now (a .answer)) (weight-in (now (a .weights))) _
-              (of-word (λ x r. BestSaid (block-job (now (a .block)) x) (weight-in (now (a .weights))) (now (a .kinds)) (now (a .operands)) r) k (e .1 .1 .1 .0))
-              (of-word (λ x r. GapSaid (block-job (now (a .block)) x) (weight-in (now (a .weights))) (now (a .kinds)) (now (a .operands)) r) k (e .1 .1 .1 .1)) g,
+              (e .best)
+              (e .gap) g,
         ),
       ),
     )

@@ -1,14 +1,10 @@
 -- `planner_c::planner_write_plan` meets its contract: stopped, or the writing call's outcome.
-use mathlib.Core.Path.{_∙_, ap}
-use mathlib.Core.List.{List}
-use Prim.Native.Nat.{ℕ}
 use native.Mathlib.Omega.{arith}
 use denote.Ref.{now}
 use Rattle.bound.specs.Bound.{lent, BoundLeaves}
-use Rattle.writer.specs.declared.WriteAnswer.{WriteAnswer}
-use Rattle.writer.specs.Write.{write-said, PlanWritten, BoundWritten}
+use Rattle.writer.specs.Write.{write-said}
 use Rattle.planner_c.specs.Exports.{choices-of, PlanLeft}
-use Rattle.planner_c.proofs.Exports.{of-word, stops, words-enough, enough, untouched, called}
+use Rattle.planner_c.proofs.Exports.{stops, words-enough, enough, untouched, called}
 use Rattle.planner_c.proofs.Trees.{plan-given}
 use borrow.Author.Needs.{needs}
 use Rattle.planner_c.proofs.planner_write_plan.Statement.{statement}
@@ -39,21 +35,18 @@ returns-2 c =
     let a = c .before .before .before .before .before .before .before .before .before .before .before .before .before .before .before .before .before .before .before .before .before .before .before .before .before .before .before .before .before .before .before .args in
     let f = c .before .before .before .before .before .before .before .before .before .before .before .before .before .before .before .before .before .before .before .before .before .before .early .ensures in
     let h = c .before .before .before .before .before .before .before .before .before .before .before .before .before .before .before .before .before .before .before .before .before .if1 .left in
-    let e = c .before .before .before .before .before .before .before .before .before .before .before .before .before .before .write-plan .ensures in
-    let k = c .before .before .before .before .before .before .before .before .before .before .before .before .before .before .before .before .before .before .before .before .choices-of .ensures in
+    let e = rw (c .before .before .before .before .before .before .before .before .before .before .before .before .before .before .before .before .before .before .before .before .choices-of .ensures) at (c .before .before .before .before .before .before .before .before .before .before .before .before .before .before .write-plan .ensures) in
     let g = c .before .before .put-write .ensures in
     let m = lent (now (a .lengths)) (now (a .widths)) (now (a .table)) in
-    let s = enough 5 (a .choices) (now (a .answer)) f (write-said (now (a .block)) (choices-of (a .choices)) (now (a .weights)) m (now (a .kinds)) (now (a .operands))) h (e .1 .0 ∙ ap (λ x. write-said (now (a .block)) x (now (a .weights)) m (now (a .kinds)) (now (a .operands))) k) g in (
+    let s = enough 5 (a .choices) (now (a .answer)) f (write-said (now (a .block)) (choices-of (a .choices)) (now (a .weights)) m (now (a .kinds)) (now (a .operands))) h (e .outcome) g in (
       s .0,
       (
         s .1,
         (
-          called 5 (a .choices) (now (a .answer)) f (BoundLeaves (now (a .block)) (choices-of (a .choices)) (now (a .weights))) h (of-word (λ x r. BoundLeaves (now (a .block)) x (now (a .weights)) m r) k (e .1 .1 .0)),
+          called 5 (a .choices) (now (a .answer)) f (BoundLeaves (now (a .block)) (choices-of (a .choices)) (now (a .weights))) h (e .memory),
           (
-            called 5 (a .choices) (now (a .answer)) f (PlanLeft (now (a .block)) (choices-of (a .choices)) (now (a .weights)) m) h (of-word (λ x r. PlanLeft (now (a .block)) x (now (a .weights)) m (now (a .kinds), now (a .operands)) r) k (e .1 .1 .1 .0, e .1 .1 .1 .1 .0)),
-            plan-given (now (a .block)) (choices-of (a .choices)) (now (a .weights)) (now (a .kinds)) (now (a .operands)) _ _ (now (a .answer)) _
-                (of-word {X = (List ℕ × List ℕ) × WriteAnswer} (λ x r. PlanWritten (now (a .block)) x (now (a .weights)) (now (a .kinds)) (now (a .operands)) (r .0 .0) (r .0 .1) (r .1)) k (e .1 .1 .1 .1 .1 .1 .0))
-                (of-word (λ x r. BoundWritten (now (a .block)) x (now (a .weights)) r) k (e .1 .1 .1 .1 .1 .1 .1)) g,
+            called 5 (a .choices) (now (a .answer)) f (PlanLeft (now (a .block)) (choices-of (a .choices)) (now (a .weights)) m) h (e .kinds-left, e .operands-left),
+            plan-given (now (a .block)) (choices-of (a .choices)) (now (a .weights)) (now (a .kinds)) (now (a .operands)) _ _ (now (a .answer)) _ (e .plan) (e .bound) g,
           ),
         ),
       ),
