@@ -18,6 +18,7 @@ use Rattle.cutting.proofs.Table.{figure-normal}
 use Rattle.refusal.specs.Refusals.{first-refusal}
 use Rattle.refusal.specs.declared.Checked.the-variants.{Passed, Refused}
 use Rattle.refusal.specs.declared.Refusal.the-variants.{TableShort}
+use Rattle.job.specs.declared.Choices.{Choices}
 use Rattle.job.specs.Weights.{block-job, weight-in, Accepted}
 use Rattle.job.proofs.Weights.{accepted-in-range}
 use Rattle.plan.specs.Plan.{plan-answer}
@@ -25,62 +26,62 @@ use Rattle.table.specs.Table.{position-count, words-needed}
 use Rattle.bound.specs.Bound.{Memory, memory-checks, bound-said}
 use Rattle.writer.specs.Write.{block-plan, write-said}
 use Rattle.certificate.specs.Certificate.{certificate-said}
-use Rattle.examples.specs.Examples.{no-choice, LongLists, Enough, TooShort}
+use Rattle.examples.specs.Examples.{LongLists, Enough, TooShort}
 
-module _ (s ws : List ℕ) where
+module _ (choices : Choices) (s ws : List ℕ) where
   -- the capacity of a job block and weights
   abbrev pub capacity-in : ℕ
-  capacity-in = capacity (block-job s no-choice) (weight-in ws)
+  capacity-in = capacity (block-job s choices) (weight-in ws)
 
   -- the table words that they need
   abbrev pub words-in : ℕ
-  words-in = words-needed (block-job s no-choice) capacity-in
+  words-in = words-needed (block-job s choices) capacity-in
 
   -- their bound from cuts at normal positions
   abbrev pub bound-in : ℕ
-  bound-in = figure (pieces (block-job s no-choice)) (saw-normal (normal-side (block-job s no-choice))) (by-kind (weight-in ws)) (block-job s no-choice .plate) capacity-in
+  bound-in = figure (pieces (block-job s choices)) (saw-normal (normal-side (block-job s choices))) (by-kind (weight-in ws)) (block-job s choices .plate) capacity-in
 
   -- the values of their bound
   abbrev pub values-in : List ℕ
-  values-in = bound-in ∷ capacity-in ∷ position-count (block-job s no-choice) Length ∷ position-count (block-job s no-choice) Width ∷ []
+  values-in = bound-in ∷ capacity-in ∷ position-count (block-job s choices) Length ∷ position-count (block-job s choices) Width ∷ []
 
   -- the values of a plan's certificate: the gap, the bound and the profit
   abbrev pub certificate-in : (kinds operands : List ℕ) → List ℕ
   certificate-in kinds operands =
-      let profit = plan-answer (block-job s no-choice) kinds operands .report .profit in
+      let profit = plan-answer (block-job s choices) kinds operands .report .profit in
       (bound-in - profit) ∷ bound-in ∷ profit ∷ []
 
-  module _ (good : Accepted s no-choice ws) where
-    bound-normal : bound-of (block-job s no-choice) (weight-in ws) ≡ bound-in
-    bound-normal = figure-normal (block-job s no-choice) (weight-in ws) (range-solid (block-job s no-choice) (accepted-in-range s no-choice ws good)) _ _ capacity-in (omega arith) (omega arith)
+  module _ (good : Accepted s choices ws) where
+    bound-normal : bound-of (block-job s choices) (weight-in ws) ≡ bound-in
+    bound-normal = figure-normal (block-job s choices) (weight-in ws) (range-solid (block-job s choices) (accepted-in-range s choices ws good)) _ _ capacity-in (omega arith) (omega arith)
 
     module _ (m : Memory) where
       -- check 19 passes
-      lists-pass : LongLists s m → (ltb (length (m .lengths)) (block-job s no-choice .plate .0 + 1) || ltb (length (m .widths)) (block-job s no-choice .plate .1 + 1)) ≡ false
-      lists-pass h = simp (le-ltb (length (m .lengths)) (block-job s no-choice .plate .0 + 1) (omega (arith, h)), le-ltb (length (m .widths)) (block-job s no-choice .plate .1 + 1) (omega (arith, h)))
+      lists-pass : LongLists s choices m → (ltb (length (m .lengths)) (block-job s choices .plate .0 + 1) || ltb (length (m .widths)) (block-job s choices .plate .1 + 1)) ≡ false
+      lists-pass h = simp (le-ltb (length (m .lengths)) (block-job s choices .plate .0 + 1) (omega (arith, h)), le-ltb (length (m .widths)) (block-job s choices .plate .1 + 1) (omega (arith, h)))
 
       -- check 20 refuses
-      table-short : TooShort s words-in m → first-refusal (memory-checks (block-job s no-choice) capacity-in m) ≡ Refused (TableShort words-in)
+      table-short : TooShort s choices words-in m → first-refusal (memory-checks (block-job s choices) capacity-in m) ≡ Refused (TableShort words-in)
       unfolding first-refusal
       table-short h = simp (lists-pass (h .0), lt-ltb (length (m .table)) words-in (h .1))
 
-      pub bound-refused : TooShort s words-in m → bound-said s no-choice ws m ≡ (20, words-in ∷ [])
+      pub bound-refused : TooShort s choices words-in m → bound-said s choices ws m ≡ (20, words-in ∷ [])
       bound-refused h = simp (good, table-short h)
 
-      module _ (enough : Enough s words-in m) where
+      module _ (enough : Enough s choices words-in m) where
         -- both pass
-        storage-passes : first-refusal (memory-checks (block-job s no-choice) capacity-in m) ≡ Passed
+        storage-passes : first-refusal (memory-checks (block-job s choices) capacity-in m) ≡ Passed
         unfolding first-refusal
         storage-passes = simp (lists-pass (enough .0), le-ltb (length (m .table)) words-in (enough .1))
 
-        pub bound-answered : bound-said s no-choice ws m ≡ (0, values-in)
+        pub bound-answered : bound-said s choices ws m ≡ (0, values-in)
         bound-answered = simp (good, storage-passes, bound-normal)
 
-        pub certified : (kinds operands : List ℕ) → plan-answer (block-job s no-choice) kinds operands .verdict ≡ Passed
-            → certificate-said s no-choice ws kinds operands m ≡ (0, certificate-in kinds operands)
+        pub certified : (kinds operands : List ℕ) → plan-answer (block-job s choices) kinds operands .verdict ≡ Passed
+            → certificate-said s choices ws kinds operands m ≡ (0, certificate-in kinds operands)
         certified kinds operands e = simp (good, e, storage-passes, bound-normal)
 
-        pub written : (kinds operands : List ℕ) → node-count (block-plan s no-choice ws) ≤ 4095 → node-count (block-plan s no-choice ws) ≤ length kinds → node-count (block-plan s no-choice ws) ≤ length operands
-            → write-said s no-choice ws m kinds operands ≡ (0, values-in ++ node-count (block-plan s no-choice ws) ∷ [])
+        pub written : (kinds operands : List ℕ) → node-count (block-plan s choices ws) ≤ 4095 → node-count (block-plan s choices ws) ≤ length kinds → node-count (block-plan s choices ws) ≤ length operands
+            → write-said s choices ws m kinds operands ≡ (0, values-in ++ node-count (block-plan s choices ws) ∷ [])
         unfolding first-refusal
-        written kinds operands h k o = simp (good, storage-passes, bound-normal, le-ltb 4095 (node-count (block-plan s no-choice ws)) h, le-ltb (length kinds) (node-count (block-plan s no-choice ws)) k, le-ltb (length operands) (node-count (block-plan s no-choice ws)) o)
+        written kinds operands h k o = simp (good, storage-passes, bound-normal, le-ltb 4095 (node-count (block-plan s choices ws)) h, le-ltb (length kinds) (node-count (block-plan s choices ws)) k, le-ltb (length operands) (node-count (block-plan s choices ws)) o)

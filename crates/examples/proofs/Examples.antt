@@ -33,31 +33,31 @@ use Rattle.examples.proofs.Misfit as misfit
 -- what is left to compute of a line
 abbrev Computed : Example → Type 0
 Computed (line.positions s d xs) = ExampleHolds (line.positions s d xs)
-Computed (line.bounds s ws words bound q p r) = Accepted s no-choice ws × (words-in s ws ≡ words) × (values-in s ws ≡ bound ∷ q ∷ p ∷ r ∷ [])
-Computed (line.writes s ws words bound q p r nodes kinds operands) =
-    Accepted s no-choice ws × (words-in s ws ≡ words) × (values-in s ws ≡ bound ∷ q ∷ p ∷ r ∷ []) × (node-count (block-plan s no-choice ws) ≡ nodes) × (nodes ≤ 4095)
-    × (kinds-of (block-plan s no-choice ws) ≡ kinds) × (operands-of (block-plan s no-choice ws) ≡ operands)
+Computed (line.bounds choices s ws words bound q p r) = Accepted s choices ws × (words-in choices s ws ≡ words) × (values-in choices s ws ≡ bound ∷ q ∷ p ∷ r ∷ [])
+Computed (line.writes choices s ws words bound q p r nodes kinds operands) =
+    Accepted s choices ws × (words-in choices s ws ≡ words) × (values-in choices s ws ≡ bound ∷ q ∷ p ∷ r ∷ []) × (node-count (block-plan s choices ws) ≡ nodes) × (nodes ≤ 4095)
+    × (kinds-of (block-plan s choices ws) ≡ kinds) × (operands-of (block-plan s choices ws) ≡ operands)
 Computed (line.passes s kinds operands profit copies pieces waste trim) = ExampleHolds (line.passes s kinds operands profit copies pieces waste trim)
 Computed (line.refused s kinds operands number place) = ExampleHolds (line.refused s kinds operands number place)
 Computed (line.first-refused s kind operand number place) = JobPasses s × RefusedAs number place (first-verdict (block-job s no-choice) kind operand)
 Computed (line.first-passes s kind operand) = JobPasses s × PassedTo 0 (first-verdict (block-job s no-choice) kind operand)
-Computed (line.certifies s ws kinds operands words gap bound profit) =
-    Accepted s no-choice ws × (words-in s ws ≡ words) × (plan-answer (block-job s no-choice) kinds operands .verdict ≡ Passed) × (certificate-in s ws kinds operands ≡ gap ∷ bound ∷ profit ∷ [])
+Computed (line.certifies choices s ws kinds operands words gap bound profit) =
+    Accepted s choices ws × (words-in choices s ws ≡ words) × (plan-answer (block-job s choices) kinds operands .verdict ≡ Passed) × (certificate-in choices s ws kinds operands ≡ gap ∷ bound ∷ profit ∷ [])
 
 -- a line holds from what is computed of it
 holds : (e : Example) → Computed e → ExampleHolds e
 holds (line.positions s d xs) c = c
-holds (line.bounds s ws words bound q p r) c = (
-  λ m h. call.bound-answered s ws (c .0) m (rw (c .1) h) ∙ ap (λ vs. (0, vs)) (c .2),
-  λ m h. call.bound-refused s ws (c .0) m (rw (c .1) h) ∙ ap (λ n. (20, n ∷ [])) (c .1),
+holds (line.bounds choices s ws words bound q p r) c = (
+  λ m h. call.bound-answered choices s ws (c .0) m (rw (c .1) h) ∙ ap (λ vs. (0, vs)) (c .2),
+  λ m h. call.bound-refused choices s ws (c .0) m (rw (c .1) h) ∙ ap (λ n. (20, n ∷ [])) (c .1),
 )
-holds (line.writes s ws words bound q p r nodes kinds operands) c =
-    (λ m ks os h k o. call.written s ws (c .0) m (rw (c .1) h) ks os (rw (c .3) (c .4)) (rw (c .3) k) (rw (c .3) o) ∙ cc, c .5, c .6)
+holds (line.writes choices s ws words bound q p r nodes kinds operands) c =
+    (λ m ks os h k o. call.written choices s ws (c .0) m (rw (c .1) h) ks os (rw (c .3) (c .4)) (rw (c .3) k) (rw (c .3) o) ∙ cc, c .5, c .6)
 holds (line.passes s kinds operands profit copies pieces waste trim) c = c
 holds (line.refused s kinds operands number place) c = c
 holds (line.first-refused s kind operand number place) c = begins-refused s (c .0) kind operand number place (c .1)
 holds (line.first-passes s kind operand) c = begins-passed s (c .0) kind operand (c .1)
-holds (line.certifies s ws kinds operands words gap bound profit) c = λ m h. call.certified s ws (c .0) m (rw (c .1) h) kinds operands (c .2) ∙ ap (λ vs. (0, vs)) (c .3)
+holds (line.certifies choices s ws kinds operands words gap bound profit) c = λ m h. call.certified choices s ws (c .0) m (rw (c .1) h) kinds operands (c .2) ∙ ap (λ vs. (0, vs)) (c .3)
 
 -- the computations of lines, in their order
 data AllComputed : List Example → Type 0 where
@@ -83,11 +83,10 @@ module _ (a b c d e f weight : ℕ) where
   abbrev priced : List ℕ
   priced = misfit-job (a ∷ b ∷ c ∷ d ∷ e ∷ f ∷ [])
 
-  -- it is accepted where its price, its demand and the capacity are in range
-  pub misfit-accepted : price-at priced 0 ≤ 1000000 → demand-at priced 0 ≤ 255 → demand-at priced 0 * weight ≤ 4095 → Accepted priced no-choice (weight ∷ [])
+  -- it is accepted where its price and its demand are in range
+  pub misfit-accepted : price-at priced 0 ≤ 1000000 → demand-at priced 0 ≤ 255 → Accepted priced no-choice (weight ∷ [])
   unfolding range sum first-refusal each-kind job-checks entries record-of
-  misfit-accepted price demand q =
-      simp (le-ltb 1000000 (price-at priced 0) price, le-ltb 255 (demand-at priced 0) demand, le-ltb 4095 (0 + demand-at priced 0 * weight) (omega (arith, q)))
+  misfit-accepted price demand = simp (le-ltb 1000000 (price-at priced 0) price, le-ltb 255 (demand-at priced 0) demand, misfit.none-weighed (demand-at priced 0) weight)
 
 module _ (pair ws : List ℕ) (good : Accepted (misfit-job pair) no-choice ws) where
   -- the table's computations, line by line
@@ -114,6 +113,11 @@ module _ (pair ws : List ℕ) (good : Accepted (misfit-job pair) no-choice ws) w
       and (good, misfit.words pair ws, misfit.values pair ws, ap node-count (misfit.wasted pair ws), omega arith, ap kinds-of (misfit.wasted pair ws), ap operands-of (misfit.wasted pair ws))
       and (refl, refl, refl)
       and (refl, refl, refl, refl, omega arith, refl, refl)
+      and (refl, refl, refl)
+      and (refl, refl, refl)
+      and (refl, refl, refl, refl)
+      and (refl, refl, refl, refl)
+      and (refl, refl, refl)
       and done
 
   -- every marked example holds

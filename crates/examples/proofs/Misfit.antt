@@ -3,13 +3,13 @@
 use mathlib.Core.Path.{_≡_, refl, ap}
 use mathlib.Core.Bool.{Bool, true, false}
 use mathlib.Core.List.{List, [], _∷_}
-use Prim.Native.Nat.{ℕ, suc, _+_}
+use Prim.Native.Nat.{ℕ, suc, _+_, _*_, min}
 use native.Mathlib.Omega.{arith}
 use lib.Dec.{leb}
 use lib.ListN.{length}
 use Rattle.cutting.specs.declared.Direction.{Direction}
 use Rattle.cutting.specs.declared.Direction.the-variants.{Length, Width}
-use Rattle.cutting.specs.Lists.{range, keep, filter, each, any, greatest}
+use Rattle.cutting.specs.Lists.{range, sum, keep, filter, each, any, greatest}
 use Rattle.cutting.specs.Tree.{side, waste}
 use Rattle.cutting.specs.Figure.{leaf, best, step, after, figure}
 use Rattle.cutting.specs.Pieces.{Piece, kind, ways, sized}
@@ -17,16 +17,28 @@ use Rattle.cutting.specs.Saws.{floor, saw-normal, saw-written}
 use Rattle.cutting.specs.Shares.{by-weight}
 use Rattle.cutting.specs.Normal.{summed, normal?, normal, sides}
 use Rattle.cutting.specs.Choice.{choice, plan-within, written}
-use Rattle.cutting.specs.Job.{Job, laid, ordered, members, pieces, by-kind, normal-positions, plan-of}
+use Rattle.cutting.specs.Job.{Job, laid, capacity, ordered, members, pieces, by-kind, normal-positions, plan-of}
 use Rattle.job.specs.Block.{entries, record-of}
 use Rattle.job.specs.Weights.{block-job, weight-in}
 use Rattle.writer.specs.Write.{block-plan}
-use Rattle.examples.specs.Examples.{no-choice, misfit-job, misfit-capacity}
+use Rattle.examples.specs.Examples.{no-choice, misfit-job}
 use Rattle.examples.proofs.Calls.{words-in, bound-in, values-in}
+
+-- where no copy is counted, none is weighed
+pub none-weighed : (demand weight : ℕ) → 0 + min demand 0 * weight ≡ 0
+none-weighed demand weight = let e : min demand 0 ≡ 0 = omega arith in rw e (omega arith)
 
 module _ (pair ws : List ℕ) where
   abbrev J : Job
   J = block-job (misfit-job pair) no-choice
+
+  -- none can lie on the plate, so the capacity is 0
+  abbrev misfit-capacity : ℕ
+  misfit-capacity = capacity J (weight-in ws)
+
+  none : misfit-capacity ≡ 0
+  unfolding range sum entries record-of
+  none = none-weighed (J .demand 0) (weight-in ws 0)
 
   -- the pieces where a test says that it is ordered
   abbrev either : Bool → List Piece
@@ -44,11 +56,11 @@ module _ (pair ws : List ℕ) where
       go Width false = refl
 
   -- the bound is 0
-  nothing : bound-in (misfit-job pair) ws ≡ 0
+  nothing : bound-in no-choice (misfit-job pair) ws ≡ 0
   unfolding range filter each any greatest leaf best step after figure sized floor saw-normal by-weight summed normal? sides ordered members pieces entries record-of
   nothing = go (leb 1 (J .demand 0))
     where
-      go : (b : Bool) → figure (sized (either b) (λ p. J .price (kind p)) (laid J)) (saw-normal (normal (either b) (laid J) (J .plate))) (by-kind (weight-in ws)) (J .plate) (misfit-capacity pair ws) ≡ 0
+      go : (b : Bool) → figure (sized (either b) (λ p. J .price (kind p)) (laid J)) (saw-normal (normal (either b) (laid J) (J .plate))) (by-kind (weight-in ws)) (J .plate) misfit-capacity ≡ 0
       go true = refl
       go false = refl
 
@@ -57,12 +69,12 @@ module _ (pair ws : List ℕ) where
   unfolding range filter each any greatest leaf best step after figure sized floor saw-normal saw-written by-weight summed normal? sides choice plan-within written ordered members pieces plan-of entries record-of
   wasted = go (leb 1 (J .demand 0))
     where
-      go : (b : Bool) → written (sized (either b) (λ p. J .price (kind p)) (laid J)) (saw-written (normal (either b) (laid J) (J .plate))) (by-kind (weight-in ws)) (J .plate) (misfit-capacity pair ws) ≡ waste
+      go : (b : Bool) → written (sized (either b) (λ p. J .price (kind p)) (laid J)) (saw-written (normal (either b) (laid J) (J .plate))) (by-kind (weight-in ws)) (J .plate) misfit-capacity ≡ waste
       go true = refl
       go false = refl
 
-  pub words : words-in (misfit-job pair) ws ≡ misfit-capacity pair ws + 1
-  words = let l = ap length (alone Length) in let w = ap length (alone Width) in rw (l, w) (omega arith)
+  pub words : words-in no-choice (misfit-job pair) ws ≡ 1
+  words = let l = ap length (alone Length) in let w = ap length (alone Width) in rw (l, w, none) (omega arith)
 
-  pub values : values-in (misfit-job pair) ws ≡ 0 ∷ misfit-capacity pair ws ∷ 1 ∷ 1 ∷ []
-  values = let l = ap length (alone Length) in let w = ap length (alone Width) in rw (nothing, l, w) refl
+  pub values : values-in no-choice (misfit-job pair) ws ≡ 0 ∷ 0 ∷ 1 ∷ 1 ∷ []
+  values = let l = ap length (alone Length) in let w = ap length (alone Width) in rw (nothing, l, w, none) refl

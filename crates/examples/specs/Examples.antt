@@ -3,31 +3,33 @@
 use mathlib.Core.Path.{_≡_}
 use mathlib.Core.Bool.{false}
 use mathlib.Core.List.{List, [], _∷_, _++_}
-use Prim.Native.Nat.{ℕ, _+_, _-_, _≤_, _<_}
+use Prim.Native.Nat.{ℕ, _-_, _≤_, _<_}
 use lib.ListN.{length, replicate}
 use Rattle.cutting.specs.declared.Direction.{Direction}
 use Rattle.cutting.specs.declared.Direction.the-variants.{Length, Width}
 use Rattle.cutting.specs.Limits.{most-kinds, most-nodes}
-use Rattle.cutting.specs.Job.{capacity, normal-positions}
+use Rattle.cutting.specs.Job.{normal-positions}
 use Rattle.cutting.specs.Preorder.{kinds-of, operands-of}
 use Rattle.refusal.specs.Refusals.{place-of, refused-as}
 use Rattle.refusal.specs.declared.Checked.{Checked}
 use Rattle.refusal.specs.declared.Checked.the-variants.{Passed, Refused}
 use Rattle.job.specs.declared.Choices.{Choices}
-use Rattle.job.specs.Weights.{block-job, weight-in}
+use Rattle.job.specs.Block.{with-full-demand}
+use Rattle.job.specs.Weights.{block-job}
 use Rattle.plan.specs.Calls.{arrays-answer}
 use Rattle.bound.specs.Bound.{Memory, bound-said}
 use Rattle.writer.specs.Write.{block-plan, write-said}
 use Rattle.certificate.specs.Certificate.{certificate-said}
 
--- what a line can say; a plan is given by its kinds and operands, and `words` are the table words that a call needs
+-- what a line can say of a call, with its choices where it weighs; a plan is given by its kinds and operands, and `words` are the table
+-- words that a call needs
 pub data Example : Type 0 where
   -- the normal positions of a side
   positions : (job : List ℕ) → Direction → List ℕ → Example
   -- the bound call answers the bound, Q, p and r
-  bounds : (job weights : List ℕ) (words bound q p r : ℕ) → Example
+  bounds : Choices → (job weights : List ℕ) (words bound q p r : ℕ) → Example
   -- the writing call answers the bound, Q, p, r and the node count, and writes this plan
-  writes : (job weights : List ℕ) (words bound q p r nodes : ℕ) (kinds operands : List ℕ) → Example
+  writes : Choices → (job weights : List ℕ) (words bound q p r nodes : ℕ) (kinds operands : List ℕ) → Example
   -- a plan passes with a profit, copies of each kind and areas of pieces, waste nodes and trim
   passes : (job kinds operands : List ℕ) (profit : ℕ) (copies : List ℕ) (pieces waste trim : ℕ) → Example
   -- a plan is refused, with a number and a place
@@ -36,23 +38,27 @@ pub data Example : Type 0 where
   first-refused : (job : List ℕ) (kind operand number place : ℕ) → Example
   first-passes : (job : List ℕ) (kind operand : ℕ) → Example
   -- the certificate of a plan under weights answers the gap, 0 for best, the bound and the profit
-  certifies : (job weights kinds operands : List ℕ) (words gap bound profit : ℕ) → Example
+  certifies : Choices → (job weights kinds operands : List ℕ) (words gap bound profit : ℕ) → Example
 
 -- the marked examples make no choice
 abbrev pub no-choice : Choices
-no-choice = record { turning = false }
+no-choice = record { turning = false; «full_demand» = false }
+
+-- the capacity of the full demands
+abbrev pub full : Choices
+full = with-full-demand no-choice
 
 -- lent lists that hold every length up to the plate's sides
-abbrev pub LongLists : List ℕ → Memory → Type 0
-LongLists s m = (block-job s no-choice .plate .0 < length (m .lengths)) × (block-job s no-choice .plate .1 < length (m .widths))
+abbrev pub LongLists : List ℕ → Choices → Memory → Type 0
+LongLists s choices m = (block-job s choices .plate .0 < length (m .lengths)) × (block-job s choices .plate .1 < length (m .widths))
 
 -- lent memory of any contents that is long enough: such lists, and a table of so many words
-abbrev pub Enough : List ℕ → ℕ → Memory → Type 0
-Enough s words m = LongLists s m × (words ≤ length (m .table))
+abbrev pub Enough : List ℕ → Choices → ℕ → Memory → Type 0
+Enough s choices words m = LongLists s choices m × (words ≤ length (m .table))
 
 -- such lists, and a table that is shorter
-abbrev pub TooShort : List ℕ → ℕ → Memory → Type 0
-TooShort s words m = LongLists s m × (length (m .table) < words)
+abbrev pub TooShort : List ℕ → Choices → ℕ → Memory → Type 0
+TooShort s choices words m = LongLists s choices m × (length (m .table) < words)
 
 -- a verdict that is a refusal with a number and a place
 abbrev pub RefusedAs : ℕ → ℕ → Checked → Type 0
@@ -75,18 +81,18 @@ padded xs = xs ++ replicate (most-kinds - length xs) 0
 -- what each line means; where the table is too short the call gives refusal 20 with the words needed
 abbrev pub ExampleHolds : Example → Type 0
 ExampleHolds (positions s d xs) = normal-positions (block-job s no-choice) d ≡ xs
-ExampleHolds (bounds s ws words bound q p r) =
-    ((m : Memory) → Enough s words m → bound-said s no-choice ws m ≡ (0, bound ∷ q ∷ p ∷ r ∷ []))
-    × ((m : Memory) → TooShort s words m → bound-said s no-choice ws m ≡ (20, words ∷ []))
-ExampleHolds (writes s ws words bound q p r nodes kinds operands) =
-    ((m : Memory) (ks os : List ℕ) → Enough s words m → nodes ≤ length ks → nodes ≤ length os → write-said s no-choice ws m ks os ≡ (0, bound ∷ q ∷ p ∷ r ∷ nodes ∷ []))
-    × (kinds-of (block-plan s no-choice ws) ≡ kinds) × (operands-of (block-plan s no-choice ws) ≡ operands)
+ExampleHolds (bounds choices s ws words bound q p r) =
+    ((m : Memory) → Enough s choices words m → bound-said s choices ws m ≡ (0, bound ∷ q ∷ p ∷ r ∷ []))
+    × ((m : Memory) → TooShort s choices words m → bound-said s choices ws m ≡ (20, words ∷ []))
+ExampleHolds (writes choices s ws words bound q p r nodes kinds operands) =
+    ((m : Memory) (ks os : List ℕ) → Enough s choices words m → nodes ≤ length ks → nodes ≤ length os → write-said s choices ws m ks os ≡ (0, bound ∷ q ∷ p ∷ r ∷ nodes ∷ []))
+    × (kinds-of (block-plan s choices ws) ≡ kinds) × (operands-of (block-plan s choices ws) ≡ operands)
 ExampleHolds (passes s kinds operands profit copies pieces waste trim) =
     arrays-answer s no-choice kinds operands ≡ record { verdict = Passed; report = record { profit = profit; copies = padded copies; pieces = pieces; waste = waste; trim = trim } }
 ExampleHolds (refused s kinds operands number place) = RefusedAs number place (arrays-answer s no-choice kinds operands .verdict)
 ExampleHolds (first-refused s kind operand number place) = Beginning s kind operand (RefusedAs number place)
 ExampleHolds (first-passes s kind operand) = Beginning s kind operand (PassedTo 0)
-ExampleHolds (certifies s ws kinds operands words gap bound profit) = (m : Memory) → Enough s words m → certificate-said s no-choice ws kinds operands m ≡ (0, gap ∷ bound ∷ profit ∷ [])
+ExampleHolds (certifies choices s ws kinds operands words gap bound profit) = (m : Memory) → Enough s choices words m → certificate-said s choices ws kinds operands m ≡ (0, gap ∷ bound ∷ profit ∷ [])
 
 -- job S: plate 5 by 3, three kinds; sizes 2 by 3, 3 by 1, 2 by 2; price 7, demand 1; price 4, demand 2; price 5, demand 1
 abbrev pub job-s : List ℕ
@@ -102,13 +108,22 @@ job-s =
 abbrev pub misfit-job : List ℕ → List ℕ
 misfit-job pair = 1 ∷ 0 ∷ 1 ∷ 0 ∷ 1 ∷ 0 ∷ 2 ∷ 0 ∷ 2 ∷ 0 ∷ pair
 
--- its capacity
-abbrev pub misfit-capacity : List ℕ → List ℕ → ℕ
-misfit-capacity pair ws = capacity (block-job (misfit-job pair) no-choice) (weight-in ws)
-
 -- plate 2 by 3, only kind 0 of S, with demand 0
 abbrev pub cancelled-job : List ℕ
 cancelled-job = 2 ∷ 0 ∷ 3 ∷ 0 ∷ 1 ∷ 0 ∷ 2 ∷ 0 ∷ 3 ∷ 0 ∷ 7 ∷ 0 ∷ 0 ∷ 0 ∷ 0 ∷ 0 ∷ []
+
+-- plate 3 by 1, kind 1 by 1 of demand 1 and kind 9 by 9 of demand 3, both of price 1
+abbrev pub loose-job : List ℕ
+loose-job =
+    3 ∷ 0 ∷ 1 ∷ 0 ∷ 2 ∷ 0
+    ∷ 1 ∷ 0 ∷ 1 ∷ 0 ∷ 9 ∷ 0 ∷ 9 ∷ 0
+    ∷ 1 ∷ 0 ∷ 0 ∷ 0 ∷ 1 ∷ 0
+    ∷ 1 ∷ 0 ∷ 0 ∷ 0 ∷ 3 ∷ 0
+    ∷ []
+
+-- plate 5 by 3, one kind 2 by 2 of price 5 and demand 200
+abbrev pub roomy-job : List ℕ
+roomy-job = 5 ∷ 0 ∷ 3 ∷ 0 ∷ 1 ∷ 0 ∷ 2 ∷ 0 ∷ 2 ∷ 0 ∷ 5 ∷ 0 ∷ 0 ∷ 0 ∷ 200 ∷ 0 ∷ []
 
 -- the lines; the scope leaves the price, the demand and the weight of the kind 2 by 2 free
 unfoldable pub marked : (pair ws : List ℕ) → List Example
@@ -117,13 +132,13 @@ marked pair ws =
     positions job-s Length (0 ∷ 2 ∷ 3 ∷ 4 ∷ 5 ∷ [])
     ∷ positions job-s Width (0 ∷ 1 ∷ 2 ∷ 3 ∷ [])
     -- Weights 0 0 0: bound 19, 20 table words.
-    ∷ bounds job-s (0 ∷ 0 ∷ 0 ∷ []) 20 19 0 5 4
+    ∷ bounds no-choice job-s (0 ∷ 0 ∷ 0 ∷ []) 20 19 0 5 4
     -- Weights 0 1 0: capacity 2, bound 16, 60 words.
-    ∷ bounds job-s (0 ∷ 1 ∷ 0 ∷ []) 60 16 2 5 4
+    ∷ bounds no-choice job-s (0 ∷ 1 ∷ 0 ∷ []) 60 16 2 5 4
     -- Kinds 2 1 3 1 1, operands 2 0 1 1 2: profit 16, one copy of each, areas 13, 0, 2. Best under weights 0 1 0; gap 3 under 0 0 0.
     ∷ passes job-s (2 ∷ 1 ∷ 3 ∷ 1 ∷ 1 ∷ []) (2 ∷ 0 ∷ 1 ∷ 1 ∷ 2 ∷ []) 16 (1 ∷ 1 ∷ 1 ∷ []) 13 0 2
-    ∷ certifies job-s (0 ∷ 1 ∷ 0 ∷ []) (2 ∷ 1 ∷ 3 ∷ 1 ∷ 1 ∷ []) (2 ∷ 0 ∷ 1 ∷ 1 ∷ 2 ∷ []) 60 0 16 16
-    ∷ certifies job-s (0 ∷ 0 ∷ 0 ∷ []) (2 ∷ 1 ∷ 3 ∷ 1 ∷ 1 ∷ []) (2 ∷ 0 ∷ 1 ∷ 1 ∷ 2 ∷ []) 20 3 19 16
+    ∷ certifies no-choice job-s (0 ∷ 1 ∷ 0 ∷ []) (2 ∷ 1 ∷ 3 ∷ 1 ∷ 1 ∷ []) (2 ∷ 0 ∷ 1 ∷ 1 ∷ 2 ∷ []) 60 0 16 16
+    ∷ certifies no-choice job-s (0 ∷ 0 ∷ 0 ∷ []) (2 ∷ 1 ∷ 3 ∷ 1 ∷ 1 ∷ []) (2 ∷ 0 ∷ 1 ∷ 1 ∷ 2 ∷ []) 20 3 19 16
     -- Kind 0, operand 0: profit 0, areas 0, 15, 0.
     ∷ passes job-s (0 ∷ []) (0 ∷ []) 0 (0 ∷ 0 ∷ 0 ∷ []) 0 15 0
     -- Kind 1, operand 0: profit 7, areas 6, 0, 9.
@@ -138,11 +153,19 @@ marked pair ws =
     -- Kinds 0 0, operands 0 0: 18 at 1.
     ∷ refused job-s (0 ∷ 0 ∷ []) (0 ∷ 0 ∷ []) 18 1
     -- Plate 1 by 1, one kind 2 by 2: bound 0, only position 0 on each side, plan one waste node.
-    ∷ bounds (misfit-job pair) ws (misfit-capacity pair ws + 1) 0 (misfit-capacity pair ws) 1 1
+    ∷ bounds no-choice (misfit-job pair) ws 1 0 0 1 1
     ∷ positions (misfit-job pair) Length (0 ∷ [])
     ∷ positions (misfit-job pair) Width (0 ∷ [])
-    ∷ writes (misfit-job pair) ws (misfit-capacity pair ws + 1) 0 (misfit-capacity pair ws) 1 1 1 (0 ∷ []) (0 ∷ [])
+    ∷ writes no-choice (misfit-job pair) ws 1 0 0 1 1 1 (0 ∷ []) (0 ∷ [])
     -- Plate 2 by 3, only kind 0 of S with demand 0, weight 0: bound 0, plan one waste node.
-    ∷ bounds cancelled-job (0 ∷ []) 1 0 0 1 1
-    ∷ writes cancelled-job (0 ∷ []) 1 0 0 1 1 1 (0 ∷ []) (0 ∷ [])
+    ∷ bounds no-choice cancelled-job (0 ∷ []) 1 0 0 1 1
+    ∷ writes no-choice cancelled-job (0 ∷ []) 1 0 0 1 1 1 (0 ∷ []) (0 ∷ [])
+    -- Plate 3 by 1, kinds 1 by 1, demand 1, and 9 by 9, demand 3, weights 1 1: capacity 1, bound 1, and with the full demands 4 and 3.
+    ∷ bounds no-choice loose-job (1 ∷ 1 ∷ []) 16 1 1 4 2
+    ∷ bounds full loose-job (1 ∷ 1 ∷ []) 40 3 4 4 2
+    -- A piece of 1 by 1 and waste, profit 1: best, and with the full demands a gap of 2.
+    ∷ certifies no-choice loose-job (1 ∷ 1 ∷ []) (2 ∷ 1 ∷ 0 ∷ []) (1 ∷ 0 ∷ 0 ∷ []) 16 0 1 1
+    ∷ certifies full loose-job (1 ∷ 1 ∷ []) (2 ∷ 1 ∷ 0 ∷ []) (1 ∷ 0 ∷ 0 ∷ []) 40 2 3 1
+    -- Plate 5 by 3, kind 2 by 2 of price 5 and demand 200, weight 1: capacity 2, bound 10.
+    ∷ bounds no-choice roomy-job (1 ∷ []) 18 10 2 3 2
     ∷ []
