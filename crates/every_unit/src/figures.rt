@@ -3,6 +3,7 @@
 use crate::job::BOUND;
 use crate::job::CAPACITY;
 use crate::job::FIGURES;
+use crate::job::FULL_DEMAND;
 use crate::job::LENGTH_COUNT;
 use crate::job::NORMAL_LENGTHS;
 use crate::job::NORMAL_WIDTHS;
@@ -157,9 +158,10 @@ fn keep_normal(t: &mut Words) {
     }
 }
 
-// Computes what is expected of a job: bound, capacity, both lists and the table.
-pub fn compute(t: &mut Words, turning: bool) {
+// Computes what is expected of a job and of a call's choices: bound, capacity, both lists and the table.
+pub fn compute(t: &mut Words, turning: bool, full_demand: bool) {
     put(t, TURNING, 0, turning as usize);
+    put(t, FULL_DEMAND, 0, full_demand as usize);
     note_capacity(t);
     list_positions(t, 0);
     list_positions(t, 1);

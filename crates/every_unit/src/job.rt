@@ -2,6 +2,7 @@
 use test_tools::Words;
 use test_tools::plus;
 use test_tools::put;
+use test_tools::quotient;
 use test_tools::times;
 use test_tools::word;
 
@@ -10,6 +11,9 @@ pub const PLATE: usize = 9000;
 
 // 1 where pieces may be turned, and 0 where they may not.
 pub const TURNING: usize = 9003;
+
+// 1 where the capacity is that of the full demands, and 0 where it counts what the plate can hold.
+pub const FULL_DEMAND: usize = 9004;
 
 // What is left of the capacity while a job is drawn, and the state of the random numbers.
 pub const LEFT: usize = 9005;
@@ -85,11 +89,55 @@ pub fn widths(t: &Words) -> usize {
     plus(plate_side(t, 1), 1)
 }
 
-// The capacity: the sum over the kinds of demand times weight.
+// How often a kind's sides go into the plate's.
+fn by_sides(t: &Words, i: usize) -> usize {
+    let along = quotient(plate_side(t, 0), kind_side(t, 0, i));
+    let across = quotient(plate_side(t, 1), kind_side(t, 1, i));
+    times(along, across)
+}
+
+// How often a kind's area goes into the plate's.
+fn by_area(t: &Words, i: usize) -> usize {
+    quotient(
+        times(plate_side(t, 0), plate_side(t, 1)),
+        times(kind_side(t, 0, i), kind_side(t, 1, i)),
+    )
+}
+
+// Whether a kind that is ordered lies on the plate upright or turned.
+fn fits_plate(t: &Words, i: usize) -> bool {
+    if fits(t, i, plate_side(t, 0), plate_side(t, 1)) {
+        return true;
+    }
+    fits(t, i, plate_side(t, 1), plate_side(t, 0))
+}
+
+// The copies of a kind that can lie on the plate.
+fn held(t: &Words, i: usize) -> usize {
+    if !may_turn(t) {
+        return by_sides(t, i);
+    }
+    if fits_plate(t, i) {
+        return by_area(t, i);
+    }
+    0
+}
+
+// The copies of a kind that the capacity counts.
+fn counted(t: &Words, i: usize) -> usize {
+    let demand = word(t, DEMAND, i);
+    if word(t, FULL_DEMAND, 0) == 1 {
+        return demand;
+    }
+    let most = held(t, i);
+    if most < demand { most } else { demand }
+}
+
+// The capacity: the sum over the kinds of counted copies times weight.
 fn capacity(t: &Words) -> usize {
     let mut sum: usize = 0;
     for i in 0..kind_count(t) {
-        sum = plus(sum, times(word(t, DEMAND, i), word(t, WEIGHT, i)));
+        sum = plus(sum, times(counted(t, i), word(t, WEIGHT, i)));
     }
     sum
 }

@@ -192,5 +192,9 @@ fn print_answer(block: &[u8], choices: Choices, weights: &[u8]) {
 // The bound and the plan of an input: a job block, then its weights. No piece is turned.
 pub fn print_plan(input: &[u8]) {
     let end = job_end(input);
-    print_answer(&input[..end], Choices { turning: false }, &input[end..]);
+    let choices = Choices {
+        turning: false,
+        full_demand: false,
+    };
+    print_answer(&input[..end], choices, &input[end..]);
 }

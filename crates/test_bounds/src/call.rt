@@ -81,19 +81,38 @@ fn note_left(t: &mut Words, lengths: &[u16; 1008], widths: &[u16; 1008], table: 
     note_table(t, table);
 }
 
-// The bound call on the job's block and weights, with the choice of turning.
+// The bound call, and where the full demands are asked for the one of that name.
+fn choose_call(
+    block: &[u8],
+    way: Choices,
+    weights: &[u8],
+    lengths: &mut [u16],
+    widths: &mut [u16],
+    table: &mut [u64],
+) -> BoundAnswer {
+    let choices = Choices {
+        turning: way.turning,
+        full_demand: false,
+    };
+    if way.full_demand {
+        return bound::bound_full_demand(block, choices, weights, lengths, widths, table);
+    }
+    bound::bound(block, choices, weights, lengths, widths, table)
+}
+
+// The call on the job's block and weights.
 fn call_bound(
     t: &Words,
-    turning: bool,
+    way: Choices,
     lengths: &mut [u16],
     widths: &mut [u16],
     table: &mut [u64],
 ) -> BoundAnswer {
     let block = bytes(t, BLOCK);
     let weights = bytes(t, WEIGHTS);
-    bound::bound(
+    choose_call(
         first_bytes(&block, word(t, BLOCK, 0)),
-        Choices { turning: turning },
+        way,
         first_bytes(&weights, word(t, WEIGHTS, 0)),
         lengths,
         widths,
@@ -102,13 +121,13 @@ fn call_bound(
 }
 
 // Makes the call with the parts of lists and table that are lent, and notes its answer and what it left.
-fn call_lent(t: &mut Words, turning: bool) {
+fn call_lent(t: &mut Words, way: Choices) {
     let mut lengths = marked_list();
     let mut widths = marked_list();
     let mut table = marked_table();
     let answer = call_bound(
         t,
-        turning,
+        way,
         lend_numbers(&mut lengths, word(t, LENT_LENGTHS, 0)),
         lend_numbers(&mut widths, word(t, LENT_WIDTHS, 0)),
         lend_words(&mut table, word(t, LENT_WORDS, 0)),
@@ -117,7 +136,7 @@ fn call_lent(t: &mut Words, turning: bool) {
     note_left(t, &lengths, &widths, &table);
 }
 
-pub fn try_bound(t: &mut Words, turning: bool) {
+pub fn try_bound(t: &mut Words, way: Choices) {
     write_block(t);
-    call_lent(t, turning);
+    call_lent(t, way);
 }

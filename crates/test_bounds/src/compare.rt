@@ -1,5 +1,5 @@
-// Generated jobs of one shape: the second computation, the bound call, and what differs. Each job is compared in two ways: 0 with upright
-// pieces alone, 1 with pieces that may be turned.
+// Generated jobs of one shape: the second computation, the bound call, and what differs. Each job is compared in three ways: 0 with upright
+// pieces alone, 1 with pieces that may be turned, 2 with the capacity of the full demands, every second job with pieces that may be turned.
 use crate::call::ANSWER;
 use crate::call::LENT_LENGTHS;
 use crate::call::LENT_WIDTHS;
@@ -14,6 +14,7 @@ use every_unit::PLATE;
 use every_unit::WORD_COUNT;
 use every_unit::compute;
 use every_unit::draw_job;
+use job::Choices;
 use test_tools::Words;
 use test_tools::add;
 use test_tools::clear;
@@ -32,23 +33,23 @@ const JOBS: usize = 70;
 // Of a shape and each way: jobs that agreed, table words compared, sum of the bounds. Then the greatest capacity.
 const AGREED: usize = 60050;
 
-const TABLE_WORDS: usize = 60052;
+const TABLE_WORDS: usize = 60053;
 
-const BOUNDS: usize = 60054;
+const BOUNDS: usize = 60056;
 
-const GREATEST: usize = 60056;
+const GREATEST: usize = 60059;
 
 // Of all shapes: jobs drawn, and jobs that agreed each way.
-const ALL_DRAWN: usize = 60060;
+const ALL_DRAWN: usize = 60070;
 
-const ALL_AGREED: usize = 60061;
+const ALL_AGREED: usize = 60071;
 
 // The first job that does not agree, counted from 1, its way, and what differs.
-const FIRST: usize = 60063;
+const FIRST: usize = 60080;
 
-const FIRST_WAY: usize = 60064;
+const FIRST_WAY: usize = 60081;
 
-const FIRST_OTHER: usize = 60065;
+const FIRST_OTHER: usize = 60082;
 
 // Lends as much as a word says, and some more.
 fn lend(t: &mut Words, at: usize, from: usize, i: usize, spare: usize) {
@@ -124,22 +125,39 @@ fn note_difference(t: &mut Words, way: usize) {
     }
 }
 
+// Whether pieces may be turned in the n-th job compared in a way.
+fn turns(way: usize, n: usize) -> bool {
+    if way == 2 {
+        return n % 2 == 1;
+    }
+    way == 1
+}
+
 // Compares the job at hand in one way.
 fn compare_way(t: &mut Words, way: usize) {
-    let turning = way == 1;
-    compute(t, turning);
-    lend_all(t, word(t, ALL_DRAWN, 0));
-    try_bound(t, turning);
+    let n = word(t, ALL_DRAWN, 0);
+    let turning = turns(way, n);
+    let full_demand = way == 2;
+    compute(t, turning, full_demand);
+    lend_all(t, n);
+    try_bound(
+        t,
+        Choices {
+            turning: turning,
+            full_demand: full_demand,
+        },
+    );
     note_sizes(t, way);
     note_difference(t, way);
 }
 
-// Draws the next job, and compares it in both ways.
+// Draws the next job, and compares it in all ways.
 fn compare_job(t: &mut Words) {
     add(t, ALL_DRAWN, 1);
     draw_job(t);
     compare_way(t, 0);
     compare_way(t, 1);
+    compare_way(t, 2);
 }
 
 fn compare_jobs(t: &mut Words, n: usize) {
@@ -150,7 +168,7 @@ fn compare_jobs(t: &mut Words, n: usize) {
 
 // Compares the jobs of the shape in the row.
 pub fn compare_shape(t: &mut Words) {
-    clear(t, AGREED, 7);
+    clear(t, AGREED, 10);
     compare_jobs(t, JOBS);
     print_shape(t);
 }
@@ -158,7 +176,7 @@ pub fn compare_shape(t: &mut Words) {
 fn print_shape(t: &Words) {
     print_numbers(b": # jobs; ", &[JOBS as u64]);
     print_words(
-        b"agreed # upright, # turned; table words #, #; sums of bounds #, #; greatest capacity #",
+        b"agreed # upright, # turned, # full demand; table words #, #, #; sums of bounds #, #, #; greatest capacity #",
         t,
         AGREED,
     );
@@ -174,6 +192,10 @@ fn print_first(t: &Words) {
 }
 
 pub fn print_total(t: &Words) {
-    print_words(b": # jobs; agreed # upright, # turned\n", t, ALL_DRAWN);
+    print_words(
+        b": # jobs; agreed # upright, # turned, # full demand\n",
+        t,
+        ALL_DRAWN,
+    );
     print_first(t);
 }

@@ -1,6 +1,6 @@
 // A case at the limits: the job in the row, in which all kinds but the last are alike, and the memory that it is lent. The row has plate
 // length and width; number of kinds; kind length, width, price, demand and weight; the last kind's price; entries of the two lists and
-// words of the table that are lent; 1 where pieces may be turned, else 0.
+// words of the table that are lent; 1 where pieces may be turned, else 0; 1 for the capacity of the full demands, else 0.
 use crate::call::ANSWER;
 use crate::call::LENT_LENGTHS;
 use crate::call::OTHER_LENGTHS;
@@ -9,6 +9,7 @@ use every_unit::KIND_LENGTH;
 use every_unit::LENGTH_COUNT;
 use every_unit::PLATE;
 use every_unit::PRICE;
+use job::Choices;
 use test_tools::ROW;
 use test_tools::Words;
 use test_tools::clear;
@@ -52,8 +53,11 @@ fn print_answer(t: &Words) {
 pub fn run_limit(t: &mut Words) {
     make_job(t);
     clear(t, LENGTH_COUNT, 3);
-    let turning = word(t, ROW, 12) == 1;
-    try_bound(t, turning);
+    let way = Choices {
+        turning: word(t, ROW, 12) == 1,
+        full_demand: word(t, ROW, 13) == 1,
+    };
+    try_bound(t, way);
     print_answer(t);
     print_words(b"; changed # # #", t, OTHER_LENGTHS);
 }

@@ -1,9 +1,9 @@
 // Runs the bound call on the jobs of a script (its standard input).
 // A command `Shape` compares it with a second computation that cuts at every whole unit and shares no code with it (crate every_unit), on
-// 70 generated jobs of a shape, each with upright pieces alone and then with pieces that may be turned: the bound, the capacity, the
-// numbers of normal lengths and widths, both lists and every word of the table; all later words of lists and table must keep what they
-// held before the call. It prints, for each of the two ways, how many jobs agreed, the table words compared and the sum of the expected
-// bounds, and the greatest capacity. `Total` sums up, and names the first job that does not agree.
+// 70 generated jobs of a shape, each with upright pieces alone, with pieces that may be turned, and by the call of the full demands: the
+// bound, the capacity, the numbers of normal lengths and widths, both lists and every word of the table; all later words of lists and
+// table must keep what they held before the call. It prints, for each of the three ways, how many jobs agreed, the table words compared
+// and the sum of the expected bounds, and the greatest capacity. `Total` sums up, and names the first job that does not agree.
 // A command `Limit` runs one job and prints the answer, or the refusal's number and place, and then how many entries of the two lists
 // and how many words of the table the call changed.
 mod call;

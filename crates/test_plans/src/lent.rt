@@ -20,8 +20,10 @@ pub const LENT_WIDTHS: usize = 12002;
 
 pub const LENT_WORDS: usize = 12003;
 
-// Whether pieces may be turned: 1, or 0.
+// Whether pieces may be turned, and whether the capacity is that of the full demands: 1, or 0.
 pub const TURNING: usize = 12500;
+
+pub const FULL_DEMAND: usize = 12600;
 
 pub const REMARK: usize = 13000;
 
@@ -34,8 +36,18 @@ pub fn count(t: &Words, from: usize) -> usize {
 }
 
 pub fn choices(t: &Words) -> Choices {
-    let turning = word(t, TURNING, 1) == 1;
-    Choices { turning: turning }
+    Choices {
+        turning: word(t, TURNING, 1) == 1,
+        full_demand: word(t, FULL_DEMAND, 1) == 1,
+    }
+}
+
+// The choices for a call whose name says full demand: of it they say nothing.
+pub fn other_choices(choices: Choices) -> Choices {
+    Choices {
+        turning: choices.turning,
+        full_demand: false,
+    }
 }
 
 pub fn widen(n: u16) -> u64 {

@@ -5,6 +5,7 @@ use crate::lent::OPERANDS;
 use crate::lent::WEIGHTS;
 use crate::lent::choices;
 use crate::lent::count;
+use crate::lent::other_choices;
 use crate::lent::print_refusal;
 use crate::lent::widen;
 use job::Choices;
@@ -19,6 +20,7 @@ use test_tools::text;
 use writer::WriteAnswer;
 use writer::WriteReport;
 use writer::write_plan;
+use writer::write_plan_full_demand;
 
 fn print_report(r: WriteReport) {
     print_numbers(
@@ -61,12 +63,47 @@ fn print_entries(kinds: &[u8; 5000], operands: &[u16; 5000]) {
     }
 }
 
-// The writing call with lists of 1,001 entries and a table of 4,096 words.
+// The writing call, or the one of the full demands.
+fn write_lent(
+    block: &[u8],
+    choices: Choices,
+    weights: &[u8],
+    lengths: &mut [u16],
+    widths: &mut [u16],
+    table: &mut [u64],
+    kinds: &mut [u8],
+    operands: &mut [u16],
+) -> WriteAnswer {
+    if choices.full_demand {
+        return write_plan_full_demand(
+            block,
+            other_choices(choices),
+            weights,
+            lengths,
+            widths,
+            table,
+            kinds,
+            operands,
+        );
+    }
+    write_plan(
+        block,
+        choices,
+        weights,
+        lengths,
+        widths,
+        table,
+        kinds,
+        operands,
+    )
+}
+
+// The call with lists of 1,001 entries and a table of 4,096 words.
 fn write(block: &[u8], choices: Choices, weights: &[u8], kinds: &mut [u8], operands: &mut [u16]) {
     let mut lengths = [0u16; 1001];
     let mut widths = [0u16; 1001];
     let mut table = [0u64; 4096];
-    print_answer(write_plan(
+    print_answer(write_lent(
         block,
         choices,
         weights,

@@ -40,7 +40,7 @@ enum-known-answer-2 c = search needs
 array-share-prefix-kinds : tie.Need-array-share-prefix-kinds
 array-share-prefix-kinds c =
     let a = c .before .before .before .before .before .before .before .before .before .before .before .before .before .before .before .before .args in
-    let fits = written-fits (now (a .block)) (a .choices) (now (a .weights)) (lent (replicate 1001 0) (replicate 1001 0) (replicate 8192 0)) (replicate 4095 0) (replicate 4095 0) (c .before .before .before .before .before .before .before .before .write-plan .ensures .0) (c .before .answer2 .given .1) in
+    let fits = written-fits (now (a .block)) (a .choices) (now (a .weights)) (lent (replicate 1001 0) (replicate 1001 0) (replicate 8192 0)) (replicate 4095 0) (replicate 4095 0) (c .before .before .before .before .before .before .before .before .write-plan .ensures .answers) (c .before .answer2 .given .1) in
     omega (arith, fits .0)
 
 slice-aggregate-print-report : tie.Need-slice-aggregate-print-report
