@@ -23,9 +23,16 @@ extern "C" {
  * A kind of demand 0 is cancelled; it keeps its number. The others are ordered.
  *
  * Choices. A word of bits, one for each choice of the call; 0 makes none.
- *   PLANNER_TURNING  any piece may be turned
+ *   PLANNER_TURNING      any piece may be turned
+ *   PLANNER_FULL_DEMAND  the capacity counts every demand in full; a plan check reads no capacity
  *
- * Weights. One byte for each kind. The capacity is the sum of demand times weight.
+ * Weights. One byte for each kind. The capacity is the sum, over the kinds, of weight times the
+ * lesser of the demand and the copies that the plate can hold. With PLANNER_FULL_DEMAND it is the
+ * sum of weight times demand, as it was in certificates filed before the plate was counted.
+ *
+ * Copies that the plate can hold. Plate length over piece length, times width over width, each
+ * rounded down. With PLANNER_TURNING plate area over piece area, rounded down, or 0 if the piece fits
+ * the plate neither way. No tree on the plate has more copies of a kind.
  *
  * Plan. A tree in preorder, as two arrays of one length: the kind of each node and its operand.
  *   0 waste, operand 0
@@ -93,7 +100,8 @@ enum {
 
 /* Bits of `choices`. */
 enum {
-    PLANNER_TURNING = 1
+    PLANNER_TURNING = 1,
+    PLANNER_FULL_DEMAND = 2
 };
 
 /* Words of `answer`. */
@@ -126,7 +134,8 @@ uint32_t planner_check_plan_block(
 
 /* Computes the relaxed bound (refusals 1 to 9, 19, 20) and fills the storage. The bound is exactly
  * the most that a guillotine tree on the plate of weight at most the capacity earns, and no tree
- * that keeps every demand earns more.
+ * that keeps every demand earns more. With the same weights, bound and capacity are never above
+ * those with PLANNER_FULL_DEMAND.
  * answer[0] bound, answer[1] capacity, answer[2] p, answer[3] r. */
 uint32_t planner_bound(
     const uint8_t *job, size_t job_len,

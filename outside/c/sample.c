@@ -1,18 +1,18 @@
 /* Job S of the paper from C: the bound, the plan behind it, its check and its certificate, upright
- * and with pieces that may be turned.
+ * and with pieces that may be turned; then more copies than the plate can hold.
  * The script `run` compiles this file against planner.h and compares what it prints with sample.out. */
 #include "planner.h"
 #include <inttypes.h>
 #include <stdio.h>
 
-static const uint8_t JOB[] = {
+static uint8_t job[] = {
     5, 0, 3, 0, 3, 0,                                     /* plate 5 by 3, three kinds */
     2, 0, 3, 0, 3, 0, 1, 0, 2, 0, 2, 0,                   /* 2 by 3, 3 by 1, 2 by 2 */
     7, 0, 0, 0, 1, 0, 4, 0, 0, 0, 2, 0, 5, 0, 0, 0, 1, 0, /* price and demand of each */
 };
 static const uint8_t WEIGHTS[] = {0, 1, 0};
 
-enum { TABLE_WORDS = 72, NODES = 16 };
+enum { TABLE_WORDS = 80, NODES = 16, DEMAND_OF_KIND_1 = 28 };
 
 static uint16_t lengths[6], widths[4];
 static uint64_t table[TABLE_WORDS];
@@ -25,7 +25,7 @@ static void refused(uint32_t number, const uint64_t *answer)
 static void bound(uint32_t choices, size_t table_words)
 {
     uint64_t answer[PLANNER_BOUND_WORDS];
-    uint32_t number = planner_bound(JOB, sizeof JOB, choices, WEIGHTS, sizeof WEIGHTS, lengths, 6,
+    uint32_t number = planner_bound(job, sizeof job, choices, WEIGHTS, sizeof WEIGHTS, lengths, 6,
                                     widths, 4, table, table_words, answer, PLANNER_BOUND_WORDS);
     if (number == PLANNER_UNKNOWN_CHOICE)
         printf("no such choice\n");
@@ -39,7 +39,7 @@ static void bound(uint32_t choices, size_t table_words)
 static size_t write_plan(uint32_t choices, uint8_t *kinds, uint16_t *operands)
 {
     uint64_t answer[PLANNER_PLAN_WORDS];
-    uint32_t number = planner_write_plan(JOB, sizeof JOB, choices, WEIGHTS, sizeof WEIGHTS, lengths,
+    uint32_t number = planner_write_plan(job, sizeof job, choices, WEIGHTS, sizeof WEIGHTS, lengths,
                                          6, widths, 4, table, TABLE_WORDS, kinds, NODES, operands,
                                          NODES, answer, PLANNER_PLAN_WORDS);
     if (number != PLANNER_DONE) {
@@ -54,7 +54,7 @@ static size_t write_plan(uint32_t choices, uint8_t *kinds, uint16_t *operands)
 static void check(uint32_t choices, const uint8_t *kinds, const uint16_t *operands, size_t nodes)
 {
     uint64_t answer[PLANNER_REPORT_WORDS];
-    uint32_t number = planner_check_plan(JOB, sizeof JOB, choices, kinds, nodes, operands, nodes,
+    uint32_t number = planner_check_plan(job, sizeof job, choices, kinds, nodes, operands, nodes,
                                          answer, PLANNER_REPORT_WORDS);
     if (number == PLANNER_DONE)
         printf("profit %" PRIu64 " areas %" PRIu64 " %" PRIu64 " %" PRIu64 "\n", answer[0],
@@ -66,7 +66,7 @@ static void check(uint32_t choices, const uint8_t *kinds, const uint16_t *operan
 static void check_block(const uint8_t *plan, size_t bytes)
 {
     uint64_t answer[PLANNER_REPORT_WORDS];
-    uint32_t number = planner_check_plan_block(JOB, sizeof JOB, 0, plan, bytes, answer,
+    uint32_t number = planner_check_plan_block(job, sizeof job, 0, plan, bytes, answer,
                                                PLANNER_REPORT_WORDS);
     if (number == PLANNER_DONE)
         printf("waste %" PRIu64 "\n", answer[2]);
@@ -77,7 +77,7 @@ static void check_block(const uint8_t *plan, size_t bytes)
 static void certify(uint32_t choices, const uint8_t *kinds, const uint16_t *operands, size_t nodes)
 {
     uint64_t answer[PLANNER_CERTIFICATE_WORDS];
-    uint32_t number = planner_certify(JOB, sizeof JOB, choices, WEIGHTS, sizeof WEIGHTS, kinds,
+    uint32_t number = planner_certify(job, sizeof job, choices, WEIGHTS, sizeof WEIGHTS, kinds,
                                       nodes, operands, nodes, lengths, 6, widths, 4, table,
                                       TABLE_WORDS, answer, PLANNER_CERTIFICATE_WORDS);
     if (number == PLANNER_DONE)
@@ -103,6 +103,9 @@ int main(void)
     nodes = write_plan(PLANNER_TURNING, kinds, operands);
     check(PLANNER_TURNING, kinds, operands, nodes);
     check(0, kinds, operands, nodes);
-    bound(2, TABLE_WORDS);
+    job[DEMAND_OF_KIND_1] = 200;
+    bound(0, TABLE_WORDS);
+    bound(PLANNER_FULL_DEMAND, TABLE_WORDS);
+    bound(4, TABLE_WORDS);
     return 0;
 }
