@@ -19,8 +19,8 @@ typedef struct {
 
 enum { WASTE, PIECE, CUT_LENGTH, CUT_WIDTH, TURNED_PIECE };
 
-/* The choice that a piece may be turned. */
-enum { TURNING = 1 };
+/* The choices that a piece may be turned, and that the capacity counts every demand in full. */
+enum { TURNING = 1, FULL_DEMAND = 2 };
 
 /* Pieces are the kinds as they may lie, each with its node in a plan. */
 typedef struct {

@@ -17,6 +17,21 @@ static void add_piece(Job *job, Size size, uint64_t price, int weight, Node node
     job->node[i] = node;
 }
 
+/* The copies of a kind that the capacity counts: its demand, or what the plate can hold where that
+ * is less and the full demand is not chosen. */
+static int counted(Size plate, Size size, int demand, uint32_t choices)
+{
+    Size turned = {size.width, size.length};
+    int held = 0;
+    if (choices & FULL_DEMAND)
+        return demand;
+    if (!(choices & TURNING))
+        held = plate.length / size.length * (plate.width / size.width);
+    else if (fits(size, plate) || fits(turned, plate))
+        held = plate.length * plate.width / (size.length * size.width);
+    return demand < held ? demand : held;
+}
+
 static void read_job(Job *job, const uint8_t *block, uint32_t choices, const uint8_t *weights)
 {
     int kinds = two(block + 4);
@@ -32,7 +47,7 @@ static void read_job(Job *job, const uint8_t *block, uint32_t choices, const uin
             add_piece(job, size, price, weights[i], (Node){PIECE, i});
         if (demand > 0 && choices & TURNING)
             add_piece(job, turned, price, weights[i], (Node){TURNED_PIECE, i});
-        job->capacity += demand * weights[i];
+        job->capacity += counted(job->plate, size, demand, choices) * weights[i];
     }
 }
 

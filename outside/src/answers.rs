@@ -4,6 +4,9 @@
 /// The choice that a piece may be turned.
 pub const TURNING: u32 = 1;
 
+/// The choice that the capacity counts every demand in full.
+pub const FULL_DEMAND: u32 = 2;
+
 /// Answer of a call whose `answer` slice is too short.
 pub const ANSWER_TOO_SHORT: u32 = 100;
 

@@ -1,7 +1,7 @@
 // The job block: refusals 1 to 7; and the pieces as they may lie.
 // Header, then all sizes, then the pairs of price and demand.
 use super::refuse_if;
-use crate::answers::{Refusal, TURNING};
+use crate::answers::{Refusal, FULL_DEMAND, TURNING};
 
 pub struct Kind {
     pub length: usize,
@@ -23,6 +23,7 @@ pub struct Job {
     pub width: usize,
     pub kinds: Vec<Kind>,
     pub turning: bool,
+    pub full_demand: bool,
 }
 
 impl Piece {
@@ -60,7 +61,9 @@ impl Job {
             refuse_if(two(pair, 4) > 255, 7, i)?;
         }
         let kinds = sizes.chunks(4).zip(pairs.chunks(6)).map(kind).collect();
-        Ok(Job { length, width, kinds, turning: choices & TURNING != 0 })
+        let chosen = |bit| choices & bit != 0;
+        let (turning, full_demand) = (chosen(TURNING), chosen(FULL_DEMAND));
+        Ok(Job { length, width, kinds, turning, full_demand })
     }
 }
 

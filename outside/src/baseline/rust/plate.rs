@@ -1,6 +1,6 @@
 // Reading a job, its capacity and its normal positions.
 // Also the two loops that all the work is in.
-use crate::answers::TURNING;
+use crate::answers::{FULL_DEMAND, TURNING};
 
 pub const LENGTH: usize = 0;
 pub const WIDTH: usize = 1;
@@ -38,7 +38,7 @@ impl Plate {
             let price = (two(pairs, 6 * i) + (two(pairs, 6 * i + 2) << 16)) as u64;
             let weight = usize::from(weight);
             let demand = two(pairs, 6 * i + 4);
-            capacity += demand * weight;
+            capacity += counted(plate, [length, width], demand, choices) * weight;
             if demand == 0 {
                 continue;
             }
@@ -59,7 +59,7 @@ impl Plate {
 
 impl Piece {
     pub fn fits(&self, rectangle: [usize; 2]) -> bool {
-        self.side[LENGTH] <= rectangle[LENGTH] && self.side[WIDTH] <= rectangle[WIDTH]
+        fits(self.side, rectangle)
     }
 }
 
@@ -124,6 +124,27 @@ fn raise(best: &mut u64, sum: u64) {
     if sum > *best {
         *best = sum;
     }
+}
+
+fn fits(side: [usize; 2], rectangle: [usize; 2]) -> bool {
+    side[LENGTH] <= rectangle[LENGTH] && side[WIDTH] <= rectangle[WIDTH]
+}
+
+/// The copies of a kind that the capacity counts: its demand, or what the plate can hold where that
+/// is less and the full demand is not chosen.
+fn counted(plate: [usize; 2], side: [usize; 2], demand: usize, choices: u32) -> usize {
+    let [length, width] = side;
+    if choices & FULL_DEMAND != 0 {
+        return demand;
+    }
+    let held = if choices & TURNING == 0 {
+        plate[LENGTH] / length * (plate[WIDTH] / width)
+    } else if fits(side, plate) || fits([width, length], plate) {
+        plate[LENGTH] * plate[WIDTH] / (length * width)
+    } else {
+        0
+    };
+    demand.min(held)
 }
 
 fn two(bytes: &[u8], at: usize) -> usize {

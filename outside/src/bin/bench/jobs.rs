@@ -1,8 +1,10 @@
 // The jobs that are measured. All are generated from fixed seeds, so every run has the same.
-// Prices are areas with a premium of up to a quarter; demands are raised until Q is as wanted.
-use outside::answers::TURNING;
+// Prices are areas with a premium of up to a quarter; demands are raised until Q is as wanted, which
+// counts them in full where the plate cannot hold so many.
+use outside::answers::{FULL_DEMAND, TURNING};
 use outside::blocks::{job_block, job_s, Kind};
 use outside::random::Random;
+use outside::reference;
 
 pub struct Job {
     pub name: String,
@@ -38,7 +40,13 @@ pub fn named() -> Vec<Job> {
         capacity: 200,
         ..SMALL
     };
-    let many = Draw { sides: (20, 50), weights: &[0, 16, 48], capacity: 4000, ..SMALL };
+    let many = Draw {
+        sides: (20, 50),
+        weights: &[0, 16, 48],
+        capacity: 4000,
+        choices: FULL_DEMAND,
+        ..SMALL
+    };
     let s = Job { name: "S".into(), block: job_s(), choices: 0, weights: vec![0, 1, 0] };
     let mut jobs = vec![s];
     jobs.extend([SMALL, few, turning, half, full, shares, many].iter().map(draw));
@@ -55,7 +63,8 @@ pub fn growing_plates() -> Vec<Job> {
 pub fn growing_capacities() -> Vec<Job> {
     let weights = &[1, 2, 3, 5, 8, 13];
     let capacities = [60, 250, 1000, 4000];
-    let plate = Draw { plate: 80, kinds: 16, sides: (12, 40), weights, ..SMALL };
+    let choices = FULL_DEMAND;
+    let plate = Draw { plate: 80, kinds: 16, sides: (12, 40), weights, choices, ..SMALL };
     capacities.map(|capacity| draw(&Draw { capacity, ..plate })).into()
 }
 
@@ -63,12 +72,15 @@ fn draw(from: &Draw) -> Job {
     let random = &mut Random::new(u64::from(from.plate) + from.kinds as u64);
     let mut kinds: Vec<Kind> = (0..from.kinds).map(|_| draw_kind(random, from.sides)).collect();
     let weights: Vec<u8> = (0..from.kinds).map(|_| random.pick(from.weights)).collect();
-    let capacity = raise_demands(&mut kinds, &weights, from.capacity);
-    let Draw { plate, sides: (low, high), .. } = from;
+    raise_demands(from, &mut kinds, &weights);
+    let capacity = capacity(from, &kinds, &weights);
+    let &Draw { plate, sides: (low, high), choices, .. } = from;
     let n = kinds.len();
-    let turning = if from.choices & TURNING != 0 { ", turning" } else { "" };
-    let name = format!("{plate}×{plate}, {n} kinds of sides {low}–{high}, Q {capacity}{turning}");
-    Job { name, block: job_block(*plate, *plate, &kinds), choices: from.choices, weights }
+    let mut name = format!("{plate}×{plate}, {n} kinds of sides {low}–{high}, Q {capacity}");
+    for (choice, words) in [(TURNING, ", turning"), (FULL_DEMAND, ", full demand")] {
+        name += if choices & choice != 0 { words } else { "" };
+    }
+    Job { name, block: job_block(plate, plate, &kinds), choices, weights }
 }
 
 fn draw_kind(random: &mut Random, (low, high): (usize, usize)) -> Kind {
@@ -78,15 +90,20 @@ fn draw_kind(random: &mut Random, (low, high): (usize, usize)) -> Kind {
 }
 
 /// Adds copies, one kind after the other, as long as the capacity stays within the limit.
-fn raise_demands(kinds: &mut [Kind], weights: &[u8], limit: usize) -> usize {
-    let mut capacity: usize = weights.iter().map(|&weight| usize::from(weight)).sum();
+fn raise_demands(from: &Draw, kinds: &mut [Kind], weights: &[u8]) {
     for _ in 1..255 {
-        for (kind, &weight) in kinds.iter_mut().zip(weights) {
-            if weight > 0 && capacity + usize::from(weight) <= limit {
-                capacity += usize::from(weight);
-                kind.3 += 1;
+        for i in 0..kinds.len() {
+            kinds[i].3 += 1;
+            if weights[i] == 0 || capacity(from, kinds, weights) > from.capacity {
+                kinds[i].3 -= 1;
             }
         }
     }
-    capacity
+}
+
+/// The capacity that the calls read, or more than any limit where they refuse it.
+fn capacity(from: &Draw, kinds: &[Kind], weights: &[u8]) -> usize {
+    let block = job_block(from.plate, from.plate, kinds);
+    let job = reference::Job::read(&block, from.choices).expect("a job");
+    reference::capacity(&job, weights).unwrap_or(usize::MAX)
 }
