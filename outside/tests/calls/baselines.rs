@@ -2,8 +2,8 @@
 // What they take as given is given here: an accepted job and storage that the reference found enough.
 use crate::inputs::{draw, Scale};
 use crate::lent::{Lent, Sizes};
-use crate::run::{Call, Input};
-use outside::answers::{PlanArrays, Storage, Words, Written, TURNING};
+use crate::run::{Call, Input, ALL_CHOICES};
+use outside::answers::{PlanArrays, Storage, Words, Written};
 use outside::random::Random;
 use outside::{baseline, reference};
 
@@ -24,13 +24,13 @@ fn written(input: &Input, write_plan: WritePlan) -> Lent {
     lent
 }
 
-/// Compares both baselines on so many jobs, upright and turning, those left out that the reference
-/// refuses.
+/// Compares both baselines on so many jobs, the words of choices taking turns, those left out that
+/// the reference refuses.
 fn baselines_agree(seed: u64, jobs: usize, scale: Scale) {
     let random = &mut Random::new(seed);
     let mut compared = 0;
     for i in 0..jobs {
-        let input = draw(random, scale, [0, TURNING][i % 2]);
+        let input = draw(random, scale, ALL_CHOICES[i % 4]);
         let mut expected = Lent::new(ROOM);
         if Call::WritePlan.run(&reference::calls::CALLS, &input, &mut expected) == 0 {
             compared += 1;

@@ -1,7 +1,7 @@
 // Kinds of demand 0: one case for each sentence of the request, and jobs with cancelled kinds against
 // the jobs that leave them out.
 use crate::examples::{answers, input, lists, plan_refused, refuses, writes, writes_alike, Node};
-use crate::run::{Call, Input};
+use crate::run::{Call, Input, ALL_CHOICES};
 use outside::answers::TURNING;
 use outside::blocks::{job_block, Kind};
 use outside::random::Random;
@@ -28,7 +28,7 @@ fn kind_numbers_do_not_shift() {
 #[test]
 fn every_kind_cancelled_leaves_waste() {
     let waste = unweighted(9, 7, &[(2, 3, 7, 0), (1, 1, 1, 0)], &[(0, 0)]);
-    for job in [waste.clone(), waste.with(TURNING)] {
+    for job in ALL_CHOICES.map(|choices| waste.clone().with(choices)) {
         answers(Call::Bound, &job, &[0, 0, 1, 1]);
         lists(&job, &[0], &[0]);
         writes(&job, 0);
@@ -61,7 +61,7 @@ fn draw_both(random: &mut Random) -> ([Input; 2], Vec<u16>) {
         }
     }
     let (length, width) = (random.from(1, 8) as u16, random.from(1, 8) as u16);
-    let choices = [0, TURNING][random.from(0, 1)];
+    let choices = random.pick(&ALL_CHOICES);
     let job = |kinds: &[Kind], weights: &[u8]| {
         input(job_block(length, width, kinds), weights, &[]).with(choices)
     };

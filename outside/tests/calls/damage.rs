@@ -70,13 +70,18 @@ fn damage_weights(random: &mut Random, input: &mut Input) {
     match random.from(0, 3) {
         0 => weights.truncate(weights.len() - 1),
         1 => weights.push(0),
-        2 => {
-            weights.fill(255);
-            let last_demand = job.len() - 2;
-            job[last_demand] = random.pick(&[16, 17, 255]);
-        }
+        2 => overload(random, job, weights),
         _ => weights[0] = random.word() as u8,
     }
+}
+
+/// The greatest weights, and a last kind of 1 by 1, of which about as many are ordered as the
+/// capacity takes, or more.
+fn overload(random: &mut Random, job: &mut [u8], weights: &mut [u8]) {
+    let n = weights.len();
+    weights.fill(255);
+    job[4 * n + 2..4 * n + 6].copy_from_slice(&[1, 0, 1, 0]);
+    job[10 * n + 4] = random.pick(&[16, 17, 255]);
 }
 
 fn damage_arrays(random: &mut Random, input: &mut Input) {

@@ -3,7 +3,7 @@
 // nodes.
 use crate::examples::{input, Node};
 use crate::lent::{Lent, Sizes};
-use crate::run::{Call, Input};
+use crate::run::{Call, Input, ALL_CHOICES};
 use crate::stack::on_small_stack;
 use outside::answers::{Words, TURNING};
 use outside::blocks::{job_block, Kind};
@@ -206,6 +206,8 @@ fn largest_tables_are_filled() {
     let weighed = input(job_block(12, 9, &many_kinds(9)), &weights, &[(0, 0)]);
     for choices in [0, TURNING] {
         is_filled(&free.clone().with(choices), 1001, 1001, 0);
+    }
+    for choices in ALL_CHOICES {
         is_filled(&weighed.clone().with(choices), 13, 10, 4095);
     }
 }

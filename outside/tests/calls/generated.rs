@@ -3,9 +3,7 @@
 use crate::damage::damage;
 use crate::inputs::{draw, Scale};
 use crate::lent::{Lent, Sizes};
-use crate::run::{compare, Call, Input, ALL_CALLS};
-use outside::answers::TURNING;
-use outside::blocks::plan_block;
+use crate::run::{compare, Call, Input, ALL_CALLS, ALL_CHOICES};
 use outside::random::Random;
 use outside::reference::{capacity, normal_positions, Job};
 use std::collections::BTreeMap;
@@ -57,7 +55,7 @@ const LONG: Scale = Scale {
 
 #[test]
 fn small_inputs_agree() {
-    for tally in agree(1, 30_000, SMALL) {
+    for tally in agree(1, 20_000, SMALL) {
         for call in ALL_CALLS {
             let seen = |code: &u32| tally.codes.get(&(call, *code)).copied().unwrap_or(0);
             for code in codes(call) {
@@ -70,22 +68,22 @@ fn small_inputs_agree() {
 
 #[test]
 fn medium_inputs_agree() {
-    agree(2, 4000, Scale { plate: 18, kinds: 8, side: 9, price: 60, demand: 4, weight: 3, ..LONG });
+    agree(2, 3000, Scale { plate: 18, kinds: 8, side: 9, price: 60, demand: 4, weight: 3, ..LONG });
 }
 
 #[test]
 fn many_kinds_agree() {
-    agree(3, 4000, Scale { plate: 9, side: 9, kinds: 64, demand: 2, weight: 1, ..LONG });
+    agree(3, 3000, Scale { plate: 9, side: 9, kinds: 64, demand: 2, weight: 1, ..LONG });
 }
 
 #[test]
 fn large_plates_agree() {
-    agree(4, 400, Scale { plate: 120, side: 60, kinds: 12, price: 5000, weight: 0, ..LONG });
+    agree(4, 200, Scale { plate: 120, side: 60, kinds: 12, price: 5000, weight: 0, ..LONG });
 }
 
 #[test]
 fn large_capacities_agree() {
-    agree(5, 800, Scale { plate: 4, side: 3, kinds: 3, price: 50, demand: 12, weight: 60, ..LONG });
+    agree(5, 600, Scale { plate: 4, side: 3, kinds: 3, price: 50, demand: 12, weight: 60, ..LONG });
 }
 
 /// The codes that a call can give.
@@ -99,10 +97,10 @@ fn codes(call: Call) -> Vec<u32> {
     (0..=7).chain(others.iter().copied()).chain([100, 101]).collect()
 }
 
-/// Compares every call on so many inputs without a choice, and on as many with turning.
-fn agree(seed: u64, inputs: usize, scale: Scale) -> [Tally; 2] {
+/// Compares every call on so many inputs for each word of choices.
+fn agree(seed: u64, inputs: usize, scale: Scale) -> [Tally; 4] {
     let random = &mut Random::new(seed);
-    [0, TURNING].map(|choices| agree_with(random, inputs, scale, choices))
+    ALL_CHOICES.map(|choices| agree_with(random, inputs, scale, choices))
 }
 
 /// At least a third of the calls must be done.
@@ -114,10 +112,7 @@ fn agree_with(random: &mut Random, inputs: usize, scale: Scale, choices: u32) ->
             let sizes = draw_sizes(random, call, &input);
             let (code, lent) = tally.compare(call, &input, sizes);
             if (call, code) == (Call::WritePlan, 0) {
-                let nodes = lent.answer.words()[4] as usize;
-                let kinds = lent.kinds.words()[..nodes].to_vec();
-                let operands = lent.operands.words()[..nodes].to_vec();
-                written_plan_agrees(random, &input, sizes, (kinds, operands), &mut tally);
+                written_plan_agrees(random, &input.with_written_plan(&lent), sizes, &mut tally);
             }
         }
     }
@@ -128,22 +123,14 @@ fn agree_with(random: &mut Random, inputs: usize, scale: Scale, choices: u32) ->
 }
 
 /// The written plan again, into arrays that just hold it or do not; and as input of the checks.
-fn written_plan_agrees(
-    random: &mut Random,
-    input: &Input,
-    sizes: Sizes,
-    (kinds, operands): (Vec<u8>, Vec<u16>),
-    tally: &mut Tally,
-) {
-    let nodes = kinds.len();
+fn written_plan_agrees(random: &mut Random, planned: &Input, sizes: Sizes, tally: &mut Tally) {
+    let nodes = planned.kinds.len();
     let short = random.pick(&[(0, 0), (0, 0), (1, 0), (0, 1), (nodes, nodes)]);
     let tight = Sizes { kinds: nodes - short.0, operands: nodes - short.1, ..sizes };
-    tally.compare(Call::WritePlan, input, tight);
+    tally.compare(Call::WritePlan, planned, tight);
     if random.one_in(4) {
-        let plan = plan_block(&kinds, &operands);
-        let planned = Input { kinds, operands, plan, ..input.clone() };
         for call in [Call::CheckPlan, Call::CheckPlanBlock, Call::Certify] {
-            tally.compare(call, &planned, Sizes { answer: 68, ..sizes });
+            tally.compare(call, planned, Sizes { answer: 68, ..sizes });
         }
     }
 }

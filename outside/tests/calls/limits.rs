@@ -1,9 +1,9 @@
-// The greatest and the first refused values: sides, kinds, demands, capacities, nodes.
-// Also how the answer slice itself is treated.
+// The greatest and the first refused values: sides, kinds, demands, nodes, words of the table.
+// Also how the answer slice itself and the word of choices are treated.
 use crate::examples::{answers, input, plan_refused, refuses, reports, Node};
 use crate::lent::{Lent, Sizes};
-use crate::run::{compare, Call, Input, ALL_CALLS};
-use outside::answers::{ANSWER_TOO_SHORT, TURNING, UNKNOWN_CHOICE};
+use crate::run::{compare, Call, Input, ALL_CALLS, ALL_CHOICES};
+use outside::answers::{ANSWER_TOO_SHORT, UNKNOWN_CHOICE};
 use outside::blocks::{job_block, job_s, Kind};
 
 const ROOM: Sizes =
@@ -28,37 +28,22 @@ fn sides_up_to_1000() {
 fn up_to_64_kinds() {
     let kinds: Vec<Kind> = (0..65).map(|i| (1 + i % 13, 9 - i % 7, 1 + u32::from(i), 1)).collect();
     let job = |n: usize| input(job_block(13, 9, &kinds[..n]), &vec![1; n], &[(1, 63)]);
-    for (call, choices) in ALL_CALLS.into_iter().flat_map(|call| [(call, 0), (call, TURNING)]) {
-        assert_eq!(compare(call, &job(64).with(choices), ROOM).0, 0);
-        refuses(call, &job(65).with(choices), 3, 0);
+    for choices in ALL_CHOICES {
+        for call in ALL_CALLS {
+            assert_eq!(compare(call, &job(64).with(choices), ROOM).0, 0);
+            refuses(call, &job(65).with(choices), 3, 0);
+        }
     }
-}
-
-#[test]
-fn capacity_up_to_4095() {
-    let job = |weight| input(job_block(2, 2, &[(1, 1, 3, 255)]), &[weight], &[(1, 0)]);
-    let (code, lent) = compare(Call::Bound, &job(16), ROOM);
-    assert_eq!((code, &lent.answer.words()[..4]), (0, &[12, 4080, 3, 3][..]));
-    for call in [Call::Bound, Call::WritePlan, Call::Certify] {
-        refuses(call, &job(17), 9, 0);
-    }
-    let exactly = input(job_block(1, 1, &[(1, 1, 3, 255), (1, 1, 4, 15)]), &[16, 1], &[]);
-    answers(Call::Bound, &exactly, &[4, 4095, 2, 2]);
-    let above = input(job_block(1, 1, &[(1, 1, 3, 255), (1, 1, 4, 16)]), &[16, 1], &[]);
-    refuses(Call::Bound, &above, 9, 0);
-}
-
-#[test]
-fn capacity_does_not_wrap() {
-    let kinds: Vec<Kind> = vec![(1, 1, 1, 255); 64];
-    refuses(Call::Bound, &input(job_block(1, 1, &kinds), &[255; 64], &[]), 9, 0);
 }
 
 #[test]
 fn words_needed_are_counted_in_64_bits() {
     let job = job_block(1000, 1000, &[(1, 1, 1, 255), (1, 1, 1, 15)]);
-    let (code, lent) = compare(Call::Bound, &input(job, &[16, 1], &[]), ROOM);
-    assert_eq!((code, lent.answer.words()[0]), (20, 4_104_196_096));
+    for choices in ALL_CHOICES {
+        let input = input(job.clone(), &[16, 1], &[]).with(choices);
+        let (code, lent) = compare(Call::Bound, &input, ROOM);
+        assert_eq!((code, lent.answer.words()[0]), (20, 4_104_196_096));
+    }
 }
 
 #[test]
@@ -111,6 +96,9 @@ fn plans_of_4096_nodes_are_refused() {
     plan_refused(&input(job, &[0], &vec![(0, 0); 65_535]), 11, 0);
 }
 
+/// Words of choices with a bit that has no meaning, alone and beside the others.
+const UNKNOWN_CHOICES: [u32; 8] = [4, 5, 6, 7, 8, 1 << 31, 1 << 31 | 3, u32::MAX];
+
 /// A code that comes before all others, with no change of memory.
 fn nothing_is_changed(call: Call, input: &Input, answer: usize, code: u32) {
     let sizes = Sizes { answer, ..ROOM };
@@ -121,7 +109,7 @@ fn nothing_is_changed(call: Call, input: &Input, answer: usize, code: u32) {
 #[test]
 fn short_answers_change_nothing() {
     for call in ALL_CALLS {
-        for choices in [0, TURNING, 2] {
+        for choices in ALL_CHOICES.into_iter().chain(UNKNOWN_CHOICES) {
             let input = input(job_s(), &[0, 1, 0], &[(0, 0)]).with(choices);
             for answer in [0, 1, call.answer_words() - 1] {
                 nothing_is_changed(call, &input, answer, ANSWER_TOO_SHORT);
@@ -132,7 +120,7 @@ fn short_answers_change_nothing() {
 
 #[test]
 fn unknown_choices_change_nothing() {
-    for choices in [2, 3, 4, 8, 0x8000_0001] {
+    for choices in UNKNOWN_CHOICES {
         for call in ALL_CALLS {
             for job in [job_s(), vec![]] {
                 let input = input(job, &[0, 1, 0], &[(0, 0)]).with(choices);

@@ -2,9 +2,12 @@
 // and the one against the other, with all lent memory, on generated inputs.
 mod baselines;
 mod cancelled;
+mod capacity;
 mod damage;
 mod deep;
+mod exact;
 mod examples;
+mod forms;
 mod generated;
 mod inputs;
 mod lent;

@@ -2,7 +2,8 @@
 // Every case tells two possible readings apart.
 use crate::examples::{answers, input, lists, plan_refused, refuses, reports, writes};
 use crate::lent::{Lent, Sizes};
-use crate::run::{compare, Call, Input, ALL_CALLS};
+use crate::run::{compare, Call, Input, ALL_CALLS, ALL_CHOICES, WEIGHING_CALLS};
+use outside::answers::FULL_DEMAND;
 use outside::blocks::{job_block, job_s};
 
 const ROOM: Sizes =
@@ -83,16 +84,20 @@ fn node_checks_in_order() {
 }
 
 #[test]
-fn kinds_larger_than_the_plate_count_in_the_capacity() {
-    let job = job_block(3, 1, &[(1, 1, 1, 1), (9, 9, 1, 3)]);
-    answers(Call::Bound, &input(job, &[1, 1], &[]), &[3, 4, 4, 2]);
+fn kinds_larger_than_the_plate_count_in_the_full_demand_alone() {
+    let job = input(job_block(3, 1, &[(1, 1, 1, 1), (9, 9, 1, 3)]), &[1, 1], &[]);
+    answers(Call::Bound, &job, &[1, 1, 4, 2]);
+    answers(Call::Bound, &job.with(FULL_DEMAND), &[3, 4, 4, 2]);
 }
 
 #[test]
 fn cancelled_kinds_count_nowhere() {
     let job = job_block(2, 1, &[(1, 1, 1, 2), (1, 1, 5, 0)]);
-    answers(Call::Bound, &input(job.clone(), &[1, 1], &[]), &[2, 2, 3, 2]);
-    answers(Call::Bound, &input(job, &[1, 2], &[]), &[2, 2, 3, 2]);
+    for choices in ALL_CHOICES {
+        let job = |weights| input(job.clone(), weights, &[]).with(choices);
+        answers(Call::Bound, &job(&[1, 1]), &[2, 2, 3, 2]);
+        answers(Call::Bound, &job(&[1, 2]), &[2, 2, 3, 2]);
+    }
 }
 
 #[test]
@@ -106,7 +111,7 @@ fn short_lists_are_refused_even_where_few_positions_are() {
     let input = input(job_block(9, 9, &[(9, 9, 1, 1)]), &[0], &[(0, 0)]);
     let lists = [(9, 10), (10, 9), (9, 9)];
     for (lengths, widths) in lists {
-        for call in [Call::Bound, Call::WritePlan, Call::Certify] {
+        for call in WEIGHING_CALLS {
             let sizes = Sizes { lengths, widths, ..ROOM };
             let (code, lent) = compare(call, &input, sizes);
             assert_eq!((code, lent.answer.words()[0]), (19, 0));
@@ -119,7 +124,7 @@ fn short_lists_are_refused_even_where_few_positions_are() {
 #[test]
 fn short_table_answers_the_words_needed() {
     let input = input(job_s(), &[0, 1, 0], &[(0, 0)]);
-    for call in [Call::Bound, Call::WritePlan, Call::Certify] {
+    for call in WEIGHING_CALLS {
         let sizes = Sizes { table: 59, ..ROOM };
         let (code, lent) = compare(call, &input, sizes);
         assert_eq!((code, lent.answer.words()[0]), (20, 60));

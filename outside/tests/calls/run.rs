@@ -1,5 +1,7 @@
 // One call on one input with fresh memory, and the same call on two implementations.
 use crate::lent::{Lent, Sizes};
+use outside::answers::{FULL_DEMAND, TURNING};
+use outside::blocks::plan_block;
 use outside::calls::Calls;
 use outside::planner;
 use outside::reference;
@@ -16,6 +18,12 @@ pub enum Call {
 pub const ALL_CALLS: [Call; 5] =
     [Call::CheckPlan, Call::CheckPlanBlock, Call::Bound, Call::WritePlan, Call::Certify];
 
+/// The calls that take weights.
+pub const WEIGHING_CALLS: [Call; 3] = [Call::Bound, Call::WritePlan, Call::Certify];
+
+/// Every word of choices that has a meaning.
+pub const ALL_CHOICES: [u32; 4] = [0, TURNING, FULL_DEMAND, TURNING | FULL_DEMAND];
+
 /// What a call reads. The plan stands as arrays and as a block.
 #[derive(Clone, Debug, Default)]
 pub struct Input {
@@ -30,6 +38,14 @@ pub struct Input {
 impl Input {
     pub fn with(self, choices: u32) -> Input {
         Input { choices, ..self }
+    }
+
+    /// The same input with the plan that a call has written.
+    pub fn with_written_plan(&self, lent: &Lent) -> Input {
+        let nodes = lent.answer.words()[4] as usize;
+        let kinds = lent.kinds.words()[..nodes].to_vec();
+        let operands = lent.operands.words()[..nodes].to_vec();
+        Input { plan: plan_block(&kinds, &operands), kinds, operands, ..self.clone() }
     }
 }
 

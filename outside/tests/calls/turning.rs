@@ -2,7 +2,7 @@
 // that lists every kind twice.
 use crate::examples::{answers, input, lists, plan_refused, reports, writes, writes_alike, Node};
 use crate::run::{Call, Input};
-use outside::answers::TURNING;
+use outside::answers::{FULL_DEMAND, TURNING};
 use outside::blocks::{job_block, job_s, Kind};
 use outside::random::Random;
 
@@ -76,7 +76,7 @@ fn bound_and_certificate_take_both_orientations() {
 }
 
 /// A job with turning, and one without that lists each kind upright and then turned; the demand is
-/// divided between both, so that the capacity is the same.
+/// divided between both, so that the full-demand capacity is the same.
 fn draw_both(random: &mut Random) -> [Input; 2] {
     let (mut once, mut twice, mut weights) = (vec![], vec![], vec![]);
     for _ in 0..random.from(1, 4) {
@@ -89,8 +89,8 @@ fn draw_both(random: &mut Random) -> [Input; 2] {
     let (length, width) = (random.from(1, 8) as u16, random.from(1, 8) as u16);
     let both: Vec<u8> = weights.iter().flat_map(|&weight| [weight, weight]).collect();
     [
-        input(job_block(length, width, &once), &weights, &[]).with(TURNING),
-        input(job_block(length, width, &twice), &both, &[]),
+        input(job_block(length, width, &once), &weights, &[]).with(TURNING | FULL_DEMAND),
+        input(job_block(length, width, &twice), &both, &[]).with(FULL_DEMAND),
     ]
 }
 

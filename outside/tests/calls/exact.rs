@@ -1,0 +1,79 @@
+// The most that a guillotine tree within the demands earns, by trying every tree: for tiny jobs.
+// The copies that remain of every kind are one number of mixed radix, kind 0 lowest.
+use outside::blocks::job_s;
+use outside::reference::Job;
+
+/// How the remaining copies are numbered.
+struct Copies {
+    radix: Vec<usize>,
+    states: usize,
+}
+
+pub fn optimum(job: &Job) -> u64 {
+    let copies = Copies::of(job);
+    let splits = copies.splits();
+    let mut most = vec![vec![vec![0; copies.states]; job.width + 1]; job.length + 1];
+    for length in 1..=job.length {
+        for width in 1..=job.width {
+            let mut best = single_pieces(job, &copies, length, width);
+            for cut in 1..length {
+                raise(&mut best, &most[cut][width], &most[length - cut][width], &splits);
+            }
+            for cut in 1..width {
+                raise(&mut best, &most[length][cut], &most[length][width - cut], &splits);
+            }
+            most[length][width] = best;
+        }
+    }
+    most[job.length][job.width][copies.states - 1]
+}
+
+fn single_pieces(job: &Job, copies: &Copies, length: usize, width: usize) -> Vec<u64> {
+    let mut best = vec![0; copies.states];
+    for piece in job.pieces().filter(|piece| piece.fits(length, width)) {
+        let price = job.kinds[piece.kind].price;
+        let left = |state: &usize| copies.digits(*state)[piece.kind] > 0;
+        (0..copies.states).filter(left).for_each(|state| best[state] = price.max(best[state]));
+    }
+    best
+}
+
+/// Raises each state to the best sum over the ways to share its copies out to two parts.
+fn raise(best: &mut [u64], first: &[u64], second: &[u64], splits: &[(usize, usize)]) {
+    for &(a, b) in splits {
+        best[a + b] = best[a + b].max(first[a] + second[b]);
+    }
+}
+
+impl Copies {
+    fn of(job: &Job) -> Copies {
+        let radix: Vec<usize> = job.kinds.iter().map(|kind| kind.demand as usize + 1).collect();
+        let states = radix.iter().product();
+        Copies { radix, states }
+    }
+
+    fn digits(&self, mut state: usize) -> Vec<usize> {
+        let mut next = |radix: &usize| {
+            let digit = state % radix;
+            state /= radix;
+            digit
+        };
+        self.radix.iter().map(&mut next).collect()
+    }
+
+    /// The pairs of states whose copies together are within the demands.
+    fn splits(&self) -> Vec<(usize, usize)> {
+        let digits: Vec<Vec<usize>> = (0..self.states).map(|state| self.digits(state)).collect();
+        let within = |a: usize, b: usize| {
+            let sums = digits[a].iter().zip(&digits[b]).map(|(x, y)| x + y);
+            sums.zip(&self.radix).all(|(sum, radix)| sum < *radix)
+        };
+        let pairs = (0..self.states).flat_map(|a| (0..self.states - a).map(move |b| (a, b)));
+        pairs.filter(|&(a, b)| within(a, b)).collect()
+    }
+}
+
+#[test]
+fn the_optimum_of_s() {
+    assert_eq!(optimum(&Job::read(&job_s(), 0).expect("job S")), 16);
+}
