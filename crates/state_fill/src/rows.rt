@@ -54,9 +54,9 @@ fn fill_row(
             b: b,
             length_half_end: row.half_end,
             width_half_end: half_end,
-            at: row.at + column,
-            column: column,
             flat: flat,
+            column: column,
+            at: row.at + column,
         };
         flat = make_cell(
             table,

@@ -14,45 +14,15 @@ use Rattle.choice.proofs.choose.Tie as tie
 column : (s : tie.Start) → getD (now (s .args .floors)) (1001 + s .args .cell .sides .width) 0 ≡ getD (drop 1001 (now (s .args .floors))) (s .args .cell .sides .width) 0
 column s = sym (getD-drop 1001 (now (s .args .floors)) (s .args .cell .sides .width) 0)
 
-cast-a : tie.Need-cast-a
-cast-a c = search needs
-
-mul-a : tie.Need-mul-a
-mul-a c = search needs
-
-shared-slice-read-a : tie.Need-shared-slice-read-a
-shared-slice-read-a c = search needs
-
 cast-a-2 : tie.Need-cast-a-2
 cast-a-2 c =
     let e = c .before .before .before .before .before .before in
     omega (arith, sizes (e .pre .0) (e .pre .1))
 
-cast-b : tie.Need-cast-b
-cast-b c = search needs
-
-add-b : tie.Need-add-b
-add-b c = search needs
-
-mul-b : tie.Need-mul-b
-mul-b c = search needs
-
-shared-slice-read-b : tie.Need-shared-slice-read-b
-shared-slice-read-b c = search needs
-
 cast-b-2 : tie.Need-cast-b-2
 cast-b-2 c =
     let e = c .before .before .before .before .before .before .before .before in
     rw (column e) (omega (arith, sizes (e .pre .0) (e .pre .1)))
-
-cast-shares : tie.Need-cast-shares
-cast-shares c = search needs
-
-add-shares : tie.Need-add-shares
-add-shares c = search needs
-
-cast-row : tie.Need-cast-row
-cast-row c = search needs
 
 mul-row : tie.Need-mul-row
 mul-row c =
@@ -74,9 +44,6 @@ add-value c =
     let e = c .before .before .before .before .before .before .before .before .before .before in
     rw (column e) (omega (arith, sizes (e .pre .0) (e .pre .1)))
 
-cast-value : tie.Need-cast-value
-cast-value c = search needs
-
 add-value-2 : tie.Need-add-value-2
 add-value-2 c =
     let e = c .before .before .before .before .before .before .before .before .before .before .before in
@@ -92,30 +59,15 @@ shared-slice-read-value c =
     let e = c .before .before .before .before .before .before .before .before .before .before .before .before in
     rw (column e) (there (e .pre .0) (e .pre .1))
 
-choice-of-requires : tie.Need-choice-of-requires
-choice-of-requires c κs = search needs
-
 returns : tie.Need-returns
 returns c =
     let e = c .before .before .before .before .before .before .before .before .before .before .before .before .before .before in
     c .choice-of .ensures ∙ none-chosen (e .pre .0) (e .pre .1) refl (column e) refl (c .before .if1 .taken)
 
-find-piece-requires : tie.Need-find-piece-requires
-find-piece-requires c κs = search needs
-
-enum-known-alone : tie.Need-enum-known-alone
-enum-known-alone c = search needs
-
-choice-of-requires-2 : tie.Need-choice-of-requires-2
-choice-of-requires-2 c κs = search needs
-
 returns-2 : tie.Need-returns-2
 returns-2 c =
     let e = c .before .before .before .before .before .before .before .before .before .before .before .before .before .before .before .before .before .before in
     c .choice-of2 .ensures ∙ piece-chosen (e .pre .0) (e .pre .1) refl (column e) refl (c .before .before .before .before .before .if1 .left) (sym (c .before .before .before .before .find-piece .ensures) ∙ c .before .before .alone .given .1)
-
-enum-told : tie.Need-enum-told
-enum-told c = search needs
 
 choose-cut-requires : tie.Need-choose-cut-requires
 choose-cut-requires c κs =
@@ -130,33 +82,8 @@ returns-3 c =
 pub choose-spec : {M : Type 1} → statement M
 choose-spec =
     tie.close
-    (tie.spec
-    cast-a
-    mul-a
-    shared-slice-read-a
-    cast-a-2
-    cast-b
-    add-b
-    mul-b
-    shared-slice-read-b
-    cast-b-2
-    cast-shares
-    add-shares
-    cast-row
-    mul-row
-    mul-value
-    mul-value-2
-    add-value
-    cast-value
-    add-value-2
-    mul-value-3
-    shared-slice-read-value
-    choice-of-requires
-    returns
-    find-piece-requires
-    enum-known-alone
-    choice-of-requires-2
-    returns-2
-    enum-told
-    choose-cut-requires
-    returns-3)
+    (tie.spec (λ c. search needs) (λ c. search needs) (λ c. search needs) cast-a-2 (λ c. search needs)
+    (λ c. search needs) (λ c. search needs) (λ c. search needs) cast-b-2 (λ c. search needs) (λ c. search needs)
+    (λ c. search needs) mul-row mul-value mul-value-2 add-value (λ c. search needs) add-value-2 mul-value-3
+    shared-slice-read-value (λ c. search needs) returns (λ c κs. search needs) (λ c. search needs)
+    (λ c. search needs) returns-2 (λ c. search needs) choose-cut-requires returns-3)

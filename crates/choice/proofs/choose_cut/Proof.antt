@@ -16,24 +16,6 @@ width-searchable : (s : tie.Start) → Searchable (now (s .args .normal-widths))
     (s .args .size .capacity + 1) (s .args .a * (s .args .size .columns * (s .args .size .capacity + 1))) (s .args .cell .share)
 width-searchable s = rw (rest-part 1001 (now (s .args .floors))) (s .pre .1)
 
-cast-l : tie.Need-cast-l
-cast-l c = search needs
-
-cast-w : tie.Need-cast-w
-cast-w c = search needs
-
-cast-c : tie.Need-cast-c
-cast-c c = search needs
-
-cast-shares : tie.Need-cast-shares
-cast-shares c = search needs
-
-add-shares : tie.Need-add-shares
-add-shares c = search needs
-
-cast-row : tie.Need-cast-row
-cast-row c = search needs
-
 mul-row : tie.Need-mul-row
 mul-row c =
     let e = c .before .before .before .before .before .before .before .before .before in
@@ -62,43 +44,19 @@ part-width-floors-start c =
     let e = c .before .before .before .before .before .before .before .before .before in
     omega (arith, e .pre .1 .mapped, length-drop 1001 (now (e .args .floors)))
 
-part-width-floors-end : tie.Need-part-width-floors-end
-part-width-floors-end c = search needs
-
 find-cut-requires : tie.Need-find-cut-requires
 find-cut-requires c κs = let across = width-searchable (c .before .before .before .before .before .before .before .before .before .before) in search needs
-
-enum-known-along : tie.Need-enum-known-along
-enum-known-along c = search needs
-
-choice-of-requires : tie.Need-choice-of-requires
-choice-of-requires c κs = search needs
 
 returns : tie.Need-returns
 returns c = c .choice-of .ensures ∙ length-out _ (sym (c .before .before .before .before .find-cut .ensures) ∙ c .before .before .along .given .1)
 
-enum-told : tie.Need-enum-told
-enum-told c = search needs
-
 find-cut-requires-2 : tie.Need-find-cut-requires-2
 find-cut-requires-2 c κs = width-searchable (c .before .before .before .before .before .before .before .before .before .before .before .before .before)
-
-enum-known-across : tie.Need-enum-known-across
-enum-known-across c = search needs
-
-choice-of-requires-2 : tie.Need-choice-of-requires-2
-choice-of-requires-2 c κs = search needs
 
 returns-2 : tie.Need-returns-2
 returns-2 c =
     let across = rw (rest-part 1001 (now (c .before .before .before .before .before .before .before .before .before .before .before .before .before .before .before .before .before .before .args .floors))) at (c .before .before .before .before .find-cut2 .ensures) in
     c .choice-of2 .ensures ∙ width-out (sym (c .before .before .before .before .before .before .before .find-cut .ensures) ∙ c .before .before .before .before .before .enum-told .given .1) (sym across ∙ c .before .before .across .given .1)
-
-enum-told-2 : tie.Need-enum-told-2
-enum-told-2 c = search needs
-
-choice-of-requires-3 : tie.Need-choice-of-requires-3
-choice-of-requires-3 c κs = search needs
 
 returns-3 : tie.Need-returns-3
 returns-3 c =
@@ -108,28 +66,7 @@ returns-3 c =
 pub choose-cut-spec : {M : Type 1} → statement M
 choose-cut-spec =
     tie.close
-    (tie.spec
-    cast-l
-    cast-w
-    cast-c
-    cast-shares
-    add-shares
-    cast-row
-    mul-row
-    mul-column
-    mul-start
-    sub-width-floors
-    part-width-floors-start
-    part-width-floors-end
-    find-cut-requires
-    enum-known-along
-    choice-of-requires
-    returns
-    enum-told
-    find-cut-requires-2
-    enum-known-across
-    choice-of-requires-2
-    returns-2
-    enum-told-2
-    choice-of-requires-3
-    returns-3)
+    (tie.spec (λ c. search needs) (λ c. search needs) (λ c. search needs) (λ c. search needs) (λ c. search needs)
+    (λ c. search needs) mul-row mul-column mul-start sub-width-floors part-width-floors-start (λ c. search needs)
+    find-cut-requires (λ c. search needs) (λ c. search needs) returns (λ c. search needs) find-cut-requires-2
+    (λ c. search needs) (λ c. search needs) returns-2 (λ c. search needs) (λ c. search needs) returns-3)

@@ -34,9 +34,6 @@ mul-x c = omega (arith, c .before .before .before .before .before .pre .listed (
 shared-slice-read-x : tie.Need-shared-slice-read-x Inv-loop μ-loop Inv-search μ-search
 shared-slice-read-x c = omega (arith, c .before .before .before .before .before .before .pre .listed (c .before .before .search .i) (omega arith))
 
-widen-requires : tie.Need-widen-requires Inv-loop μ-loop Inv-search μ-search
-widen-requires c κs = search needs
-
 sub-widen : tie.Need-sub-widen Inv-loop μ-loop Inv-search μ-search
 sub-widen c = omega (arith, c .before .before .before .before .before .before .before .pre .listed (c .before .before .before .search .i) (omega arith))
 
@@ -45,9 +42,6 @@ mul-widen c = omega (arith, c .before .before .before .before .before .before .b
 
 shared-slice-read-widen : tie.Need-shared-slice-read-widen Inv-loop μ-loop Inv-search μ-search
 shared-slice-read-widen c = omega (arith, c .before .before .before .before .before .before .before .before .pre .mapped)
-
-widen-requires-2 : tie.Need-widen-requires-2 Inv-loop μ-loop Inv-search μ-search
-widen-requires-2 c κs = search needs
 
 mul-first : tie.Need-mul-first Inv-loop μ-loop Inv-search μ-search
 mul-first c = omega (arith, c .before .before .before .before .before .before .before .before .before .pre .rows (c .before .before .before .before .before .search .i) (omega arith) 0 (omega arith))
@@ -78,9 +72,6 @@ mul-if1 c = omega (arith, c .before .before .before .before .before .before .bef
 shared-slice-read-if1 : tie.Need-shared-slice-read-if1 Inv-loop μ-loop Inv-search μ-search
 shared-slice-read-if1 c = omega (arith, c .before .before .before .before .before .before .before .before .before .before .before .before .pre .rows (c .before .before .before .before .before .before .before .before .search .i) (omega arith) (c .before .before .loop .k) (omega arith))
 
-sub-if1 : tie.Need-sub-if1 Inv-loop μ-loop Inv-search μ-search
-sub-if1 c = search needs
-
 mul-if1-2 : tie.Need-mul-if1-2 Inv-loop μ-loop Inv-search μ-search
 mul-if1-2 c = omega (arith, second-word (c .before .before .before .before .before .before .before .before .before .before .before .before .pre) (c .before .before .before .before .before .before .before .before .search .i) (c .before .before .loop .k) (c .before .before .before .before .before .widen .ensures .0) (c .before .before .before .widen2 .ensures .0) (omega arith))
 
@@ -100,20 +91,11 @@ cast-t35 c = omega (arith, c .before .before .before .before .before .before .be
 add-k : tie.Need-add-k Inv-loop μ-loop Inv-search μ-search
 add-k c = omega (arith, c .before .before .before .before .before .before .before .before .before .before .before .before .before .before .pre .shares)
 
-loop-less : tie.Need-loop-less Inv-loop μ-loop Inv-search μ-search
-loop-less c = search needs
-
 loop-again : tie.Need-loop-again Inv-loop μ-loop Inv-search μ-search
 loop-again c =
     let e = c .before .before .before .before .before .before .before .before .before .before .before .before .before .before in
     let turn = c .before .before .before .before .loop in
     (search needs, turn .inv .1, turn .inv .2 ∙ pair-fails (e .pre) (e .args .value) (c .before .before .before .before .before .before .before .before .before .before .search .i) (turn .k) (c .before .before .before .before .before .before .before .widen .ensures .0) (c .before .before .before .before .before .widen2 .ensures .0) (search needs) (c .if1 .left))
-
-add-i : tie.Need-add-i Inv-loop μ-loop Inv-search μ-search
-add-i c = search needs
-
-search-less : tie.Need-search-less Inv-loop μ-loop Inv-search μ-search
-search-less c = search needs
 
 search-again : tie.Need-search-again Inv-loop μ-loop Inv-search μ-search
 search-again c = (search needs, c .before .loop .inv .1, c .before .loop .inv .2 ∙ row-ends _ _ _ _ _ (search needs))
@@ -130,39 +112,8 @@ returns-2 c =
 pub find-cut-spec : {M : Type 1} → statement M
 find-cut-spec =
     tie.close
-    (tie.spec
-    Inv-loop
-    μ-loop
-    Inv-search
-    μ-search
-    add-shares
-    search-holds
-    mul-x
-    shared-slice-read-x
-    widen-requires
-    sub-widen
-    mul-widen
-    shared-slice-read-widen
-    widen-requires-2
-    mul-first
-    add-first
-    mul-second
-    add-second
-    add-second-2
-    loop-holds
-    add-if1
-    mul-if1
-    shared-slice-read-if1
-    sub-if1
-    mul-if1-2
-    shared-slice-read-if1-2
-    add-if1-2
-    cast-t35
-    add-k
-    loop-less
-    loop-again
-    add-i
-    search-less
-    search-again
-    returns
-    returns-2)
+    (tie.spec Inv-loop μ-loop Inv-search μ-search add-shares search-holds mul-x shared-slice-read-x
+    (λ c. search needs) sub-widen mul-widen shared-slice-read-widen (λ c. search needs) mul-first add-first
+    mul-second add-second add-second-2 loop-holds add-if1 mul-if1 shared-slice-read-if1 (λ c. search needs)
+    mul-if1-2 shared-slice-read-if1-2 add-if1-2 cast-t35 add-k (λ c. search needs) loop-again (λ c. search needs)
+    (λ c. search needs) search-again returns returns-2)

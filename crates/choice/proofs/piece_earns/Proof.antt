@@ -26,4 +26,5 @@ returns-4 c =
     simp (lt-leb (a .piece-length) (a .cell .sides .length) (omega arith))
 
 pub piece-earns-spec : {M : Type 1} → statement M
-piece-earns-spec = tie.close (tie.spec (λ c. search needs) (λ c. search needs) (λ c. search needs) returns returns-2 returns-3 returns-4)
+piece-earns-spec = tie.close
+    (tie.spec (λ c. search needs) (λ c. search needs) (λ c. search needs) returns returns-2 returns-3 returns-4)

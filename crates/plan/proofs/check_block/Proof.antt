@@ -13,61 +13,19 @@ use borrow.Author.Needs.{needs}
 use Rattle.plan.proofs.check_block.Statement.{statement}
 use Rattle.plan.proofs.check_block.Tie as tie
 
-without-report-requires : tie.Need-without-report-requires
-without-report-requires c κs = search needs
-
 returns : tie.Need-returns
 returns c = c .without-report .ensures ∙ sym (block-short (job-of (c .before .before .before .args .job)) (now (c .before .before .before .args .plan)) (c .before .if1 .taken))
-
-read-u16-requires : tie.Need-read-u16-requires
-read-u16-requires c κs = search needs
-
-cast-count : tie.Need-cast-count
-cast-count c = search needs
-
-add-end : tie.Need-add-end
-add-end c = search needs
-
-mul-if2 : tie.Need-mul-if2
-mul-if2 c = search needs
-
-add-if2 : tie.Need-add-if2
-add-if2 c = search needs
-
-without-report-requires-2 : tie.Need-without-report-requires-2
-without-report-requires-2 c κs = search needs
 
 returns-2 : tie.Need-returns-2
 returns-2 c = let e = c .before .before .read-u16 .ensures in let n = c .before .if2 .taken in
     c .without-report2 .ensures ∙ sym (block-odd (job-of (c .before .before .before .before .before .args .job)) (now (c .before .before .before .before .before .args .plan)) (c .before .before .before .if1 .left) (λ z. n (omega (arith, e, z))))
 
-without-report-requires-3 : tie.Need-without-report-requires-3
-without-report-requires-3 c κs = search needs
-
 returns-3 : tie.Need-returns-3
 returns-3 c = let e = c .before .before .before .read-u16 .ensures in let n = c .before .before .if2 .left in
     c .without-report3 .ensures ∙ sym (block-many (job-of (c .before .before .before .before .before .before .args .job)) (now (c .before .before .before .before .before .before .args .plan)) (c .before .before .before .before .if1 .left) (omega (arith, e, n)) (omega (arith, e, c .before .if3 .taken)))
 
-read-operands-requires : tie.Need-read-operands-requires
-read-operands-requires c κs = search needs
-
-sub-check-nodes : tie.Need-sub-check-nodes
-sub-check-nodes c = search needs
-
-part-check-nodes-start : tie.Need-part-check-nodes-start
-part-check-nodes-start c = search needs
-
-part-check-nodes-end : tie.Need-part-check-nodes-end
-part-check-nodes-end c = search needs
-
-array-share-prefix-operands : tie.Need-array-share-prefix-operands
-array-share-prefix-operands c = search needs
-
 slice-aggregate-check-nodes : tie.Need-slice-aggregate-check-nodes
 slice-aggregate-check-nodes c = sym (length-take-le (c .before .before .before .before .before .read-u16 .result) (c .before .before .read-operands .result) (omega (arith, c .before .before .read-operands .ensures .1, c .before .before .before .if3 .left)))
-
-check-nodes-requires : tie.Need-check-nodes-requires
-check-nodes-requires c κs = search needs
 
 returns-4 : tie.Need-returns-4
 returns-4 c = let e = c .before .before .before .before .before .before .read-u16 .ensures in let n = c .before .before .before .before .before .if2 .left in
@@ -79,23 +37,7 @@ returns-4 c = let e = c .before .before .before .before .before .before .read-u1
 pub check-block-spec : {M : Type 1} → statement M
 check-block-spec =
     tie.close
-    (tie.spec
-    without-report-requires
-    returns
-    read-u16-requires
-    cast-count
-    add-end
-    mul-if2
-    add-if2
-    without-report-requires-2
-    returns-2
-    without-report-requires-3
-    returns-3
-    read-operands-requires
-    sub-check-nodes
-    part-check-nodes-start
-    part-check-nodes-end
-    array-share-prefix-operands
-    slice-aggregate-check-nodes
-    check-nodes-requires
-    returns-4)
+    (tie.spec (λ c. search needs) returns (λ c. search needs) (λ c. search needs) (λ c. search needs)
+    (λ c. search needs) (λ c. search needs) (λ c. search needs) returns-2 (λ c. search needs) returns-3
+    (λ c. search needs) (λ c. search needs) (λ c. search needs) (λ c. search needs) (λ c. search needs)
+    slice-aggregate-check-nodes (λ c κs. search needs) returns-4)

@@ -7,26 +7,14 @@ use Rattle.plan.proofs.Whole.{length-refused, none-refused, many-refuse
 use Rattle.plan.proofs.check_nodes.Statement.{statement}
 use Rattle.plan.proofs.check_nodes.Tie as tie
 
-without-report-requires : tie.Need-without-report-requires
-without-report-requires c κs = search needs
-
 returns : tie.Need-returns
 returns c = let a = c .before .before .before .before .args in c .without-report .ensures ∙ sym (length-refused (job-of (a .job)) (now (a .kinds)) (now (a .operands)) (c .before .if1 .taken))
-
-without-report-requires-2 : tie.Need-without-report-requires-2
-without-report-requires-2 c κs = search needs
 
 returns-2 : tie.Need-returns-2
 returns-2 c = let a = c .before .before .before .before .before .args in c .without-report2 .ensures ∙ sym (none-refused (job-of (a .job)) (now (a .kinds)) (now (a .operands)) (c .before .before .if1 .left) (c .before .if2 .taken))
 
-without-report-requires-3 : tie.Need-without-report-requires-3
-without-report-requires-3 c κs = search needs
-
 returns-3 : tie.Need-returns-3
 returns-3 c = let a = c .before .before .before .before .before .before .args in c .without-report3 .ensures ∙ sym (many-refused (job-of (a .job)) (now (a .kinds)) (now (a .operands)) (c .before .before .before .if1 .left) (c .before .before .if2 .left) (c .before .if3 .taken))
-
-walk-nodes-requires : tie.Need-walk-nodes-requires
-walk-nodes-requires c κs = search needs
 
 returns-4 : tie.Need-returns-4
 returns-4 c = let a = c .before .before .before .before .before .before .args in c .walk-nodes .ensures ∙ sym (walks-on (job-of (a .job)) (now (a .kinds)) (now (a .operands)) (c .before .before .before .if1 .left) (c .before .before .if2 .left) (c .before .if3 .left))
@@ -34,12 +22,5 @@ returns-4 c = let a = c .before .before .before .before .before .before .args in
 pub check-nodes-spec : {M : Type 1} → statement M
 check-nodes-spec =
     tie.close
-    (tie.spec
-    without-report-requires
-    returns
-    without-report-requires-2
-    returns-2
-    without-report-requires-3
-    returns-3
-    walk-nodes-requires
-    returns-4)
+    (tie.spec (λ c. search needs) returns (λ c. search needs) returns-2 (λ c. search needs) returns-3
+    (λ c. search needs) returns-4)

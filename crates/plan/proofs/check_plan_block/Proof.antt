@@ -7,18 +7,6 @@ use borrow.Author.Needs.{needs}
 use Rattle.plan.proofs.check_plan_block.Statement.{statement}
 use Rattle.plan.proofs.check_plan_block.Tie as tie
 
-read-job-requires : tie.Need-read-job-requires
-read-job-requires c κs = search needs
-
-enum-told : tie.Need-enum-told
-enum-told c = search needs
-
-enum-told-2 : tie.Need-enum-told-2
-enum-told-2 c = search needs
-
-without-report-requires : tie.Need-without-report-requires
-without-report-requires c κs = search needs
-
 returns : tie.Need-returns
 returns c = let a = c .before .before .before .before .before .before .args in
     block-met (now (a .block)) (a .choices) (now (a .plan)) (c .without-report .ensures ∙ read-stops (now (a .block)) (a .choices) _ (c .before .before .before .read-job .ensures .0) (c .before .enum-told2 .given .1))
@@ -34,11 +22,5 @@ returns-2 c = let a = c .before .before .before .before .before .before .before 
 pub check-plan-block-spec : {M : Type 1} → statement M
 check-plan-block-spec =
     tie.close
-    (tie.spec
-    read-job-requires
-    enum-told
-    enum-told-2
-    without-report-requires
-    returns
-    check-block-requires
-    returns-2)
+    (tie.spec (λ c. search needs) (λ c. search needs) (λ c. search needs) (λ c. search needs) returns
+    check-block-requires returns-2)

@@ -6,9 +6,6 @@ use Rattle.plan.proofs.Walk.{missing, filled}
 use Rattle.plan.proofs.finish.Statement.{statement}
 use Rattle.plan.proofs.finish.Tie as tie
 
-without-report-requires : tie.Need-without-report-requires
-without-report-requires c κs = search needs
-
 returns : tie.Need-returns
 returns c = let a = c .before .before .args in
     λ J lengths widths. c .without-report .ensures ∙ missing J (a .k) lengths widths (plan-report (a .t) (a .copies)) (a .n) (c .before .if1 .taken)
@@ -17,4 +14,4 @@ returns-2 : tie.Need-returns-2
 returns-2 c = let a = c .before .args in λ J lengths widths. filled J (a .k) lengths widths (plan-report (a .t) (a .copies)) (a .n) (c .if1 .left)
 
 pub finish-spec : {M : Type 1} → statement M
-finish-spec = tie.close (tie.spec without-report-requires returns returns-2)
+finish-spec = tie.close (tie.spec (λ c. search needs) returns returns-2)

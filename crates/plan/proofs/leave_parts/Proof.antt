@@ -8,53 +8,8 @@ use Rattle.plan.proofs.Walk.{cut-waits}
 use Rattle.plan.proofs.leave_parts.Statement.{statement}
 use Rattle.plan.proofs.leave_parts.Tie as tie
 
-sub-top : tie.Need-sub-top
-sub-top c = search needs
-
-enum-told : tie.Need-enum-told
-enum-told c = search needs
-
-enum-told-2 : tie.Need-enum-told-2
-enum-told-2 c = search needs
-
-enum-told-3 : tie.Need-enum-told-3
-enum-told-3 c = search needs
-
-enum-known-node : tie.Need-enum-known-node
-enum-known-node c = search needs
-
-first-part-requires : tie.Need-first-part-requires
-first-part-requires c κs = search needs
-
 second-part-requires : tie.Need-second-part-requires
 second-part-requires c κs = rw (c .before .before .node .given .1) at (c .before .before .before .before .pre .inside)
-
-mul-lengths : tie.Need-mul-lengths
-mul-lengths c = search needs
-
-element-write-lengths : tie.Need-element-write-lengths
-element-write-lengths c = search needs
-
-mul-widths : tie.Need-mul-widths
-mul-widths c = search needs
-
-element-write-widths : tie.Need-element-write-widths
-element-write-widths c = search needs
-
-mul-lengths-2 : tie.Need-mul-lengths-2
-mul-lengths-2 c = search needs
-
-element-write-lengths-2 : tie.Need-element-write-lengths-2
-element-write-lengths-2 c = search needs
-
-mul-widths-2 : tie.Need-mul-widths-2
-mul-widths-2 c = search needs
-
-element-write-widths-2 : tie.Need-element-write-widths-2
-element-write-widths-2 c = search needs
-
-add-result : tie.Need-add-result
-add-result c = search needs
 
 returns : tie.Need-returns
 returns c = (rw (c .enum-told .given .1), omega arith, c .before .before .pre .held)
@@ -76,24 +31,7 @@ returns-4 c = let a = c .before .before .before .before .before .args in let giv
 pub leave-parts-spec : {M : Type 1} → statement M
 leave-parts-spec =
     tie.close
-    (tie.spec
-    sub-top
-    enum-told
-    enum-told-2
-    enum-told-3
-    enum-known-node
-    first-part-requires
-    second-part-requires
-    mul-lengths
-    element-write-lengths
-    mul-widths
-    element-write-widths
-    mul-lengths-2
-    element-write-lengths-2
-    mul-widths-2
-    element-write-widths-2
-    add-result
-    returns
-    returns-2
-    returns-3
-    returns-4)
+    (tie.spec (λ c. search needs) (λ c. search needs) (λ c. search needs) (λ c. search needs) (λ c. search needs)
+    (λ c. search needs) second-part-requires (λ c. search needs) (λ c. search needs) (λ c. search needs)
+    (λ c. search needs) (λ c. search needs) (λ c. search needs) (λ c. search needs) (λ c. search needs)
+    (λ c. search needs) returns returns-2 returns-3 returns-4)

@@ -22,30 +22,6 @@ loop-holds : tie.Need-loop-holds Inv-loop μ-loop
 unfolding range
 loop-holds c = (search needs, length-replicate {A = ℕ} 4095 0, refl)
 
-add-read-u16 : tie.Need-add-read-u16 Inv-loop μ-loop
-add-read-u16 c = search needs
-
-mul-read-u16 : tie.Need-mul-read-u16 Inv-loop μ-loop
-mul-read-u16 c = search needs
-
-add-read-u16-2 : tie.Need-add-read-u16-2 Inv-loop μ-loop
-add-read-u16-2 c = search needs
-
-read-u16-requires : tie.Need-read-u16-requires Inv-loop μ-loop
-read-u16-requires c κs = search needs
-
-mul-operands : tie.Need-mul-operands Inv-loop μ-loop
-mul-operands c = search needs
-
-array-write-operands : tie.Need-array-write-operands Inv-loop μ-loop
-array-write-operands c = search needs
-
-add-i : tie.Need-add-i Inv-loop μ-loop
-add-i c = search needs
-
-loop-less : tie.Need-loop-less Inv-loop μ-loop
-loop-less c = search needs
-
 loop-again : tie.Need-loop-again Inv-loop μ-loop
 loop-again c = (search needs, length-set (c .before .before .loop .operands) (c .before .before .loop .i) (c .read-u16 .result) ∙ c .before .before .loop .inv .1, entry-more (λ k. u16-at (now (c .before .before .before .before .args .plan)) (2 + c .before .before .before .before .args .count + 2 * k)) (c .before .before .loop .i) (c .before .before .loop .operands) (c .read-u16 .result) (omega (arith, c .before .before .loop .inv .1)) (c .read-u16 .ensures) (c .before .before .loop .inv .2))
 
@@ -55,17 +31,6 @@ returns c = let e : c .before .loop .i ≡ c .before .before .before .args .coun
 pub read-operands-spec : {M : Type 1} → statement M
 read-operands-spec =
     tie.close
-    (tie.spec
-    Inv-loop
-    μ-loop
-    loop-holds
-    add-read-u16
-    mul-read-u16
-    add-read-u16-2
-    read-u16-requires
-    mul-operands
-    array-write-operands
-    add-i
-    loop-less
-    loop-again
+    (tie.spec Inv-loop μ-loop loop-holds (λ c. search needs) (λ c. search needs) (λ c. search needs)
+    (λ c. search needs) (λ c. search needs) (λ c. search needs) (λ c. search needs) (λ c. search needs) loop-again
     returns)

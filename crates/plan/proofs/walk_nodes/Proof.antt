@@ -18,45 +18,15 @@ abbrev μ-loop : tie.MeasureT-loop
 μ-loop job kinds operands kind-lengths kind-widths prices demands copies₀ lengths₀ widths₀ n₀ t₀ k₀ k-end copies lengths widths n t k =
     k-end - k
 
-no-sums-requires : tie.Need-no-sums-requires Inv-loop μ-loop
-no-sums-requires c κs = search needs
-
 loop-holds : tie.Need-loop-holds Inv-loop μ-loop
 loop-holds c = let a = c .before .before .before .before .before .before .before .args in (refl, begins (job-of (a .job)) (now (a .kinds)) (now (a .operands)) (c .no-sums .result) (c .no-sums .ensures))
-
-cast-t22 : tie.Need-cast-t22 Inv-loop μ-loop
-cast-t22 c = search needs
-
-without-report-requires : tie.Need-without-report-requires Inv-loop μ-loop
-without-report-requires c κs = search needs
 
 returns : tie.Need-returns Inv-loop μ-loop
 returns c = c .without-report .ensures ∙ left (c .before .before .before .loop .inv .1) (c .before .before .before .before .before .before .before .before .before .before .before .pre .0 .0) (omega arith) (c .before .if1 .taken)
 
-entry-requires : tie.Need-entry-requires Inv-loop μ-loop
-entry-requires c κs = search needs
-
-next-room-requires : tie.Need-next-room-requires Inv-loop μ-loop
-next-room-requires c κs = search needs
-
-check-node-requires : tie.Need-check-node-requires Inv-loop μ-loop
-check-node-requires c κs = search needs
-
-enum-told : tie.Need-enum-told Inv-loop μ-loop
-enum-told c = search needs
-
-enum-told-2 : tie.Need-enum-told-2 Inv-loop μ-loop
-enum-told-2 c = search needs
-
-without-report-requires-2 : tie.Need-without-report-requires-2 Inv-loop μ-loop
-without-report-requires-2 c κs = search needs
-
 returns-2 : tie.Need-returns-2 Inv-loop μ-loop
 returns-2 c = c .without-report2 .ensures ∙ halts (c .before .before .before .before .before .before .before .before .before .before .before .before .before .before .before .loop .inv .1) (c .before .before .before .before .before .before .before .before .before .before .before .before .before .before .before .before .before .before .before .before .before .before .before .pre .0 .0) (omega (arith, c .before .before .before .before .before .before .before .before .before .before .before .before .before .before .loop-test, c .before .before .before .before .before .before .before .before .before .before .before .before .before .before .before .loop .inv .0)) (c .before .before .before .before .before .before .before .before .before .before .before .before .before .if1 .left) (c .before .before .before .before .before .before .before .before .before .next-room .ensures) (c .before .before .before .before .before .before .before .before .before .before .before .before .entry .ensures)
     (c .before .before .before .check-node .ensures (c .before .before .before .before .before .before .before .before .before .before .before .before .before .before .before .before .before .before .before .before .before .before .before .args .job .length) (c .before .before .before .before .before .before .before .before .before .before .before .before .before .before .before .before .before .before .before .before .before .before .before .args .job .width) (c .before .before .before .before .before .before .before .before .before .before .before .before .before .before .before .before .before .before .before .before .before .before .before .args .job .«full_demand»)) (c .before .enum-told2 .given .1)
-
-decode-requires : tie.Need-decode-requires Inv-loop μ-loop
-decode-requires c κs = search needs
 
 leave-parts-requires : tie.Need-leave-parts-requires Inv-loop μ-loop
 leave-parts-requires c κs = opens (c .before .before .before .before .before .before .before .before .before .before .before .before .before .before .before .before .before .before .loop .inv .1) (c .before .before .before .before .before .before .before .before .before .before .before .before .before .before .before .before .before .before .before .before .before .before .before .before .before .before .pre .0 .0) (omega (arith, c .before .before .before .before .before .before .before .before .before .before .before .before .before .before .before .before .before .loop-test, c .before .before .before .before .before .before .before .before .before .before .before .before .before .before .before .before .before .before .loop .inv .0)) (c .before .before .before .before .before .before .before .before .before .before .before .before .before .before .before .before .if1 .left) (c .before .before .before .before .before .before .before .before .before .before .before .before .next-room .ensures) (c .before .before .before .before .before .before .before .before .before .before .before .before .before .before .before .entry .ensures)
@@ -75,38 +45,13 @@ loop-again c = (
       (c .before .before .before .before .before .before .before .check-node .ensures (c .before .before .before .before .before .before .before .before .before .before .before .before .before .before .before .before .before .before .before .before .before .before .before .before .before .before .before .args .job .length) (c .before .before .before .before .before .before .before .before .before .before .before .before .before .before .before .before .before .before .before .before .before .before .before .before .before .before .before .args .job .width) (c .before .before .before .before .before .before .before .before .before .before .before .before .before .before .before .before .before .before .before .before .before .before .before .before .before .before .before .args .job .«full_demand»)) (c .before .before .before .before .before .enum-told .given .1) (c .before .before .before .decode .ensures) _ _ _ (c .leave-parts .ensures),
 )
 
-cast-finish : tie.Need-cast-finish Inv-loop μ-loop
-cast-finish c = search needs
-
-finish-requires : tie.Need-finish-requires Inv-loop μ-loop
-finish-requires c κs = search needs
-
 returns-3 : tie.Need-returns-3 Inv-loop μ-loop
 returns-3 c = ends (c .before .before .loop .inv .1) (c .before .before .before .before .before .before .before .before .before .before .pre .0 .0) (omega (arith, c .before .loop-test, c .before .before .loop .inv .0)) _ (c .finish .ensures (job-of (c .before .before .before .before .before .before .before .before .before .before .args .job)) _ _)
 
 pub walk-nodes-spec : {M : Type 1} → statement M
 walk-nodes-spec =
     tie.close
-    (tie.spec
-    Inv-loop
-    μ-loop
-    no-sums-requires
-    loop-holds
-    cast-t22
-    without-report-requires
-    returns
-    entry-requires
-    next-room-requires
-    check-node-requires
-    enum-told
-    enum-told-2
-    without-report-requires-2
-    returns-2
-    decode-requires
-    leave-parts-requires
-    add-k
-    loop-less
-    loop-again
-    cast-finish
-    finish-requires
-    returns-3)
+    (tie.spec Inv-loop μ-loop (λ c. search needs) loop-holds (λ c. search needs) (λ c. search needs) returns
+    (λ c. search needs) (λ c. search needs) (λ c. search needs) (λ c. search needs) (λ c. search needs)
+    (λ c. search needs) returns-2 (λ c. search needs) leave-parts-requires add-k loop-less loop-again
+    (λ c. search needs) (λ c. search needs) returns-3)

@@ -20,9 +20,6 @@ Inv-loop fit count side out₀ marks₀ n₀ top x₀ out marks n x = (x ≤ top
 abbrev μ-loop : tie.MeasureT-loop
 μ-loop fit count side out₀ marks₀ n₀ top x₀ out marks n x = top - x
 
-add-top : tie.Need-add-top Inv-loop μ-loop
-add-top c = search needs
-
 loop-holds : tie.Need-loop-holds Inv-loop μ-loop
 unfolding range filter
 loop-holds c = (search needs, refl, search needs, refl, refl, λ y l. absurd (let z : ⊥ = omega arith in z), record { number = refl; contents = refl })
@@ -31,30 +28,6 @@ is-normal-requires : tie.Need-is-normal-requires Inv-loop μ-loop
 is-normal-requires c κs =
     let given = c .before .before .before .before .pre in
     record { kinds = given .kinds; most = omega (arith, given .most); positive = given .positive; marked = c .before .before .loop .inv .5 }
-
-cast-marks : tie.Need-cast-marks Inv-loop μ-loop
-cast-marks c = search needs
-
-array-write-marks : tie.Need-array-write-marks Inv-loop μ-loop
-array-write-marks c = search needs
-
-cast-out : tie.Need-cast-out Inv-loop μ-loop
-cast-out c = search needs
-
-mul-out : tie.Need-mul-out Inv-loop μ-loop
-mul-out c = search needs
-
-slice-write-out : tie.Need-slice-write-out Inv-loop μ-loop
-slice-write-out c = search needs
-
-add-n : tie.Need-add-n Inv-loop μ-loop
-add-n c = search needs
-
-add-x : tie.Need-add-x Inv-loop μ-loop
-add-x c = search needs
-
-loop-less : tie.Need-loop-less Inv-loop μ-loop
-loop-less c = search needs
 
 loop-again : tie.Need-loop-again Inv-loop μ-loop
 loop-again c =
@@ -94,20 +67,6 @@ returns c = let e : c .before .loop .x ≡ suc (c .before .before .before .args 
 pub list-sums-spec : {M : Type 1} → statement M
 list-sums-spec =
     tie.close
-    (tie.spec
-    Inv-loop
-    μ-loop
-    add-top
-    loop-holds
-    is-normal-requires
-    cast-marks
-    array-write-marks
-    cast-out
-    mul-out
-    slice-write-out
-    add-n
-    add-x
-    loop-less
-    loop-again
-    same-length
-    returns)
+    (tie.spec Inv-loop μ-loop (λ c. search needs) loop-holds is-normal-requires (λ c. search needs)
+    (λ c. search needs) (λ c. search needs) (λ c. search needs) (λ c. search needs) (λ c. search needs)
+    (λ c. search needs) (λ c. search needs) loop-again same-length returns)

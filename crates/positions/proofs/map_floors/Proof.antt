@@ -18,38 +18,8 @@ Inv-loop positions count side floors₀ i₀ x₀ x-end floors i x = (x ≤ x-en
 abbrev μ-loop : tie.MeasureT-loop
 μ-loop positions count side floors₀ i₀ x₀ x-end floors i x = x-end - x
 
-add-x-end : tie.Need-add-x-end Inv-loop μ-loop
-add-x-end c = search needs
-
 loop-holds : tie.Need-loop-holds Inv-loop μ-loop
 loop-holds c = (search needs, refl, refl, search needs, search needs, λ k. omega arith, λ x l. absurd (let z : ⊥ = omega arith in z))
-
-add-next : tie.Need-add-next Inv-loop μ-loop
-add-next c = search needs
-
-cast-if2 : tie.Need-cast-if2 Inv-loop μ-loop
-cast-if2 c = search needs
-
-mul-if2 : tie.Need-mul-if2 Inv-loop μ-loop
-mul-if2 c = search needs
-
-shared-slice-read-if2 : tie.Need-shared-slice-read-if2 Inv-loop μ-loop
-shared-slice-read-if2 c = search needs
-
-cast-floors : tie.Need-cast-floors Inv-loop μ-loop
-cast-floors c = search needs
-
-mul-floors : tie.Need-mul-floors Inv-loop μ-loop
-mul-floors c = search needs
-
-slice-write-floors : tie.Need-slice-write-floors Inv-loop μ-loop
-slice-write-floors c = search needs
-
-add-x : tie.Need-add-x Inv-loop μ-loop
-add-x c = search needs
-
-loop-less : tie.Need-loop-less Inv-loop μ-loop
-loop-less c = search needs
 
 loop-again : tie.Need-loop-again Inv-loop μ-loop
 loop-again c =
@@ -80,20 +50,6 @@ returns c = (c .before .loop .inv .2, λ x l. c .before .loop .inv .6 x (omega a
 pub map-floors-spec : {M : Type 1} → statement M
 map-floors-spec =
     tie.close
-    (tie.spec
-    Inv-loop
-    μ-loop
-    add-x-end
-    loop-holds
-    add-next
-    cast-if2
-    mul-if2
-    shared-slice-read-if2
-    cast-floors
-    mul-floors
-    slice-write-floors
-    add-x
-    loop-less
-    loop-again
-    same-length
-    returns)
+    (tie.spec Inv-loop μ-loop (λ c. search needs) loop-holds (λ c. search needs) (λ c. search needs)
+    (λ c. search needs) (λ c. search needs) (λ c. search needs) (λ c. search needs) (λ c. search needs)
+    (λ c. search needs) (λ c. search needs) loop-again same-length returns)

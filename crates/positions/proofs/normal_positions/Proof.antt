@@ -7,9 +7,6 @@ use Rattle.positions.proofs.Fitting.{fitting-count, fitting-positive}
 use Rattle.positions.proofs.normal_positions.Statement.{statement}
 use Rattle.positions.proofs.normal_positions.Tie as tie
 
-fitting-sides-requires : tie.Need-fitting-sides-requires
-fitting-sides-requires c κs = search needs
-
 list-sums-requires : tie.Need-list-sums-requires
 list-sums-requires c κs =
     let start = c .before .before .before .before .before in
@@ -22,12 +19,9 @@ list-sums-requires c κs =
       positive = fitting-positive _ _ _ _ _ _ _ _ (given .positive) fit;
     }
 
-same-length : tie.Need-same-length
-same-length c = search needs
-
 returns : tie.Need-returns
 returns c = rw (holds-take (c .before .before .before .before .before .fitting-sides .ensures)) at (c .before .before .list-sums .ensures)
 
 pub normal-positions-spec : {M : Type 1} → statement M
 normal-positions-spec =
-    tie.close (tie.spec fitting-sides-requires list-sums-requires same-length returns)
+    tie.close (tie.spec (λ c. search needs) list-sums-requires (λ c. search needs) returns)

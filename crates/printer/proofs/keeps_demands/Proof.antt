@@ -4,15 +4,6 @@ use Rattle.printer.proofs.Demands.{kept, exceeded}
 use Rattle.printer.proofs.keeps_demands.Statement.{statement}
 use Rattle.printer.proofs.keeps_demands.Tie as tie
 
-check-plan-requires : tie.Need-check-plan-requires
-check-plan-requires c κs = search needs
-
-enum-told : tie.Need-enum-told
-enum-told c = search needs
-
-enum-told-2 : tie.Need-enum-told-2
-enum-told-2 c = search needs
-
 returns : tie.Need-returns
 returns c = kept (c .before .before .check-plan .ensures .1 .1) (c .enum-told .given .1)
 
@@ -21,4 +12,4 @@ returns-2 c = exceeded (c .before .before .check-plan .ensures .1 .1) (c .enum-t
 
 pub keeps-demands-spec : {M : Type 1} → statement M
 keeps-demands-spec =
-    tie.close (tie.spec check-plan-requires enum-told enum-told-2 returns returns-2)
+    tie.close (tie.spec (λ c. search needs) (λ c. search needs) (λ c. search needs) returns returns-2)

@@ -111,24 +111,6 @@ returns c =
 pub cut-lengths-spec : {M : Type 1} → statement M
 cut-lengths-spec =
     tie.close
-    (tie.spec
-    Inv-loop
-    μ-loop
-    sub-copy
-    copy-requires
-    entry-requires
-    loop-holds
-    entry-requires-2
-    sub-left
-    entry-requires-3
-    entry-requires-4
-    mul-combine
-    combine-requires
-    add-first
-    (λ c. search needs)
-    (λ c. search needs)
-    loop-again
-    same-length
-    returns)
-
--- x
+    (tie.spec Inv-loop μ-loop sub-copy copy-requires entry-requires loop-holds entry-requires-2 sub-left
+    entry-requires-3 entry-requires-4 mul-combine combine-requires add-first (λ c. search needs) (λ c. search needs)
+    loop-again same-length returns)

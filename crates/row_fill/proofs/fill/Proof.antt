@@ -71,22 +71,6 @@ returns c =
 pub fill-spec : {M : Type 1} → statement M
 fill-spec =
     tie.close
-    (tie.spec
-    Inv-loop
-    μ-loop
-    (λ c. search needs)
-    (λ c. search needs)
-    set-run-requires
-    loop-holds
-    half-requires
-    cut-lengths-requires
-    mul-t21
-    shared-slice-read-t23
-    slice-aggregate-fill-row
-    fill-row-requires
-    add-start
-    add-a
-    loop-less
-    loop-again
-    same-length
-    returns)
+    (tie.spec Inv-loop μ-loop (λ c. search needs) (λ c. search needs) set-run-requires loop-holds half-requires
+    cut-lengths-requires mul-t21 shared-slice-read-t23 slice-aggregate-fill-row fill-row-requires add-start add-a
+    loop-less loop-again same-length returns)

@@ -15,4 +15,6 @@ returns : tie.Need-returns
 returns c = let pushed = c .before .before .before .before .push-widths .ensures in (widths-taken (c .before .before .before .before .before .before .before .before .before .before .before .before .before .before .before .before .before .before .before .before .pre) (c .before .before .before .before .before .before .before .before .before .before .before .before .before .spread .ensures) (c .before .before .before .before .before .before .before .before .before .place-pieces .ensures) (pushed .0), pushed .1)
 
 pub fill-row-spec : {M : Type 1} → statement M
-fill-row-spec = tie.close (tie.spec (λ c. search needs) (λ c κs. search needs) (λ c κs. search needs) push-widths-requires (λ c. search needs) (λ c. search needs) returns)
+fill-row-spec = tie.close
+    (tie.spec (λ c. search needs) (λ c κs. search needs) (λ c κs. search needs) push-widths-requires
+    (λ c. search needs) (λ c. search needs) returns)

@@ -90,31 +90,7 @@ returns c =
 pub push-widths-spec : {M : Type 1} → statement M
 push-widths-spec =
     tie.close
-    (tie.spec
-    Inv-loop
-    μ-loop
-    loop-holds
-    entry-requires
-    (λ c. search needs)
-    (λ c. search needs)
-    (λ c. search needs)
-    (λ c. search needs)
-    (λ c. search needs)
-    entry-requires-2
-    (λ c. search needs)
-    level-requires
-    entry-requires-3
-    push-cell-requires
-    (λ c. search needs)
-    slice-read-table
-    (λ c. search needs)
-    (λ c. search needs)
-    (λ c. search needs)
-    (λ c. search needs)
-    (λ c. search needs)
-    loop-again
-    same-length
-    same-length-2
-    returns)
-
--- x
+    (tie.spec Inv-loop μ-loop loop-holds entry-requires (λ c. search needs) (λ c. search needs) (λ c. search needs)
+    (λ c. search needs) (λ c. search needs) entry-requires-2 (λ c. search needs) level-requires entry-requires-3
+    push-cell-requires (λ c. search needs) slice-read-table (λ c. search needs) (λ c. search needs)
+    (λ c. search needs) (λ c. search needs) (λ c. search needs) loop-again same-length same-length-2 returns)

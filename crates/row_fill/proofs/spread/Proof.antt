@@ -49,18 +49,5 @@ returns c = let e : c .before .loop .b ≡ c .before .before .before .before .be
 pub spread-spec : {M : Type 1} → statement M
 spread-spec =
     tie.close
-    (tie.spec
-    Inv-loop
-    μ-loop
-    loop-holds
-    (λ c. search needs)
-    (λ c. search needs)
-    (λ c. search needs)
-    entry-requires
-    mul-unit-2
-    slice-write-unit
-    (λ c. search needs)
-    (λ c. search needs)
-    loop-again
-    same-length
-    returns)
+    (tie.spec Inv-loop μ-loop loop-holds (λ c. search needs) (λ c. search needs) (λ c. search needs) entry-requires
+    mul-unit-2 slice-write-unit (λ c. search needs) (λ c. search needs) loop-again same-length returns)

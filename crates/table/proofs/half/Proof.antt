@@ -22,15 +22,6 @@ entry-requires c κs = c .before .pre .listed
 loop-holds : tie.Need-loop-holds Inv-loop μ-loop
 loop-holds c = (c .before .before .pre .least, c .before .before .pre .most, c .entry .ensures .0, c .entry .ensures .1, c .before .before .pre .within)
 
-entry-requires-2 : tie.Need-entry-requires-2 Inv-loop μ-loop
-entry-requires-2 c κs = search needs
-
-mul-if1 : tie.Need-mul-if1 Inv-loop μ-loop
-mul-if1 c = search needs
-
-add-half-end : tie.Need-add-half-end Inv-loop μ-loop
-add-half-end c = search needs
-
 loop-less : tie.Need-loop-less Inv-loop μ-loop
 loop-less c =
     let e = c .before .before .before .before .before in
@@ -50,14 +41,5 @@ returns c = let l = c .before .before .loop in record { least = l .inv .0; most 
 pub half-spec : {M : Type 1} → statement M
 half-spec =
     tie.close
-    (tie.spec
-    Inv-loop
-    μ-loop
-    entry-requires
-    loop-holds
-    entry-requires-2
-    mul-if1
-    add-half-end
-    loop-less
-    loop-again
-    returns)
+    (tie.spec Inv-loop μ-loop entry-requires loop-holds (λ c. search needs) (λ c. search needs) (λ c. search needs)
+    loop-less loop-again returns)

@@ -7,12 +7,5 @@ use Rattle.test_printer.proofs.run_commands.Tie as tie
 pub run-commands-spec : {M : Type 1} → statement M
 run-commands-spec =
     tie.close
-    (tie.spec
-    (λ t₀ n i₀ t i. i ≤ n)
-    (λ t₀ n i₀ t i. n - i)
-    (search needs)
-    (search needs)
-    (search needs)
-    (search needs)
-    (search needs)
-    (search needs))
+    (tie.spec (λ t₀ n i₀ t i. i ≤ n) (λ t₀ n i₀ t i. n - i)
+    (search needs) (search needs) (search needs) (search needs) (search needs) (search needs))

@@ -54,21 +54,6 @@ returns-2 c = let e : c .before .before .before .before .before .before .args .f
 pub begin-spec : {M : Type 1} → statement M
 begin-spec =
     tie.close
-    (tie.spec
-    start-requires
-    add-figure
-    mul-figure
-    slice-read-figure
-    (λ c κs. search needs)
-    add-figure-2
-    mul-figure-2
-    slice-read-figure-2
-    (λ c κs. search needs)
-    greater-requires
-    add-set-run
-    sub-set-run
-    set-run-requires
-    (λ c. search needs)
-    returns
-    (λ c. search needs)
-    returns-2)
+    (tie.spec start-requires add-figure mul-figure slice-read-figure (λ c. search needs) add-figure-2 mul-figure-2
+    slice-read-figure-2 (λ c. search needs) greater-requires add-set-run sub-set-run set-run-requires
+    (λ c. search needs) returns (λ c. search needs) returns-2)

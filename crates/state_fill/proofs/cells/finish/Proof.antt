@@ -19,26 +19,8 @@ abbrev μ-loop : tie.MeasureT-loop
 loop-holds : tie.Need-loop-holds Inv-loop μ-loop
 loop-holds c = (omega arith, refl, listing-none _ _ _)
 
-add-word : tie.Need-add-word Inv-loop μ-loop
-add-word c = search needs
-
-mul-word : tie.Need-mul-word Inv-loop μ-loop
-mul-word c = search needs
-
 slice-read-word : tie.Need-slice-read-word Inv-loop μ-loop
 slice-read-word c = omega (arith, c .before .before .loop .inv .1)
-
-note-requires : tie.Need-note-requires Inv-loop μ-loop
-note-requires c κs = search needs
-
-figure-requires : tie.Need-figure-requires Inv-loop μ-loop
-figure-requires c κs = search needs
-
-add-table : tie.Need-add-table Inv-loop μ-loop
-add-table c = search needs
-
-mul-table : tie.Need-mul-table Inv-loop μ-loop
-mul-table c = search needs
 
 slice-write-table : tie.Need-slice-write-table Inv-loop μ-loop
 slice-write-table c = omega (arith, c .before .before .before .before .before .loop .inv .1)
@@ -46,41 +28,17 @@ slice-write-table c = omega (arith, c .before .before .before .before .before .l
 add-figure : tie.Need-add-figure Inv-loop μ-loop
 add-figure c = omega (arith, c .before .before .before .before .before .loop .inv .2 .most)
 
-mul-figure : tie.Need-mul-figure Inv-loop μ-loop
-mul-figure c = search needs
-
 slice-read-figure : tie.Need-slice-read-figure Inv-loop μ-loop
 slice-read-figure c = simp length-set (omega (arith, c .before .before .before .before .before .before .loop .inv .1, c .before .before .before .before .before .before .loop .inv .2 .most))
 
-figure-requires-2 : tie.Need-figure-requires-2 Inv-loop μ-loop
-figure-requires-2 c κs = search needs
-
-add-table-2 : tie.Need-add-table-2 Inv-loop μ-loop
-add-table-2 c = search needs
-
-mul-table-2 : tie.Need-mul-table-2 Inv-loop μ-loop
-mul-table-2 c = search needs
-
-add-table-3 : tie.Need-add-table-3 Inv-loop μ-loop
-add-table-3 c = search needs
-
 add-table-4 : tie.Need-add-table-4 Inv-loop μ-loop
 add-table-4 c = omega (arith, c .before .before .before .before .before .before .before .loop .inv .2 .most)
-
-mul-table-3 : tie.Need-mul-table-3 Inv-loop μ-loop
-mul-table-3 c = search needs
 
 slice-write-table-2 : tie.Need-slice-write-table-2 Inv-loop μ-loop
 slice-write-table-2 c = simp length-set (omega (arith, c .before .before .before .before .before .before .before .loop .inv .1, c .before .before .before .before .before .before .before .loop .inv .2 .most))
 
 add-k : tie.Need-add-k Inv-loop μ-loop
 add-k c = omega (arith, c .before .before .before .before .before .before .before .loop .inv .2 .most)
-
-add-s : tie.Need-add-s Inv-loop μ-loop
-add-s c = search needs
-
-loop-less : tie.Need-loop-less Inv-loop μ-loop
-loop-less c = search needs
 
 loop-again : tie.Need-loop-again Inv-loop μ-loop
 loop-again c =
@@ -101,31 +59,8 @@ returns c =
 pub finish-spec : {M : Type 1} → statement M
 finish-spec =
     tie.close
-    (tie.spec
-    Inv-loop
-    μ-loop
-    loop-holds
-    add-word
-    mul-word
-    slice-read-word
-    note-requires
-    figure-requires
-    add-table
-    mul-table
-    slice-write-table
-    add-figure
-    mul-figure
-    slice-read-figure
-    figure-requires-2
-    add-table-2
-    mul-table-2
-    add-table-3
-    add-table-4
-    mul-table-3
-    slice-write-table-2
-    add-k
-    add-s
-    loop-less
-    loop-again
-    same-length
+    (tie.spec Inv-loop μ-loop loop-holds (λ c. search needs) (λ c. search needs) slice-read-word (λ c. search needs)
+    (λ c. search needs) (λ c. search needs) (λ c. search needs) slice-write-table add-figure (λ c. search needs)
+    slice-read-figure (λ c. search needs) (λ c. search needs) (λ c. search needs) (λ c. search needs) add-table-4
+    (λ c. search needs) slice-write-table-2 add-k (λ c. search needs) (λ c. search needs) loop-again same-length
     returns)

@@ -21,17 +21,8 @@ abbrev μ-loop : tie.MeasureT-loop
 loop-holds : tie.Need-loop-holds Inv-loop μ-loop
 loop-holds c = (omega arith, refl, inherit-none _ _ _ _ (c .before .pre .0 .before) (c .before .pre .1) _, topped-none _ _ _ _)
 
-add-note : tie.Need-add-note Inv-loop μ-loop
-add-note c = search needs
-
-mul-note : tie.Need-mul-note Inv-loop μ-loop
-mul-note c = search needs
-
 slice-read-note : tie.Need-slice-read-note Inv-loop μ-loop
 slice-read-note c = omega (arith, c .before .before .loop .inv .1, c .before .before .before .before .pre .0 .before, c .before .before .before .before .pre .2)
-
-note-requires : tie.Need-note-requires Inv-loop μ-loop
-note-requires c κs = search needs
 
 same-length : tie.Need-same-length Inv-loop μ-loop
 same-length c = c .before .before .before .before .loop .inv .1
@@ -42,18 +33,12 @@ returns c =
     let loop = c .before .before .before .before .loop in
     (inherit-end _ _ _ _ (given .0 .before) (given .1) _ _ _ (λ i u h e. past-end _ _ _ _ _ _ _ (given .0) h (sym (note-kept _ _ _ _ (loop .inv .2 .rest) (c .before .before .before .before .before .before .args .first) (loop .k) (omega (arith, given .0 .before))) ∙ (sym (c .before .note .ensures .0) ∙ c .if1 .taken)) e) (loop .inv .2), loop .inv .3)
 
-sub-t : tie.Need-sub-t Inv-loop μ-loop
-sub-t c = search needs
-
 add-figure : tie.Need-add-figure Inv-loop μ-loop
 add-figure c =
     let given = c .before .before .before .before .before .before .pre in
     let loop = c .before .before .before .before .loop in
     let state = entry-state (given .0) (loop .inv .2 .rest) (loop .k) _ (omega arith) (c .before .note .ensures .0) in
     omega (arith, given .1, given .2)
-
-mul-figure : tie.Need-mul-figure Inv-loop μ-loop
-mul-figure c = search needs
 
 slice-read-figure : tie.Need-slice-read-figure Inv-loop μ-loop
 slice-read-figure c =
@@ -62,18 +47,12 @@ slice-read-figure c =
     let state = entry-state (given .0) (loop .inv .2 .rest) (loop .k) _ (omega arith) (c .before .before .note .ensures .0) in
     omega (arith, loop .inv .1, given .1, given .2)
 
-figure-requires : tie.Need-figure-requires Inv-loop μ-loop
-figure-requires c κs = search needs
-
 add-figure-2 : tie.Need-add-figure-2 Inv-loop μ-loop
 add-figure-2 c =
     let given = c .before .before .before .before .before .before .before .before .pre in
     let loop = c .before .before .before .before .before .before .loop in
     let state = entry-state (given .0) (loop .inv .2 .rest) (loop .k) _ (omega arith) (c .before .before .before .note .ensures .0) in
     omega (arith, given .0 .before, given .2)
-
-mul-figure-2 : tie.Need-mul-figure-2 Inv-loop μ-loop
-mul-figure-2 c = search needs
 
 slice-read-figure-2 : tie.Need-slice-read-figure-2 Inv-loop μ-loop
 slice-read-figure-2 c =
@@ -82,18 +61,12 @@ slice-read-figure-2 c =
     let state = entry-state (given .0) (loop .inv .2 .rest) (loop .k) _ (omega arith) (c .before .before .before .before .note .ensures .0) in
     omega (arith, loop .inv .1, given .0 .before, given .2)
 
-figure-requires-2 : tie.Need-figure-requires-2 Inv-loop μ-loop
-figure-requires-2 c κs = search needs
-
 add-figure-3 : tie.Need-add-figure-3 Inv-loop μ-loop
 add-figure-3 c =
     let given = c .before .before .before .before .before .before .before .before .before .before .before .pre in
     let loop = c .before .before .before .before .before .before .before .before .before .loop in
     let state = entry-state (given .0) (loop .inv .2 .rest) (loop .k) _ (omega arith) (c .before .before .before .before .before .before .note .ensures .0) in
     omega (arith, given .2)
-
-mul-figure-3 : tie.Need-mul-figure-3 Inv-loop μ-loop
-mul-figure-3 c = search needs
 
 slice-read-figure-3 : tie.Need-slice-read-figure-3 Inv-loop μ-loop
 slice-read-figure-3 c =
@@ -102,17 +75,8 @@ slice-read-figure-3 c =
     let state = entry-state (given .0) (loop .inv .2 .rest) (loop .k) _ (omega arith) (c .before .before .before .before .before .before .before .note .ensures .0) in
     omega (arith, loop .inv .1, given .2)
 
-figure-requires-3 : tie.Need-figure-requires-3 Inv-loop μ-loop
-figure-requires-3 c κs = search needs
-
 add-table : tie.Need-add-table Inv-loop μ-loop
 add-table c = omega (arith, c .figure3 .ensures .1)
-
-add-table-2 : tie.Need-add-table-2 Inv-loop μ-loop
-add-table-2 c = search needs
-
-mul-table : tie.Need-mul-table Inv-loop μ-loop
-mul-table c = search needs
 
 slice-write-table : tie.Need-slice-write-table Inv-loop μ-loop
 slice-write-table c =
@@ -123,12 +87,6 @@ slice-write-table c =
 
 past-requires : tie.Need-past-requires Inv-loop μ-loop
 past-requires c κs = omega (arith, c .before .before .before .before .before .before .before .before .note .ensures .1)
-
-add-k : tie.Need-add-k Inv-loop μ-loop
-add-k c = search needs
-
-loop-less : tie.Need-loop-less Inv-loop μ-loop
-loop-less c = search needs
 
 loop-again : tie.Need-loop-again Inv-loop μ-loop
 loop-again c =
@@ -149,36 +107,8 @@ returns-2 c = (inherit-end _ _ _ _ (c .before .before .before .pre .0 .before) (
 pub inherit-spec : {M : Type 1} → statement M
 inherit-spec =
     tie.close
-    (tie.spec
-    Inv-loop
-    μ-loop
-    loop-holds
-    add-note
-    mul-note
-    slice-read-note
-    note-requires
-    same-length
-    returns
-    sub-t
-    add-figure
-    mul-figure
-    slice-read-figure
-    figure-requires
-    add-figure-2
-    mul-figure-2
-    slice-read-figure-2
-    figure-requires-2
-    add-figure-3
-    mul-figure-3
-    slice-read-figure-3
-    figure-requires-3
-    add-table
-    add-table-2
-    mul-table
-    slice-write-table
-    past-requires
-    add-k
-    loop-less
-    loop-again
-    same-length-2
-    returns-2)
+    (tie.spec Inv-loop μ-loop loop-holds (λ c. search needs) (λ c. search needs) slice-read-note (λ c. search needs)
+    same-length returns (λ c. search needs) add-figure (λ c. search needs) slice-read-figure (λ c. search needs)
+    add-figure-2 (λ c. search needs) slice-read-figure-2 (λ c. search needs) add-figure-3 (λ c. search needs)
+    slice-read-figure-3 (λ c. search needs) add-table (λ c. search needs) (λ c. search needs) slice-write-table
+    past-requires (λ c. search needs) (λ c. search needs) loop-again same-length-2 returns-2)

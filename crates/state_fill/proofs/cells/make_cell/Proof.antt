@@ -124,24 +124,7 @@ returns c =
 pub make-cell-spec : {M : Type 1} → statement M
 make-cell-spec =
     tie.close
-    (tie.spec
-    sub-shorter
-    sub-narrower
-    begin-requires
-    inherit-requires
-    inherit-requires-2
-    mul-widen
-    shared-slice-read-widen
-    widen-requires
-    mul-widen-2
-    shared-slice-read-widen-2
-    widen-requires-2
-    place-pieces-requires
-    length-line-requires
-    cut-requires
-    width-line-requires
-    cut-requires-2
-    finish-requires
-    flat-after-requires
-    same-length
-    returns)
+    (tie.spec sub-shorter sub-narrower begin-requires inherit-requires inherit-requires-2 mul-widen
+    shared-slice-read-widen widen-requires mul-widen-2 shared-slice-read-widen-2 widen-requires-2
+    place-pieces-requires length-line-requires cut-requires width-line-requires cut-requires-2 finish-requires
+    flat-after-requires same-length returns)

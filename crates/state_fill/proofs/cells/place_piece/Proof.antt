@@ -6,17 +6,8 @@ use Rattle.state_fill.proofs.Topping.{topped-none}
 use Rattle.state_fill.proofs.cells.place_piece.Statement.{statement}
 use Rattle.state_fill.proofs.cells.place_piece.Tie as tie
 
-take-requires : tie.Need-take-requires
-take-requires c κs = search needs
-
-same-length : tie.Need-same-length
-same-length c = search needs
-
-returns : tie.Need-returns
-returns c = search needs
-
 returns-2 : tie.Need-returns-2
 returns-2 c = (taken-none _ _ _ _ _ _ _ (λ h b. absurd (omega arith)), topped-none _ _ _ _)
 
 pub place-piece-spec : {M : Type 1} → statement M
-place-piece-spec = tie.close (tie.spec take-requires same-length returns returns-2)
+place-piece-spec = tie.close (tie.spec (λ c κs. search needs) (λ c. search needs) (λ c. search needs) returns-2)

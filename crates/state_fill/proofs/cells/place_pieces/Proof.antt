@@ -24,52 +24,10 @@ abbrev μ-loop : tie.MeasureT-loop
 loop-holds : tie.Need-loop-holds Inv-loop μ-loop
 loop-holds c = (omega arith, refl, refl, placed-none _ _ _ _ _ _ _ _, topped-none _ _ _ _)
 
-mul-piece : tie.Need-mul-piece Inv-loop μ-loop
-mul-piece c = search needs
-
-mul-if1 : tie.Need-mul-if1 Inv-loop μ-loop
-mul-if1 c = search needs
-
-element-copy-out-if1 : tie.Need-element-copy-out-if1 Inv-loop μ-loop
-element-copy-out-if1 c = search needs
-
-add-if2 : tie.Need-add-if2 Inv-loop μ-loop
-add-if2 c = search needs
-
-mul-if2 : tie.Need-mul-if2 Inv-loop μ-loop
-mul-if2 c = search needs
-
-element-copy-out-if2 : tie.Need-element-copy-out-if2 Inv-loop μ-loop
-element-copy-out-if2 c = search needs
-
-add-state : tie.Need-add-state Inv-loop μ-loop
-add-state c = search needs
-
-mul-state : tie.Need-mul-state Inv-loop μ-loop
-mul-state c = search needs
-
-element-copy-out-state : tie.Need-element-copy-out-state Inv-loop μ-loop
-element-copy-out-state c = search needs
-
-add-price : tie.Need-add-price Inv-loop μ-loop
-add-price c = search needs
-
-mul-price : tie.Need-mul-price Inv-loop μ-loop
-mul-price c = search needs
-
-element-copy-out-price : tie.Need-element-copy-out-price Inv-loop μ-loop
-element-copy-out-price c = search needs
-
 place-piece-requires : tie.Need-place-piece-requires Inv-loop μ-loop
 place-piece-requires c κs =
     let inv = c .before .before .before .before .before .before .before .before .loop .inv in
     growing-kept (c .before .before .before .before .before .before .before .before .before .before .before .pre .0) (inv .2) (inv .3 .grown)
-
-add-i : tie.Need-add-i Inv-loop μ-loop
-add-i c = search needs
-
-loop-less : tie.Need-loop-less Inv-loop μ-loop
-loop-less c = search needs
 
 loop-again : tie.Need-loop-again Inv-loop μ-loop
 loop-again c =
@@ -93,25 +51,7 @@ returns c = let e : c .before .loop .i ≡ c .before .before .before .before .ar
 pub place-pieces-spec : {M : Type 1} → statement M
 place-pieces-spec =
     tie.close
-    (tie.spec
-    Inv-loop
-    μ-loop
-    loop-holds
-    mul-piece
-    mul-if1
-    element-copy-out-if1
-    add-if2
-    mul-if2
-    element-copy-out-if2
-    add-price
-    mul-price
-    element-copy-out-price
-    add-state
-    mul-state
-    element-copy-out-state
-    place-piece-requires
-    add-i
-    loop-less
-    loop-again
-    same-length
-    returns)
+    (tie.spec Inv-loop μ-loop loop-holds (λ c. search needs) (λ c. search needs) (λ c. search needs)
+    (λ c. search needs) (λ c. search needs) (λ c. search needs) (λ c. search needs) (λ c. search needs)
+    (λ c. search needs) (λ c. search needs) (λ c. search needs) (λ c. search needs) place-piece-requires
+    (λ c. search needs) (λ c. search needs) loop-again same-length returns)

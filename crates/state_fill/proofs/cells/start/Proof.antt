@@ -20,47 +20,17 @@ abbrev μ-loop : tie.MeasureT-loop
 loop-holds : tie.Need-loop-holds Inv-loop μ-loop
 loop-holds c = (omega arith, refl, run-none _ _ _)
 
-add-figure : tie.Need-add-figure Inv-loop μ-loop
-add-figure c = search needs
-
-mul-figure : tie.Need-mul-figure Inv-loop μ-loop
-mul-figure c = search needs
-
 slice-read-figure : tie.Need-slice-read-figure Inv-loop μ-loop
 slice-read-figure c = omega (arith, c .before .before .loop .inv .1)
-
-figure-requires : tie.Need-figure-requires Inv-loop μ-loop
-figure-requires c κs = search needs
-
-add-figure-2 : tie.Need-add-figure-2 Inv-loop μ-loop
-add-figure-2 c = search needs
-
-mul-figure-2 : tie.Need-mul-figure-2 Inv-loop μ-loop
-mul-figure-2 c = search needs
 
 slice-read-figure-2 : tie.Need-slice-read-figure-2 Inv-loop μ-loop
 slice-read-figure-2 c = omega (arith, c .before .before .before .before .loop .inv .1)
 
-figure-requires-2 : tie.Need-figure-requires-2 Inv-loop μ-loop
-figure-requires-2 c κs = search needs
-
 greater-requires : tie.Need-greater-requires Inv-loop μ-loop
 greater-requires c κs = (omega (arith, c .before .before .figure .ensures .1), omega (arith, c .figure2 .ensures .1))
 
-add-table : tie.Need-add-table Inv-loop μ-loop
-add-table c = search needs
-
-mul-table : tie.Need-mul-table Inv-loop μ-loop
-mul-table c = search needs
-
 slice-write-table : tie.Need-slice-write-table Inv-loop μ-loop
 slice-write-table c = omega (arith, c .before .before .before .before .before .before .loop .inv .1)
-
-add-s : tie.Need-add-s Inv-loop μ-loop
-add-s c = search needs
-
-loop-less : tie.Need-loop-less Inv-loop μ-loop
-loop-less c = search needs
 
 loop-again : tie.Need-loop-again Inv-loop μ-loop
 loop-again c =
@@ -77,24 +47,7 @@ returns c = let e : c .before .loop .s ≡ c .before .before .before .args .word
 pub start-spec : {M : Type 1} → statement M
 start-spec =
     tie.close
-    (tie.spec
-    Inv-loop
-    μ-loop
-    loop-holds
-    add-figure
-    mul-figure
-    slice-read-figure
-    figure-requires
-    add-figure-2
-    mul-figure-2
-    slice-read-figure-2
-    figure-requires-2
-    greater-requires
-    add-table
-    mul-table
-    slice-write-table
-    add-s
-    loop-less
-    loop-again
-    same-length
-    returns)
+    (tie.spec Inv-loop μ-loop loop-holds (λ c. search needs) (λ c. search needs) slice-read-figure
+    (λ c. search needs) (λ c. search needs) (λ c. search needs) slice-read-figure-2 (λ c. search needs)
+    greater-requires (λ c. search needs) (λ c. search needs) slice-write-table (λ c. search needs)
+    (λ c. search needs) loop-again same-length returns)

@@ -30,12 +30,6 @@ cut-at-requires c κs =
       ready = λ j h. ready-kept _ _ _ _ (inv .4 .grown .rest) _ _ (given .ready j h);
     }
 
-add-i : tie.Need-add-i Inv-loop μ-loop
-add-i c = search needs
-
-loop-less : tie.Need-loop-less Inv-loop μ-loop
-loop-less c = search needs
-
 loop-again : tie.Need-loop-again Inv-loop μ-loop
 loop-again c =
     let given = c .before .before .before .before .before .before .before .before .before .before .pre in
@@ -51,13 +45,5 @@ returns c = let e : c .before .loop .i ≡ c .before .before .before .before .be
 pub cut-spec : {M : Type 1} → statement M
 cut-spec =
     tie.close
-    (tie.spec
-    Inv-loop
-    μ-loop
-    loop-holds
-    cut-at-requires
-    add-i
-    loop-less
-    loop-again
-    same-length
-    returns)
+    (tie.spec Inv-loop μ-loop loop-holds cut-at-requires (λ c. search needs) (λ c. search needs) loop-again
+    same-length returns)

@@ -47,9 +47,6 @@ join-requires c κs =
     let given = c .before .before .before .before .before .before .before .before .before .before .before .before .before .before .pre in
     (given .growing, first-part given, given .ready _ (second-entry given _ _ _ (c .before .before .before .before .before .before .before .before .before .entry .ensures .0) (c .before .before .before .before .before .before .before .before .entry2 .ensures .0) (c .before .before .before .before .before .before .before .entry3 .ensures .0) .1))
 
-same-length : tie.Need-same-length
-same-length c = search needs
-
 returns : tie.Need-returns
 returns c =
     let given = c .before .before .before .before .before .before .before .before .before .before .before .before .before .before .before .before .before .pre in
@@ -64,17 +61,5 @@ returns-2 c =
 pub cut-at-spec : {M : Type 1} → statement M
 cut-at-spec =
     tie.close
-    (tie.spec
-    entry-requires
-    entry-requires-2
-    sub-left
-    entry-requires-3
-    entry-requires-4
-    mul-first
-    add-first
-    mul-second
-    add-second
-    join-requires
-    same-length
-    returns
-    returns-2)
+    (tie.spec entry-requires entry-requires-2 sub-left entry-requires-3 entry-requires-4 mul-first add-first
+    mul-second add-second join-requires (λ c. search needs) returns returns-2)

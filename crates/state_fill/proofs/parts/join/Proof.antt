@@ -19,17 +19,8 @@ abbrev μ-loop : tie.MeasureT-loop
 loop-holds : tie.Need-loop-holds Inv-loop μ-loop
 loop-holds c = (omega arith, refl, join-none _ _ _ _ _ _, topped-none _ _ _ _)
 
-add-note : tie.Need-add-note Inv-loop μ-loop
-add-note c = search needs
-
-mul-note : tie.Need-mul-note Inv-loop μ-loop
-mul-note c = search needs
-
 slice-read-note : tie.Need-slice-read-note Inv-loop μ-loop
 slice-read-note c = omega (arith, c .before .before .loop .inv .1, c .before .before .before .before .before .pre .1 .before, c .before .before .before .before .before .pre .0 .room)
-
-note-requires : tie.Need-note-requires Inv-loop μ-loop
-note-requires c κs = search needs
 
 same-length : tie.Need-same-length Inv-loop μ-loop
 same-length c = c .before .before .before .before .loop .inv .1
@@ -40,9 +31,6 @@ returns c =
     let loop = c .before .before .before .before .loop in
     (join-end _ _ _ _ _ _ _ _ (λ i u h e. past-end _ _ _ _ _ _ _ (given .1) h (sym (note-kept _ _ _ _ (loop .inv .2 .grown .rest) (c .before .before .before .before .before .before .before .args .first) (loop .k) (omega (arith, given .1 .before))) ∙ (sym (c .before .note .ensures .0) ∙ c .if1 .taken)) e) (loop .inv .2), loop .inv .3)
 
-sub-t : tie.Need-sub-t Inv-loop μ-loop
-sub-t c = search needs
-
 add-figure : tie.Need-add-figure Inv-loop μ-loop
 add-figure c =
     let given = c .before .before .before .before .before .before .before .pre in
@@ -50,18 +38,12 @@ add-figure c =
     let state = entry-state (given .1) (loop .inv .2 .grown .rest) (loop .k) _ (omega arith) (c .before .note .ensures .0) in
     omega (arith, given .1 .before, given .0 .room)
 
-mul-figure : tie.Need-mul-figure Inv-loop μ-loop
-mul-figure c = search needs
-
 slice-read-figure : tie.Need-slice-read-figure Inv-loop μ-loop
 slice-read-figure c =
     let given = c .before .before .before .before .before .before .before .before .pre in
     let loop = c .before .before .before .before .before .loop in
     let state = entry-state (given .1) (loop .inv .2 .grown .rest) (loop .k) _ (omega arith) (c .before .before .note .ensures .0) in
     omega (arith, loop .inv .1, given .1 .before, given .0 .room)
-
-figure-requires : tie.Need-figure-requires Inv-loop μ-loop
-figure-requires c κs = search needs
 
 join-with-requires : tie.Need-join-with-requires Inv-loop μ-loop
 join-with-requires c κs =
@@ -75,12 +57,6 @@ join-with-requires c κs =
       state = state;
       small = omega (arith, c .before .figure .ensures .0, ready-kept _ _ _ _ kept _ _ (given .1) .small (c .before .before .before .before .note .result - 1) state);
     }
-
-add-k : tie.Need-add-k Inv-loop μ-loop
-add-k c = search needs
-
-loop-less : tie.Need-loop-less Inv-loop μ-loop
-loop-less c = search needs
 
 loop-again : tie.Need-loop-again Inv-loop μ-loop
 loop-again c =
@@ -98,24 +74,6 @@ returns-2 c = (join-end _ _ _ _ _ _ _ _ (λ i u h e. omega arith) (c .before .lo
 pub join-spec : {M : Type 1} → statement M
 join-spec =
     tie.close
-    (tie.spec
-    Inv-loop
-    μ-loop
-    loop-holds
-    add-note
-    mul-note
-    slice-read-note
-    note-requires
-    same-length
-    returns
-    sub-t
-    add-figure
-    mul-figure
-    slice-read-figure
-    figure-requires
-    join-with-requires
-    add-k
-    loop-less
-    loop-again
-    same-length-2
-    returns-2)
+    (tie.spec Inv-loop μ-loop loop-holds (λ c. search needs) (λ c. search needs) slice-read-note (λ c. search needs)
+    same-length returns (λ c. search needs) add-figure (λ c. search needs) slice-read-figure (λ c. search needs)
+    join-with-requires (λ c. search needs) (λ c. search needs) loop-again same-length-2 returns-2)

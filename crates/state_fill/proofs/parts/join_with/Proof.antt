@@ -16,36 +16,6 @@ Inv-loop table₀ blocks d words at second t v top most high₀ k₀ table high 
 abbrev μ-loop : tie.MeasureT-loop
 μ-loop table₀ blocks d words at second t v top most high₀ k₀ table high k = words - k
 
-sub-figure : tie.Need-sub-figure Inv-loop μ-loop
-sub-figure c = search needs
-
-add-figure : tie.Need-add-figure Inv-loop μ-loop
-add-figure c = search needs
-
-mul-figure : tie.Need-mul-figure Inv-loop μ-loop
-mul-figure c = search needs
-
-slice-read-figure : tie.Need-slice-read-figure Inv-loop μ-loop
-slice-read-figure c = search needs
-
-figure-requires : tie.Need-figure-requires Inv-loop μ-loop
-figure-requires c κs = search needs
-
-add-most : tie.Need-add-most Inv-loop μ-loop
-add-most c = search needs
-
-add-figure-2 : tie.Need-add-figure-2 Inv-loop μ-loop
-add-figure-2 c = search needs
-
-mul-figure-2 : tie.Need-mul-figure-2 Inv-loop μ-loop
-mul-figure-2 c = search needs
-
-slice-read-figure-2 : tie.Need-slice-read-figure-2 Inv-loop μ-loop
-slice-read-figure-2 c = search needs
-
-figure-requires-2 : tie.Need-figure-requires-2 Inv-loop μ-loop
-figure-requires-2 c κs = search needs
-
 returns : tie.Need-returns Inv-loop μ-loop
 returns c =
     let given = c .before .before .before .before .before .before .before .pre in
@@ -54,17 +24,8 @@ returns c =
 loop-holds : tie.Need-loop-holds Inv-loop μ-loop
 loop-holds c = (omega arith, refl, with-none _ _ _ _ _ _ _, topped-none _ _ _ _)
 
-add-note : tie.Need-add-note Inv-loop μ-loop
-add-note c = search needs
-
-mul-note : tie.Need-mul-note Inv-loop μ-loop
-mul-note c = search needs
-
 slice-read-note : tie.Need-slice-read-note Inv-loop μ-loop
 slice-read-note c = omega (arith, c .before .before .loop .inv .1, c .before .before .before .before .before .before .before .before .before .before .pre .ready .before, c .before .before .before .before .before .before .before .before .before .before .pre .growing .room)
-
-note-requires : tie.Need-note-requires Inv-loop μ-loop
-note-requires c κs = search needs
 
 same-length : tie.Need-same-length Inv-loop μ-loop
 same-length c = c .before .before .before .before .loop .inv .1
@@ -75,24 +36,12 @@ returns-2 c =
     let loop = c .before .before .before .before .loop in
     (with-end _ _ _ _ _ _ _ _ _ (λ i u h e. past-end _ _ _ _ _ _ _ (given .ready) h (sym (note-kept _ _ _ _ (loop .inv .2 .grown .rest) (c .before .before .before .before .before .before .before .before .before .before .before .before .args .second) (loop .k) (omega (arith, given .ready .before))) ∙ (sym (c .before .note .ensures .0) ∙ c .if2 .taken)) e) (loop .inv .2), loop .inv .3)
 
-sub-u : tie.Need-sub-u Inv-loop μ-loop
-sub-u c = search needs
-
-add-figure-3 : tie.Need-add-figure-3 Inv-loop μ-loop
-add-figure-3 c = search needs
-
-mul-figure-3 : tie.Need-mul-figure-3 Inv-loop μ-loop
-mul-figure-3 c = search needs
-
 slice-read-figure-3 : tie.Need-slice-read-figure-3 Inv-loop μ-loop
 slice-read-figure-3 c =
     let given = c .before .before .before .before .before .before .before .before .before .before .before .before .before .pre in
     let loop = c .before .before .before .before .before .loop in
     let state = entry-state (given .ready) (loop .inv .2 .grown .rest) (loop .k) _ (omega arith) (c .before .before .note .ensures .0) in
     omega (arith, loop .inv .1, given .ready .before, given .growing .room)
-
-figure-requires-3 : tie.Need-figure-requires-3 Inv-loop μ-loop
-figure-requires-3 c κs = search needs
 
 add-sum : tie.Need-add-sum Inv-loop μ-loop
 add-sum c = omega (arith, c .figure3 .ensures .1, c .before .before .before .before .before .before .before .before .before .before .before .before .before .before .pre .small)
@@ -104,12 +53,6 @@ take-requires c κs =
     let state = entry-state (given .ready) (loop .inv .2 .grown .rest) (loop .k) _ (omega arith) (c .before .before .before .before .note .ensures .0) in
     let ready = ready-kept _ _ _ _ (loop .inv .2 .grown .rest) _ _ (given .ready) in
     (growing-kept (given .growing) (loop .inv .1) (loop .inv .2 .grown), omega (arith, given .growing .digits .most, given .state), omega (arith, given .small, c .before .figure3 .ensures .0, ready .small (c .before .before .before .before .note .result - 1) state))
-
-add-k : tie.Need-add-k Inv-loop μ-loop
-add-k c = search needs
-
-loop-less : tie.Need-loop-less Inv-loop μ-loop
-loop-less c = search needs
 
 loop-again : tie.Need-loop-again Inv-loop μ-loop
 loop-again c =
@@ -127,36 +70,9 @@ returns-3 c = (with-end _ _ _ _ _ _ _ _ _ (λ i u h e. omega arith) (c .before .
 pub join-with-spec : {M : Type 1} → statement M
 join-with-spec =
     tie.close
-    (tie.spec
-    Inv-loop
-    μ-loop
-    sub-figure
-    add-figure
-    mul-figure
-    slice-read-figure
-    figure-requires
-    add-most
-    add-figure-2
-    mul-figure-2
-    slice-read-figure-2
-    figure-requires-2
-    returns
-    loop-holds
-    add-note
-    mul-note
-    slice-read-note
-    note-requires
-    same-length
-    returns-2
-    sub-u
-    add-figure-3
-    mul-figure-3
-    slice-read-figure-3
-    figure-requires-3
-    add-sum
-    take-requires
-    add-k
-    loop-less
-    loop-again
-    same-length-2
-    returns-3)
+    (tie.spec Inv-loop μ-loop (λ c. search needs) (λ c. search needs) (λ c. search needs) (λ c. search needs)
+    (λ c. search needs) (λ c. search needs) (λ c. search needs) (λ c. search needs) (λ c. search needs)
+    (λ c. search needs) returns loop-holds (λ c. search needs) (λ c. search needs) slice-read-note
+    (λ c. search needs) same-length returns-2 (λ c. search needs) (λ c. search needs) (λ c. search needs)
+    slice-read-figure-3 (λ c. search needs) add-sum take-requires (λ c. search needs) (λ c. search needs) loop-again
+    same-length-2 returns-3)

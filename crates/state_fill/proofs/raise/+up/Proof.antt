@@ -56,14 +56,8 @@ up-run-requires t c κs =
     let end = c .before .before .block in
     (omega (arith, end .ensures .0, given .room), one-digit (now (c .before .before .before .before .before .args .blocks)) (c .before .before .before .before .before .args .d) (end .result) _ (omega arith) (end .ensures .0) (given .rises))
 
-up-same-length : (t : ℕ) → up-lts.Need-same-length (callees t) (up-at t) up.Post up-Inv-loop up-μ-loop
-up-same-length t c = search needs
-
 up-returns : (t : ℕ) → up-lts.Need-returns (callees t) (up-at t) up.Post up-Inv-loop up-μ-loop
 up-returns t c = digit-lifted (now (c .before .before .before .before .before .before .before .before .args .blocks)) (c .before .before .before .before .before .before .before .before .args .d) (c .before .before .before .before .before .block .result) _ _ _ _ _ (omega arith) (c .before .before .before .before .before .block .ensures .0) (c .before .before .run .ensures)
-
-up-sub-block : (t : ℕ) → up-lts.Need-sub-block (callees t) (up-at t) up.Post up-Inv-loop up-μ-loop
-up-sub-block t c = search needs
 
 up-block-requires-2 : (t : ℕ) → up-lts.Need-block-requires-2 (callees t) (up-at t) up.Post up-Inv-loop up-μ-loop
 up-block-requires-2 t c κs = omega (arith, c .before .before .before .before .pre .1 .digits .listed)
@@ -100,17 +94,11 @@ up-slice-read-figure t c =
     let size = c .before .before .before .block2 in
     omega (arith, room-block (omega arith) given (size .ensures .0) (omega (arith, c .before .before .before .before .before .block .ensures .0)) (c .before .before .loop .inv .1), mod-lt (c .before .before .before .before .before .before .before .before .args .t) {m = size .result} (some-size given (size .ensures .0)), given .room, c .before .before .loop .inv .0)
 
-up-figure-requires : (t : ℕ) → up-lts.Need-figure-requires (callees t) (up-at t) up.Post up-Inv-loop up-μ-loop
-up-figure-requires t c κs = search needs
-
 up-same-length-2 : (t : ℕ) → up-lts.Need-same-length-2 (callees t) (up-at t) up.Post up-Inv-loop up-μ-loop
 up-same-length-2 t c = c .before .before .before .before .loop .inv .0
 
 up-returns-2 : (t : ℕ) → up-lts.Need-returns-2 (callees t) (up-at t) up.Post up-Inv-loop up-μ-loop
 up-returns-2 t c = stop-block (omega arith) (c .before .before .before .before .before .before .before .before .before .before .pre .1) (c .before .before .before .before .before .block2 .ensures .0) (omega (arith, c .before .before .before .before .before .before .before .block .ensures .0)) (c .before .before .before .before .loop .inv .1) (omega (arith, c .before .figure .ensures .0))
-
-up-sub-up : (t : ℕ) → up-lts.Need-sub-up (callees t) (up-at t) up.Post up-Inv-loop up-μ-loop
-up-sub-up t c = search needs
 
 up-add-up : (t : ℕ) → up-lts.Need-add-up (callees t) (up-at t) up.Post up-Inv-loop up-μ-loop
 up-add-up t c =
@@ -141,32 +129,9 @@ up-returns-3 : (t : ℕ) → up-lts.Need-returns-3 (callees t) (up-at t) up.Post
 up-returns-3 t c = partly-all _ _ _ _ _ _ _ _ (omega (arith, c .before .before .before .before .block .ensures .0)) (c .before .loop .inv .1 .partly)
 
 pub +up-spec : {M : Type 1} → statement M
-+up-spec = close μ-up λ t. up-lts.spec (callees t)
-    (up-at t)
-    up.Post
-    up-Inv-loop
-    up-μ-loop
-    (up-block-requires t)
-    (up-run-requires t)
-    (up-same-length t)
-    (up-returns t)
-    (up-sub-block t)
-    (up-block-requires-2 t)
-    (up-rem-low t)
-    (up-sub-x t)
-    (up-loop-holds t)
-    (up-add-figure t)
-    (up-add-figure-2 t)
-    (up-mul-figure t)
-    (up-slice-read-figure t)
-    (up-figure-requires t)
-    (up-same-length-2 t)
-    (up-returns-2 t)
-    (up-sub-up t)
-    (up-add-up t)
-    (up-up-requires t)
-    (up-add-x t)
-    (up-loop-less t)
-    (up-loop-again t)
-    (up-same-length-3 t)
-    (up-returns-3 t)
++up-spec = close μ-up λ t. up-lts.spec (callees t) (up-at t) up.Post up-Inv-loop up-μ-loop
+    (up-block-requires t) (up-run-requires t) (λ c. search needs) (up-returns t) (λ c. search needs)
+    (up-block-requires-2 t) (up-rem-low t) (up-sub-x t) (up-loop-holds t) (up-add-figure t) (up-add-figure-2 t)
+    (up-mul-figure t) (up-slice-read-figure t) (λ c. search needs) (up-same-length-2 t) (up-returns-2 t)
+    (λ c. search needs) (up-add-up t) (up-up-requires t) (up-add-x t) (up-loop-less t) (up-loop-again t)
+    (up-same-length-3 t) (up-returns-3 t)

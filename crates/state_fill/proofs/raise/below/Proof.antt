@@ -19,9 +19,6 @@ abbrev μ-loop : tie.MeasureT-loop
 loop-holds : tie.Need-loop-holds Inv-loop μ-loop
 loop-holds c = (omega arith, refl)
 
-sub-block : tie.Need-sub-block Inv-loop μ-loop
-sub-block c = search needs
-
 block-requires : tie.Need-block-requires Inv-loop μ-loop
 block-requires c κs = omega (arith, c .before .before .before .pre .1)
 
@@ -40,12 +37,6 @@ rem-low c = omega (arith, c .before .block .ensures .0, c .before .before .befor
 rem-high : tie.Need-rem-high Inv-loop μ-loop
 rem-high c = omega (arith, c .before .block .ensures .0, c .before .before .before .before .before .pre .0 .some (c .before .before .before .loop .e - 1) (omega arith))
 
-sub-e : tie.Need-sub-e Inv-loop μ-loop
-sub-e c = search needs
-
-loop-less : tie.Need-loop-less Inv-loop μ-loop
-loop-less c = search needs
-
 loop-again : tie.Need-loop-again Inv-loop μ-loop
 loop-again c = (omega arith, c .before .before .before .loop .inv .1 ∙ below-digit (now (c .before .before .before .before .before .args .blocks)) _ _ _ _ (omega arith) (c .before .block .ensures .0) (omega arith))
 
@@ -57,18 +48,5 @@ returns-2 c =
 pub below-spec : {M : Type 1} → statement M
 below-spec =
     tie.close
-    (tie.spec
-    Inv-loop
-    μ-loop
-    loop-holds
-    sub-block
-    block-requires
-    div-if1
-    div-if1-2
-    returns
-    rem-low
-    rem-high
-    sub-e
-    loop-less
-    loop-again
-    returns-2)
+    (tie.spec Inv-loop μ-loop loop-holds (λ c. search needs) block-requires div-if1 div-if1-2 returns rem-low
+    rem-high (λ c. search needs) (λ c. search needs) loop-again returns-2)

@@ -5,12 +5,6 @@ use mathlib.Core.Path.{refl}
 use Rattle.state_fill.proofs.raise.block.Statement.{statement}
 use Rattle.state_fill.proofs.raise.block.Tie as tie
 
-mul-result : tie.Need-mul-result
-mul-result c = search needs
-
-shared-slice-read-result : tie.Need-shared-slice-read-result
-shared-slice-read-result c = search needs
-
 cast-result : tie.Need-cast-result
 cast-result c = omega (arith, c .shared-slice-known .given (c .before .args .i))
 
@@ -18,4 +12,4 @@ returns : tie.Need-returns
 returns c = (refl, omega (arith, c .shared-slice-known .given (c .before .args .i)))
 
 pub block-spec : {M : Type 1} → statement M
-block-spec = tie.close (tie.spec mul-result shared-slice-read-result cast-result returns)
+block-spec = tie.close (tie.spec (λ c. search needs) (λ c. search needs) cast-result returns)

@@ -8,20 +8,8 @@ use Rattle.state_fill.proofs.raise.raise.Tie as tie
 up-requires : tie.Need-up-requires
 up-requires c κs = growing-states (c .before .before .before .pre .0)
 
-add-table : tie.Need-add-table
-add-table c = search needs
-
-add-table-2 : tie.Need-add-table-2
-add-table-2 c = search needs
-
-mul-table : tie.Need-mul-table
-mul-table c = search needs
-
 slice-write-table : tie.Need-slice-write-table
 slice-write-table c = omega (arith, c .before .before .up .kept .0, c .before .before .before .before .before .before .pre .0 .room)
-
-same-length : tie.Need-same-length
-same-length c = search needs
 
 returns : tie.Need-returns
 returns c =
@@ -31,4 +19,5 @@ returns c =
 pub raise-spec : {M : Type 1} → statement M
 raise-spec =
     tie.close
-    (tie.spec up-requires add-table add-table-2 mul-table slice-write-table same-length returns)
+    (tie.spec up-requires (λ c. search needs) (λ c. search needs) (λ c. search needs) slice-write-table
+    (λ c. search needs) returns)

@@ -18,17 +18,8 @@ abbrev μ-loop : tie.MeasureT-loop
 loop-holds : tie.Need-loop-holds Inv-loop μ-loop
 loop-holds c = (omega arith, refl, partly-first leb _ _ _ _ _ _ (λ s l k h. omega (arith, leb→le (c .before .args .t) s h)))
 
-add-figure : tie.Need-add-figure Inv-loop μ-loop
-add-figure c = search needs
-
-mul-figure : tie.Need-mul-figure Inv-loop μ-loop
-mul-figure c = search needs
-
 slice-read-figure : tie.Need-slice-read-figure Inv-loop μ-loop
 slice-read-figure c = omega (arith, c .before .before .loop .inv .1)
-
-figure-requires : tie.Need-figure-requires Inv-loop μ-loop
-figure-requires c κs = search needs
 
 same-length : tie.Need-same-length Inv-loop μ-loop
 same-length c = c .before .before .before .before .loop .inv .1
@@ -36,20 +27,8 @@ same-length c = c .before .before .before .before .loop .inv .1
 returns : tie.Need-returns Inv-loop μ-loop
 returns c = word-stop _ _ _ _ _ _ _ (c .before .before .before .before .before .before .pre .1) (omega arith) (omega (arith, c .before .figure .ensures .0)) (c .before .before .before .before .loop .inv .2)
 
-add-table : tie.Need-add-table Inv-loop μ-loop
-add-table c = search needs
-
-mul-table : tie.Need-mul-table Inv-loop μ-loop
-mul-table c = search needs
-
 slice-write-table : tie.Need-slice-write-table Inv-loop μ-loop
 slice-write-table c = omega (arith, c .before .before .before .before .loop .inv .1)
-
-add-j : tie.Need-add-j Inv-loop μ-loop
-add-j c = search needs
-
-loop-less : tie.Need-loop-less Inv-loop μ-loop
-loop-less c = search needs
 
 loop-again : tie.Need-loop-again Inv-loop μ-loop
 loop-again c =
@@ -65,21 +44,6 @@ returns-2 c = partly-all leb _ _ _ _ _ _ _ (omega arith) (c .before .loop .inv .
 pub run-spec : {M : Type 1} → statement M
 run-spec =
     tie.close
-    (tie.spec
-    Inv-loop
-    μ-loop
-    loop-holds
-    add-figure
-    mul-figure
-    slice-read-figure
-    figure-requires
-    same-length
-    returns
-    add-table
-    mul-table
-    slice-write-table
-    add-j
-    loop-less
-    loop-again
-    same-length-2
-    returns-2)
+    (tie.spec Inv-loop μ-loop loop-holds (λ c. search needs) (λ c. search needs) slice-read-figure
+    (λ c. search needs) same-length returns (λ c. search needs) (λ c. search needs) slice-write-table
+    (λ c. search needs) (λ c. search needs) loop-again same-length-2 returns-2)

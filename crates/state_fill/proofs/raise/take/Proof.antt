@@ -6,21 +6,6 @@ use Rattle.state_fill.proofs.Topping.{topped-none, topped-raised}
 use Rattle.state_fill.proofs.raise.take.Statement.{statement}
 use Rattle.state_fill.proofs.raise.take.Tie as tie
 
-add-s : tie.Need-add-s
-add-s c = search needs
-
-add-figure : tie.Need-add-figure
-add-figure c = search needs
-
-mul-figure : tie.Need-mul-figure
-mul-figure c = search needs
-
-slice-read-figure : tie.Need-slice-read-figure
-slice-read-figure c = search needs
-
-figure-requires : tie.Need-figure-requires
-figure-requires c κs = search needs
-
 below-requires : tie.Need-below-requires
 below-requires c κs = (c .before .before .before .before .before .before .pre .0 .digits .digits, c .before .before .before .before .before .before .pre .0 .digits .listed)
 
@@ -29,9 +14,6 @@ raise-requires c κs = (c .before .before .before .before .before .before .befor
 
 past-requires : tie.Need-past-requires
 past-requires c κs = omega (arith, c .before .before .before .before .before .before .before .before .before .before .before .before .pre .0 .digits .most)
-
-same-length : tie.Need-same-length
-same-length c = search needs
 
 returns : tie.Need-returns
 returns c =
@@ -50,17 +32,5 @@ returns-4 c = (taken-none _ _ _ _ _ _ _ (λ h b. absurd (omega arith)), topped-n
 pub take-spec : {M : Type 1} → statement M
 take-spec =
     tie.close
-    (tie.spec
-    add-s
-    add-figure
-    mul-figure
-    slice-read-figure
-    figure-requires
-    below-requires
-    raise-requires
-    past-requires
-    same-length
-    returns
-    returns-2
-    returns-3
-    returns-4)
+    (tie.spec (λ c. search needs) (λ c. search needs) (λ c. search needs) (λ c. search needs) (λ c. search needs)
+    below-requires raise-requires past-requires (λ c. search needs) returns returns-2 returns-3 returns-4)

@@ -44,12 +44,6 @@ add-at c =
     let given = c .before .before .before .before .before .before .before .before .before .before .before .before .before .before .before .before .before .before .pre in
     omega (arith, table-length (c .before .before .before .before .before .before .before .before .before .before .before .before .before .before .before .before .before .before), table-fits (given .0) (given .1) (c .before .before .before .before .before .before .before .before .before .before .set-run .kept .0) (omega arith) (c .before .before .before .before .before .before .before .loop .inv .1))
 
-add-a : tie.Need-add-a Inv-loop μ-loop
-add-a c = search needs
-
-loop-less : tie.Need-loop-less Inv-loop μ-loop
-loop-less c = search needs
-
 loop-again : tie.Need-loop-again Inv-loop μ-loop
 loop-again c =
     let given = c .before .before .before .before .before .before .before .before .before .before .before .before .before .before .before .before .before .before .pre in
@@ -77,18 +71,5 @@ returns c =
 pub fill-spec : {M : Type 1} → statement M
 fill-spec =
     tie.close
-    (tie.spec
-    Inv-loop
-    μ-loop
-    set-run-requires
-    loop-holds
-    half-requires
-    fill-row-requires
-    add-at
-    add-a
-    loop-less
-    loop-again
-    mul-strip-all
-    strip-all-requires
-    same-length
-    returns)
+    (tie.spec Inv-loop μ-loop set-run-requires loop-holds half-requires fill-row-requires add-at (λ c. search needs)
+    (λ c. search needs) loop-again mul-strip-all strip-all-requires same-length returns)

@@ -40,12 +40,6 @@ make-cell-requires c κs = row-spot (c .before .before .before .before .before .
 add-column : tie.Need-add-column Inv-loop μ-loop
 add-column c = omega (arith, table-length (c .before .before .before .before .before .before .before .before .before .before .before .before .before .before .before .before .before .before .before), row-fits (c .before .before .before .before .before .before .before .before .before .before .before .before .before .before .before .before .before .before .before .pre) (c .before .before .before .before .before .before .before .before .before .before .before .set-run .kept .0) (omega arith) (c .before .before .before .before .before .before .before .before .loop .inv .1))
 
-add-b : tie.Need-add-b Inv-loop μ-loop
-add-b c = search needs
-
-loop-less : tie.Need-loop-less Inv-loop μ-loop
-loop-less c = search needs
-
 loop-again : tie.Need-loop-again Inv-loop μ-loop
 loop-again c = (refl, row-more (c .before .before .before .before .before .before .before .before .before .before .before .before .before .before .before .before .before .before .before .pre) (c .before .before .before .before .before .before .before .before .before .before .before .set-run .kept .0) (omega arith) (c .before .before .before .before .before .before .before .before .loop .inv .1) _ _ (c .before .before .before .make-cell .kept .0) (c .before .before .before .before .before .before .half .ensures) (c .before .before .before .make-cell .ensures .0) (c .before .before .before .make-cell .ensures .1) (c .before .before .before .make-cell .ensures .2))
 
@@ -58,17 +52,5 @@ returns c = row-end (c .before .before .before .before .before .before .before .
 pub fill-row-spec : {M : Type 1} → statement M
 fill-row-spec =
     tie.close
-    (tie.spec
-    Inv-loop
-    μ-loop
-    set-run-requires
-    loop-holds
-    half-requires
-    add-t20
-    make-cell-requires
-    add-column
-    add-b
-    loop-less
-    loop-again
-    same-length
-    returns)
+    (tie.spec Inv-loop μ-loop set-run-requires loop-holds half-requires add-t20 make-cell-requires add-column
+    (λ c. search needs) (λ c. search needs) loop-again same-length returns)

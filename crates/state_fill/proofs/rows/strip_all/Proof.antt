@@ -31,12 +31,6 @@ add-x c =
     let inv = c .before .before .before .before .before .loop .inv in
     omega (arith, inv .1, inv .2, e .pre .0, cell-before (c .before .before .before .before .before .loop .i) (e .args .s) (e .args .words) (omega arith))
 
-add-i : tie.Need-add-i Inv-loop μ-loop
-add-i c = search needs
-
-loop-less : tie.Need-loop-less Inv-loop μ-loop
-loop-less c = search needs
-
 loop-again : tie.Need-loop-again Inv-loop μ-loop
 loop-again c =
     let inv = c .before .before .before .before .before .loop .inv in
@@ -51,14 +45,5 @@ returns c = let e : c .before .loop .i ≡ c .before .before .before .args .s = 
 pub strip-all-spec : {M : Type 1} → statement M
 strip-all-spec =
     tie.close
-    (tie.spec
-    Inv-loop
-    μ-loop
-    loop-holds
-    strip-requires
-    add-x
-    add-i
-    loop-less
-    loop-again
-    same-length
-    returns)
+    (tie.spec Inv-loop μ-loop loop-holds strip-requires add-x (λ c. search needs) (λ c. search needs) loop-again
+    same-length returns)

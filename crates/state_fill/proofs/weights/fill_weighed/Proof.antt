@@ -13,9 +13,6 @@ use Rattle.state_fill.proofs.Ties.{one-digit, figures-one}
 use Rattle.state_fill.proofs.weights.fill_weighed.Statement.{statement}
 use Rattle.state_fill.proofs.weights.fill_weighed.Tie as tie
 
-cast-t13 : tie.Need-cast-t13
-cast-t13 c = search needs
-
 mul-t15 : tie.Need-mul-t15
 mul-t15 c = omega (arith, mul-le-mul-right {m = c .before .before .before .before .before .before .before .before .args .size .capacity + 1} {n = 65536} (c .before .before .before .before .before .before .before .before .args .size .columns) (omega arith))
 
@@ -43,18 +40,6 @@ returns c =
 pub fill-weighed-spec : {M : Type 1} → statement M
 fill-weighed-spec =
     tie.close
-    (tie.spec
-    (λ c. search needs)
-    (λ c. search needs)
-    (λ c. search needs)
-    cast-t13
-    (λ c. search needs)
-    (λ c. search needs)
-    mul-t15
-    sub-width-floors
-    part-width-floors-start
-    part-width-floors-end
-    (λ c. search needs)
-    fill-requires
-    (λ c. search needs)
-    returns)
+    (tie.spec (λ c. search needs) (λ c. search needs) (λ c. search needs) (λ c. search needs) (λ c. search needs)
+    (λ c. search needs) mul-t15 sub-width-floors part-width-floors-start part-width-floors-end (λ c. search needs)
+    fill-requires (λ c. search needs) returns)

@@ -9,15 +9,7 @@ use Rattle.test_tools.proofs.arrays.copy_bytes.Tie as tie
 pub copy-bytes-spec : {M : Type 1} → statement M
 copy-bytes-spec =
     tie.close
-    (tie.spec
-    (λ t from bytes₀ i₀ i-end bytes i. (i ≤ i-end) × (length bytes ≡ length bytes₀))
+    (tie.spec (λ t from bytes₀ i₀ i-end bytes i. (i ≤ i-end) × (length bytes ≡ length bytes₀))
     (λ t from bytes₀ i₀ i-end bytes i. i-end - i)
-    (search needs)
-    (search needs)
-    (search needs)
-    (search needs)
-    (search needs)
-    (search needs)
-    (search needs)
-    (search needs)
-    (search needs))
+    (search needs) (search needs) (search needs) (search needs) (search needs) (search needs) (search needs)
+    (search needs) (search needs))

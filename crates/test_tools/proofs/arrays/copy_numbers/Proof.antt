@@ -9,15 +9,7 @@ use Rattle.test_tools.proofs.arrays.copy_numbers.Tie as tie
 pub copy-numbers-spec : {M : Type 1} → statement M
 copy-numbers-spec =
     tie.close
-    (tie.spec
-    (λ t from numbers₀ i₀ i-end numbers i. (i ≤ i-end) × (length numbers ≡ length numbers₀))
+    (tie.spec (λ t from numbers₀ i₀ i-end numbers i. (i ≤ i-end) × (length numbers ≡ length numbers₀))
     (λ t from numbers₀ i₀ i-end numbers i. i-end - i)
-    (search needs)
-    (search needs)
-    (search needs)
-    (search needs)
-    (search needs)
-    (search needs)
-    (search needs)
-    (search needs)
-    (search needs))
+    (search needs) (search needs) (search needs) (search needs) (search needs) (search needs) (search needs)
+    (search needs) (search needs))

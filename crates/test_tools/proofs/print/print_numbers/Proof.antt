@@ -7,13 +7,5 @@ use Rattle.test_tools.proofs.print.print_numbers.Tie as tie
 pub print-numbers-spec : {M : Type 1} → statement M
 print-numbers-spec =
     tie.close
-    (tie.spec
-    (λ form numbers k₀ i₀ i-end k i. i ≤ i-end)
-    (λ form numbers k₀ i₀ i-end k i. i-end - i)
-    (search needs)
-    (search needs)
-    (search needs)
-    (search needs)
-    (search needs)
-    (search needs)
-    (search needs))
+    (tie.spec (λ form numbers k₀ i₀ i-end k i. i ≤ i-end) (λ form numbers k₀ i₀ i-end k i. i-end - i)
+    (search needs) (search needs) (search needs) (search needs) (search needs) (search needs) (search needs))

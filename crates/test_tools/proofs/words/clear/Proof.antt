@@ -7,12 +7,5 @@ use Rattle.test_tools.proofs.words.clear.Tie as tie
 pub clear-spec : {M : Type 1} → statement M
 clear-spec =
     tie.close
-    (tie.spec
-    (λ t₀ from n i₀ t i. i ≤ n)
-    (λ t₀ from n i₀ t i. n - i)
-    (search needs)
-    (search needs)
-    (search needs)
-    (search needs)
-    (search needs)
-    (search needs))
+    (tie.spec (λ t₀ from n i₀ t i. i ≤ n) (λ t₀ from n i₀ t i. n - i)
+    (search needs) (search needs) (search needs) (search needs) (search needs) (search needs))

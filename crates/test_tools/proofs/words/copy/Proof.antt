@@ -7,13 +7,5 @@ use Rattle.test_tools.proofs.words.copy.Tie as tie
 pub copy-spec : {M : Type 1} → statement M
 copy-spec =
     tie.close
-    (tie.spec
-    (λ t₀ to from n i₀ t i. i ≤ n)
-    (λ t₀ to from n i₀ t i. n - i)
-    (search needs)
-    (search needs)
-    (search needs)
-    (search needs)
-    (search needs)
-    (search needs)
-    (search needs))
+    (tie.spec (λ t₀ to from n i₀ t i. i ≤ n) (λ t₀ to from n i₀ t i. n - i)
+    (search needs) (search needs) (search needs) (search needs) (search needs) (search needs) (search needs))

@@ -26,23 +26,11 @@ shared-slice-read-kinds c = let given = c .before .before .before .pre in omega 
 slice-write-kinds : tie.Need-slice-write-kinds Inv-loop μ-loop
 slice-write-kinds c = let given = c .before .before .before .pre in omega (arith, given .kinds-fit, c .before .before .loop .inv .3, c .before .loop-test .taken)
 
-mul-operands : tie.Need-mul-operands Inv-loop μ-loop
-mul-operands c = search needs
-
 shared-slice-read-operands : tie.Need-shared-slice-read-operands Inv-loop μ-loop
 shared-slice-read-operands c = let given = c .before .before .before .before .pre in omega (arith, given .operands-listed, c .before .before .loop-test .taken)
 
-mul-operands-2 : tie.Need-mul-operands-2 Inv-loop μ-loop
-mul-operands-2 c = search needs
-
 slice-write-operands : tie.Need-slice-write-operands Inv-loop μ-loop
 slice-write-operands c = let given = c .before .before .before .before .pre in omega (arith, given .operands-fit, c .before .before .before .loop .inv .4, c .before .before .loop-test .taken)
-
-add-i : tie.Need-add-i Inv-loop μ-loop
-add-i c = search needs
-
-loop-less : tie.Need-loop-less Inv-loop μ-loop
-loop-less c = search needs
 
 loop-again : tie.Need-loop-again Inv-loop μ-loop
 loop-again c =
@@ -68,19 +56,6 @@ returns c =
 pub copy-nodes-spec : {M : Type 1} → statement M
 copy-nodes-spec =
     tie.close
-    (tie.spec
-    Inv-loop
-    μ-loop
-    loop-holds
-    shared-slice-read-kinds
-    slice-write-kinds
-    mul-operands
-    shared-slice-read-operands
-    mul-operands-2
-    slice-write-operands
-    add-i
-    loop-less
-    loop-again
-    same-length
-    same-length-2
-    returns)
+    (tie.spec Inv-loop μ-loop loop-holds shared-slice-read-kinds slice-write-kinds (λ c. search needs)
+    shared-slice-read-operands (λ c. search needs) slice-write-operands (λ c. search needs) (λ c. search needs)
+    loop-again same-length same-length-2 returns)

@@ -24,9 +24,6 @@ Inv-loop size pieces normal-lengths normal-widths floors table kinds₀ operands
 abbrev μ-loop : tie.MeasureT-loop
 μ-loop size pieces normal-lengths normal-widths floors table kinds₀ operands₀ waiting₀ depth₀ nodes₀ kinds operands waiting depth nodes = length (nodes-left size pieces waiting depth)
 
-plate-cell-requires : tie.Need-plate-cell-requires Inv-loop μ-loop
-plate-cell-requires c κs = search needs
-
 put-cell-requires : tie.Need-put-cell-requires Inv-loop μ-loop
 put-cell-requires c κs = (omega arith, refl)
 
@@ -43,12 +40,6 @@ loop-holds c =
 
 next-node-requires : tie.Need-next-node-requires Inv-loop μ-loop
 next-node-requires c κs = (c .before .before .before .before .before .before .before .before .before .before .before .before .pre, c .before .before .loop .inv .0, search needs)
-
-put-kind-requires : tie.Need-put-kind-requires Inv-loop μ-loop
-put-kind-requires c κs = search needs
-
-put-operand-requires : tie.Need-put-operand-requires Inv-loop μ-loop
-put-operand-requires c κs = search needs
 
 add-nodes : tie.Need-add-nodes Inv-loop μ-loop
 add-nodes c = omega (arith, c .before .before .before .before .before .before .before .before .before .before .before .loop .inv .1, whole-nodes (c .before .before .before .before .before .before .before .before .before .before .before .before .before .before .before .before .before .before .before .before .before .args .size) (now (c .before .before .before .before .before .before .before .before .before .before .before .before .before .before .before .before .before .before .before .before .before .args .pieces)) (c .before .before .before .before .before .before .before .before .before .before .before .before .before .before .before .before .before .before .before .before .before .pre .tabled .in-range))
@@ -91,18 +82,5 @@ returns c =
 pub list-nodes-spec : {M : Type 1} → statement M
 list-nodes-spec =
     tie.close
-    (tie.spec
-    Inv-loop
-    μ-loop
-    plate-cell-requires
-    put-cell-requires
-    loop-holds
-    next-node-requires
-    put-kind-requires
-    put-operand-requires
-    add-nodes
-    loop-less
-    loop-again
-    same-length
-    same-length-2
-    returns)
+    (tie.spec Inv-loop μ-loop (λ c. search needs) put-cell-requires loop-holds next-node-requires
+    (λ c. search needs) (λ c. search needs) add-nodes loop-less loop-again same-length same-length-2 returns)

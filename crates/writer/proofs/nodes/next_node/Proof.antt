@@ -14,9 +14,6 @@ use Rattle.writer.proofs.nodes.next_node.Tie as tie
 few : (s : tie.Start) → s .args .depth < 2000
 few s = place (s .pre .0 .tabled .in-range) (s .pre .1) (s .pre .2)
 
-sub-top : tie.Need-sub-top
-sub-top c = search needs
-
 waiting-cell-requires : tie.Need-waiting-cell-requires
 waiting-cell-requires c κs = omega (arith, few (c .before .before .before .before .before))
 
@@ -25,16 +22,10 @@ choose-requires c κs =
     let e = c .before .before .before .before .before .before in
     (e .pre .0, rw (c .waiting-cell .ensures) (top-inside (e .pre .0 .tabled .in-range) (e .pre .1) (e .pre .2)))
 
-enum-known-node : tie.Need-enum-known-node
-enum-known-node c = search needs
-
 returns : tie.Need-returns
 returns c =
     let e = c .before .before .before .before .before .before .before .before in
     leaf-stepped (e .pre .0 .tabled .in-range) (e .pre .1) (e .pre .2) (c .before .before .waiting-cell .ensures) (c .before .choose .ensures) (λ d x n. miss (0 ∷ 1 ∷ 2 ∷ []) 3 tt (rw n at (c .match .keys2)))
-
-first-part-requires : tie.Need-first-part-requires
-first-part-requires c κs = search needs
 
 second-part-requires : tie.Need-second-part-requires
 second-part-requires c κs =
@@ -67,16 +58,5 @@ returns-2 c =
 pub next-node-spec : {M : Type 1} → statement M
 next-node-spec =
     tie.close
-    (tie.spec
-    sub-top
-    waiting-cell-requires
-    choose-requires
-    enum-known-node
-    returns
-    first-part-requires
-    second-part-requires
-    sub-t19
-    put-cell-requires
-    put-cell-requires-2
-    add-t23
-    returns-2)
+    (tie.spec (λ c. search needs) waiting-cell-requires choose-requires (λ c. search needs) returns
+    (λ c. search needs) second-part-requires sub-t19 put-cell-requires put-cell-requires-2 add-t23 returns-2)

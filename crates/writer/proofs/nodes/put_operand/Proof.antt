@@ -1,24 +1,18 @@
--- `writer::nodes::put_operand` meets its contract.
-use mathlib.Core.Path.{sym, ap}
+-- `writer::nodes::put_operand` meets its contract: past the end of the list nothing is set.
+use mathlib.Core.Path.{sym}
 use native.Mathlib.Omega.{arith}
-use lib.ListN.{set}
 use lib.Seq.{set-out}
-use denote.Ref.{now}
 use borrow.Author.Needs.{needs}
 use Rattle.writer.proofs.nodes.put_operand.Statement.{statement}
 use Rattle.writer.proofs.nodes.put_operand.Tie as tie
 
 returns : tie.Need-returns
-returns c =
-    let e = c .before .before .before in
-    ap (λ v. set (now (e .args .operands)) (e .args .at) v) (c .operand .ensures)
+returns c = rw (c .operand .ensures)
 
 returns-2 : tie.Need-returns-2
-returns-2 c =
-    let e = c .before .before in
-    sym (set-out (now (e .args .operands)) (e .args .at) _ (omega (arith, c .if1 .left)))
+returns-2 c = sym (set-out _ _ _ (omega (arith, c .if1 .left)))
 
 pub put-operand-spec : {M : Type 1} → statement M
 put-operand-spec =
     tie.close
-    (tie.spec (search needs) (search needs) (search needs) (search needs) returns returns-2)
+    (tie.spec (λ c. search needs) (λ c. search needs) (λ c. search needs) (λ c. search needs) returns returns-2)
