@@ -2,7 +2,7 @@
 // is mathematics: specs/ defines guillotine trees, the relaxed recursion, normal positions and the plan behind the bound; proofs/ has
 // the theory.
 ghost use mathlib.Core.Path.{_≡_};
-ghost use Prim.Native.Nat.{_-_, _≤_};
+ghost use Prim.Native.Nat.{_+_, _-_, _≤_};
 ghost use Rattle.cutting.specs.Tree.{side, part};
 ghost use Rattle.cutting.specs.Pieces.{quarter, fits-in};
 ghost use Rattle.cutting.specs.Sides.{rect-of, sides-of};
@@ -74,19 +74,11 @@ pub fn first_part(d: Direction, x: u16, whole: Sides) -> Sides
     }
 }
 
-// The second part of a cut: the rest of the side.
-pub fn second_part(d: Direction, x: u16, whole: Sides) -> Sides
-    requires { ⌜ x ≤ side d (rect-of whole) ⌝ }
-    ensures { λ r. ⌜ r ≡ sides-of (part d (side d (rect-of whole) - x) (rect-of whole)) ⌝ }
+// The second part of a cut: what the cut and the kerf leave of the side.
+pub fn second_part(d: Direction, x: u16, kerf: u16, whole: Sides) -> Sides
+    requires { ⌜ x + kerf ≤ side d (rect-of whole) ⌝ }
+    ensures { λ r. ⌜ r ≡ sides-of (part d (side d (rect-of whole) - x - kerf) (rect-of whole)) ⌝ }
 {
-    match d {
-        Direction::Length => Sides {
-            length: whole.length - x,
-            width: whole.width,
-        },
-        Direction::Width => Sides {
-            length: whole.length,
-            width: whole.width - x,
-        },
-    }
+    let rest = cut_side(d, whole) - x - kerf;
+    first_part(d, rest, whole)
 }
