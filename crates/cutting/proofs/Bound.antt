@@ -1,68 +1,98 @@
--- What the bound promises of guillotine trees, in either form of the capacity: exactness, the copies that a plate holds, the trees that
--- keep every demand, and that the bound of the full demands is no less.
-use mathlib.Core.Path.{_≡_, refl, sym, _∙_, ap, subst}
+-- What the bound promises of guillotine trees that lose the kerf at each cut, in either form of the capacity: exactness, the copies that a
+-- plate holds, the trees that keep every demand, that the bound of the full demands is no less, and the ceiling.
+use mathlib.Core.Path.{_≡_, refl, sym, _∙_, ap, ap₂, subst}
 use mathlib.Core.Bool.{Bool, true, false}
-use Prim.Native.Nat.{ℕ, _*_, _/_, _≤_, _<_, min}
+use Prim.Native.Nat.{ℕ, _+_, _*_, _/_, _≤_, _<_, min}
 use native.Mathlib.Nat.{mul-le-mul, mul-le-mul-right, mul-comm}
 use native.Mathlib.Omega.{arith}
 use lib.Dec.{T, eqb, eqb→eq}
-use Rattle.cutting.specs.Limits.{most-figure}
-use Rattle.cutting.specs.Lists.{only}
-use Rattle.cutting.specs.Tree.{Tree, Guillotine}
-use Rattle.cutting.specs.Pieces.{Piece, upright, turned, kind, quarter, _⊑_, fits-in, fits-either, sized}
+use Rattle.cutting.specs.Limits.{most-figure, most-price}
+use Rattle.cutting.specs.Lists.{sum, only}
+use Rattle.cutting.specs.Tree.{Rect, Tree, Shares, Guillotine, Within, Monotone}
+use Rattle.cutting.specs.Figure.{figure}
+use Rattle.cutting.specs.Pieces.{Piece, upright, turned, kind, quarter, wider, _⊑_, fits-in, fits-either, sized}
 use Rattle.cutting.specs.Saws.{saw}
 use Rattle.cutting.specs.Areas.{area}
-use Rattle.cutting.specs.Job.{Job, laid, MayLie, OnPlate, profit, weight-of, copies-of, KeepsDemands, copies-on, plate-copies, counted-of, counted, capacity, at-full-demand, ordered, members, pieces, figure-of, bound-of, SolidKinds, InRange}
+use Rattle.cutting.specs.Job.{Job, laid, MayLie, GuillotineTree, OnPlate, profit, weight-of, copies-of, KeepsDemands, widened, copies-on, plate-copies, counted-of, counted, capacity, at-full-demand, ordered, members, pieces, by-kind, figure-of, bound-of, SolidKinds, InRange}
 use Rattle.cutting.proofs.Tests.{T-or, or-T}
+use Rattle.cutting.proofs.Exact.{figure-upper, figure-attained}
 use Rattle.cutting.proofs.Saws.{saw-proper}
 use Rattle.cutting.proofs.Pieces.{fits-in-true}
+use Rattle.cutting.proofs.Weights.{within-weight, weight-within, by-weight-monotone}
 use Rattle.cutting.proofs.Demands.{sum-le, keeps-weight}
-use Rattle.cutting.proofs.Ceiling.{none-fits, copies-room, copies-area}
-use Rattle.cutting.proofs.Members.{member-lies, member-kind, members-solid, range-solid}
-use Rattle.cutting.proofs.Job.{plain-guillotine, figure-most, figure-earned, figure-ceiling}
-use Rattle.cutting.proofs.Laws.{figure-share}
+use Rattle.cutting.proofs.Ceiling.{figure-area, none-fits, copies-room, copies-area}
+use Rattle.cutting.proofs.Blade.{blade-figure}
+use Rattle.cutting.proofs.Members.{member-lies, member-kind, members-solid, widened-whole, laid-widened, widened-solid, range-solid}
+use Rattle.cutting.proofs.Job.{guillotine-plain, plain-guillotine}
+use Rattle.cutting.proofs.Laws.{figure-share, figure-larger}
+
+-- trees that lose the kerf at each cut, under any shares
+module _ (J : Job) (solid : SolidKinds J) {S : Type 0} (H : Shares Piece S) (mono : Monotone H) where
+  -- their figure is the widened job's
+  pub kerf-figure : (l w : ℕ) (s : S) → figure (pieces J) (saw (J .kerf)) H (l, w) s ≡ figure (pieces (widened J)) (saw 0) H (l + J .kerf, w + J .kerf) s
+  unfolding pieces members ordered
+  kerf-figure l w s = blade-figure (members J) (λ p. J .price (kind p)) (laid J) (laid (widened J)) (members-solid J solid) (J .kerf) (laid-widened J) H mono (l, w) s
+
+  -- none within a share earns more
+  pub share-most : (t : Tree Piece) (l w : ℕ) (s : S) → GuillotineTree J l w t → Within H s t → profit J t ≤ figure (pieces (widened J)) (saw 0) H (l + J .kerf, w + J .kerf) s
+  unfolding pieces sized
+  share-most t l w s g h = rw (kerf-figure l w s) at (figure-upper (pieces J) (saw (J .kerf)) H (saw-proper (J .kerf)) t (l, w) s (plain-guillotine J t (l, w) g) h)
+
+  -- and some such tree earns it
+  pub share-earned : (l w : ℕ) (s : S) → (t : Tree Piece) × GuillotineTree J l w t × Within H s t × (profit J t ≡ figure (pieces (widened J)) (saw 0) H (l + J .kerf, w + J .kerf) s)
+  unfolding pieces sized
+  share-earned l w s =
+      let e = figure-attained (pieces J) (saw (J .kerf)) H (saw-proper (J .kerf)) (l, w) s in
+      (e .0, guillotine-plain J (e .0) (l, w) (e .1), e .2, e .3 ∙ kerf-figure l w s)
 
 module _ (J : Job) (i : ℕ) where
+  -- the plate and the kinds' sizes with the kerf added
+  abbrev wide-plate : Rect
+  wide-plate = widened J .plate
+
+  abbrev wide-size : ℕ → Rect
+  wide-size j = widened J .size j
+
   -- a piece of kind i that lies in no other way than upright has the kind's size
   one-size : J .turning ≡ false → (p : Piece) → MayLie J p → kind p ≡ i → laid J p ≡ J .size i
   one-size e (upright j) h k = ap (J .size) k
   one-size e (turned j) h k = absurd (subst T e (h .2))
 
-  -- and in either way the kind's area
-  one-area : (p : Piece) → kind p ≡ i → area (laid J p) ≡ area (J .size i)
-  one-area (upright j) k = ap (λ j. area (J .size j)) k
-  one-area (turned j) k = mul-comm (J .size j .1) (J .size j .0) ∙ ap (λ j. area (J .size j)) k
+  -- and in either way the kind's area, the kerf added
+  one-area : (p : Piece) → kind p ≡ i → area (wider (J .kerf) (laid J p)) ≡ area (wide-size i)
+  one-area (upright j) k = ap (λ j. area (wide-size j)) k
+  one-area (turned j) k = mul-comm (J .size j .1 + J .kerf) (J .size j .0 + J .kerf) ∙ ap (λ j. area (wide-size j)) k
 
   -- a piece that fits the plate fits it upright or turned
-  one-way : (p : Piece) → kind p ≡ i → laid J p ⊑ J .plate → T (fits-either (J .size i) (J .plate))
-  one-way (upright j) k h = subst (λ j. T (fits-either (J .size j) (J .plate))) k
-      (T-or (fits-in (J .size j) (J .plate)) (fits-in (quarter (J .size j)) (J .plate)) (fits-in-true (J .size j) (J .plate) h))
-  one-way (turned j) k h = subst (λ j. T (fits-either (J .size j) (J .plate))) k
-      (or-T (fits-in (J .size j) (J .plate)) (fits-in (quarter (J .size j)) (J .plate)) (fits-in-true (quarter (J .size j)) (J .plate) h))
+  one-way : (p : Piece) → kind p ≡ i → laid J p ⊑ J .plate → T (fits-either (wide-size i) wide-plate)
+  one-way (upright j) k h = subst (λ j. T (fits-either (wide-size j) wide-plate)) k
+      (T-or (fits-in (wide-size j) wide-plate) (fits-in (quarter (wide-size j)) wide-plate) (fits-in-true (wide-size j) wide-plate (omega arith)))
+  one-way (turned j) k h = subst (λ j. T (fits-either (wide-size j) wide-plate)) k
+      (or-T (fits-in (wide-size j) wide-plate) (fits-in (quarter (wide-size j)) wide-plate) (fits-in-true (quarter (wide-size j)) wide-plate (omega arith)))
 
 -- no tree on the plate has more copies of a kind than can lie there
 module _ (J : Job) (solid : SolidKinds J) (i : ℕ) (known : i < J .count) (t : Tree Piece) (g : OnPlate J t) where
-  on-plate : Guillotine (pieces J) (saw 0) (J .plate) t
+  on-plate : Guillotine (pieces J) (saw (J .kerf)) (J .plate) t
   on-plate = plain-guillotine J t (J .plate) g
 
   -- where neither way fits, there is none
-  absent : (p : Piece) → fits-either (J .size i) (J .plate) ≡ false → laid J p ⊑ J .plate → (b : Bool) → eqb (kind p) i ≡ b → only b 1 ≡ 0
+  absent : (p : Piece) → fits-either (widened J .size i) (widened J .plate) ≡ false → laid J p ⊑ J .plate → (b : Bool) → eqb (kind p) i ≡ b → only b 1 ≡ 0
   absent p e h true k = absurd (subst T e (one-way J i p (eqb→eq (kind p) i (subst T (sym k) tt)) h))
   absent p e h false k = refl
 
-  either : (b : Bool) → fits-either (J .size i) (J .plate) ≡ b → copies-of i t ≤ only b (area (J .plate) / area (J .size i))
+  either : (b : Bool) → fits-either (widened J .size i) (widened J .plate) ≡ b → copies-of i t ≤ only b (area (widened J .plate) / area (widened J .size i))
   unfolding pieces
-  either true e = copies-area (members J) (λ p. J .price (kind p)) (laid J) (members-solid J solid) kind i (J .size i) (solid i known .0) (solid i known .1)
+  either true e = copies-area (members J) (λ p. J .price (kind p)) (laid J) (members-solid J solid) (J .kerf) kind i (J .size i) (solid i known .0) (solid i known .1)
       (λ p m k. one-area J i p k) t (J .plate) on-plate
   either false e = omega (
     arith,
-    none-fits (members J) (λ p. J .price (kind p)) (laid J) (saw 0) (saw-proper 0) (λ p. only (eqb (kind p) i) 1) (J .plate)
+    none-fits (members J) (λ p. J .price (kind p)) (laid J) (saw (J .kerf)) (saw-proper (J .kerf)) (λ p. only (eqb (kind p) i) 1) (J .plate)
         (λ p m h. absent p e h (eqb (kind p) i) refl) t (J .plate) (omega arith) on-plate,
   )
 
-  held : (b : Bool) → J .turning ≡ b → copies-of i t ≤ copies-on b (J .plate) (J .size i)
+  held : (b : Bool) → J .turning ≡ b → copies-of i t ≤ copies-on b (widened J .plate) (widened J .size i)
   unfolding pieces
-  held false e = copies-room (members J) (λ p. J .price (kind p)) (laid J) (members-solid J solid) kind i (J .size i) (solid i known .0) (solid i known .1)
+  held false e = copies-room (members J) (λ p. J .price (kind p)) (laid J) (members-solid J solid) (J .kerf) kind i (J .size i) (solid i known .0) (solid i known .1)
       (λ p m k. one-size J i e p (member-lies J p m) k) t (J .plate) on-plate
   held true e = either _ refl
 
@@ -81,14 +111,6 @@ module _ (J : Job) (solid : SolidKinds J) (i : ℕ) (known : i < J .count) (t : 
       go false = lesser (copies-of i t) (J .demand i) (plate-copies J i) (k i known) copies-plate
 
 module _ (J : Job) (weight : ℕ → ℕ) where
-  -- no tree on the plate of weight at most the capacity earns more than the bound
-  pub bound-most : (t : Tree Piece) → OnPlate J t → weight-of weight t ≤ capacity J weight → profit J t ≤ bound-of J weight
-  bound-most t g h = figure-most J weight t (J .plate .0) (J .plate .1) (capacity J weight) g h
-
-  -- and some such tree earns it
-  pub bound-earned : (t : Tree Piece) × OnPlate J t × (weight-of weight t ≤ capacity J weight) × (profit J t ≡ bound-of J weight)
-  bound-earned = figure-earned J weight (J .plate .0) (J .plate .1) (capacity J weight)
-
   -- the capacity of the full demands is no less
   capacity-less : capacity J weight ≤ capacity (at-full-demand J) weight
   capacity-less = sum-le (J .count) (λ i. counted J i * weight i) (λ i. J .demand i * weight i) (λ i l. mul-le-mul-right (weight i) (go (J .full-demand) (J .demand i) (plate-copies J i)))
@@ -97,8 +119,15 @@ module _ (J : Job) (weight : ℕ → ℕ) where
       go true demand held = omega arith
       go false demand held = omega arith
 
+  -- capacity and bound are the widened job's own
+  pub capacity-widened : capacity (widened J) weight ≡ capacity J weight
+  capacity-widened = ap (λ K. sum (J .count) (λ i. counted-of (J .full-demand) (J .demand i) (copies-on (J .turning) (K .plate) (K .size i)) * weight i)) (widened-whole (widened J) refl)
+
+  pub bound-widened : bound-of (widened J) weight ≡ bound-of J weight
+  bound-widened = ap₂ (λ K q. figure-of K weight (K .plate .0) (K .plate .1) q) (widened-whole (widened J) refl) capacity-widened
+
   -- the figures are the same
-  same-figure : (l w c : ℕ) → figure-of (at-full-demand J) weight l w c ≡ figure-of J weight l w c
+  same-figure : (l w c : ℕ) → figure-of (widened (at-full-demand J)) weight l w c ≡ figure-of (widened J) weight l w c
   unfolding figure-of pieces members ordered
   same-figure l w c = refl
 
@@ -106,22 +135,58 @@ module _ (J : Job) (weight : ℕ → ℕ) where
   pub bound-less : bound-of J weight ≤ bound-of (at-full-demand J) weight
   bound-less = omega (
     arith,
-    figure-share J weight (J .plate .0) (J .plate .1) (capacity J weight) (capacity (at-full-demand J) weight) capacity-less,
-    same-figure (J .plate .0) (J .plate .1) (capacity (at-full-demand J) weight),
+    figure-share (widened J) weight (widened J .plate .0) (widened J .plate .1) (capacity J weight) (capacity (at-full-demand J) weight) capacity-less,
+    same-figure (widened J .plate .0) (widened J .plate .1) (capacity (at-full-demand J) weight),
   )
 
   module _ (solid : SolidKinds J) where
+    -- no tree of weight at most the share earns more than the widened job's figure
+    pub figure-most : (t : Tree Piece) (l w c : ℕ) → GuillotineTree J l w t → weight-of weight t ≤ c → profit J t ≤ figure-of (widened J) weight (l + J .kerf) (w + J .kerf) c
+    unfolding figure-of
+    figure-most t l w c g h = share-most J solid (by-kind weight) (by-weight-monotone _) t l w c g (weight-within (λ p. weight (kind p)) t c h)
+
+    -- and some such tree earns it
+    pub figure-earned : (l w c : ℕ) → (t : Tree Piece) × GuillotineTree J l w t × (weight-of weight t ≤ c) × (profit J t ≡ figure-of (widened J) weight (l + J .kerf) (w + J .kerf) c)
+    unfolding figure-of
+    figure-earned l w c =
+        let e = share-earned J solid (by-kind weight) (by-weight-monotone _) l w c in
+        (e .0, e .1, within-weight (λ p. weight (kind p)) (e .0) c (e .2), e .3)
+
+    -- no tree on the plate of weight at most the capacity earns more than the bound
+    pub bound-most : (t : Tree Piece) → OnPlate J t → weight-of weight t ≤ capacity J weight → profit J t ≤ bound-of J weight
+    bound-most t g h = figure-most t (J .plate .0) (J .plate .1) (capacity J weight) g h
+
+    -- and some such tree earns it
+    pub bound-earned : (t : Tree Piece) × OnPlate J t × (weight-of weight t ≤ capacity J weight) × (profit J t ≡ bound-of J weight)
+    bound-earned = figure-earned (J .plate .0) (J .plate .1) (capacity J weight)
+
     -- a tree on the plate that keeps every demand weighs at most the capacity
     pub demands-weight : (t : Tree Piece) → OnPlate J t → KeepsDemands J t → weight-of weight t ≤ capacity J weight
     unfolding pieces sized
-    demands-weight t g k = keeps-weight kind (pieces J) (saw 0) (J .count) (member-kind J) weight (counted J)
+    demands-weight t g k = keeps-weight kind (pieces J) (saw (J .kerf)) (J .count) (member-kind J) weight (counted J)
         t (J .plate) (plain-guillotine J t (J .plate) g) (λ i l. copies-counted J solid i l t g k)
 
     -- so it earns at most the bound
     pub bound-holds : (t : Tree Piece) → OnPlate J t → KeepsDemands J t → profit J t ≤ bound-of J weight
     bound-holds t g k = bound-most t g (demands-weight t g k)
 
-  -- the bound is at most 1,000,000,000,000
-  pub bound-ceiling : InRange J → bound-of J weight ≤ most-figure
-  bound-ceiling h =
-      omega (arith, figure-ceiling J weight (range-solid J h) (h .prices) (J .plate .0) (J .plate .1) (capacity J weight), mul-le-mul (h .plate-length .1) (h .plate-width .1))
+  module _ (h : InRange J) where
+    -- the figure of the plate: its trees have at most one piece for each unit of the plate's own area
+    plate-low : (c : ℕ) → figure-of (widened J) weight (widened J .plate .0) (widened J .plate .1) c ≤ most-figure
+    unfolding figure-of pieces
+    plate-low c = omega (
+      arith,
+      kerf-figure J (range-solid J h) (by-kind weight) (by-weight-monotone _) (J .plate .0) (J .plate .1) c,
+      figure-area (members J) (λ p. J .price (kind p)) (laid J) (members-solid J (range-solid J h)) (J .kerf) (by-kind weight) most-price
+          (λ p m. h .prices (kind p) (member-kind J p m)) (J .plate) c,
+      mul-le-mul (h .plate-length .1) (h .plate-width .1),
+    )
+
+    -- so every figure of the table is at most 1,000,000,000,000
+    pub figure-low : (l w c : ℕ) → l ≤ widened J .plate .0 → w ≤ widened J .plate .1 → figure-of (widened J) weight l w c ≤ most-figure
+    figure-low l w c on-length on-width =
+        omega (arith, plate-low c, figure-larger (widened J) weight (widened-solid J (range-solid J h)) l w (widened J .plate .0) (widened J .plate .1) c on-length on-width)
+
+    -- and so is the bound
+    pub bound-ceiling : bound-of J weight ≤ most-figure
+    bound-ceiling = plate-low (capacity J weight)

@@ -20,6 +20,8 @@ pub mod Normal
 pub mod Positions
 pub mod Areas
 pub mod Ceiling
+pub mod Blade
+pub mod Sawn
 pub mod Members
 pub mod Job
 pub mod Table

@@ -1,5 +1,5 @@
 -- The pieces that may lie as kinds of a plain job, by their numbers: it has the same normal positions, figures and choices. So code that
--- knows neither turned pieces nor cancelled kinds serves every job.
+-- knows neither turned pieces, cancelled kinds nor kerf serves every job.
 use mathlib.Core.Path.{_≡_, refl, sym, _∙_, ap, ap₂}
 use mathlib.Core.Bool.{Bool, true, false, _&&_}
 use mathlib.Core.Option.{Option, none, some}
@@ -10,6 +10,7 @@ use lib.Dec.{leb, eqb}
 use lib.ListN.{length}
 use Rattle.cutting.specs.declared.Direction.{Direction}
 use Rattle.cutting.specs.declared.Direction.the-variants.{Length, Width}
+use Rattle.cutting.specs.Limits.{most-wide-side}
 use Rattle.cutting.specs.Lists.{range, only, filter, first, greatest, each, pairs}
 use Rattle.cutting.specs.Tree.{Rect, side}
 use Rattle.cutting.specs.Figure.{leaf}
@@ -18,13 +19,13 @@ use Rattle.cutting.specs.Saws.{saw, floor}
 use Rattle.cutting.specs.Shares.{by-weight}
 use Rattle.cutting.specs.Normal.{sides, normal?, normal}
 use Rattle.cutting.specs.Choice.{Choice, as-waste, as-piece, as-cut, or-waste, or-length, or-piece, or-zero}
-use Rattle.cutting.specs.Job.{Job, laid, ordered, members, pieces, by-kind, figure-of, normal-side, normal-positions, normal-floor, laid-earns, pair-earns, first-pair, plan-choice, SolidKinds, InRange}
+use Rattle.cutting.specs.Job.{Job, laid, widened, ordered, members, pieces, by-kind, figure-of, normal-side, normal-positions, normal-floor, laid-earns, pair-earns, first-pair, plan-choice, KindsAbove, SolidKinds, InRange}
 use Rattle.cutting.specs.Listed.{plain, member-at, Listing, InTableRange}
 use Rattle.cutting.proofs.Lists.{mem-range, through, first-cong, entries, filter-map, first-map, filter-map-cong}
 use Rattle.cutting.proofs.Greatest.{greatest-map, greatest-cong}
 use Rattle.cutting.proofs.Recursion.{figure-same}
 use Rattle.cutting.proofs.Positions.{getD-mem}
-use Rattle.cutting.proofs.Members.{member-kind, members-count}
+use Rattle.cutting.proofs.Members.{member-kind, members-above, members-count}
 use Rattle.cutting.proofs.Table.{figure-half}
 
 -- kinds that are all ordered and not to be turned lie upright each
@@ -162,26 +163,31 @@ module _ (J : Job) (weight : ℕ → ℕ) (n : ℕ) (size : ℕ → Rect) (price
         alone = first-listed (laid-earns L heavy l w c) (laid-earns J weight l w c)
             (λ j h. rw (given .sizes j h, given .prices j h, given .weights j h, listed-figure l w c) refl)
 
-  -- the numbers of a job in range are in the table's ranges
-  pub listed-range : InRange J → InTableRange L
+  -- where the kinds have both sides above k, so have the numbers
+  pub listed-above : (k : ℕ) → KindsAbove k J → KindsAbove k L
+  listed-above k h j l = rw (given .sizes j l) (members-above J k h (member-at J j) (getD-mem (members J) j (upright 0) (omega (arith, given .number))))
+
+-- the numbers of a widened job in range are in the table's ranges
+module _ (J : Job) (weight : ℕ → ℕ) (n : ℕ) (size : ℕ → Rect) (price heavy : ℕ → ℕ) (given : Listing (widened J) weight n size price heavy) where
+  pub listed-range : InRange J → InTableRange (plain (widened J .plate) n size price)
   listed-range h = record {
     fixed = refl;
     demands = λ j l. omega arith;
-    plate-length = h .plate-length;
-    plate-width = h .plate-width;
-    kinds = omega (arith, given .number, members-count J, h .kinds);
-    lengths = λ j l. rw (given .sizes j l) (length-range (member-at J j) (known j l));
-    widths = λ j l. rw (given .sizes j l) (width-range (member-at J j) (known j l));
-    prices = λ j l. rw (given .prices j l) (h .prices (kind (member-at J j)) (known j l));
+    plate-length = omega (arith, h .plate-length, h .kerfs);
+    plate-width = omega (arith, h .plate-width, h .kerfs);
+    kinds = omega (arith, given .number, members-count (widened J), h .kinds);
+    lengths = λ j l. rw (given .sizes j l) (length-range (member-at (widened J) j) (known j l));
+    widths = λ j l. rw (given .sizes j l) (width-range (member-at (widened J) j) (known j l));
+    prices = λ j l. rw (given .prices j l) (h .prices (kind (member-at (widened J) j)) (known j l));
   }
     where
-      known : (j : ℕ) → j < n → kind (member-at J j) < J .count
-      known j l = member-kind J (member-at J j) (getD-mem (members J) j (upright 0) (omega (arith, given .number)))
+      known : (j : ℕ) → j < n → kind (member-at (widened J) j) < J .count
+      known j l = member-kind (widened J) (member-at (widened J) j) (getD-mem (members (widened J)) j (upright 0) (omega (arith, given .number)))
 
-      length-range : (p : Piece) → kind p < J .count → (1 ≤ laid J p .0) × (laid J p .0 ≤ 1000)
-      length-range (upright i) l = h .lengths i l
-      length-range (turned i) l = h .widths i l
+      length-range : (p : Piece) → kind p < J .count → (1 ≤ laid (widened J) p .0) × (laid (widened J) p .0 ≤ most-wide-side)
+      length-range (upright i) l = omega (arith, h .lengths i l, h .kerfs)
+      length-range (turned i) l = omega (arith, h .widths i l, h .kerfs)
 
-      width-range : (p : Piece) → kind p < J .count → (1 ≤ laid J p .1) × (laid J p .1 ≤ 1000)
-      width-range (upright i) l = h .widths i l
-      width-range (turned i) l = h .lengths i l
+      width-range : (p : Piece) → kind p < J .count → (1 ≤ laid (widened J) p .1) × (laid (widened J) p .1 ≤ most-wide-side)
+      width-range (upright i) l = omega (arith, h .widths i l, h .kerfs)
+      width-range (turned i) l = omega (arith, h .lengths i l, h .kerfs)

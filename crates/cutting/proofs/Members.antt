@@ -1,4 +1,4 @@
--- The pieces that may lie, as a list: who is a member, and that no size is 0.
+-- The pieces that may lie, as a list: who is a member, how large each is, and its size in the widened job.
 use mathlib.Core.Path.{_≡_, refl, subst, sym}
 use mathlib.Core.Logic.{_⊎_, inl, inr}
 use mathlib.Core.Bool.{Bool, true, false}
@@ -7,9 +7,10 @@ use Prim.Native.Nat.{ℕ, _+_, _*_, _≤_, _<_}
 use native.Mathlib.Omega.{arith}
 use lib.Dec.{T, leb, leb→le, le→leb}
 use lib.ListN.{length}
-use Rattle.cutting.specs.Lists.{range, filter}
-use Rattle.cutting.specs.Pieces.{Piece, upright, turned, kind, ways, Solid}
-use Rattle.cutting.specs.Job.{Job, laid, MayLie, ordered, members, SolidKinds, InRange}
+use Rattle.cutting.specs.Lists.{range}
+use Rattle.cutting.specs.Tree.{Rect}
+use Rattle.cutting.specs.Pieces.{Piece, upright, turned, kind, ways, wider, Solid}
+use Rattle.cutting.specs.Job.{Job, laid, MayLie, widened, ordered, members, KindsAbove, SolidKinds, InRange}
 use Rattle.cutting.specs.Listed.{InTableRange}
 use Rattle.cutting.proofs.Lists.{range-mem, mem-range, range-length, filter-length, filter-mem, mem-filter, each-length, each-mem, mem-each}
 
@@ -75,13 +76,47 @@ module _ (J : Job) where
   pub member-kind : (p : Piece) → List·Memᴰ p (members J) → kind p < J .count
   member-kind p m = lie-kind p (member-lies p m)
 
-  -- where no kind has a side of 0, no piece has
-  pub members-solid : SolidKinds J → Solid (members J) (laid J)
-  members-solid h p m = go p (member-kind p m)
+  -- where the kinds have both sides above k, so have the pieces
+  pub members-above : (k : ℕ) → KindsAbove k J → (p : Piece) → List·Memᴰ p (members J) → (k < laid J p .0) × (k < laid J p .1)
+  members-above k h p m = go p (member-kind p m)
     where
-      go : (p : Piece) → kind p < J .count → (0 < laid J p .0) × (0 < laid J p .1)
+      go : (p : Piece) → kind p < J .count → (k < laid J p .0) × (k < laid J p .1)
       go (upright i) l = h i l
       go (turned i) l = (h i l .1, h i l .0)
+
+  pub members-solid : SolidKinds J → Solid (members J) (laid J)
+  members-solid h = members-above 0 h
+
+-- without kerf the widened job is the job itself
+pub widened-whole : (J : Job) → J .kerf ≡ 0 → widened J ≡ J
+widened-whole J e = λ i. record {
+  plate = same (J .plate) i;
+  kerf = sym e i;
+  turning = J .turning;
+  full-demand = J .full-demand;
+  count = J .count;
+  size = λ k. same (J .size k) i;
+  price = J .price;
+  demand = J .demand;
+}
+  where
+    same : (r : Rect) → wider (J .kerf) r ≡ r
+    same r = λ i. (none (r .0) i, none (r .1) i)
+      where
+        none : (n : ℕ) → n + J .kerf ≡ n
+        none n = omega arith
+
+-- the size of a piece in the widened job
+pub laid-widened : (J : Job) (p : Piece) → laid (widened J) p ≡ wider (J .kerf) (laid J p)
+laid-widened J (upright i) = refl
+laid-widened J (turned i) = refl
+
+-- where no kind has a side of 0, the widened kinds have both sides above the kerf
+pub widened-above : (J : Job) → SolidKinds J → KindsAbove (J .kerf) (widened J)
+widened-above J h i l = let z = h i l in omega arith
+
+pub widened-solid : (J : Job) → SolidKinds J → SolidKinds (widened J)
+widened-solid J h i l = let z = h i l in omega arith
 
 -- a job in range has no kind with a side of 0
 pub range-solid : (J : Job) → InRange J → SolidKinds J

@@ -1,15 +1,12 @@
--- The sentences of the scope hold of every job; those that read the plate's cells, of a job in range.
-use mathlib.Core.Logic.{_↔_}
-use mathlib.Core.List.{List·Memᴰ}
-use Prim.Native.Nat.{ℕ, suc, _≤_}
+-- The sentences of the scope hold: the recursion and the normal positions of every job, the others of a job in range.
+use Prim.Native.Nat.{ℕ, suc}
 use native.Mathlib.Omega.{arith}
-use Rattle.cutting.specs.declared.Direction.{Direction}
 use Rattle.cutting.specs.Tree.{side}
 use Rattle.cutting.specs.Lists.{range}
-use Rattle.cutting.specs.Job.{Job, InRange, capacity, bound-of, normal-positions, normal-side}
+use Rattle.cutting.specs.Job.{Job, InRange, widened, capacity, bound-of, normal-positions, normal-side}
 use Rattle.cutting.specs.Promises.{NoneAbove, PlateHolds, MostWithin, Recursion, NormalSums, FloorFigures, PlanFollows}
 use Rattle.cutting.proofs.Lists.{range-mem, mem-range, filter-mem, mem-filter}
-use Rattle.cutting.proofs.Members.{range-solid}
+use Rattle.cutting.proofs.Members.{range-solid, widened-solid}
 use Rattle.cutting.proofs.Job.{figure-recursion}
 use Rattle.cutting.proofs.Bound.{copies-plate, bound-most, bound-earned, bound-holds}
 use Rattle.cutting.proofs.Table.{normal-sums, figure-floor}
@@ -30,17 +27,17 @@ module _ (J : Job) (weight : ℕ → ℕ) where
   pub recursion : Recursion J weight
   recursion = figure-recursion J weight
 
-  -- the bound is the most within the capacity
-  pub bound-exact : MostWithin J weight (capacity J weight) (bound-of J weight)
-  bound-exact = let e = bound-earned J weight in (bound-most J weight, (e .0, (e .1, e .2, e .3)))
-
   module _ (h : InRange J) where
+    -- the bound is the most within the capacity
+    pub bound-exact : MostWithin J weight (capacity J weight) (bound-of J weight)
+    bound-exact = let e = bound-earned J weight (range-solid J h) in (bound-most J weight (range-solid J h), (e .0, (e .1, e .2, e .3)))
+
     -- and no tree within the demands earns more
     pub none-above : NoneAbove J (bound-of J weight)
     none-above = bound-holds J weight (range-solid J h)
 
-    pub floor-figures : FloorFigures J weight
-    floor-figures l w c on-length on-width = figure-floor J weight (range-solid J h) l w c on-length on-width
+    pub floor-figures : FloorFigures (widened J) weight
+    floor-figures l w c on-length on-width = figure-floor (widened J) weight (widened-solid J (range-solid J h)) l w c on-length on-width
 
     pub plan-follows : PlanFollows J weight
     plan-follows l w c on-length on-width = plan-recursion J weight (range-solid J h) l w c on-length on-width

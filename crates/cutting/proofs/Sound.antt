@@ -1,11 +1,12 @@
--- What the plan's choice at a rectangle and a share is: waste, a piece that may lie, or a cut in its range whose shares sum to the share.
+-- What the plan's choice at a rectangle and a share is: waste, a piece that may lie, or a cut at a normal position in its range whose
+-- shares sum to the share.
 use mathlib.Core.Path.{_≡_, sym, _∙_, ap}
 use mathlib.Core.Bool.{Bool, true, false}
 use mathlib.Core.Option.{Option}
 use mathlib.Core.List.{List, map, List·Memᴰ}
 use Prim.Native.Nat.{ℕ, suc, _-_, _≤_, _<_}
 use native.Mathlib.Omega.{arith}
-use lib.Dec.{eqb}
+use lib.Dec.{T, eqb}
 use Rattle.cutting.specs.declared.Direction.{Direction}
 use Rattle.cutting.specs.declared.Direction.the-variants.{Length, Width}
 use Rattle.cutting.specs.Lists.{range, filter, pairs}
@@ -18,11 +19,11 @@ use Rattle.cutting.proofs.Search.{Found, found, missing, first-found}
 use Rattle.cutting.proofs.Floor.{floor-le}
 
 module _ (J : Job) (weight : ℕ → ℕ) (l w c : ℕ) where
-  -- a piece that may lie; a cut in range, and shares that sum to the cell's
+  -- a piece that may lie; a cut in range, shares that sum to the cell's, and a normal position
   abbrev pub Sound : Choice Piece ℕ → Type 0
   Sound as-waste = Unit {0}
   Sound (as-piece p) = List·Memᴰ p (members J)
-  Sound (as-cut d x q) = (1 ≤ x) × (x < side d (l, w)) × (q .0 ≤ c) × (q .1 ≡ c - q .0)
+  Sound (as-cut d x q) = (1 ≤ x) × (x < side d (l, w)) × (q .0 ≤ c) × (q .1 ≡ c - q .0) × T (normal-side J d x)
 
   cuts : Direction → List ℕ
   cuts d = filter (normal-side J d) (range 1 (normal-floor J d (side d (l, w)) - 1))
@@ -34,11 +35,12 @@ module _ (J : Job) (weight : ℕ → ℕ) (l w c : ℕ) where
   unfolding cuts shares
   pair-sound d u m =
       let p = mem-pairs u (cuts d) shares m in
-      let x = mem-range 1 (normal-floor J d (side d (l, w)) - 1) (u .0) (mem-filter (normal-side J d) (range 1 (normal-floor J d (side d (l, w)) - 1)) (p .0) .0) in
+      let y = mem-filter (normal-side J d) (range 1 (normal-floor J d (side d (l, w)) - 1)) (p .0) in
+      let x = mem-range 1 (normal-floor J d (side d (l, w)) - 1) (u .0) (y .0) in
       let k = mem-map (λ k. (k, c - k)) (u .1) (range 0 (suc c)) (p .1) in
       let e : u .1 .0 ≡ k .0 = ap (λ q. q .0) (k .2) in
       let f : u .1 .1 ≡ c - k .0 = ap (λ q. q .1) (k .2) in
-      (x .0, omega (arith, floor-le (normal-side J d) (side d (l, w))), omega (arith, mem-range 0 (suc c) (k .0) (k .1)), f ∙ ap (λ k. c - k) (sym e))
+      (x .0, omega (arith, floor-le (normal-side J d) (side d (l, w))), omega (arith, mem-range 0 (suc c) (k .0) (k .1)), f ∙ ap (λ k. c - k) (sym e), y .1)
 
   found-sound : (z : Bool) {o : Option Piece} {i j : Option (ℕ × (ℕ × ℕ))} → Found (laid-earns J weight l w c) (members J) o → Found (pair-earns J weight Length l w c) (pairs (cuts Length) shares) i → Found (pair-earns J weight Width l w c) (pairs (cuts Width) shares) j
       → Sound (or-zero z (or-piece o (or-length i (or-waste j))))

@@ -16,14 +16,14 @@ use Rattle.cutting.specs.Pieces.{kind, _⊑_, fits-in, sized}
 use Rattle.cutting.specs.Saws.{saw-normal, saw-half}
 use Rattle.cutting.specs.Shares.{by-weight}
 use Rattle.cutting.specs.Normal.{Sum, sides}
-use Rattle.cutting.specs.Job.{Job, laid, members, pieces, by-kind, figure-of, normal-side, normal-positions, normal-floor, SolidKinds}
+use Rattle.cutting.specs.Job.{Job, laid, members, pieces, by-kind, figure-of, normal-side, normal-positions, normal-floor, KindsAbove, SolidKinds}
 use Rattle.cutting.proofs.Greatest.{greatest-map, most}
 use Rattle.cutting.proofs.Weights.{by-weight-monotone, by-weight-symmetric}
 use Rattle.cutting.proofs.Reduction.{Sufficient, CutsAt, saw-normal-cuts, saw-figure, floor-figure}
 use Rattle.cutting.proofs.Half.{half-figure}
-use Rattle.cutting.proofs.Normal.{normal-sum, normal-sufficient}
-use Rattle.cutting.proofs.Positions.{rising, entry-passes, passes-entry, passing-length, first-zero, floor-at, greatest-half}
-use Rattle.cutting.proofs.Members.{members-solid}
+use Rattle.cutting.proofs.Normal.{normal-sum, normal-above, normal-sufficient}
+use Rattle.cutting.proofs.Positions.{rising, entry-passes, passes-entry, passing-length, sparse-length, first-zero, floor-at, greatest-half}
+use Rattle.cutting.proofs.Members.{members-above, members-solid}
 
 -- the normal lengths and widths of a job suffice for its pieces
 pub sides-suffice : (J : Job) → Sufficient (members J) (laid J) (J .plate) (normal-side J)
@@ -67,6 +67,16 @@ module _ (J : Job) (d : Direction) where
   pub positions-length : length (normal-positions J d) ≤ suc (side d (J .plate))
   unfolding normal-positions
   positions-length = passing-length (normal-side J d) (suc (side d (J .plate)))
+
+  -- where the kinds have both sides above k, so is every normal position above 0
+  module _ (k : ℕ) (thick : KindsAbove k J) where
+    pub positions-above : (x : ℕ) → 0 < x → T (normal-side J d x) → k < x
+    positions-above x = normal-above (members J) (laid J) (J .plate) k (members-above J k thick) d x
+
+    -- and there are k fewer
+    pub positions-fewer : (n : ℕ) → side d (J .plate) ≡ n + k → length (normal-positions J d) ≤ suc n
+    unfolding normal-positions
+    positions-fewer n e = rw e (sparse-length (normal-side J d) k n positions-above)
 
   -- the largest normal position not above x is the last entry not above it
   pub positions-floor : (a x : ℕ) → x ≤ side d (J .plate) → a < length (normal-positions J d) → getD (normal-positions J d) a 0 ≤ x

@@ -1,5 +1,5 @@
 -- The scope as definitions: a job, its guillotine trees and what they earn, the figure and the bound, the normal positions and the plan
--- behind the bound. The general definitions stand in the other modules; proofs/Job, Table and Plan have what is proved of these.
+-- behind the bound. The general definitions stand in the other modules; proofs/Job, Table, Bound and Plan have what is proved of these.
 use mathlib.Core.Bool.{Bool, true, false, _&&_}
 use mathlib.Core.Option.{Option}
 use mathlib.Core.List.{List, map}
@@ -7,21 +7,22 @@ use Prim.Native.Nat.{ℕ, suc, _+_, _-_, _*_, _/_, _≤_, _<_, min}
 use lib.Dec.{T, leb, eqb}
 use Rattle.cutting.specs.declared.Direction.{Direction}
 use Rattle.cutting.specs.declared.Direction.the-variants.{Length, Width}
-use Rattle.cutting.specs.Limits.{most-side, most-kinds, most-price, most-demand}
+use Rattle.cutting.specs.Limits.{most-side, most-kerf, most-kinds, most-price, most-demand}
 use Rattle.cutting.specs.Lists.{range, sum, only, filter, first, each, pairs}
 use Rattle.cutting.specs.Tree.{Rect, side, Tree, waste, piece, cut, Pieces, Shares, total, copies}
 use Rattle.cutting.specs.Figure.{figure}
-use Rattle.cutting.specs.Pieces.{Piece, upright, turned, kind, ways, lying, fits-in, fits-either, sized}
+use Rattle.cutting.specs.Pieces.{Piece, upright, turned, kind, ways, lying, wider, fits-in, fits-either, sized}
 use Rattle.cutting.specs.Saws.{saw, floor, saw-written}
 use Rattle.cutting.specs.Shares.{by-weight}
 use Rattle.cutting.specs.Normal.{normal}
-use Rattle.cutting.specs.Choice.{Choice, as-waste, as-piece, as-cut, or-waste, or-length, or-piece, or-zero, written}
-use Rattle.cutting.specs.Areas.{area, pieces-area, waste-area, trim-area}
+use Rattle.cutting.specs.Choice.{Choice, as-waste, as-piece, as-cut, or-waste, or-length, or-piece, or-zero, written, cut-remains, or-first, sawn}
+use Rattle.cutting.specs.Areas.{area, pieces-area, waste-area, trim-area, sawdust-area}
 
--- a job: the plate, whether pieces may be turned, whether the capacity is that of the full demands, and kinds numbered from 0 with their
--- sizes, prices and demands
+-- a job: the plate, the kerf, whether pieces may be turned, whether the capacity is that of the full demands, and kinds numbered from 0
+-- with their sizes, prices and demands
 pub record Job : Type 0 where
   pub plate : Rect
+  pub kerf : ℕ
   pub turning : Bool
   pub full-demand : Bool
   pub count : ℕ
@@ -39,12 +40,13 @@ MayLie J (upright i) = (i < J .count) × (1 ≤ J .demand i)
 MayLie J (turned i) = (i < J .count) × (1 ≤ J .demand i) × T (J .turning)
 
 -- a guillotine tree of a job on a rectangle l by w: waste; or a piece that may lie, neither side greater than the rectangle's; or a cut
--- at a whole position x, with a tree on the first part, which has that size, and on the second, the side less x; both at least 1
+-- at a whole position x, with a tree on the first part, which has that size, and on the second, the side less x less the kerf; both at
+-- least 1
 abbrev pub GuillotineTree : Job → ℕ → ℕ → Tree Piece → Type 0
 GuillotineTree J l w waste = Unit {0}
 GuillotineTree J l w (piece p) = MayLie J p × (laid J p .0 ≤ l) × (laid J p .1 ≤ w)
-GuillotineTree J l w (cut Length x a b) = (1 ≤ x) × (x < l) × GuillotineTree J x w a × GuillotineTree J (l - x) w b
-GuillotineTree J l w (cut Width x a b) = (1 ≤ x) × (x < w) × GuillotineTree J l x a × GuillotineTree J l (w - x) b
+GuillotineTree J l w (cut Length x a b) = (1 ≤ x) × (x + J .kerf < l) × GuillotineTree J x w a × GuillotineTree J (l - x - J .kerf) w b
+GuillotineTree J l w (cut Width x a b) = (1 ≤ x) × (x + J .kerf < w) × GuillotineTree J l x a × GuillotineTree J l (w - x - J .kerf) b
 
 -- a guillotine tree on the job's plate
 abbrev pub OnPlate : Job → Tree Piece → Type 0
@@ -66,15 +68,29 @@ copies-of i t = copies kind i t
 abbrev pub KeepsDemands : Job → Tree Piece → Type 0
 KeepsDemands J t = (i : ℕ) → i < J .count → copies-of i t ≤ J .demand i
 
+-- the job with the kerf added to every side of the plate and of the kinds, and cut without loss: the lists, the table, the bound and the
+-- capacity of a job are this one's
+abbrev pub widened : Job → Job
+widened J = record {
+  plate = wider (J .kerf) (J .plate);
+  kerf = 0;
+  turning = J .turning;
+  full-demand = J .full-demand;
+  count = J .count;
+  size = λ i. wider (J .kerf) (J .size i);
+  price = J .price;
+  demand = J .demand;
+}
+
 -- the copies of a size q that can lie on a rectangle r: length over length times width over width, each rounded down; where pieces may
 -- be turned, area over area, rounded down, or none if neither way fits
 abbrev pub copies-on : Bool → Rect → Rect → ℕ
 copies-on false r q = r .0 / q .0 * (r .1 / q .1)
 copies-on true r q = only (fits-either q r) (area r / area q)
 
--- the copies of kind i that can lie on the plate
+-- the copies of kind i that can lie on the plate, the kerf added to every side
 abbrev pub plate-copies : Job → ℕ → ℕ
-plate-copies J i = copies-on (J .turning) (J .plate) (J .size i)
+plate-copies J i = copies-on (J .turning) (widened J .plate) (widened J .size i)
 
 -- the copies that the capacity counts of a kind, where so many can lie on the plate: in the full-demand form its demand, and else the
 -- lesser of the two
@@ -92,7 +108,7 @@ capacity J weight = sum (J .count) (λ i. counted J i * weight i)
 
 -- the same job with the capacity of the full demands
 abbrev pub at-full-demand : Job → Job
-at-full-demand J = record { plate = J .plate; turning = J .turning; full-demand = true; count = J .count; size = J .size; price = J .price; demand = J .demand }
+at-full-demand J = record { plate = J .plate; kerf = J .kerf; turning = J .turning; full-demand = true; count = J .count; size = J .size; price = J .price; demand = J .demand }
 
 -- the kinds that are ordered: a kind of demand 0 is cancelled, and its number stays its own
 unfoldable pub ordered : Job → List ℕ
@@ -110,15 +126,15 @@ pieces J = sized (members J) (λ p. J .price (kind p)) (laid J)
 abbrev pub by-kind : (ℕ → ℕ) → Shares Piece ℕ
 by-kind weight = by-weight (λ p. weight (kind p))
 
--- the figure of a rectangle and a share: a cut at every whole unit (figure-recursion of proofs/Job)
+-- the figure of a rectangle and a share, for a job cut without loss: a cut at every whole unit (figure-recursion of proofs/Job)
 unfoldable pub figure-of : Job → (ℕ → ℕ) → ℕ → ℕ → ℕ → ℕ
 figure-of J weight l w c = figure (pieces J) (saw 0) (by-kind weight) (l, w) c
 
--- the bound: the figure at the plate and the capacity
+-- the bound: the widened job's figure at its plate and the capacity
 abbrev pub bound-of : Job → (ℕ → ℕ) → ℕ
-bound-of J weight = figure-of J weight (J .plate .0) (J .plate .1) (capacity J weight)
+bound-of J weight = figure-of (widened J) weight (widened J .plate .0) (widened J .plate .1) (capacity J weight)
 
--- whether a number is a normal length, or a normal width
+-- whether a number is a normal length, or a normal width, for a job cut without loss
 abbrev pub normal-side : Job → Direction → ℕ → Bool
 normal-side J d = normal (members J) (laid J) (J .plate) d
 
@@ -150,43 +166,56 @@ unfoldable pub plan-choice : Job → (ℕ → ℕ) → ℕ → ℕ → ℕ → C
 plan-choice J weight l w c = or-zero (eqb (figure-of J weight l w c) 0)
     (or-piece (first (laid-earns J weight l w c) (members J)) (or-length (first-pair J weight Length l w c) (or-waste (first-pair J weight Width l w c))))
 
--- the plan from a rectangle and a share downward
+-- the plan of a job cut without loss, from a rectangle and a share downward
+unfoldable pub lossless-plan : Job → (ℕ → ℕ) → Rect → ℕ → Tree Piece
+lossless-plan J weight r c = written (pieces J) (saw-written (normal-side J)) (by-kind weight) r c
+
+-- the plan from a rectangle of the widened job and a share downward, as the saw cuts it
 unfoldable pub plan-of : Job → (ℕ → ℕ) → ℕ → ℕ → ℕ → Tree Piece
-plan-of J weight l w c = written (pieces J) (saw-written (normal-side J)) (by-kind weight) (l, w) c
+plan-of J weight l w c = sawn (J .kerf) (l, w) (lossless-plan (widened J) weight (l, w) c)
 
 -- the plan of the plate and a capacity
 abbrev pub plan-under : Job → (ℕ → ℕ) → ℕ → Tree Piece
-plan-under J weight q = plan-of J weight (J .plate .0) (J .plate .1) q
+plan-under J weight q = plan-of J weight (widened J .plate .0) (widened J .plate .1) q
 
 -- the plan behind the bound itself
 abbrev pub bound-plan : Job → (ℕ → ℕ) → Tree Piece
 bound-plan J weight = plan-under J weight (capacity J weight)
 
--- the plan's tree after a choice: the second part of a cut is the true remainder (plan-recursion of proofs/Plan)
+-- the plan's tree after a choice of the widened job: a cut stands at its position less the kerf, with the true remainder beyond it, and
+-- where that would be below 1 the plan goes on with the first part's size and share (plan-recursion of proofs/Plan)
 abbrev pub plan-after : Job → (ℕ → ℕ) → ℕ → ℕ → Choice Piece ℕ → Tree Piece
 plan-after J weight l w as-waste = waste
 plan-after J weight l w (as-piece p) = piece p
-plan-after J weight l w (as-cut Length x q) = cut Length x (plan-of J weight x w (q .0)) (plan-of J weight (l - x) w (q .1))
-plan-after J weight l w (as-cut Width x q) = cut Width x (plan-of J weight l x (q .0)) (plan-of J weight l (w - x) (q .1))
+plan-after J weight l w (as-cut Length x q) = or-first (cut-remains (J .kerf) (l - x)) Length (x - J .kerf) (plan-of J weight x w (q .0)) (plan-of J weight (l - x) w (q .1))
+plan-after J weight l w (as-cut Width x q) = or-first (cut-remains (J .kerf) (w - x)) Width (x - J .kerf) (plan-of J weight l x (q .0)) (plan-of J weight l (w - x) (q .1))
 
--- the area of the pieces, of the waste nodes and of the trim of a tree on a rectangle
+-- the area of the pieces, of the waste nodes, of the trim and of the sawdust of a tree on a rectangle
 abbrev pub pieces-area-of : Job → Tree Piece → ℕ
 pieces-area-of J t = pieces-area (laid J) t
 
-abbrev pub waste-area-of : ℕ → ℕ → Tree Piece → ℕ
-waste-area-of l w t = waste-area (saw 0) (l, w) t
+abbrev pub waste-area-of : Job → ℕ → ℕ → Tree Piece → ℕ
+waste-area-of J l w t = waste-area (saw (J .kerf)) (l, w) t
 
 abbrev pub trim-area-of : Job → ℕ → ℕ → Tree Piece → ℕ
-trim-area-of J l w t = trim-area (laid J) (saw 0) (l, w) t
+trim-area-of J l w t = trim-area (laid J) (saw (J .kerf)) (l, w) t
+
+abbrev pub sawdust-area-of : Job → ℕ → ℕ → Tree Piece → ℕ
+sawdust-area-of J l w t = sawdust-area (J .kerf) (l, w) t
+
+-- a job whose kinds have both sides above k
+abbrev pub KindsAbove : ℕ → Job → Type 0
+KindsAbove k J = (i : ℕ) → i < J .count → (k < J .size i .0) × (k < J .size i .1)
 
 -- a job no side of whose kinds is 0
 abbrev pub SolidKinds : Job → Type 0
-SolidKinds J = (i : ℕ) → i < J .count → (1 ≤ J .size i .0) × (1 ≤ J .size i .1)
+SolidKinds J = KindsAbove 0 J
 
 -- a job whose numbers are in the scope's ranges
 pub record InRange (J : Job) : Type 0 where
   pub plate-length : (1 ≤ J .plate .0) × (J .plate .0 ≤ most-side)
   pub plate-width : (1 ≤ J .plate .1) × (J .plate .1 ≤ most-side)
+  pub kerfs : J .kerf ≤ most-kerf
   pub kinds : (1 ≤ J .count) × (J .count ≤ most-kinds)
   pub lengths : (i : ℕ) → i < J .count → (1 ≤ J .size i .0) × (J .size i .0 ≤ most-side)
   pub widths : (i : ℕ) → i < J .count → (1 ≤ J .size i .1) × (J .size i .1 ≤ most-side)

@@ -5,6 +5,14 @@ use Prim.Native.Nat.{ℕ}
 abbrev pub most-side : ℕ
 most-side = 1000
 
+-- the greatest kerf
+abbrev pub most-kerf : ℕ
+most-kerf = 20
+
+-- the greatest side with the kerf added
+abbrev pub most-wide-side : ℕ
+most-wide-side = 1020
+
 -- the most kinds of a job
 abbrev pub most-kinds : ℕ
 most-kinds = 64

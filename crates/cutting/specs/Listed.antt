@@ -1,29 +1,30 @@
 -- The pieces that may lie as the inner functions read them, by their numbers and from one array. They then are the kinds of a plain job,
--- and code that knows neither turned pieces nor cancelled kinds serves every job (proofs/Listed). Only inner contracts cite this file.
+-- and code that knows neither turned pieces, cancelled kinds nor kerf serves every job (proofs/Listed). Only inner contracts cite this file.
 use mathlib.Core.Path.{_≡_}
 use mathlib.Core.Bool.{Bool, true, false}
 use mathlib.Core.List.{List}
 use Prim.Native.Nat.{ℕ, _+_, _*_, _/_, _%_, _≤_, _<_}
 use lib.Dec.{eqb}
 use lib.ListN.{length, getD}
-use Rattle.cutting.specs.Limits.{most-side, most-pieces, most-price}
+use Rattle.cutting.specs.Limits.{most-wide-side, most-pieces, most-price}
 use Rattle.cutting.specs.Tree.{Rect, Tree, waste, piece, cut}
 use Rattle.cutting.specs.Pieces.{Piece, upright, turned, kind}
-use Rattle.cutting.specs.Job.{Job, laid, members}
+use Rattle.cutting.specs.Choice.{sawn}
+use Rattle.cutting.specs.Job.{Job, laid, members, lossless-plan}
 
--- numbered pieces as a job: n of them, each ordered once and not to be turned; its capacity is never read
+-- numbered pieces as a job cut without loss: n of them, each ordered once and not to be turned; its capacity is never read
 abbrev pub plain : Rect → ℕ → (ℕ → Rect) → (ℕ → ℕ) → Job
-plain r n size price = record { plate = r; turning = false; full-demand = false; count = n; size = size; price = price; demand = λ i. 1 }
+plain r n size price = record { plate = r; kerf = 0; turning = false; full-demand = false; count = n; size = size; price = price; demand = λ i. 1 }
 
--- a plain job in the ranges that lists and table read, as that of a job in range is
+-- a plain job in the ranges that lists and table read, as that of a widened job in range is
 pub record InTableRange (J : Job) : Type 0 where
   pub fixed : J .turning ≡ false
   pub demands : (i : ℕ) → i < J .count → 1 ≤ J .demand i
-  pub plate-length : (1 ≤ J .plate .0) × (J .plate .0 ≤ most-side)
-  pub plate-width : (1 ≤ J .plate .1) × (J .plate .1 ≤ most-side)
+  pub plate-length : (1 ≤ J .plate .0) × (J .plate .0 ≤ most-wide-side)
+  pub plate-width : (1 ≤ J .plate .1) × (J .plate .1 ≤ most-wide-side)
   pub kinds : J .count ≤ most-pieces
-  pub lengths : (i : ℕ) → i < J .count → (1 ≤ J .size i .0) × (J .size i .0 ≤ most-side)
-  pub widths : (i : ℕ) → i < J .count → (1 ≤ J .size i .1) × (J .size i .1 ≤ most-side)
+  pub lengths : (i : ℕ) → i < J .count → (1 ≤ J .size i .0) × (J .size i .0 ≤ most-wide-side)
+  pub widths : (i : ℕ) → i < J .count → (1 ≤ J .size i .1) × (J .size i .1 ≤ most-wide-side)
   pub prices : (i : ℕ) → i < J .count → J .price i ≤ most-price
 
 -- the pieces that may lie are numbered in order
@@ -72,6 +73,11 @@ laid-tree pieces (cut d x a b) = cut d x (laid-tree pieces a) (laid-tree pieces 
 -- the plain job of an array of n pieces on a plate
 abbrev pub pieces-job : Rect → ℕ → List ℕ → Job
 pieces-job r n pieces = plain r n (size-in pieces) (price-in pieces)
+
+-- the plan of an array of n pieces on a plate, from a rectangle and a share downward: as a saw k wide cuts it, with the pieces that the
+-- numbers stand for
+abbrev pub array-plan : ℕ → Rect → ℕ → List ℕ → Rect → ℕ → Tree Piece
+array-plan k plate n pieces r c = sawn k r (laid-tree pieces (lossless-plan (pieces-job plate n pieces) (heavy-in pieces) r c))
 
 -- an array that holds the pieces of a job with their weights
 pub record PieceArray (J : Job) (weight : ℕ → ℕ) (n : ℕ) (pieces : List ℕ) : Type 0 where

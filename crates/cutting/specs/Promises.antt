@@ -1,5 +1,5 @@
--- The sentences of the scope about a job, its weights and its trees, as statements. The contracts of the public calls cite them;
--- proofs/Promises proves them.
+-- The sentences of the scope about a job, its weights and its trees, as statements: those of trees and plans are cited of the job itself,
+-- those of figures and normal positions of the widened job. The contracts of the public calls cite them; proofs/Promises proves them.
 use mathlib.Core.Path.{_≡_}
 use mathlib.Core.Bool.{_&&_}
 use mathlib.Core.Logic.{_↔_}
@@ -12,7 +12,7 @@ use Rattle.cutting.specs.Lists.{range, only, greatest}
 use Rattle.cutting.specs.Tree.{side, Tree}
 use Rattle.cutting.specs.Pieces.{Piece, kind, fits-in}
 use Rattle.cutting.specs.Normal.{Sum, sides}
-use Rattle.cutting.specs.Job.{Job, laid, members, OnPlate, KeepsDemands, profit, weight-of, copies-of, plate-copies, figure-of, normal-positions, normal-floor, plan-of, plan-choice, plan-after}
+use Rattle.cutting.specs.Job.{Job, laid, members, OnPlate, KeepsDemands, profit, weight-of, copies-of, widened, plate-copies, figure-of, normal-positions, normal-floor, plan-of, plan-choice, plan-after}
 
 -- no guillotine tree on the plate that keeps every demand earns more than n
 abbrev pub NoneAbove : Job → ℕ → Type 0
@@ -47,6 +47,7 @@ NormalSums J = (d : Direction) (n : ℕ) → List·Memᴰ n (normal-positions J 
 abbrev pub FloorFigures : Job → (ℕ → ℕ) → Type 0
 FloorFigures J weight = (l w c : ℕ) → l ≤ J .plate .0 → w ≤ J .plate .1 → figure-of J weight l w c ≡ figure-of J weight (normal-floor J Length l) (normal-floor J Width w) c
 
--- the plan from a rectangle on the plate and a share follows the order of choice, the second part of a cut the true remainder
+-- the plan from a rectangle on the widened plate and a share follows the order of choice of the widened job, the second part of a cut the
+-- true remainder, and leaves out a cut whose second part would be below 1
 abbrev pub PlanFollows : Job → (ℕ → ℕ) → Type 0
-PlanFollows J weight = (l w c : ℕ) → l ≤ J .plate .0 → w ≤ J .plate .1 → plan-of J weight l w c ≡ plan-after J weight l w (plan-choice J weight l w c)
+PlanFollows J weight = (l w c : ℕ) → l ≤ widened J .plate .0 → w ≤ widened J .plate .1 → plan-of J weight l w c ≡ plan-after J weight l w (plan-choice (widened J) weight l w c)
