@@ -40,3 +40,7 @@ most-nodes = 4095
 -- no figure is greater: the greatest plate times the greatest price
 abbrev pub most-figure : ℕ
 most-figure = 1000000000000
+
+-- the greatest plate with the kerf added times the greatest price: what the table's ranges alone show of its figures
+abbrev pub most-wide-figure : ℕ
+most-wide-figure = 1040400000000
