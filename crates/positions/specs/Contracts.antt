@@ -5,7 +5,7 @@ use mathlib.Core.List.{List, map}
 use Prim.Native.Nat.{ℕ, _+_, _-_, _*_, _≤_, _<_}
 use lib.Dec.{leb}
 use lib.ListN.{length, getD, take}
-use Rattle.cutting.specs.Limits.{most-side, most-pieces}
+use Rattle.cutting.specs.Limits.{most-wide-side, most-pieces}
 use Rattle.cutting.specs.Lists.{range, filter, over}
 use Rattle.cutting.specs.Normal.{normal?, normals}
 
@@ -45,14 +45,14 @@ Marked zs x marks = (y : ℕ) → y < x → getD marks y false ≡ normal? zs y
 -- what the scan for x asks: marks of the sums below x of up to 128 sides, none of them 0
 pub record Scannable (sides : List ℕ) (n x : ℕ) (marks : List Bool) : Type 0 where
   pub kinds : n ≤ most-pieces
-  pub most : x ≤ most-side
+  pub most : x ≤ most-wide-side
   pub positive : Positive (entry sides) n
   pub marked : Marked (take n sides) x marks
 
 -- what listing the positions up to a side asks: up to 128 sides, none of them 0, and room for every number up to the side
 pub record Listable (sides : ℕ → ℕ) (n side room : ℕ) : Type 0 where
   pub kinds : n ≤ most-pieces
-  pub most : side ≤ most-side
+  pub most : side ≤ most-wide-side
   pub room-there : side < room
   pub positive : Positive sides n
 
@@ -75,5 +75,5 @@ pub record Mappable (positions : List ℕ) (n side room : ℕ) : Type 0 where
   pub some : 1 ≤ n
   pub listed : n ≤ length positions
   pub rising : Rising positions n
-  pub most : side ≤ most-side
+  pub most : side ≤ most-wide-side
   pub room-there : side < room

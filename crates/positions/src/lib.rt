@@ -44,7 +44,7 @@ fn fitting_sides(
 }
 
 // Whether x is 0, or a side leads to it from a marked position.
-fn is_normal(marks: &[bool; 1001], fit: &[u16; 128], count: u16, x: u16) -> bool
+fn is_normal(marks: &[bool; 1021], fit: &[u16; 128], count: u16, x: u16) -> bool
     requires { ⌜ Scannable (now fit) count x (now marks) ⌝ }
     ensures { λ r. ⌜ r ≡ normal? (take count (now (fit .entry))) x ⌝ }
 {
@@ -67,7 +67,7 @@ fn list_sums(fit: &[u16; 128], count: u16, side: u16, out: &mut [u16]) -> u16
     requires { ⌜ Listable (entry (now fit)) count side (length (now out)) ⌝ }
     ensures { λ r. ⌜ Holds (normals (take count (now (fit .entry))) side) r (now (out .entry)) (now (out .exit)) ⌝ }
 {
-    let mut marks = [false; 1001];
+    let mut marks = [false; 1021];
     let mut n: u16 = 0;
     let top = side + 1;
     for x in 0..top {

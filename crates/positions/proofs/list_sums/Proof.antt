@@ -15,7 +15,7 @@ use Rattle.positions.proofs.list_sums.Statement.{statement}
 use Rattle.positions.proofs.list_sums.Tie as tie
 
 abbrev Inv-loop : tie.InvT-loop
-Inv-loop fit count side out₀ marks₀ n₀ top x₀ out marks n x = (x ≤ top) × (top ≡ side + 1) × (n ≤ x) × (length marks ≡ 1001) × (length out ≡ length out₀) × Marked (take count fit) x marks × Holds (filter (normal? (take count fit)) (range 0 x)) n out₀ out
+Inv-loop fit count side out₀ marks₀ n₀ top x₀ out marks n x = (x ≤ top) × (top ≡ side + 1) × (n ≤ x) × (length marks ≡ 1021) × (length out ≡ length out₀) × Marked (take count fit) x marks × Holds (filter (normal? (take count fit)) (range 0 x)) n out₀ out
 
 abbrev μ-loop : tie.MeasureT-loop
 μ-loop fit count side out₀ marks₀ n₀ top x₀ out marks n x = top - x
