@@ -45,12 +45,12 @@ module _ (J : Job) (le : ℕ → ℕ → Bool) (own : ℕ → ℕ) (order : Orde
   -- no figure is above the area times the greatest price
   pub state-ceiling : (l w s : ℕ) → figure-at J le own l w s ≤ l * w * 1000000
   unfolding figure-at pieces
-  state-ceiling l w s = figure-area (members J) (λ p. J .price (kind p)) (laid J) (members-solid J (table-solid J fit)) (by-state le at) 1000000
+  state-ceiling l w s = figure-area (members J) (λ p. J .price (kind p)) (laid J) (members-solid J (table-solid J fit)) 0 (by-state le at) 1000000
       (λ p m. fit .prices (kind p) (member-kind J p m)) (l, w) s
 
-  -- so none is above 1,000,000,000 for each unit of its width
-  pub state-low : (l w s : ℕ) → l ≤ 1000 → figure-at J le own l w s ≤ w * 1000000000
-  state-low l w s h = omega (arith, state-ceiling l w s, mul-le-mul-right {m = l} {n = 1000} w h)
+  -- so none is above 1,020,000,000 for each unit of its width
+  pub state-low : (l w s : ℕ) → l ≤ 1020 → figure-at J le own l w s ≤ w * 1020000000
+  state-low l w s h = omega (arith, state-ceiling l w s, mul-le-mul-right {m = l} {n = 1020} w h)
 
   -- a piece that fits and whose state is below earns no more than the figure
   pub piece-most : (q : Piece) (l w s : ℕ) → MayLie J q → laid J q .0 ≤ l → laid J q .1 ≤ w → T (le (own (kind q)) s) → J .price (kind q) ≤ figure-at J le own l w s

@@ -19,7 +19,7 @@ use Rattle.table.specs.Contracts.{Positions}
 use Rattle.table.specs.Words.{Axis}
 
 -- a side of a plate in range
-side-range : (J : Job) (d : Direction) → InTableRange J → side d (J .plate) ≤ 1000
+side-range : (J : Job) (d : Direction) → InTableRange J → side d (J .plate) ≤ 1020
 side-range J Length h = h .plate-length .1
 side-range J Width h = h .plate-width .1
 

@@ -47,6 +47,6 @@ words-past m old new l f = (
   ext-getD 0 (drop m new) (drop m old) (omega (arith, length-drop m new, length-drop m old)) (λ i h. getD-drop m new i 0 ∙ f (m + i) (omega arith) ∙ sym (getD-drop m old i 0)),
 )
 
--- the floors of the widths, from entry 1,001 to the array's end
-pub second-floors : (xs : List ℕ) → take (length xs - 1001) (drop 1001 xs) ≡ drop 1001 xs
-second-floors xs = take-all (length xs - 1001) (drop 1001 xs) (omega (arith, length-drop 1001 xs))
+-- the floors of the widths, from entry 1,021 to the array's end
+pub second-floors : (xs : List ℕ) → take (length xs - 1021) (drop 1021 xs) ≡ drop 1021 xs
+second-floors xs = take-all (length xs - 1021) (drop 1021 xs) (omega (arith, length-drop 1021 xs))

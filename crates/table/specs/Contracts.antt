@@ -35,9 +35,9 @@ pub record Positions (J : Job) (d : Direction) (count : ℕ) (positions floors :
 pub record Fillable (size : TableSize) (pieces normal-lengths normal-widths floors table : List ℕ) : Type 0 where
   pub in-range : InTableRange (size-job size pieces)
   pub most : size .capacity ≤ most-capacity
-  pub floors-there : length floors ≡ 2002
+  pub floors-there : length floors ≡ 2042
   pub lengths : Positions (size-job size pieces) Length (size .rows) normal-lengths floors
-  pub widths : Positions (size-job size pieces) Width (size .columns) normal-widths (drop 1001 floors)
+  pub widths : Positions (size-job size pieces) Width (size .columns) normal-widths (drop 1021 floors)
   pub room : words-needed (size-job size pieces) (size .capacity) ≤ length table
 
 -- what a fill leaves: the figures, and later words as they were

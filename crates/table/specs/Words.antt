@@ -43,9 +43,9 @@ pub record Cuts (positions floors : List ℕ) (b half-end : ℕ) : Type 0 where
   pub part : (i : ℕ) → 1 ≤ i → i < half-end → getD positions i 0 ≤ getD positions b 0
   pub earlier : (i : ℕ) → 1 ≤ i → i < half-end → remainder positions floors b i < b
 
--- a rising list of so many entries up to 1,000, and floors: for each number up to an entry the index of an entry not above it
+-- a rising list of so many entries up to 1,020, and floors: for each number up to an entry the index of an entry not above it
 pub record Axis (positions floors : List ℕ) (count : ℕ) : Type 0 where
   pub listed : count ≤ length positions
   pub rise : (i j : ℕ) → i < j → j < count → getD positions i 0 < getD positions j 0
-  pub side : (b : ℕ) → b < count → (getD positions b 0 ≤ 1000) × (getD positions b 0 < length floors)
+  pub side : (b : ℕ) → b < count → (getD positions b 0 ≤ 1020) × (getD positions b 0 < length floors)
   pub floored : (b x : ℕ) → b < count → x ≤ getD positions b 0 → (getD floors x 0 < count) × (getD positions (getD floors x 0) 0 ≤ x)
