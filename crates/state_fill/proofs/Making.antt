@@ -11,6 +11,7 @@ use lib.Dec.{T}
 use lib.ListN.{length, getD}
 use Rattle.cutting.specs.declared.Direction.{Direction}
 use Rattle.cutting.specs.declared.Direction.the-variants.{Length, Width}
+use Rattle.cutting.specs.Limits.{most-wide-figure}
 use Rattle.cutting.specs.Pieces.{upright}
 use Rattle.cutting.specs.Job.{Job}
 use Rattle.cutting.specs.Listed.{InTableRange}
@@ -182,7 +183,7 @@ module _ {J : Job} {own : ℕ → ℕ} {normal-lengths length-floors normal-widt
   cell-fits = (omega (arith, spot .stride-is, cell-before 0 (position-count J Width) words (omega (arith, spot .width-in .1))), omega (arith, at-row))
 
   -- a plate has few normal positions
-  pub few : (a ≤ 1000) × (b ≤ 1000)
+  pub few : (a ≤ 1020) × (b ≤ 1020)
   few = (omega (arith, positions-length J Length, fit .plate-length, spot .length-in .1), omega (arith, positions-length J Width, fit .plate-width, spot .width-in .1))
 
   -- the cuts of its two sides
@@ -192,7 +193,7 @@ module _ {J : Job} {own : ℕ → ℕ} {normal-lengths length-floors normal-widt
   pub width-cuts-are : Cuts normal-widths width-floors b width-half-end
   width-cuts-are = half-cuts normal-widths width-floors (position-count J Width) (positions-axis J Width (position-count J Width) normal-widths width-floors fit (spot .lent .widths)) b width-half-end (spot .width-in .1) (spot .width-half)
 
-  low : (i j s : ℕ) → i < position-count J Length → j < position-count J Width → F i j s ≤ 1000000000000
+  low : (i j s : ℕ) → i < position-count J Length → j < position-count J Width → F i j s ≤ most-wide-figure
   low i j s h m = omega (
     arith,
     state-low J (under blocks d) own order fit (getD normal-lengths i 0) (getD normal-widths j 0) s (positions-axis J Length (position-count J Length) normal-lengths length-floors fit (spot .lent .lengths) .side i h .0),

@@ -8,6 +8,7 @@ use mathlib.Core.List.{List}
 use Prim.Native.Nat.{ℕ, _+_, _-_, _*_, _/_, _%_, _≤_, _<_}
 use lib.Dec.{T}
 use lib.ListN.{length, getD}
+use Rattle.cutting.specs.Limits.{most-wide-figure}
 use Rattle.cutting.specs.Job.{Job}
 use Rattle.table.specs.Words.{Outside, remainder, Cuts}
 use Rattle.table.specs.States.{below, Blocks, Covers}
@@ -120,7 +121,7 @@ pub record Taken (le : ℕ → ℕ → Bool) (at words t u v : ℕ) (old new : L
 -- has the greatest one, the list has states only, and nothing is noted past its end
 pub record Ready (xs : List ℕ) (x words at : ℕ) : Type 0 where
   pub before : x + words ≤ at
-  pub small : (s : ℕ) → s < words → held xs x s ≤ 1000000000000
+  pub small : (s : ℕ) → s < words → held xs x s ≤ most-wide-figure
   pub most : (s : ℕ) → s < words → held xs x s ≤ held xs x (words - 1)
   pub notes : (k : ℕ) → k < words → note xs x k ≤ words
   pub ended : (j k : ℕ) → j ≤ k → k < words → note xs x j ≡ 0 → note xs x k ≡ 0
@@ -130,7 +131,7 @@ pub record Joinable (blocks : List ℕ) (d words at second t v : ℕ) (xs : List
   pub growing : Growing blocks d words at xs
   pub ready : Ready xs second words at
   pub state : t < words
-  pub small : v ≤ 1000000000000
+  pub small : v ≤ most-wide-figure
 
 -- the cell has taken v at state t with the figure of each state on the list of the cell from `second` on
 pub record JoinedWith (le : ℕ → ℕ → Bool) (at words t v second : ℕ) (old new : List ℕ) : Type 0 where

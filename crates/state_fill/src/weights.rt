@@ -30,7 +30,7 @@ pub fn fill_weighed(
         words: words,
         stride: columns * words,
     };
-    let width_floors = &floors[1001..];
+    let width_floors = &floors[1021..];
     fill(
         table,
         pieces,
