@@ -159,7 +159,7 @@ module _ (size : TableSize) (pieces normal-lengths normal-widths floors table : 
   row-of = getD floors (cell .sides .length) 0
 
   abbrev pub column-of : ℕ
-  column-of = getD (drop 1001 floors) (cell .sides .width) 0
+  column-of = getD (drop 1021 floors) (cell .sides .width) 0
 
   abbrev pub piece-search : Option ℕ
   piece-search = first (piece-test pieces cell value) (range 0 (size .count))
@@ -168,7 +168,7 @@ module _ (size : TableSize) (pieces normal-lengths normal-widths floors table : 
   length-search = first-index normal-lengths floors table (cell .sides .length) row-of (size .columns * (size .capacity + 1)) (column-of * (size .capacity + 1)) (cell .share) value
 
   abbrev pub width-search : Option (ℕ × ℕ)
-  width-search = first-index normal-widths (drop 1001 floors) table (cell .sides .width) column-of (size .capacity + 1) (row-of * (size .columns * (size .capacity + 1))) (cell .share) value
+  width-search = first-index normal-widths (drop 1021 floors) table (cell .sides .width) column-of (size .capacity + 1) (row-of * (size .columns * (size .capacity + 1))) (cell .share) value
 
   -- a cut that they find, or waste
   abbrev pub cut-answer : Chosen
@@ -192,33 +192,33 @@ module _ {size : TableSize} {pieces normal-lengths normal-widths floors table : 
       sym (searched pieces normal-lengths normal-widths (cell .share) (eqb v 0) (piece-search size pieces normal-lengths normal-widths floors table cell v)
       (length-search size pieces normal-lengths normal-widths floors table cell v) (width-search size pieces normal-lengths normal-widths floors table cell v)
       (plain-first (size .length, size .width) (size .count) (size-in pieces) (price-in pieces) (laid-earns N (heavy-in pieces) (cell .sides .length) (cell .sides .width) (cell .share)))
-      (pairs-of Length normal-lengths floors (t .tabled .lengths-are) (t .tabled .lengths-floored)) (pairs-of Width normal-widths (drop 1001 floors) (t .tabled .widths-are) (t .tabled .widths-floored)))
+      (pairs-of Length normal-lengths floors (t .tabled .lengths-are) (t .tabled .lengths-floored)) (pairs-of Width normal-widths (drop 1021 floors) (t .tabled .widths-are) (t .tabled .widths-floored)))
 
   -- what the code multiplies and reads is in reach
-  pub sizes : (getD floors (cell .sides .length) 0 < 1002) × (getD (drop 1001 floors) (cell .sides .width) 0 < 1002) × (size .columns * (size .capacity + 1) ≤ 4100096)
-      × (getD floors (cell .sides .length) 0 * (size .columns * (size .capacity + 1)) ≤ 4104196096) × (getD (drop 1001 floors) (cell .sides .width) 0 * (size .capacity + 1) ≤ 4100096)
+  pub sizes : (getD floors (cell .sides .length) 0 < 1022) × (getD (drop 1021 floors) (cell .sides .width) 0 < 1022) × (size .columns * (size .capacity + 1) ≤ 4182016)
+      × (getD floors (cell .sides .length) 0 * (size .columns * (size .capacity + 1)) ≤ 4269838336) × (getD (drop 1021 floors) (cell .sides .width) 0 * (size .capacity + 1) ≤ 4182016)
   sizes = cell-sizes (t .tabled) (cell .sides .length) (cell .sides .width) (at .on-length) (at .on-width)
 
-  pub there : getD floors (cell .sides .length) 0 * (size .columns * (size .capacity + 1)) + getD (drop 1001 floors) (cell .sides .width) 0 * (size .capacity + 1) + cell .share < length table
+  pub there : getD floors (cell .sides .length) 0 * (size .columns * (size .capacity + 1)) + getD (drop 1021 floors) (cell .sides .width) 0 * (size .capacity + 1) + cell .share < length table
   there = cell-there (t .tabled) (cell .sides .length) (cell .sides .width) (at .on-length) (at .on-width) (cell .share) (at .in-capacity)
 
-  pub cuts-searchable : {a b : ℕ} → a ≡ getD floors (cell .sides .length) 0 → b ≡ getD (drop 1001 floors) (cell .sides .width) 0
+  pub cuts-searchable : {a b : ℕ} → a ≡ getD floors (cell .sides .length) 0 → b ≡ getD (drop 1021 floors) (cell .sides .width) 0
       → Searchable normal-lengths floors table (cell .sides .length) a (size .columns * (size .capacity + 1)) (b * (size .capacity + 1)) (cell .share)
-      × Searchable normal-widths (drop 1001 floors) table (cell .sides .width) b (size .capacity + 1) (a * (size .columns * (size .capacity + 1))) (cell .share)
+      × Searchable normal-widths (drop 1021 floors) table (cell .sides .width) b (size .capacity + 1) (a * (size .columns * (size .capacity + 1))) (cell .share)
   cuts-searchable e f = rw (e, f) (
     searchable (t .tabled) (cell .sides .length) (cell .sides .width) (at .on-length) (at .on-width) Length normal-lengths floors (t .tabled .lengths-are) (t .tabled .lengths-floored) (omega (arith, t .floors-there)) (cell .share) (at .in-capacity),
-    searchable (t .tabled) (cell .sides .length) (cell .sides .width) (at .on-length) (at .on-width) Width normal-widths (drop 1001 floors) (t .tabled .widths-are) (t .tabled .widths-floored) (omega (arith, t .floors-there, length-drop 1001 floors)) (cell .share) (at .in-capacity),
+    searchable (t .tabled) (cell .sides .length) (cell .sides .width) (at .on-length) (at .on-width) Width normal-widths (drop 1021 floors) (t .tabled .widths-are) (t .tabled .widths-floored) (omega (arith, t .floors-there, length-drop 1021 floors)) (cell .share) (at .in-capacity),
   )
 
   -- the value of the cell
   abbrev pub word-at : ℕ
-  word-at = getD table (getD floors (cell .sides .length) 0 * (size .columns * (size .capacity + 1)) + getD (drop 1001 floors) (cell .sides .width) 0 * (size .capacity + 1) + cell .share) 0
+  word-at = getD table (getD floors (cell .sides .length) 0 * (size .columns * (size .capacity + 1)) + getD (drop 1021 floors) (cell .sides .width) 0 * (size .capacity + 1) + cell .share) 0
 
   answer-choice : answer size pieces normal-lengths normal-widths floors table cell word-at ≡ chosen-at size pieces cell
   answer-choice = ap (λ v. answer size pieces normal-lengths normal-widths floors table cell v) (cell-figure (t .tabled) (cell .sides .length) (cell .sides .width) (at .on-length) (at .on-width) (cell .share) (at .in-capacity)) ∙ answer-figure
 
   -- each way out of the code answers the choice
-  module _ {a b value : ℕ} (e : a ≡ getD floors (cell .sides .length) 0) (f : b ≡ getD (drop 1001 floors) (cell .sides .width) 0)
+  module _ {a b value : ℕ} (e : a ≡ getD floors (cell .sides .length) 0) (f : b ≡ getD (drop 1021 floors) (cell .sides .width) 0)
       (v : value ≡ getD table (a * (size .columns * (size .capacity + 1)) + b * (size .capacity + 1) + cell .share) 0) where
     word-is : value ≡ word-at
     word-is = v ∙ ap₂ (λ a b. getD table (a * (size .columns * (size .capacity + 1)) + b * (size .capacity + 1) + cell .share) 0) e f
@@ -232,6 +232,6 @@ module _ {size : TableSize} {pieces normal-lengths normal-widths floors table : 
 
       pub cut-chosen : {r : Chosen} → piece-found pieces (piece-search size pieces normal-lengths normal-widths floors table cell value) ≡ piece.Missing
           → r ≡ or-length-cut (cut-found normal-lengths (first-index normal-lengths floors table (cell .sides .length) a (size .columns * (size .capacity + 1)) (b * (size .capacity + 1)) (cell .share) value))
-          (or-width-cut (cut-found normal-widths (first-index normal-widths (drop 1001 floors) table (cell .sides .width) b (size .capacity + 1) (a * (size .columns * (size .capacity + 1))) (cell .share) value)))
+          (or-width-cut (cut-found normal-widths (first-index normal-widths (drop 1021 floors) table (cell .sides .width) b (size .capacity + 1) (a * (size .columns * (size .capacity + 1))) (cell .share) value)))
           → r ≡ chosen-at size pieces cell
       cut-chosen k c = rw (e, f) at c ∙ sym (exit-cut _ _ _ (ne-eqb value 0 z) k) ∙ ap (λ v. answer size pieces normal-lengths normal-widths floors table cell v) word-is ∙ answer-choice

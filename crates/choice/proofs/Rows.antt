@@ -8,6 +8,7 @@ use native.Mathlib.Omega.{arith}
 use lib.ListN.{length, getD}
 use Rattle.cutting.specs.declared.Direction.{Direction}
 use Rattle.cutting.specs.declared.Direction.the-variants.{Length, Width}
+use Rattle.cutting.specs.Limits.{most-wide-figure}
 use Rattle.cutting.specs.Tree.{Rect, side, part}
 use Rattle.cutting.specs.Job.{Job, figure-of, normal-side, normal-floor}
 use Rattle.cutting.specs.Listed.{InTableRange}
@@ -44,11 +45,11 @@ word-below p r n a b k h g l =
 position-floor : (J : Job) (d : Direction) (i : ℕ) → i < position-count J d → normal-floor J d (position J d i) ≡ position J d i
 position-floor J d i h = positions-floor J d i (position J d i) (positions-normal J d i h .1) h (omega arith) (λ g. positions-rise J d i (suc i) (omega arith) g)
 
--- no figure on the plate is above 1,000,000,000,000
-figure-most : (J : Job) (weight : ℕ → ℕ) → InTableRange J → (r : Rect) (c : ℕ) → r .0 ≤ J .plate .0 → r .1 ≤ J .plate .1 → figure-at J weight r c ≤ 1000000000000
+-- no figure on the plate is above 1,040,400,000,000
+figure-most : (J : Job) (weight : ℕ → ℕ) → InTableRange J → (r : Rect) (c : ℕ) → r .0 ≤ J .plate .0 → r .1 ≤ J .plate .1 → figure-at J weight r c ≤ most-wide-figure
 figure-most J weight h r c a b =
-    let x : r .0 ≤ 1000 = omega (arith, h .plate-length) in
-    let y : r .1 ≤ 1000 = omega (arith, h .plate-width) in
+    let x : r .0 ≤ 1020 = omega (arith, h .plate-length) in
+    let y : r .1 ≤ 1020 = omega (arith, h .plate-width) in
     omega (arith, figure-ceiling J weight (table-solid J h) (h .prices) (r .0) (r .1) c, mul-le-mul x y)
 
 module _ {J : Job} {weight : ℕ → ℕ} {columns q : ℕ} {normal-lengths normal-widths length-floors width-floors table : List ℕ} (t : Tabled J weight columns q normal-lengths normal-widths length-floors width-floors table)
@@ -116,10 +117,10 @@ module _ {J : Job} {weight : ℕ → ℕ} {columns q : ℕ} {normal-lengths norm
   cell-figure c h = mapped-figure Length length-floors (t .lengths-floored) l c on-length h
 
   -- a cut in one direction can be searched for
-  pub searchable : (d : Direction) (positions floors : List ℕ) → Listed J d positions → Mapped J d floors → 1000 < length floors → (c : ℕ) → c ≤ q
+  pub searchable : (d : Direction) (positions floors : List ℕ) → Listed J d positions → Mapped J d floors → 1020 < length floors → (c : ℕ) → c ≤ q
       → Searchable positions floors table (side d (l, w)) (getD floors (side d (l, w)) 0) (stride-of columns q d) (base-of columns q d a-of b-of) c
   searchable d positions floors listed mapped there c h =
-      let on : (side d (l, w) ≤ side d (J .plate)) × (side d (J .plate) ≤ 1000) = elim d [ Length ↦ (on-length, t .in-range .plate-length .1) | Width ↦ (on-width, t .in-range .plate-width .1) ] in
+      let on : (side d (l, w) ≤ side d (J .plate)) × (side d (J .plate) ≤ 1020) = elim d [ Length ↦ (on-length, t .in-range .plate-length .1) | Width ↦ (on-width, t .in-range .plate-width .1) ] in
       let last = mapped (side d (l, w)) (on .0) in
       record {
         mapped = omega (arith, on);
@@ -130,11 +131,11 @@ module _ {J : Job} {weight : ℕ → ℕ} {columns q : ℕ} {normal-lengths norm
       }
 
   -- no index, and no word where a row begins, is large
-  pub cell-sizes : (a-of < 1002) × (b-of < 1002) × (columns * (q + 1) ≤ 4100096) × (a-of * (columns * (q + 1)) ≤ 4104196096) × (b-of * (q + 1) ≤ 4100096)
+  pub cell-sizes : (a-of < 1022) × (b-of < 1022) × (columns * (q + 1) ≤ 4182016) × (a-of * (columns * (q + 1)) ≤ 4269838336) × (b-of * (q + 1) ≤ 4182016)
   cell-sizes =
-      let a : a-of ≤ 1001 = omega (arith, t .lengths-floored l on-length .0, positions-length J Length, t .in-range .plate-length) in
-      let r : columns ≤ 1001 = omega (arith, t .columns-are, positions-length J Width, t .in-range .plate-width) in
-      let b : b-of ≤ 1001 = omega (arith, t .widths-floored w on-width .0, positions-length J Width, t .in-range .plate-width) in
+      let a : a-of ≤ 1021 = omega (arith, t .lengths-floored l on-length .0, positions-length J Length, t .in-range .plate-length) in
+      let r : columns ≤ 1021 = omega (arith, t .columns-are, positions-length J Width, t .in-range .plate-width) in
+      let b : b-of ≤ 1021 = omega (arith, t .widths-floored w on-width .0, positions-length J Width, t .in-range .plate-width) in
       let n : q + 1 ≤ 4096 = omega (arith, t .capacity-most) in
-      let s : columns * (q + 1) ≤ 4100096 = mul-le-mul r n in
+      let s : columns * (q + 1) ≤ 4182016 = mul-le-mul r n in
       (omega arith, omega arith, s, mul-le-mul a s, mul-le-mul b n)

@@ -9,6 +9,7 @@ use native.Mathlib.Omega.{arith}
 use borrow.Author.Tests.{eq-eqb, ne-eqb}
 use lib.Dec.{eqb}
 use lib.ListN.{length, getD}
+use Rattle.cutting.specs.Limits.{most-wide-figure}
 use Rattle.cutting.specs.Lists.{range, first, pairs}
 use Rattle.choice.specs.Search.{pair-test, Row, Searchable}
 
@@ -83,7 +84,7 @@ module _ (f : ℕ × ℕ → Bool) (m n i : ℕ) where
 module _ {positions floors table : List ℕ} {side last stride base c : ℕ} (s : Searchable positions floors table side last stride base c) where
   -- the words of the remainder's row are there
   pub second-word : (i k : ℕ) {x rest : ℕ} → x ≡ getD positions i 0 → rest ≡ getD floors (side - x) 0 → k < c + 1
-      → (rest * stride + base + c < length table) × (rest * stride + base + c - k < length table) × (getD table (rest * stride + base + c - k) 0 ≤ 1000000000000)
+      → (rest * stride + base + c < length table) × (rest * stride + base + c - k < length table) × (getD table (rest * stride + base + c - k) 0 ≤ most-wide-figure)
   second-word i k {x} {rest} e f h =
       let r : Row table stride base c rest = rw f (s .remainders (side - x) (omega arith)) in
       let g : rest * stride + base + c - k ≡ rest * stride + base + (c - k) = omega arith in

@@ -30,11 +30,11 @@ pub record Tabled (J : Job) (weight : ℕ → ℕ) (columns q : ℕ) (normal-len
   pub words-there : words-needed J q ≤ length table
   pub figures : Figures J weight q table
 
--- the same of an array of pieces, with the floors in one array: those of the lengths first, those of the widths from entry 1001 on
+-- the same of an array of pieces, with the floors in one array: those of the lengths first, those of the widths from entry 1021 on
 pub record ChoiceInput (size : TableSize) (pieces normal-lengths normal-widths floors table : List ℕ) : Type 0 where
   pub numbered : Numbered (size .count) pieces
-  pub floors-there : length floors ≡ 2002
-  pub tabled : Tabled (size-job size pieces) (heavy-in pieces) (size .columns) (size .capacity) normal-lengths normal-widths floors (drop 1001 floors) table
+  pub floors-there : length floors ≡ 2042
+  pub tabled : Tabled (size-job size pieces) (heavy-in pieces) (size .columns) (size .capacity) normal-lengths normal-widths floors (drop 1021 floors) table
 
 -- a cell whose rectangle lies on the plate, no side 0, with a share up to the capacity
 pub record Inside (J : Job) (size : TableSize) (cell : Cell) : Type 0 where

@@ -9,7 +9,7 @@ use lib.ListN.{length, getD}
 use Rattle.cutting.specs.declared.Direction.the-variants.{Length, Width}
 use Rattle.cutting.specs.declared.Node.{Node}
 use Rattle.cutting.specs.declared.Node.the-variants.{Waste, Piece, Turned, Cut}
-use Rattle.cutting.specs.Limits.{most-pieces, most-capacity, most-figure}
+use Rattle.cutting.specs.Limits.{most-pieces, most-capacity, most-wide-figure}
 use Rattle.cutting.specs.Lists.{range, first, pairs}
 use Rattle.cutting.specs.Pieces.{fits-in}
 use Rattle.cutting.specs.Sides.{rect-of}
@@ -71,7 +71,7 @@ or-length-cut (cut.At x k) r = record { node = Cut Length x; share = k }
 
 -- a row of the table, from a share up to c: its words are there, and the sum of two of them does not wrap
 abbrev pub Row : List ℕ → ℕ → ℕ → ℕ → ℕ → Type 0
-Row table stride base c i = (k : ℕ) → k ≤ c → (i * stride + base + k < length table) × (getD table (i * stride + base + k) 0 ≤ most-figure)
+Row table stride base c i = (k : ℕ) → k ≤ c → (i * stride + base + k < length table) × (getD table (i * stride + base + k) 0 ≤ most-wide-figure)
 
 -- what the search for a cut reads: the positions below the last are listed and not above the side, and their rows and those of the
 -- remainders are there

@@ -160,10 +160,10 @@ fn choose_cut(
     table: &[u64],
 ) -> Chosen
     requires { ⌜ Searchable (now «normal_lengths») (now floors) (now table) (cell .sides .length) a (size .columns * (size .capacity + 1)) (b * (size .capacity + 1)) (cell .share)
-        × Searchable (now «normal_widths») (drop 1001 (now floors)) (now table) (cell .sides .width) b (size .capacity + 1) (a * (size .columns * (size .capacity + 1))) (cell .share) ⌝ }
+        × Searchable (now «normal_widths») (drop 1021 (now floors)) (now table) (cell .sides .width) b (size .capacity + 1) (a * (size .columns * (size .capacity + 1))) (cell .share) ⌝ }
     ensures { λ r. ⌜ r ≡ or-length-cut
         (cut-found (now («normal_lengths» .entry)) (first-index (now («normal_lengths» .entry)) (now (floors .entry)) (now (table .entry)) (cell .sides .length) a (size .columns * (size .capacity + 1)) (b * (size .capacity + 1)) (cell .share) value))
-        (or-width-cut (cut-found (now («normal_widths» .entry)) (first-index (now («normal_widths» .entry)) (drop 1001 (now (floors .entry))) (now (table .entry)) (cell .sides .width) b (size .capacity + 1) (a * (size .columns * (size .capacity + 1))) (cell .share) value))) ⌝ }
+        (or-width-cut (cut-found (now («normal_widths» .entry)) (first-index (now («normal_widths» .entry)) (drop 1021 (now (floors .entry))) (now (table .entry)) (cell .sides .width) b (size .capacity + 1) (a * (size .columns * (size .capacity + 1))) (cell .share) value))) ⌝ }
 {
     let l = cell.sides.length as usize;
     let w = cell.sides.width as usize;
@@ -172,7 +172,7 @@ fn choose_cut(
     let row = size.columns as usize * shares;
     let column = b * shares;
     let start = a * row;
-    let width_floors = &floors[1001..];
+    let width_floors = &floors[1021..];
     let along = find_cut(normal_lengths, floors, table, l, a, row, column, c, value);
     if let CutFound::At(x, k) = along {
         return choice_of(Node::Cut(Direction::Length, x), k);
@@ -195,7 +195,7 @@ fn choose_cut(
 }
 
 // The choice at a cell: figure 0 gives waste; otherwise the lowest-numbered piece that earns the figure; otherwise a cut. The floors are
-// those of the lengths from entry 0 on, and those of the widths from entry 1001 on.
+// those of the lengths from entry 0 on, and those of the widths from entry 1021 on.
 pub fn choose(
     cell: Cell,
     size: TableSize,
@@ -209,7 +209,7 @@ pub fn choose(
     ensures { λ r. ⌜ r ≡ chosen-at size (now (pieces .entry)) cell ⌝ }
 {
     let a = floors[cell.sides.length as usize] as usize;
-    let b = floors[1001 + cell.sides.width as usize] as usize;
+    let b = floors[1021 + cell.sides.width as usize] as usize;
     let shares = size.capacity as usize + 1;
     let row = size.columns as usize * shares;
     let value = table[a * row + b * shares + cell.share as usize];

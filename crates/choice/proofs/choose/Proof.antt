@@ -11,8 +11,8 @@ use Rattle.choice.proofs.choose.Statement.{statement}
 use Rattle.choice.proofs.choose.Tie as tie
 
 -- the index of the tabled width stands past those of the lengths
-column : (s : tie.Start) → getD (now (s .args .floors)) (1001 + s .args .cell .sides .width) 0 ≡ getD (drop 1001 (now (s .args .floors))) (s .args .cell .sides .width) 0
-column s = sym (getD-drop 1001 (now (s .args .floors)) (s .args .cell .sides .width) 0)
+column : (s : tie.Start) → getD (now (s .args .floors)) (1021 + s .args .cell .sides .width) 0 ≡ getD (drop 1021 (now (s .args .floors))) (s .args .cell .sides .width) 0
+column s = sym (getD-drop 1021 (now (s .args .floors)) (s .args .cell .sides .width) 0)
 
 cast-a-2 : tie.Need-cast-a-2
 cast-a-2 c =

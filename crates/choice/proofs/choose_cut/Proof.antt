@@ -12,9 +12,9 @@ use Rattle.choice.proofs.choose_cut.Statement.{statement}
 use Rattle.choice.proofs.choose_cut.Tie as tie
 
 -- the floors of the widths are a part of the floors, and searched by it
-width-searchable : (s : tie.Start) → Searchable (now (s .args .normal-widths)) (take (length (now (s .args .floors)) - 1001) (drop 1001 (now (s .args .floors)))) (now (s .args .table)) (s .args .cell .sides .width) (s .args .b)
+width-searchable : (s : tie.Start) → Searchable (now (s .args .normal-widths)) (take (length (now (s .args .floors)) - 1021) (drop 1021 (now (s .args .floors)))) (now (s .args .table)) (s .args .cell .sides .width) (s .args .b)
     (s .args .size .capacity + 1) (s .args .a * (s .args .size .columns * (s .args .size .capacity + 1))) (s .args .cell .share)
-width-searchable s = rw (rest-part 1001 (now (s .args .floors))) (s .pre .1)
+width-searchable s = rw (rest-part 1021 (now (s .args .floors))) (s .pre .1)
 
 mul-row : tie.Need-mul-row
 mul-row c =
@@ -37,12 +37,12 @@ mul-start c =
 sub-width-floors : tie.Need-sub-width-floors
 sub-width-floors c =
     let e = c .before .before .before .before .before .before .before .before .before in
-    omega (arith, e .pre .1 .mapped, length-drop 1001 (now (e .args .floors)))
+    omega (arith, e .pre .1 .mapped, length-drop 1021 (now (e .args .floors)))
 
 part-width-floors-start : tie.Need-part-width-floors-start
 part-width-floors-start c =
     let e = c .before .before .before .before .before .before .before .before .before in
-    omega (arith, e .pre .1 .mapped, length-drop 1001 (now (e .args .floors)))
+    omega (arith, e .pre .1 .mapped, length-drop 1021 (now (e .args .floors)))
 
 find-cut-requires : tie.Need-find-cut-requires
 find-cut-requires c κs = let across = width-searchable (c .before .before .before .before .before .before .before .before .before .before) in search needs
@@ -55,12 +55,12 @@ find-cut-requires-2 c κs = width-searchable (c .before .before .before .before 
 
 returns-2 : tie.Need-returns-2
 returns-2 c =
-    let across = rw (rest-part 1001 (now (c .before .before .before .before .before .before .before .before .before .before .before .before .before .before .before .before .before .before .args .floors))) at (c .before .before .before .before .find-cut2 .ensures) in
+    let across = rw (rest-part 1021 (now (c .before .before .before .before .before .before .before .before .before .before .before .before .before .before .before .before .before .before .args .floors))) at (c .before .before .before .before .find-cut2 .ensures) in
     c .choice-of2 .ensures ∙ width-out (sym (c .before .before .before .before .before .before .before .find-cut .ensures) ∙ c .before .before .before .before .before .enum-told .given .1) (sym across ∙ c .before .before .across .given .1)
 
 returns-3 : tie.Need-returns-3
 returns-3 c =
-    let across = rw (rest-part 1001 (now (c .before .before .before .before .before .before .before .before .before .before .before .before .before .before .before .before .before .args .floors))) at (c .before .before .before .find-cut2 .ensures) in
+    let across = rw (rest-part 1021 (now (c .before .before .before .before .before .before .before .before .before .before .before .before .before .before .before .before .before .args .floors))) at (c .before .before .before .find-cut2 .ensures) in
     c .choice-of3 .ensures ∙ waste-out (sym (c .before .before .before .before .before .before .find-cut .ensures) ∙ c .before .before .before .before .enum-told .given .1) (sym across ∙ c .before .enum-told2 .given .1)
 
 pub choose-cut-spec : {M : Type 1} → statement M
