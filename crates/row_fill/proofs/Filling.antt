@@ -97,7 +97,7 @@ pub record Filling (J : Job) (weight : ℕ → ℕ) (length-count : ℕ) (normal
   pub half-to : half-end ≤ a
   pub halves : (i : ℕ) → 1 ≤ i → i < half-end → a < length-count → 2 * getD normal-lengths i 0 ≤ getD normal-lengths a 0
   pub same : length table ≡ length old
-  pub units : length unit ≡ 1001
+  pub units : length unit ≡ 1021
   pub capped : Capped unit
   pub rows : Rows J weight normal-lengths normal-widths columns a table
   pub kept : (i : ℕ) → length-count * columns ≤ i → getD table i 0 ≡ getD old i 0
@@ -123,7 +123,7 @@ module _ {size : TableSize} {pieces normal-lengths normal-widths floors lent : L
 
   -- the floors of the normal widths, which the code does not read
   abbrev width-floors : List ℕ
-  width-floors = drop 1001 floors
+  width-floors = drop 1021 floors
 
   length-axis : Axis normal-lengths floors length-count
   length-axis = positions-axis J Length length-count normal-lengths floors fit (given .lengths)
@@ -138,17 +138,17 @@ module _ {size : TableSize} {pieces normal-lengths normal-widths floors lent : L
   abbrev cell : ℕ → ℕ → ℕ
   cell i b = figure-at J leb weight (getD normal-lengths i 0) (getD normal-widths b 0) 0
 
-  cell-low : (i b : ℕ) → i < length-count → cell i b ≤ getD normal-widths b 0 * 1000000000
+  cell-low : (i b : ℕ) → i < length-count → cell i b ≤ getD normal-widths b 0 * 1020000000
   cell-low i b h = state-low J leb weight plain-order fit (getD normal-lengths i 0) (getD normal-widths b 0) 0 (length-axis .side i h .0)
 
   -- there is a row, and the table has room for all rows
   pub some-rows : 1 ≤ length-count
   some-rows = omega (arith, given .lengths .counted, positions-some J Length)
 
-  pub few-rows : length-count ≤ 1001
+  pub few-rows : length-count ≤ 1021
   few-rows = omega (arith, given .lengths .counted, positions-length J Length, fit .plate-length .1)
 
-  few-columns : columns ≤ 1001
+  few-columns : columns ≤ 1021
   few-columns = omega (arith, given .widths .counted, positions-length J Width, fit .plate-width .1)
 
   pub words-are : words-needed J 0 ≡ length-count * columns
@@ -161,7 +161,7 @@ module _ {size : TableSize} {pieces normal-lengths normal-widths floors lent : L
   all-room = omega (arith, words-are, rw (asked .1) at (given .room))
 
   -- the row of length 0
-  pub fill-none : {old new unit : List ℕ} → Run (λ j. 0) 0 columns old new → length unit ≡ 1001 → Capped unit → Filling J weight length-count normal-lengths columns normal-widths 1 columns 1 unit new new
+  pub fill-none : {old new unit : List ℕ} → Run (λ j. 0) 0 columns old new → length unit ≡ 1021 → Capped unit → Filling J weight length-count normal-lengths columns normal-widths 1 columns 1 unit new new
   fill-none {new = new} cleared units capped = record {
     from = omega arith;
     to = some-rows;
@@ -206,8 +206,8 @@ module _ {size : TableSize} {pieces normal-lengths normal-widths floors lent : L
     pub row-end : start + columns ≤ length-count * columns
     row-end = omega (arith, fill .place, cell-before a length-count columns ha)
 
-    pub end-few : start + columns ≤ 1002001
-    end-few = omega (arith, row-end, mul-le-mul-right {m = length-count} {n = 1001} columns few-rows, few-columns)
+    pub end-few : start + columns ≤ 1042441
+    end-few = omega (arith, row-end, mul-le-mul-right {m = length-count} {n = 1021} columns few-rows, few-columns)
 
     -- what the search for the half asks
     pub row-half : HalfReady normal-lengths from a

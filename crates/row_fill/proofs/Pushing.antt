@@ -88,11 +88,11 @@ module _ {normal-widths : List ℕ} {columns side : ℕ} (entries : Entries norm
             go (no q) (no z) = omega (arith, flat-between y (omega arith) (omega arith), last-low, more f joins (getD normal-widths (b - 1) 0) y (omega arith))
 
       -- so the units up to this entry can be added
-      pub flat-small : side ≤ 1000 → ((i : ℕ) → i < columns → getD units (getD normal-widths i 0) 0 ≤ getD normal-widths i 0 * 1000000000) → (y : ℕ) → y ≤ x → getD flat y 0 ≤ ceiling
-      flat-small h base y l = omega (arith, flat-low (λ y. y * 1000000000) (λ x y. omega arith) base y l, entries .within b hb)
+      pub flat-small : side ≤ 1020 → ((i : ℕ) → i < columns → getD units (getD normal-widths i 0) 0 ≤ getD normal-widths i 0 * 1020000000) → (y : ℕ) → y ≤ x → getD flat y 0 ≤ ceiling
+      flat-small h base y l = omega (arith, flat-low (λ y. y * 1020000000) (λ x y. omega arith) base y l, entries .within b hb)
 
       -- and no unit is above two of them together, before the push and after
-      module _ (within : side ≤ 1000) (base : (i : ℕ) → i < columns → getD units (getD normal-widths i 0) 0 ≤ getD normal-widths i 0 * 1000000000) (capped : Capped unit) where
+      module _ (within : side ≤ 1020) (base : (i : ℕ) → i < columns → getD units (getD normal-widths i 0) 0 ≤ getD normal-widths i 0 * 1020000000) (capped : Capped unit) where
         pub flat-capped : Capped flat
         flat-capped i = go (decLe i x)
           where
@@ -198,7 +198,7 @@ module _ {normal-widths : List ℕ} {columns side : ℕ} (entries : Entries norm
     -- the same, where the code read this entry as x, the last as `last` and the second as `least`
     module _ {b v x last : ℕ} {unit flat table : List ℕ} (lb : 1 ≤ b) (hb : b < columns) (e : x ≡ getD normal-widths b 0) (f : last ≡ getD normal-widths (b - 1) 0)
         (word : v ≡ getD table (start + (b - 1)) 0) (w : Widening normal-widths columns start b units unit old table) (level : Run (λ j. v) (last + 1) (x - (last + 1)) unit flat)
-        (within : side ≤ 1000) (base : (i : ℕ) → i < columns → getD units (getD normal-widths i 0) 0 ≤ getD normal-widths i 0 * 1000000000) (capped : Capped unit) where
+        (within : side ≤ 1020) (base : (i : ℕ) → i < columns → getD units (getD normal-widths i 0) 0 ≤ getD normal-widths i 0 * 1020000000) (capped : Capped unit) where
       pub units-small : (y : ℕ) → y ≤ x → getD flat y 0 ≤ ceiling
       units-small y l = flat-small lb hb word w (rw (e, f) at level) within base y (omega arith)
 
@@ -230,7 +230,7 @@ module _ {l count columns width start : ℕ} {pieces normal-widths unit table la
   widths-ready same = record {
     laid = record { entries = row .entries; side-low = row .side-low; units = omega (arith, row .units); room = row .room; capped = capped };
     first = raised-same kinds 0 (λ v s. omega (arith, s .alone .place, ready .lying .wide (s .index) (s .inside))) ∙ rw (row .entries .first, z) at (spread .here 0 (row .entries .some));
-    units-low = λ b h. kinds .low (getD normal-widths b 0) (getD normal-widths b 0 * 1000000000)
+    units-low = λ b h. kinds .low (getD normal-widths b 0) (getD normal-widths b 0 * 1020000000)
         (λ v s. omega (arith, s .alone .value, s .alone .place, ready .lying .priced (s .index) (s .inside), ready .lying .wide (s .index) (s .inside)))
         (omega (arith, spread .here b h, ready .words-low b h));
   }

@@ -1,17 +1,17 @@
--- What each step of a row asks: where it reads and writes, and that its sums stay small. A figure is at most 10^12, and no unit is ever more
--- than two figures together.
+-- What each step of a row asks: where it reads and writes, and that its sums stay small. A figure is at most 1,040,400,000,000, and no unit
+-- is ever more than two figures together.
 use mathlib.Core.Path.{_≡_}
 use mathlib.Core.List.{List}
 use Prim.Native.Nat.{ℕ, _+_, _*_, _≤_, _<_}
 use lib.ListN.{length, getD}
-use Rattle.cutting.specs.Limits.{most-pieces, most-price}
+use Rattle.cutting.specs.Limits.{most-wide-side, most-pieces, most-price, most-wide-figure}
 use Rattle.cutting.specs.Listed.{size-in, price-in}
 use Rattle.table.specs.Words.{Cuts}
 use Rattle.row_fill.specs.Rows.{Entries}
 
 -- the greatest figure
 abbrev pub ceiling : ℕ
-ceiling = 1000000000000
+ceiling = most-wide-figure
 
 -- no word is more than two figures together
 abbrev pub Capped : List ℕ → Type 0
@@ -60,19 +60,19 @@ pub record CellReady (x least side : ℕ) (unit : List ℕ) : Type 0 where
 -- a row of a plate in range, and units for its width
 pub record Laid (normal-widths : List ℕ) (columns side start : ℕ) (unit table : List ℕ) : Type 0 where
   pub entries : Entries normal-widths columns side
-  pub side-low : side ≤ 1000
+  pub side-low : side ≤ most-wide-side
   pub units : side < length unit
   pub room : start + columns ≤ length table
   pub capped : Capped unit
 
--- the units can give a row its width cuts: they hold figures, at most 10^9 for each unit of their width
+-- the units can give a row its width cuts: they hold figures, at most 1,020,000,000 for each unit of their width
 pub record WidthsReady (normal-widths : List ℕ) (columns side start : ℕ) (unit table : List ℕ) : Type 0 where
   pub laid : Laid normal-widths columns side start unit table
   pub first : getD unit 0 0 ≡ getD table start 0
-  pub units-low : (b : ℕ) → b < columns → getD unit (getD normal-widths b 0) 0 ≤ getD normal-widths b 0 * 1000000000
+  pub units-low : (b : ℕ) → b < columns → getD unit (getD normal-widths b 0) 0 ≤ getD normal-widths b 0 * 1020000000
 
 -- a row that has its length cuts can take its pieces and its width cuts
 pub record RowReady (pieces : List ℕ) (count : ℕ) (normal-widths : List ℕ) (columns width start : ℕ) (unit table : List ℕ) : Type 0 where
   pub laid : Laid normal-widths columns width start unit table
   pub lying : PiecesReady pieces count width unit
-  pub words-low : (b : ℕ) → b < columns → getD table (start + b) 0 ≤ getD normal-widths b 0 * 1000000000
+  pub words-low : (b : ℕ) → b < columns → getD table (start + b) 0 ≤ getD normal-widths b 0 * 1020000000

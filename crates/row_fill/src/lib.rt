@@ -231,7 +231,7 @@ pub fn fill(
 {
     let columns = size.columns as usize;
     let rows = size.rows as usize;
-    let mut unit = [0u64; 1001];
+    let mut unit = [0u64; 1021];
     set_run(table, 0, columns, 0);
     let mut start = columns;
     let mut half_end: usize = 1;

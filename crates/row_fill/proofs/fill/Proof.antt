@@ -20,7 +20,7 @@ set-run-requires : tie.Need-set-run-requires Inv-loop μ-loop
 set-run-requires c κs = let given = c .before .before .before .before .before .before .before .pre in omega (arith, all-room given, first-row given)
 
 loop-holds : tie.Need-loop-holds Inv-loop μ-loop
-loop-holds c = fill-none (c .before .before .before .before .before .before .before .before .before .before .pre) (c .before .before .set-run .ensures) refl (zeros-capped 1001)
+loop-holds c = fill-none (c .before .before .before .before .before .before .before .before .before .before .pre) (c .before .before .set-run .ensures) refl (zeros-capped 1021)
 
 half-requires : tie.Need-half-requires Inv-loop μ-loop
 half-requires c κs = row-half (c .before .before .before .before .before .before .before .before .before .before .before .before .pre) (c .before .loop .inv) (c .loop-test .taken)
