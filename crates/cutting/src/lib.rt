@@ -3,8 +3,9 @@
 // the theory.
 ghost use mathlib.Core.Path.{_≡_};
 ghost use Prim.Native.Nat.{_+_, _-_, _≤_};
+ghost use Rattle.cutting.specs.Limits.{most-side, most-kerf};
 ghost use Rattle.cutting.specs.Tree.{side, part};
-ghost use Rattle.cutting.specs.Pieces.{quarter, fits-in};
+ghost use Rattle.cutting.specs.Pieces.{quarter, wider, fits-in};
 ghost use Rattle.cutting.specs.Sides.{rect-of, sides-of};
 
 // What a cut divides: the length or the width.
@@ -34,6 +35,17 @@ pub fn turn(upright: Sides) -> Sides
     Sides {
         length: upright.width,
         width: upright.length,
+    }
+}
+
+// A rectangle with the kerf added to both sides.
+pub fn widen(sides: Sides, kerf: u16) -> Sides
+    requires { ⌜ (sides .length ≤ most-side) × (sides .width ≤ most-side) × (kerf ≤ most-kerf) ⌝ }
+    ensures { λ r. ⌜ r ≡ sides-of (wider kerf (rect-of sides)) ⌝ }
+{
+    Sides {
+        length: sides.length + kerf,
+        width: sides.width + kerf,
     }
 }
 

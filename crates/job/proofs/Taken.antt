@@ -27,9 +27,9 @@ pub record Taken (s : List ℕ) (choices : Choices) (ws : List ℕ) (j : JobReco
 
 module _ (s : List ℕ) (choices : Choices) (ws : List ℕ) where
   -- the verdict of both: the job's, and where it passes the weights'
-  pub both-by : {v w : Checked} → first-refusal (job-checks s) ≡ v → first-refusal (weight-checks (block-job s choices) ws) ≡ w
-      → first-refusal (job-checks s ++ weight-checks (block-job s choices) ws) ≡ next v w
-  both-by e f = first-append (job-checks s) (weight-checks (block-job s choices) ws) ∙ ap₂ next e f
+  pub both-by : {v w : Checked} → first-refusal (job-checks s choices) ≡ v → first-refusal (weight-checks (block-job s choices) ws) ≡ w
+      → first-refusal (job-checks s choices ++ weight-checks (block-job s choices) ws) ≡ next v w
+  both-by e f = first-append (job-checks s choices) (weight-checks (block-job s choices) ws) ∙ ap₂ next e f
 
   -- the answer of a verdict
   abbrev answer-by : Checked → Acceptance
@@ -41,18 +41,18 @@ module _ (s : List ℕ) (choices : Choices) (ws : List ℕ) where
   Told r = (r ≡ acceptance-of s choices ws) × (acceptance-outcome r ≡ acceptance-said s choices ws)
 
   -- its number and values are those of its verdict
-  told : {r : Acceptance} {v : Checked} → first-refusal (job-checks s ++ weight-checks (block-job s choices) ws) ≡ v → r ≡ answer-by v → Told r
-  told v e = let f = e ∙ sym (ap (λ v. answer-by v) v) in (f, ap (λ a. acceptance-outcome a) f ∙ go (first-refusal (job-checks s ++ weight-checks (block-job s choices) ws)))
+  told : {r : Acceptance} {v : Checked} → first-refusal (job-checks s choices ++ weight-checks (block-job s choices) ws) ≡ v → r ≡ answer-by v → Told r
+  told v e = let f = e ∙ sym (ap (λ v. answer-by v) v) in (f, ap (λ a. acceptance-outcome a) f ∙ go (first-refusal (job-checks s choices ++ weight-checks (block-job s choices) ws)))
     where
       go : (v : Checked) → acceptance-outcome (answer-by v) ≡ outcome-by v (job-values (record-of s choices) ++ (capacity (block-job s choices) (weight-in ws) ∷ []))
       go Passed = refl
       go (Refused r) = refl
 
   -- the job is refused
-  pub job-refused : {v : Checked} {x : Refusal} {r : Acceptance} → v ≡ first-refusal (job-checks s) → v ≡ Refused x → r ≡ record { verdict = v; job = empty-record; capacity = 0 } → Told r
+  pub job-refused : {v : Checked} {x : Refusal} {r : Acceptance} → v ≡ first-refusal (job-checks s choices) → v ≡ Refused x → r ≡ record { verdict = v; job = empty-record; capacity = 0 } → Told r
   job-refused {v} {x} e p f = told (both-by (sym e ∙ p) refl) (f ∙ ap (λ v. record { verdict = v; job = empty-record; capacity = 0 }) p)
 
-  module _ {v : Checked} {j : JobRecord} {w : WeightsAnswer} (e : v ≡ first-refusal (job-checks s)) (p : v ≡ Passed) (i : j ≡ record-of s choices) (f : w ≡ weights-answer (job-of j) ws) where
+  module _ {v : Checked} {j : JobRecord} {w : WeightsAnswer} (e : v ≡ first-refusal (job-checks s choices)) (p : v ≡ Passed) (i : j ≡ record-of s choices) (f : w ≡ weights-answer (job-of j) ws) where
     weighed : w ≡ weights-answer (block-job s choices) ws
     weighed = f ∙ ap (λ j. weights-answer (job-of j) ws) i
 
@@ -67,15 +67,15 @@ module _ (s : List ℕ) (choices : Choices) (ws : List ℕ) where
         told (both-by (sym e ∙ p) (k .0)) (ap₂ (λ j q. record { verdict = Passed; job = j; capacity = q }) i (k .1))
 
   -- the answer's verdict is the first refusal
-  verdict-is : {a : Acceptance} → a ≡ acceptance-of s choices ws → first-refusal (job-checks s ++ weight-checks (block-job s choices) ws) ≡ a .verdict
-  verdict-is e = sym (ap (λ a. a .verdict) e ∙ go (first-refusal (job-checks s ++ weight-checks (block-job s choices) ws)))
+  verdict-is : {a : Acceptance} → a ≡ acceptance-of s choices ws → first-refusal (job-checks s choices ++ weight-checks (block-job s choices) ws) ≡ a .verdict
+  verdict-is e = sym (ap (λ a. a .verdict) e ∙ go (first-refusal (job-checks s choices ++ weight-checks (block-job s choices) ws)))
     where
       go : (v : Checked) → answer-by v .verdict ≡ v
       go Passed = refl
       go (Refused r) = refl
 
   -- what a caller knows from a refusal
-  pub refused-both : {a : Acceptance} {x : Refusal} → a ≡ acceptance-of s choices ws → a .verdict ≡ Refused x → first-refusal (job-checks s ++ weight-checks (block-job s choices) ws) ≡ Refused x
+  pub refused-both : {a : Acceptance} {x : Refusal} → a ≡ acceptance-of s choices ws → a .verdict ≡ Refused x → first-refusal (job-checks s choices ++ weight-checks (block-job s choices) ws) ≡ Refused x
   refused-both e p = verdict-is e ∙ p
 
   -- and from an answer that both passed

@@ -84,11 +84,11 @@ refusal-answered J ws r e = go (first-refusal (weight-checks J ws)) e
     go (Refused x) e = cc
 
 -- a job block and weights are accepted where both pass
-pub accepted-both : (s : List ℕ) (choices : Choices) (ws : List ℕ) → Accepted s choices ws → (first-refusal (job-checks s) ≡ Passed) × (first-refusal (weight-checks (block-job s choices) ws) ≡ Passed)
-accepted-both s choices ws p = append-passed (job-checks s) (weight-checks (block-job s choices) ws) p
+pub accepted-both : (s : List ℕ) (choices : Choices) (ws : List ℕ) → Accepted s choices ws → (first-refusal (job-checks s choices) ≡ Passed) × (first-refusal (weight-checks (block-job s choices) ws) ≡ Passed)
+accepted-both s choices ws p = append-passed (job-checks s choices) (weight-checks (block-job s choices) ws) p
 
-pub both-accepted : (s : List ℕ) (choices : Choices) (ws : List ℕ) → first-refusal (job-checks s) ≡ Passed → first-refusal (weight-checks (block-job s choices) ws) ≡ Passed → Accepted s choices ws
-both-accepted s choices ws p q = passed-append (job-checks s) (weight-checks (block-job s choices) ws) p q
+pub both-accepted : (s : List ℕ) (choices : Choices) (ws : List ℕ) → first-refusal (job-checks s choices) ≡ Passed → first-refusal (weight-checks (block-job s choices) ws) ≡ Passed → Accepted s choices ws
+both-accepted s choices ws p q = passed-append (job-checks s choices) (weight-checks (block-job s choices) ws) p q
 
 -- accepted weights are as many as the kinds, and their capacity is at most 4,095
 pub accepted-weights : (s : List ℕ) (choices : Choices) (ws : List ℕ) → Accepted s choices ws → (length ws ≡ count-at s) × (capacity (block-job s choices) (weight-in ws) ≤ 4095)

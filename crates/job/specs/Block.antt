@@ -5,19 +5,23 @@ use mathlib.Core.List.{List, [], _∷_, _++_, map}
 use Prim.Native.Nat.{ℕ, zero, suc, _+_, _*_}
 use lib.Dec.{ltb, eqb}
 use lib.ListN.{length, getD}
-use Rattle.cutting.specs.Limits.{most-side, most-kinds, most-price, most-demand}
+use Rattle.cutting.specs.Limits.{most-side, most-kinds, most-kerf, most-price, most-demand}
 use Rattle.cutting.specs.Lists.{range, only}
 use Rattle.cutting.specs.Job.{Job}
 use Rattle.refusal.specs.Refusals.{Check, Outcome, first-refusal, by-check, outcome-by}
 use Rattle.refusal.specs.declared.Checked.the-variants.{Passed, Refused}
-use Rattle.refusal.specs.declared.Refusal.the-variants.{ShortHeader, PlateSide, KindCount, BlockLength, KindSide, Price, Demand}
+use Rattle.refusal.specs.declared.Refusal.the-variants.{ShortHeader, PlateSide, KindCount, Kerf, BlockLength, KindSide, Price, Demand}
 use Rattle.job.specs.declared.Choices.{Choices}
 use Rattle.job.specs.declared.JobRecord.{JobRecord}
 use Rattle.job.specs.declared.JobAnswer.{JobAnswer}
 
 -- the same choices, and the capacity of the full demands
 abbrev pub with-full-demand : Choices → Choices
-with-full-demand choices = record { turning = choices .turning; «full_demand» = true }
+with-full-demand choices = record { turning = choices .turning; «full_demand» = true; «old_block» = choices .«old_block» }
+
+-- the same choices, and the old block
+abbrev pub with-old-block : Choices → Choices
+with-old-block choices = record { turning = choices .turning; «full_demand» = choices .«full_demand»; «old_block» = true }
 
 -- a field of two bytes, lowest byte first
 abbrev pub u16-at : List ℕ → ℕ → ℕ
@@ -27,7 +31,7 @@ u16-at s at = getD s at 0 + 256 * getD s (at + 1) 0
 abbrev pub u32-at : List ℕ → ℕ → ℕ
 u32-at s at = getD s at 0 + 256 * getD s (at + 1) 0 + 65536 * getD s (at + 2) 0 + 16777216 * getD s (at + 3) 0
 
--- the sizes: plate length, plate width, number of kinds
+-- the sizes: plate length, plate width, number of kinds, and the kerf, which the old block does not have
 abbrev pub plate-length-at : List ℕ → ℕ
 plate-length-at s = u16-at s 0
 
@@ -37,49 +41,67 @@ plate-width-at s = u16-at s 2
 abbrev pub count-at : List ℕ → ℕ
 count-at s = u16-at s 4
 
--- the first array: for each kind its length and width
-abbrev pub length-at : List ℕ → ℕ → ℕ
-length-at s i = u16-at s (6 + 4 * i)
+abbrev pub kerf-at : Bool → List ℕ → ℕ
+kerf-at true s = 0
+kerf-at false s = u16-at s 6
 
-abbrev pub width-at : List ℕ → ℕ → ℕ
-width-at s i = u16-at s (8 + 4 * i)
+-- the bytes of the sizes, in the old block and in the new
+abbrev pub sizes-end : Bool → ℕ
+sizes-end true = 6
+sizes-end false = 8
 
--- the second array: for each kind its price and demand
-abbrev pub price-at : List ℕ → ℕ → ℕ
-price-at s i = u32-at s (6 + 4 * count-at s + 6 * i)
+-- the first array, from byte h on: for each kind its length and width
+abbrev pub length-at : ℕ → List ℕ → ℕ → ℕ
+length-at h s i = u16-at s (h + 4 * i)
 
-abbrev pub demand-at : List ℕ → ℕ → ℕ
-demand-at s i = u16-at s (10 + 4 * count-at s + 6 * i)
+abbrev pub width-at : ℕ → List ℕ → ℕ → ℕ
+width-at h s i = u16-at s (h + 2 + 4 * i)
+
+-- the second array, behind it: for each kind its price and demand
+abbrev pub price-at : ℕ → List ℕ → ℕ → ℕ
+price-at h s i = u32-at s (h + 4 * count-at s + 6 * i)
+
+abbrev pub demand-at : ℕ → List ℕ → ℕ → ℕ
+demand-at h s i = u16-at s (h + 4 + 4 * count-at s + 6 * i)
 
 -- x lies outside lo to hi
 abbrev pub outside : ℕ → ℕ → ℕ → Bool
 outside lo hi x = ltb x lo || ltb hi x
 
--- the header's checks, 1 to 4
-abbrev pub header-checks : List ℕ → List Check
-header-checks s =
-    (ltb (length s) 6, ShortHeader)
-    ∷ (outside 1 most-side (plate-length-at s) || outside 1 most-side (plate-width-at s), PlateSide)
+-- the checks of the header's numbers: 2, 3, 27
+abbrev pub number-checks : Bool → List ℕ → List Check
+number-checks old s =
+    (outside 1 most-side (plate-length-at s) || outside 1 most-side (plate-width-at s), PlateSide)
     ∷ (outside 1 most-kinds (count-at s), KindCount)
-    ∷ (not (eqb (length s) (6 + 10 * count-at s)), BlockLength)
+    ∷ (ltb most-kerf (kerf-at old s), Kerf)
     ∷ []
 
+-- the header's checks: 1, the numbers', 4
+abbrev pub header-checks : Bool → List ℕ → List Check
+header-checks old s =
+    (ltb (length s) (sizes-end old), ShortHeader)
+    ∷ (number-checks old s ++ (not (eqb (length s) (sizes-end old + 10 * count-at s)), BlockLength) ∷ [])
+
 -- check 5, of one kind
-abbrev pub size-check : List ℕ → ℕ → Check
-size-check s i = (outside 1 most-side (length-at s i) || outside 1 most-side (width-at s i), KindSide i)
+abbrev pub size-check : ℕ → List ℕ → ℕ → Check
+size-check h s i = (outside 1 most-side (length-at h s i) || outside 1 most-side (width-at h s i), KindSide i)
 
 -- checks 6 and 7, of one kind, price first
-abbrev pub pair-checks : List ℕ → ℕ → List Check
-pair-checks s i = (ltb most-price (price-at s i), Price i) ∷ (ltb most-demand (demand-at s i), Demand i) ∷ []
+abbrev pub pair-checks : ℕ → List ℕ → ℕ → List Check
+pair-checks h s i = (ltb most-price (price-at h s i), Price i) ∷ (ltb most-demand (demand-at h s i), Demand i) ∷ []
 
 -- the checks of the kinds from i on, n of them, kind after kind
 unfoldable pub each-kind : (ℕ → List Check) → ℕ → ℕ → List Check
 each-kind f i zero = []
 each-kind f i (suc n) = f i ++ each-kind f (suc i) n
 
+-- the checks of the two arrays, from byte h on: the sizes, then the pairs
+abbrev pub array-checks : ℕ → List ℕ → List Check
+array-checks h s = each-kind (λ i. size-check h s i ∷ []) 0 (count-at s) ++ each-kind (pair-checks h s) 0 (count-at s)
+
 -- the checks of a job block, in the table's order: the header, the first array, the second array
-unfoldable pub job-checks : List ℕ → List Check
-job-checks s = header-checks s ++ each-kind (λ i. size-check s i ∷ []) 0 (count-at s) ++ each-kind (pair-checks s) 0 (count-at s)
+unfoldable pub job-checks : List ℕ → Choices → List Check
+job-checks s choices = header-checks (choices .«old_block») s ++ array-checks (sizes-end (choices .«old_block»)) s
 
 -- an array of 64 entries: f at the first n, and 0 past them
 unfoldable pub entries : (ℕ → ℕ) → ℕ → List ℕ
@@ -91,26 +113,27 @@ record-of s choices = record {
   length = plate-length-at s;
   width = plate-width-at s;
   count = count-at s;
+  kerf = kerf-at (choices .«old_block») s;
   turning = choices .turning;
   «full_demand» = choices .«full_demand»;
-  lengths = entries (length-at s) (count-at s);
-  widths = entries (width-at s) (count-at s);
-  prices = entries (price-at s) (count-at s);
-  demands = entries (demand-at s) (count-at s);
+  lengths = entries (length-at (sizes-end (choices .«old_block»)) s) (count-at s);
+  widths = entries (width-at (sizes-end (choices .«old_block»)) s) (count-at s);
+  prices = entries (price-at (sizes-end (choices .«old_block»)) s) (count-at s);
+  demands = entries (demand-at (sizes-end (choices .«old_block»)) s) (count-at s);
 }
 
 -- the record where a block is refused
 abbrev pub empty-record : JobRecord
-empty-record = record { length = 0; width = 0; count = 0; turning = false; «full_demand» = false; lengths = entries (λ i. 0) 0; widths = entries (λ i. 0) 0; prices = entries (λ i. 0) 0; demands = entries (λ i. 0) 0 }
+empty-record = record { length = 0; width = 0; count = 0; kerf = 0; turning = false; «full_demand» = false; lengths = entries (λ i. 0) 0; widths = entries (λ i. 0) 0; prices = entries (λ i. 0) 0; demands = entries (λ i. 0) 0 }
 
 -- what reading a block answers: its record, or the first refusal of its checks
 abbrev pub read-of : List ℕ → Choices → JobAnswer
-read-of s choices = by-check (first-refusal (job-checks s)) (record { verdict = Passed; job = record-of s choices }) (λ r. record { verdict = Refused r; job = empty-record })
+read-of s choices = by-check (first-refusal (job-checks s choices)) (record { verdict = Passed; job = record-of s choices }) (λ r. record { verdict = Refused r; job = empty-record })
 
--- a record's values: the plate's sides, the number of kinds, the choices of turning and of full demand (1 or 0), then the lengths, widths,
--- prices and demands of 64 kinds
+-- a record's values: the plate's sides, the number of kinds, the kerf, the choices of turning and of full demand (1 or 0), then the
+-- lengths, widths, prices and demands of 64 kinds
 abbrev pub job-values : JobRecord → List ℕ
-job-values j = j .length ∷ j .width ∷ j .count ∷ only (j .turning) 1 ∷ only (j .«full_demand») 1 ∷ (j .lengths ++ j .widths ++ j .prices ++ j .demands)
+job-values j = j .length ∷ j .width ∷ j .count ∷ j .kerf ∷ only (j .turning) 1 ∷ only (j .«full_demand») 1 ∷ (j .lengths ++ j .widths ++ j .prices ++ j .demands)
 
 -- an answer's number and values
 abbrev pub job-outcome : JobAnswer → Outcome
@@ -118,12 +141,13 @@ job-outcome a = outcome-by (a .verdict) (job-values (a .job))
 
 -- the number and values that reading a block answers
 abbrev pub job-said : List ℕ → Choices → Outcome
-job-said s choices = outcome-by (first-refusal (job-checks s)) (job-values (record-of s choices))
+job-said s choices = outcome-by (first-refusal (job-checks s choices)) (job-values (record-of s choices))
 
 -- the job of lent arrays
-abbrev pub job-from : ℕ → ℕ → Bool → Bool → ℕ → List ℕ → List ℕ → List ℕ → List ℕ → Job
-job-from l w turning full n lengths widths prices demands = record {
+abbrev pub job-from : ℕ → ℕ → ℕ → Bool → Bool → ℕ → List ℕ → List ℕ → List ℕ → List ℕ → Job
+job-from l w kerf turning full n lengths widths prices demands = record {
   plate = (l, w);
+  kerf = kerf;
   turning = turning;
   full-demand = full;
   count = n;
@@ -134,4 +158,4 @@ job-from l w turning full n lengths widths prices demands = record {
 
 -- the job of a record
 abbrev pub job-of : JobRecord → Job
-job-of j = job-from (j .length) (j .width) (j .turning) (j .«full_demand») (j .count) (j .lengths) (j .widths) (j .prices) (j .demands)
+job-of j = job-from (j .length) (j .width) (j .kerf) (j .turning) (j .«full_demand») (j .count) (j .lengths) (j .widths) (j .prices) (j .demands)

@@ -5,6 +5,6 @@ use Prim.Native.Nat.{ℕ, _+_, _*_, _≤_}
 use lib.ListN.{length}
 use Rattle.job.specs.Block.{count-at}
 
--- a block that has all the bytes of its n kinds
-abbrev pub HoldsKinds : List ℕ → ℕ → Type 0
-HoldsKinds s n = (n ≡ count-at s) × (n ≤ 64) × (6 + 10 * n ≤ length s)
+-- a block whose sizes end at byte h and that has all the bytes of its n kinds
+abbrev pub HoldsKinds : ℕ → List ℕ → ℕ → Type 0
+HoldsKinds h s n = (n ≡ count-at s) × (n ≤ 64) × (h ≤ 8) × (h + 10 * n ≤ length s)

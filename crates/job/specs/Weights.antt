@@ -44,12 +44,12 @@ block-job s choices = job-of (record-of s choices)
 
 -- a job block and weights that no check before the plan's refuses
 abbrev pub Accepted : List ℕ → Choices → List ℕ → Type 0
-Accepted s choices ws = first-refusal (job-checks s ++ weight-checks (block-job s choices) ws) ≡ Passed
+Accepted s choices ws = first-refusal (job-checks s choices ++ weight-checks (block-job s choices) ws) ≡ Passed
 
 -- what a job block and weights answer: the record and the capacity, or the first refusal
 abbrev pub acceptance-of : List ℕ → Choices → List ℕ → Acceptance
 acceptance-of s choices ws =
-    by-check (first-refusal (job-checks s ++ weight-checks (block-job s choices) ws)) (record { verdict = Passed; job = record-of s choices; capacity = capacity (block-job s choices) (weight-in ws) })
+    by-check (first-refusal (job-checks s choices ++ weight-checks (block-job s choices) ws)) (record { verdict = Passed; job = record-of s choices; capacity = capacity (block-job s choices) (weight-in ws) })
     (λ r. record { verdict = Refused r; job = empty-record; capacity = 0 })
 
 -- an answer's number and values: the record's, then the capacity
@@ -58,4 +58,4 @@ acceptance-outcome a = outcome-by (a .verdict) (job-values (a .job) ++ (a .capac
 
 -- the number and values that a job block and weights answer
 abbrev pub acceptance-said : List ℕ → Choices → List ℕ → Outcome
-acceptance-said s choices ws = outcome-by (first-refusal (job-checks s ++ weight-checks (block-job s choices) ws)) (job-values (record-of s choices) ++ (capacity (block-job s choices) (weight-in ws) ∷ []))
+acceptance-said s choices ws = outcome-by (first-refusal (job-checks s choices ++ weight-checks (block-job s choices) ws)) (job-values (record-of s choices) ++ (capacity (block-job s choices) (weight-in ws) ∷ []))

@@ -3,6 +3,7 @@
 use cutting::Sides;
 use cutting::fits;
 use cutting::turn;
+use cutting::widen;
 use refusal::Checked;
 use refusal::Refusal;
 use refusal::refuse_if;
@@ -16,14 +17,16 @@ ghost use Rattle.cutting.specs.Areas as measured;
 ghost use Rattle.cutting.specs.Pieces.{fits-either};
 ghost use Rattle.cutting.specs.Sides.{rect-of};
 ghost use Rattle.cutting.specs.Job.{InRange, capacity, copies-on, counted-of};
-ghost use Rattle.job.specs.Block.{with-full-demand, u16-at, u32-at, count-at, price-at, outside, header-checks, size-check, pair-checks, each-kind, job-checks, entries, record-of, empty-record, read-of, job-outcome, job-said, job-of};
+ghost use Rattle.job.specs.Block.{with-full-demand, with-old-block, u16-at, u32-at, count-at, kerf-at, sizes-end, price-at, outside, number-checks, header-checks, size-check, pair-checks, each-kind, array-checks, job-checks, entries, record-of, empty-record, read-of, job-outcome, job-said, job-of};
 ghost use Rattle.job.specs.Weights.{weight-in, weights-answer, weights-outcome, weights-said, acceptance-of, acceptance-outcome, acceptance-said};
 ghost use Rattle.job.specs.Contracts.{HoldsKinds};
 
-// What a call chooses beside the job: whether pieces may be turned, and whether the capacity is that of the full demands.
+// What a call chooses beside the job: whether pieces may be turned, whether the capacity is that of the full demands, and whether the
+// block is the old one, which has no kerf.
 pub struct Choices {
     pub turning: bool,
     pub full_demand: bool,
+    pub old_block: bool,
 }
 
 // The same choices, and the capacity of the full demands.
@@ -33,15 +36,28 @@ pub fn with_full_demand(choices: Choices) -> Choices
     Choices {
         turning: choices.turning,
         full_demand: true,
+        old_block: choices.old_block,
     }
 }
 
-// The job record: the plate's sides, the number of kinds, the choices, and for each kind its sides, price and demand; 0 past the last
+// The same choices, and the old block.
+fn with_old_block(choices: Choices) -> Choices
+    ensures { λ r. ⌜ r ≡ with-old-block choices ⌝ }
+{
+    Choices {
+        turning: choices.turning,
+        full_demand: choices.full_demand,
+        old_block: true,
+    }
+}
+
+// The job record: the plate's sides, the number of kinds, the kerf, the choices, and for each kind its sides, price and demand; 0 past the last
 // kind.
 pub struct JobRecord {
     pub length: u16,
     pub width: u16,
     pub count: u16,
+    pub kerf: u16,
     pub turning: bool,
     pub full_demand: bool,
     pub lengths: [u16; 64],
@@ -126,44 +142,75 @@ fn side_outside(block: &[u8], at: usize) -> bool
     either(length, width)
 }
 
-// Refusals 1 to 4: the header.
-fn check_header(block: &[u8]) -> Checked
-    ensures { λ r. ⌜ r ≡ first-refusal (header-checks (now (block .entry))) ⌝ }
+// The bytes of the sizes, in the old block and in the new.
+fn sizes_end(old: bool) -> usize
+    ensures { λ r. ⌜ (r ≡ sizes-end old) × (6 ≤ r) × (r ≤ 8) ⌝ }
 {
-    let short = refuse_if(block.len() < 6, Refusal::ShortHeader);
-    let Checked::Passed = short else {
-        return short;
-    };
+    if old { 6 } else { 8 }
+}
+
+// The kerf, which the old block does not have.
+fn read_kerf(block: &[u8], old: bool) -> u16
+    requires { ⌜ sizes-end old ≤ length (now block) ⌝ }
+    ensures { λ r. ⌜ r ≡ kerf-at old (now (block .entry)) ⌝ }
+{
+    if old {
+        return 0;
+    }
+    read_u16(block, 6)
+}
+
+// Refusals 2, 3 and 27: the numbers of the header.
+fn check_numbers(block: &[u8], old: bool) -> Checked
+    requires { ⌜ sizes-end old ≤ length (now block) ⌝ }
+    ensures { λ r. ⌜ r ≡ first-refusal (number-checks old (now (block .entry))) ⌝ }
+{
     let plate = refuse_if(side_outside(block, 0), Refusal::PlateSide);
     let Checked::Passed = plate else {
         return plate;
     };
-    let n = read_u16(block, 4);
-    let kinds = refuse_if(lies_outside(n, 1, 64), Refusal::KindCount);
+    let kinds = refuse_if(lies_outside(read_u16(block, 4), 1, 64), Refusal::KindCount);
     let Checked::Passed = kinds else {
         return kinds;
     };
-    refuse_if(block.len() != 6 + 10 * (n as usize), Refusal::BlockLength)
+    refuse_if(20 < read_kerf(block, old), Refusal::Kerf)
 }
 
-// Refusal 5, of one kind.
-fn check_size(block: &[u8], i: u16) -> Checked
-    requires { ⌜ (10 + 4 * i ≤ length (now block)) × (i < 64) ⌝ }
-    ensures { λ r. ⌜ r ≡ first-refusal (size-check (now (block .entry)) i ∷ []) ⌝ }
+// Refusals 1, those of the numbers, and 4: the header.
+fn check_header(block: &[u8], old: bool) -> Checked
+    ensures { λ r. ⌜ r ≡ first-refusal (header-checks old (now (block .entry))) ⌝ }
+{
+    let end = sizes_end(old);
+    let short = refuse_if(block.len() < end, Refusal::ShortHeader);
+    let Checked::Passed = short else {
+        return short;
+    };
+    let numbers = check_numbers(block, old);
+    let Checked::Passed = numbers else {
+        return numbers;
+    };
+    let n = read_u16(block, 4) as usize;
+    refuse_if(block.len() != end + 10 * n, Refusal::BlockLength)
+}
+
+// Refusal 5, of one kind, where the sizes of the block end at byte h.
+fn check_size(block: &[u8], h: usize, i: u16) -> Checked
+    requires { ⌜ (h + 4 + 4 * i ≤ length (now block)) × (h ≤ 8) × (i < 64) ⌝ }
+    ensures { λ r. ⌜ r ≡ first-refusal (size-check h (now (block .entry)) i ∷ []) ⌝ }
 {
     refuse_if(
-        side_outside(block, 6 + 4 * (i as usize)),
+        side_outside(block, h + 4 * (i as usize)),
         Refusal::KindSide(i),
     )
 }
 
 // The first array: the sizes in the order of the kinds.
-fn check_sizes(block: &[u8], n: u16) -> Checked
-    requires { ⌜ HoldsKinds (now block) n ⌝ }
-    ensures { λ r. ⌜ r ≡ first-refusal (each-kind (λ i. size-check (now (block .entry)) i ∷ []) 0 n) ⌝ }
+fn check_sizes(block: &[u8], h: usize, n: u16) -> Checked
+    requires { ⌜ HoldsKinds h (now block) n ⌝ }
+    ensures { λ r. ⌜ r ≡ first-refusal (each-kind (λ i. size-check h (now (block .entry)) i ∷ []) 0 n) ⌝ }
 {
     for i in 0..n {
-        let size = check_size(block, i);
+        let size = check_size(block, h, i);
         let Checked::Passed = size else {
             return size;
         };
@@ -172,11 +219,11 @@ fn check_sizes(block: &[u8], n: u16) -> Checked
 }
 
 // Refusals 6 and 7, of one kind.
-fn check_pair(block: &[u8], n: u16, i: u16) -> Checked
-    requires { ⌜ HoldsKinds (now block) n × (i < n) ⌝ }
-    ensures { λ r. ⌜ r ≡ first-refusal (pair-checks (now (block .entry)) i) ⌝ }
+fn check_pair(block: &[u8], h: usize, n: u16, i: u16) -> Checked
+    requires { ⌜ HoldsKinds h (now block) n × (i < n) ⌝ }
+    ensures { λ r. ⌜ r ≡ first-refusal (pair-checks h (now (block .entry)) i) ⌝ }
 {
-    let pairs = 6 + 4 * (n as usize);
+    let pairs = h + 4 * (n as usize);
     let at = pairs + 6 * (i as usize);
     let price = refuse_if(1000000 < read_u32(block, at), Refusal::Price(i));
     let Checked::Passed = price else {
@@ -186,12 +233,12 @@ fn check_pair(block: &[u8], n: u16, i: u16) -> Checked
 }
 
 // The second array: the pairs of price and demand in the order of the kinds.
-fn check_pairs(block: &[u8], n: u16) -> Checked
-    requires { ⌜ HoldsKinds (now block) n ⌝ }
-    ensures { λ r. ⌜ r ≡ first-refusal (each-kind (pair-checks (now (block .entry))) 0 n) ⌝ }
+fn check_pairs(block: &[u8], h: usize, n: u16) -> Checked
+    requires { ⌜ HoldsKinds h (now block) n ⌝ }
+    ensures { λ r. ⌜ r ≡ first-refusal (each-kind (pair-checks h (now (block .entry))) 0 n) ⌝ }
 {
     for i in 0..n {
-        let pair = check_pair(block, n, i);
+        let pair = check_pair(block, h, n, i);
         let Checked::Passed = pair else {
             return pair;
         };
@@ -199,20 +246,28 @@ fn check_pairs(block: &[u8], n: u16) -> Checked
     Checked::Passed
 }
 
-// Refusals 1 to 7, in the table's order.
-fn check_job(block: &[u8]) -> Checked
-    ensures { λ r. ⌜ r ≡ first-refusal (job-checks (now (block .entry))) ⌝ }
+// Refusals 5 to 7: the two arrays of n kinds.
+fn check_arrays(block: &[u8], h: usize, n: u16) -> Checked
+    requires { ⌜ HoldsKinds h (now block) n ⌝ }
+    ensures { λ r. ⌜ r ≡ first-refusal (array-checks h (now (block .entry))) ⌝ }
 {
-    let header = check_header(block);
-    let Checked::Passed = header else {
-        return header;
-    };
-    let n = read_u16(block, 4);
-    let sizes = check_sizes(block, n);
+    let sizes = check_sizes(block, h, n);
     let Checked::Passed = sizes else {
         return sizes;
     };
-    check_pairs(block, n)
+    check_pairs(block, h, n)
+}
+
+// Refusals 1 to 7 and 27, in the table's order.
+fn check_job(block: &[u8], choices: Choices) -> Checked
+    ensures { λ r. ⌜ r ≡ first-refusal (job-checks (now (block .entry)) choices) ⌝ }
+{
+    let header = check_header(block, choices.old_block);
+    let Checked::Passed = header else {
+        return header;
+    };
+    let h = sizes_end(choices.old_block);
+    check_arrays(block, h, read_u16(block, 4))
 }
 
 // An array of fields of two bytes, the first at `from` and each `step` bytes after the one before.
@@ -229,12 +284,12 @@ fn read_fields(block: &[u8], from: usize, step: usize, n: u16) -> [u16; 64]
 }
 
 // The prices, fields of four bytes.
-fn read_prices(block: &[u8], n: u16) -> [u32; 64]
-    requires { ⌜ HoldsKinds (now block) n ⌝ }
-    ensures { λ r. ⌜ r ≡ entries (price-at (now (block .entry))) n ⌝ }
+fn read_prices(block: &[u8], h: usize, n: u16) -> [u32; 64]
+    requires { ⌜ HoldsKinds h (now block) n ⌝ }
+    ensures { λ r. ⌜ r ≡ entries (price-at h (now (block .entry))) n ⌝ }
 {
     let mut prices = [0u32; 64];
-    let pairs = 6 + 4 * (n as usize);
+    let pairs = h + 4 * (n as usize);
     for i in 0..n {
         let k = i as usize;
         prices[k] = read_u32(block, pairs + 6 * k);
@@ -244,20 +299,23 @@ fn read_prices(block: &[u8], n: u16) -> [u32; 64]
 
 // The record of a block that passed its checks.
 fn read_record(block: &[u8], choices: Choices) -> JobRecord
-    requires { ⌜ HoldsKinds (now block) (count-at (now block)) ⌝ }
+    requires { ⌜ HoldsKinds (sizes-end (choices .«old_block»)) (now block) (count-at (now block)) ⌝ }
     ensures { λ r. ⌜ r ≡ record-of (now (block .entry)) choices ⌝ }
 {
+    let h = sizes_end(choices.old_block);
     let length = read_u16(block, 0);
     let width = read_u16(block, 2);
     let n = read_u16(block, 4);
-    let lengths = read_fields(block, 6, 4, n);
-    let widths = read_fields(block, 8, 4, n);
-    let prices = read_prices(block, n);
-    let demands = read_fields(block, 10 + 4 * (n as usize), 6, n);
+    let kerf = read_kerf(block, choices.old_block);
+    let lengths = read_fields(block, h, 4, n);
+    let widths = read_fields(block, h + 2, 4, n);
+    let prices = read_prices(block, h, n);
+    let demands = read_fields(block, h + 4 + 4 * (n as usize), 6, n);
     JobRecord {
         length: length,
         width: width,
         count: n,
+        kerf: kerf,
         turning: choices.turning,
         full_demand: choices.full_demand,
         lengths: lengths,
@@ -275,6 +333,7 @@ fn empty_record() -> JobRecord
         length: 0,
         width: 0,
         count: 0,
+        kerf: 0,
         turning: false,
         full_demand: false,
         lengths: [0u16; 64],
@@ -289,7 +348,7 @@ pub fn read_job(block: &[u8], choices: Choices) -> JobAnswer
     ensures answers { λ r. ⌜ r ≡ read-of (now (block .entry)) choices ⌝ }
     ensures outcome { λ r. ⌜ job-outcome r ≡ job-said (now (block .entry)) choices ⌝ }
 {
-    let verdict = check_job(block);
+    let verdict = check_job(block, choices);
     let Checked::Passed = verdict else {
         return JobAnswer {
             verdict: verdict,
@@ -300,6 +359,14 @@ pub fn read_job(block: &[u8], choices: Choices) -> JobAnswer
         verdict: Checked::Passed,
         job: read_record(block, choices),
     }
+}
+
+// An old job block, read or refused, whatever the choices say of it; its kerf is 0.
+pub fn read_old_job(block: &[u8], choices: Choices) -> JobAnswer
+    ensures answers { λ r. ⌜ r ≡ read-of (now (block .entry)) (with-old-block choices) ⌝ }
+    ensures outcome { λ r. ⌜ job-outcome r ≡ job-said (now (block .entry)) (with-old-block choices) ⌝ }
+{
+    read_job(block, with_old_block(choices))
 }
 
 // The area of a rectangle.
@@ -379,7 +446,7 @@ fn weigh(copies: u16, weight: u8) -> u32
     (copies as u32) * wider(weight)
 }
 
-// The capacity of as many weights as kinds: at most 64 times 65,025.
+// The capacity of as many weights as kinds, the kerf added to every side: at most 64 times 65,025.
 fn sum_capacity(job: JobRecord, weights: &[u8]) -> u32
     requires { ⌜ InRange (job-of job) × (length (now weights) ≡ job .count) ⌝ }
     ensures { λ r. ⌜ r ≡ capacity (job-of job) (weight-in (now (weights .entry))) ⌝ }
@@ -387,18 +454,24 @@ fn sum_capacity(job: JobRecord, weights: &[u8]) -> u32
     let choices = Choices {
         turning: job.turning,
         full_demand: job.full_demand,
+        old_block: false,
     };
-    let plate = Sides {
-        length: job.length,
-        width: job.width,
-    };
+    let kerf = job.kerf;
+    let plate = widen(
+        Sides {
+            length: job.length,
+            width: job.width,
+        },
+        kerf,
+    );
     let mut q = 0u32;
     for i in 0..job.count {
         let k = i as usize;
-        let size = Sides {
+        let upright = Sides {
             length: job.lengths[k],
             width: job.widths[k],
         };
+        let size = widen(upright, kerf);
         let copies = counted_copies(choices, plate, size, job.demands[k]);
         q = q + weigh(copies, weights[k]);
     }
@@ -439,7 +512,7 @@ pub fn accept(block: &[u8], choices: Choices, weights: &[u8]) -> Acceptance
     ensures answers { λ r. ⌜ r ≡ acceptance-of (now (block .entry)) choices (now (weights .entry)) ⌝ }
     ensures outcome { λ r. ⌜ acceptance-outcome r ≡ acceptance-said (now (block .entry)) choices (now (weights .entry)) ⌝ }
 {
-    let read = check_job(block);
+    let read = check_job(block, choices);
     let Checked::Passed = read else {
         return unaccepted(read);
     };

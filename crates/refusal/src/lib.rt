@@ -3,7 +3,7 @@
 ghost use mathlib.Core.Path.{_≡_};
 ghost use Rattle.refusal.specs.Refusals.{number-of, place-of, refuse-when};
 
-// The conditions of the table, in its order.
+// The conditions of the table, in the order of their numbers.
 pub enum Refusal {
     ShortHeader,
     PlateSide,
@@ -26,6 +26,7 @@ pub enum Refusal {
     ListShort,
     TableShort(u64),
     PlanLong(u64),
+    Kerf,
 }
 
 // What a check answers: passed, or the first refusal met.
@@ -60,6 +61,7 @@ pub fn number(r: Refusal) -> u16
         Refusal::ListShort => 19,
         Refusal::TableShort(_) => 20,
         Refusal::PlanLong(_) => 21,
+        Refusal::Kerf => 27,
     }
 }
 
@@ -89,6 +91,7 @@ pub fn place(r: Refusal) -> u64
         Refusal::ListShort => 0,
         Refusal::TableShort(n) => n,
         Refusal::PlanLong(n) => n,
+        Refusal::Kerf => 0,
     }
 }
 

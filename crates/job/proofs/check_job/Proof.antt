@@ -1,68 +1,41 @@
--- `job::check_job` meets its contract.
-use mathlib.Core.Path.{sym, _∙_, ap}
-use mathlib.Core.List.{[], _∷_}
+-- `job::check_job` meets its contract: the header comes before the arrays.
+use mathlib.Core.Path.{_≡_, sym, _∙_, ap}
 use native.Mathlib.Omega.{arith}
 use borrow.Author.Needs.{needs}
 use denote.Ref.{now}
 use Rattle.refusal.specs.Refusals.{first-refusal}
-use Rattle.job.specs.Block.{each-kind, size-check, pair-checks}
-use Rattle.job.proofs.Checks.{next-stops, next-passes}
-use Rattle.job.proofs.Read.{header-passed, header-holds, job-parts}
+use Rattle.job.specs.Block.{header-checks, array-checks, job-checks}
+use Rattle.job.proofs.Checks.{next-stops, next-passes, first-append}
+use Rattle.job.proofs.Read.{sizes-least, header-passed, header-holds}
 use Rattle.job.proofs.check_job.Statement.{statement}
 use Rattle.job.proofs.check_job.Tie as tie
 
-check-header-requires : tie.Need-check-header-requires
-check-header-requires c κs = search needs
-
-enum-told : tie.Need-enum-told
-enum-told c = search needs
-
-enum-told-2 : tie.Need-enum-told-2
-enum-told-2 c = search needs
-
 returns : tie.Need-returns
-returns c = let e = c .before .before .check-header .ensures in e ∙ next-stops _ (sym e ∙ c .enum-told2 .given .1) ∙ sym (job-parts (now (c .before .before .before .before .args .block)))
+unfolding job-checks
+returns c =
+    let e = c .before .before .before .before .args in
+    let h = c .before .before .check-header .ensures in
+    h ∙ next-stops _ (sym h ∙ c .enum-told2 .given .1) ∙ sym (first-append (header-checks (e .choices .«old_block») (now (e .block))) _)
 
 read-u16-requires : tie.Need-read-u16-requires
-read-u16-requires c κs = omega (arith, header-passed (now (c .before .before .before .before .args .block)) (sym (c .before .before .check-header .ensures) ∙ c .enum-told .given .1) .bytes)
+read-u16-requires c κs =
+    let e = c .before .before .before .before .before .args in
+    let h = header-passed (e .choices .«old_block») (now (e .block)) (sym (c .before .before .before .check-header .ensures) ∙ c .before .enum-told .given .1) in
+    omega (arith, h .bytes, sizes-least (e .choices .«old_block») .0)
 
-check-sizes-requires : tie.Need-check-sizes-requires
-check-sizes-requires c κs = header-holds (now (c .before .before .before .before .before .args .block)) (c .read-u16 .result) (c .read-u16 .ensures) (sym (c .before .before .before .check-header .ensures) ∙ c .before .enum-told .given .1)
-
-enum-told-3 : tie.Need-enum-told-3
-enum-told-3 c = search needs
-
-enum-told-4 : tie.Need-enum-told-4
-enum-told-4 c = search needs
+check-arrays-requires : tie.Need-check-arrays-requires
+check-arrays-requires c κs =
+    let e = c .before .before .before .before .before .before .args in
+    rw (c .before .sizes-end .ensures .0)
+    (header-holds (e .choices .«old_block») (now (e .block)) (c .read-u16 .result) (c .read-u16 .ensures) (sym (c .before .before .before .before .check-header .ensures) ∙ c .before .before .enum-told .given .1))
 
 returns-2 : tie.Need-returns-2
+unfolding job-checks
 returns-2 c =
-    let start = c .before .before .before .before .before .before .before .before in
-    let e = c .before .before .check-sizes .ensures ∙ ap (λ n. first-refusal (each-kind (λ i. size-check (now (start .args .block)) i ∷ []) 0 n)) (c .before .before .before .read-u16 .ensures) in
-    e ∙ next-stops _ (sym e ∙ c .enum-told4 .given .1) ∙ next-passes _ (sym (c .before .before .before .before .before .before .check-header .ensures) ∙ c .before .before .before .before .enum-told .given .1) ∙ sym (job-parts (now (start .args .block)))
-
-check-pairs-requires : tie.Need-check-pairs-requires
-check-pairs-requires c κs = header-holds (now (c .before .before .before .before .before .before .before .before .args .block)) (c .before .before .before .read-u16 .result) (c .before .before .before .read-u16 .ensures) (sym (c .before .before .before .before .before .before .check-header .ensures) ∙ c .before .before .before .before .enum-told .given .1)
-
-returns-3 : tie.Need-returns-3
-returns-3 c =
-    let start = c .before .before .before .before .before .before .before .before .before in
-    let e = c .before .before .before .check-sizes .ensures ∙ ap (λ n. first-refusal (each-kind (λ i. size-check (now (start .args .block)) i ∷ []) 0 n)) (c .before .before .before .before .read-u16 .ensures) in
-    let f = c .check-pairs .ensures ∙ ap (λ n. first-refusal (each-kind (pair-checks (now (start .args .block))) 0 n)) (c .before .before .before .before .read-u16 .ensures) in
-    f ∙ next-passes _ (sym e ∙ c .before .enum-told3 .given .1) ∙ next-passes _ (sym (c .before .before .before .before .before .before .before .check-header .ensures) ∙ c .before .before .before .before .before .enum-told .given .1) ∙ sym (job-parts (now (start .args .block)))
+    let e = c .before .before .before .before .before .before .before .args in
+    c .check-arrays .ensures ∙ ap (λ h. first-refusal (array-checks h (now (e .block)))) (c .before .before .sizes-end .ensures .0)
+    ∙ next-passes _ (sym (c .before .before .before .before .before .check-header .ensures) ∙ c .before .before .before .enum-told .given .1)
+    ∙ sym (first-append (header-checks (e .choices .«old_block») (now (e .block))) _)
 
 pub check-job-spec : {M : Type 1} → statement M
-check-job-spec =
-    tie.close
-    (tie.spec
-    check-header-requires
-    enum-told
-    enum-told-2
-    returns
-    read-u16-requires
-    check-sizes-requires
-    enum-told-3
-    enum-told-4
-    returns-2
-    check-pairs-requires
-    returns-3)
+check-job-spec = tie.close (tie.spec (search needs) (search needs) (search needs) returns (search needs) read-u16-requires check-arrays-requires returns-2)

@@ -41,7 +41,8 @@ returns c =
     let start = c .before .before .before .before .before in
     let s = now (start .args .block) in
     let i = start .args .i in
-    let e : c .before .before .before .read-u32 .result ≡ price-at s i = c .before .before .before .read-u32 .ensures ∙ ap (λ n. u32-at s (6 + 4 * n + 6 * i)) (start .pre .0 .0) in
+    let h = start .args .h in
+    let e : c .before .before .before .read-u32 .result ≡ price-at h s i = c .before .before .before .read-u32 .ensures ∙ ap (λ n. u32-at s (h + 4 * n + 6 * i)) (start .pre .0 .0) in
     check-stops _ _ _ (c .before .before .refuse-if .ensures ∙ ap (λ p. refuse-when (ltb 1000000 p) (Price i)) e) (c .enum-told2 .given .1)
 
 add-read-u16 : tie.Need-add-read-u16
@@ -58,9 +59,10 @@ returns-2 c =
     let start = c .before .before .before .before .before .before .before in
     let s = now (start .args .block) in
     let i = start .args .i in
-    let e : c .before .before .before .before .before .read-u32 .result ≡ price-at s i = c .before .before .before .before .before .read-u32 .ensures ∙ ap (λ n. u32-at s (6 + 4 * n + 6 * i)) (start .pre .0 .0) in
-    let k : 6 + 4 * (start .args .n) + 6 * i + 4 ≡ 10 + 4 * count-at s + 6 * i = omega (arith, start .pre .0 .0) in
-    let d : c .before .read-u16 .result ≡ demand-at s i = c .before .read-u16 .ensures ∙ ap (u16-at s) k in
+    let h = start .args .h in
+    let e : c .before .before .before .before .before .read-u32 .result ≡ price-at h s i = c .before .before .before .before .before .read-u32 .ensures ∙ ap (λ n. u32-at s (h + 4 * n + 6 * i)) (start .pre .0 .0) in
+    let k : h + 4 * (start .args .n) + 6 * i + 4 ≡ h + 4 + 4 * count-at s + 6 * i = omega (arith, start .pre .0 .0) in
+    let d : c .before .read-u16 .result ≡ demand-at h s i = c .before .read-u16 .ensures ∙ ap (u16-at s) k in
     check-last _ _ (c .refuse-if2 .ensures ∙ ap (λ d. refuse-when (ltb 255 d) (Demand i)) d)
     ∙ check-passes _ _ _ (c .before .before .before .before .refuse-if .ensures ∙ ap (λ p. refuse-when (ltb 1000000 p) (Price i)) e) (c .before .before .enum-told .given .1)
 

@@ -8,13 +8,13 @@ use Rattle.job.proofs.check_pairs.Statement.{statement}
 use Rattle.job.proofs.check_pairs.Tie as tie
 
 abbrev Inv-loop : tie.InvT-loop
-Inv-loop block n i₀ i = (i ≤ n) × Decides (pair-checks block) n i
+Inv-loop block h n i₀ i = (i ≤ n) × Decides (pair-checks h block) n i
 
 abbrev μ-loop : tie.MeasureT-loop
-μ-loop block n i₀ i = n - i
+μ-loop block h n i₀ i = n - i
 
 loop-holds : tie.Need-loop-holds Inv-loop μ-loop
-loop-holds c = (search needs, begins (pair-checks (now (c .before .args .block))) (c .before .args .n))
+loop-holds c = (search needs, begins (pair-checks (c .before .args .h) (now (c .before .args .block))) (c .before .args .n))
 
 check-pair-requires : tie.Need-check-pair-requires Inv-loop μ-loop
 check-pair-requires c κs = search needs
@@ -28,7 +28,7 @@ enum-told-2 c = search needs
 returns : tie.Need-returns Inv-loop μ-loop
 returns c =
     let start = c .before .before .before .before .before .before in
-    stops (pair-checks (now (start .args .block))) (c .before .before .before .before .loop .i) (start .args .n) (c .before .before .before .loop-test .taken) (c .before .before .before .before .loop .inv .1) (c .before .before .check-pair .ensures) (c .enum-told2 .given .1)
+    stops (pair-checks (start .args .h) (now (start .args .block))) (c .before .before .before .before .loop .i) (start .args .n) (c .before .before .before .loop-test .taken) (c .before .before .before .before .loop .inv .1) (c .before .before .check-pair .ensures) (c .enum-told2 .given .1)
 
 add-i : tie.Need-add-i Inv-loop μ-loop
 add-i c = search needs
@@ -39,12 +39,12 @@ loop-less c = search needs
 loop-again : tie.Need-loop-again Inv-loop μ-loop
 loop-again c =
     let start = c .before .before .before .before .before .before in
-    (search needs, passes (pair-checks (now (start .args .block))) (c .before .before .before .before .loop .i) (start .args .n) (c .before .before .before .loop-test .taken) (c .before .before .before .before .loop .inv .1) (c .before .before .check-pair .ensures) (c .enum-told .given .1))
+    (search needs, passes (pair-checks (start .args .h) (now (start .args .block))) (c .before .before .before .before .loop .i) (start .args .n) (c .before .before .before .loop-test .taken) (c .before .before .before .before .loop .inv .1) (c .before .before .check-pair .ensures) (c .enum-told .given .1))
 
 returns-2 : tie.Need-returns-2 Inv-loop μ-loop
 returns-2 c =
     let start = c .before .before .before in
-    ends (pair-checks (now (start .args .block))) (c .before .loop .i) (start .args .n) (c .loop-test .left) (c .before .loop .inv .1)
+    ends (pair-checks (start .args .h) (now (start .args .block))) (c .before .loop .i) (start .args .n) (c .loop-test .left) (c .before .loop .inv .1)
 
 pub check-pairs-spec : {M : Type 1} → statement M
 check-pairs-spec =

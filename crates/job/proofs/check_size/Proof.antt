@@ -29,8 +29,9 @@ returns c =
     let start = c .before .before .before in
     let s = now (start .args .block) in
     let i = start .args .i in
-    let e : 6 + 4 * i + 2 ≡ 8 + 4 * i = omega arith in
-    check-last _ _ (c .refuse-if .ensures ∙ ap (λ t. refuse-when t (KindSide i)) (c .before .side-outside .ensures ∙ ap (λ k. outside 1 1000 (u16-at s (6 + 4 * i)) || outside 1 1000 (u16-at s k)) e))
+    let h = start .args .h in
+    let e : h + 4 * i + 2 ≡ h + 2 + 4 * i = omega arith in
+    check-last _ _ (c .refuse-if .ensures ∙ ap (λ t. refuse-when t (KindSide i)) (c .before .side-outside .ensures ∙ ap (λ k. outside 1 1000 (u16-at s (h + 4 * i)) || outside 1 1000 (u16-at s k)) e))
 
 pub check-size-spec : {M : Type 1} → statement M
 check-size-spec =

@@ -9,13 +9,13 @@ use Rattle.job.proofs.check_sizes.Statement.{statement}
 use Rattle.job.proofs.check_sizes.Tie as tie
 
 abbrev Inv-loop : tie.InvT-loop
-Inv-loop block n i₀ i = (i ≤ n) × Decides (λ i. size-check block i ∷ []) n i
+Inv-loop block h n i₀ i = (i ≤ n) × Decides (λ i. size-check h block i ∷ []) n i
 
 abbrev μ-loop : tie.MeasureT-loop
-μ-loop block n i₀ i = n - i
+μ-loop block h n i₀ i = n - i
 
 loop-holds : tie.Need-loop-holds Inv-loop μ-loop
-loop-holds c = (search needs, begins (λ i. size-check (now (c .before .args .block)) i ∷ []) (c .before .args .n))
+loop-holds c = (search needs, begins (λ i. size-check (c .before .args .h) (now (c .before .args .block)) i ∷ []) (c .before .args .n))
 
 check-size-requires : tie.Need-check-size-requires Inv-loop μ-loop
 check-size-requires c κs = search needs
@@ -29,7 +29,7 @@ enum-told-2 c = search needs
 returns : tie.Need-returns Inv-loop μ-loop
 returns c =
     let start = c .before .before .before .before .before .before in
-    stops (λ i. size-check (now (start .args .block)) i ∷ []) (c .before .before .before .before .loop .i) (start .args .n) (c .before .before .before .loop-test .taken) (c .before .before .before .before .loop .inv .1) (c .before .before .check-size .ensures) (c .enum-told2 .given .1)
+    stops (λ i. size-check (start .args .h) (now (start .args .block)) i ∷ []) (c .before .before .before .before .loop .i) (start .args .n) (c .before .before .before .loop-test .taken) (c .before .before .before .before .loop .inv .1) (c .before .before .check-size .ensures) (c .enum-told2 .given .1)
 
 add-i : tie.Need-add-i Inv-loop μ-loop
 add-i c = search needs
@@ -40,12 +40,12 @@ loop-less c = search needs
 loop-again : tie.Need-loop-again Inv-loop μ-loop
 loop-again c =
     let start = c .before .before .before .before .before .before in
-    (search needs, passes (λ i. size-check (now (start .args .block)) i ∷ []) (c .before .before .before .before .loop .i) (start .args .n) (c .before .before .before .loop-test .taken) (c .before .before .before .before .loop .inv .1) (c .before .before .check-size .ensures) (c .enum-told .given .1))
+    (search needs, passes (λ i. size-check (start .args .h) (now (start .args .block)) i ∷ []) (c .before .before .before .before .loop .i) (start .args .n) (c .before .before .before .loop-test .taken) (c .before .before .before .before .loop .inv .1) (c .before .before .check-size .ensures) (c .enum-told .given .1))
 
 returns-2 : tie.Need-returns-2 Inv-loop μ-loop
 returns-2 c =
     let start = c .before .before .before in
-    ends (λ i. size-check (now (start .args .block)) i ∷ []) (c .before .loop .i) (start .args .n) (c .loop-test .left) (c .before .loop .inv .1)
+    ends (λ i. size-check (start .args .h) (now (start .args .block)) i ∷ []) (c .before .loop .i) (start .args .n) (c .loop-test .left) (c .before .loop .inv .1)
 
 pub check-sizes-spec : {M : Type 1} → statement M
 check-sizes-spec =

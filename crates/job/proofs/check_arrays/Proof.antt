@@ -1,0 +1,28 @@
+-- `job::check_arrays` meets its contract: the sizes come before the pairs.
+use mathlib.Core.Path.{sym, _∙_, ap}
+use mathlib.Core.List.{[], _∷_}
+use borrow.Author.Needs.{needs}
+use denote.Ref.{now}
+use Rattle.refusal.specs.Refusals.{first-refusal}
+use Rattle.job.specs.Block.{size-check, pair-checks, each-kind}
+use Rattle.job.proofs.Checks.{next-stops, next-passes, first-append}
+use Rattle.job.proofs.check_arrays.Statement.{statement}
+use Rattle.job.proofs.check_arrays.Tie as tie
+
+returns : tie.Need-returns
+returns c =
+    let e = c .before .before .before .before in
+    let s = now (e .args .block) in
+    let a = c .before .before .check-sizes .ensures ∙ ap (λ n. first-refusal (each-kind (λ i. size-check (e .args .h) s i ∷ []) 0 n)) (e .pre .0) in
+    a ∙ next-stops _ (sym a ∙ c .enum-told2 .given .1) ∙ sym (first-append (each-kind (λ i. size-check (e .args .h) s i ∷ []) 0 _) _)
+
+returns-2 : tie.Need-returns-2
+returns-2 c =
+    let e = c .before .before .before .before .before in
+    let s = now (e .args .block) in
+    let a = c .before .before .before .check-sizes .ensures ∙ ap (λ n. first-refusal (each-kind (λ i. size-check (e .args .h) s i ∷ []) 0 n)) (e .pre .0) in
+    let b = c .check-pairs .ensures ∙ ap (λ n. first-refusal (each-kind (pair-checks (e .args .h) s) 0 n)) (e .pre .0) in
+    b ∙ next-passes _ (sym a ∙ c .before .enum-told .given .1) ∙ sym (first-append (each-kind (λ i. size-check (e .args .h) s i ∷ []) 0 _) _)
+
+pub check-arrays-spec : {M : Type 1} → statement M
+check-arrays-spec = tie.close (tie.spec (search needs) (search needs) (search needs) returns (search needs) returns-2)

@@ -1,0 +1,10 @@
+-- `job::read_old_job` meets its contract: a job read, the choices with the old block.
+use borrow.Author.Needs.{needs}
+use Rattle.job.proofs.read_old_job.Statement.{statement}
+use Rattle.job.proofs.read_old_job.Tie as tie
+
+returns : tie.Need-returns
+returns c = rw (c .before .with-old-block .ensures) at (c .read-job .ensures)
+
+pub read-old-job-spec : {M : Type 1} → statement M
+read-old-job-spec = tie.close (tie.spec (search needs) (search needs) returns)
