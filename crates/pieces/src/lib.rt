@@ -1,7 +1,9 @@
 // The pieces that may lie, numbered: the kinds that are ordered, rising, each upright, and then turned where pieces may be turned. Normal
-// positions, fills and the choice read them from one array; what they compute knows nothing of turning and of cancelled kinds.
+// positions, fills and the choice read them from one array; what they compute knows nothing of turning, of cancelled kinds and of the
+// kerf, which is added to every side here.
 use cutting::Sides;
 use cutting::turn;
+use cutting::widen;
 use job::JobRecord;
 ghost use mathlib.Core.Path.{_≡_};
 ghost use mathlib.Core.List.{List, [], _++_};
@@ -12,7 +14,7 @@ ghost use Rattle.cutting.specs.Lists.{keep, each};
 ghost use Rattle.cutting.specs.Sides.{sides-of};
 ghost use Rattle.cutting.specs.Pieces as laid;
 ghost use Rattle.cutting.specs.Pieces.{ways};
-ghost use Rattle.cutting.specs.Job.{Job};
+ghost use Rattle.cutting.specs.Job.{Job, InRange, widened};
 ghost use Rattle.cutting.specs.Listed.{PieceArray};
 ghost use Rattle.job.specs.Block.{job-of};
 ghost use Rattle.job.specs.Weights.{weight-in};
@@ -33,14 +35,16 @@ pub struct Listing {
     pub pieces: [u32; 640],
 }
 
-// The plate's sides.
+// The plate's sides, the kerf added.
 pub fn plate_of(job: JobRecord) -> Sides
-    ensures { λ r. ⌜ r ≡ sides-of (job-of job .plate) ⌝ }
+    requires { ⌜ InRange (job-of job) ⌝ }
+    ensures { λ r. ⌜ r ≡ sides-of (widened (job-of job) .plate) ⌝ }
 {
-    Sides {
+    let plate = Sides {
         length: job.length,
         width: job.width,
-    }
+    };
+    widen(plate, job.kerf)
 }
 
 // The same piece turned.
@@ -86,20 +90,21 @@ fn put_kind(pieces: &mut [u32; 640], n: usize, piece: Piece, demand: u16, turnin
     n + 1
 }
 
-// Lists the pieces of a job with their weights.
+// Lists the pieces of a job with their weights, the kerf added to every side.
 pub fn list_pieces(job: JobRecord, weights: &[u8]) -> Listing
-    requires { ⌜ (job .count ≤ 64) × (job .count ≤ length (now weights)) ⌝ }
-    ensures { λ r. ⌜ PieceArray (job-of job) (weight-in (now (weights .entry))) (r .count) (r .pieces) ⌝ }
+    requires { ⌜ InRange (job-of job) × (job .count ≤ length (now weights)) ⌝ }
+    ensures { λ r. ⌜ PieceArray (widened (job-of job)) (weight-in (now (weights .entry))) (r .count) (r .pieces) ⌝ }
 {
     let mut pieces = [0u32; 640];
     let mut n: usize = 0;
     for i in 0..job.count {
         let k = i as usize;
+        let upright = Sides {
+            length: job.lengths[k],
+            width: job.widths[k],
+        };
         let piece = Piece {
-            size: Sides {
-                length: job.lengths[k],
-                width: job.widths[k],
-            },
+            size: widen(upright, job.kerf),
             price: job.prices[k],
             weight: weights[k],
             node: 2 * (i as u32),
