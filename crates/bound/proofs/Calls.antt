@@ -5,9 +5,8 @@ use Prim.Native.Nat.{ℕ, _≤_}
 use lib.ListN.{length}
 use native.Mathlib.Omega.{arith}
 use Rattle.cutting.specs.declared.Sides.{Sides}
-use Rattle.cutting.specs.Limits.{most-kinds}
 use Rattle.cutting.specs.Sides.{rect-of, sides-of}
-use Rattle.cutting.specs.Job.{Job, InRange}
+use Rattle.cutting.specs.Job.{Job, InRange, widened}
 use Rattle.cutting.specs.Listed.{heavy-in, pieces-job, PieceArray}
 use Rattle.cutting.proofs.Promises.{recursion, normal-listed, floor-figures}
 use Rattle.refusal.specs.Refusals.{next, first-refusal, by-check, outcome-by}
@@ -21,7 +20,7 @@ use Rattle.job.specs.Weights.{block-job, weight-in, Accepted}
 use Rattle.job.proofs.Checks.{passed-both}
 use Rattle.job.proofs.Weights.{weights-passed, accepted-both, accepted-in-range}
 use Rattle.job.proofs.Taken.{Taken}
-use Rattle.bound.specs.Bound.{Memory, Leaves, answer-by, memory-checks, report-values, block-capacity, block-report, accept-verdict, bound-verdict, bound-answer, bound-outcome, bound-said, BoundLeaves, BoundSaid, BoundPromises}
+use Rattle.bound.specs.Bound.{Memory, Leaves, wide-job, answer-by, memory-checks, report-values, block-capacity, block-report, accept-verdict, bound-verdict, bound-answer, bound-outcome, bound-said, BoundLeaves, BoundSaid, BoundPromises}
 use Rattle.bound.specs.Contracts.{Boundable, Bounded}
 use Rattle.bound.specs.declared.BoundReport.{BoundReport}
 use Rattle.bound.specs.declared.BoundAnswer.{BoundAnswer}
@@ -40,26 +39,26 @@ module _ (s : List ℕ) (choices : Choices) (ws : List ℕ) {j : JobRecord} {q :
   pub range-taken : InRange (job-of j)
   range-taken = rw (t .record-is) (accepted-in-range s choices ws (t .accepted))
 
-  pub listable : (j .count ≤ most-kinds) × (j .count ≤ length ws)
+  pub listable : InRange (job-of j) × (j .count ≤ length ws)
   listable =
       let k = weights-passed (block-job s choices) ws (accepted-both s choices ws (t .accepted) .1) in
-      (range-taken .kinds .1, omega (arith, k .0, ap (λ j. job-of j .count) (t .record-is)))
+      (range-taken, omega (arith, k .0, ap (λ j. job-of j .count) (t .record-is)))
 
-  pub boundable : {plate : Sides} {n : ℕ} {pieces floors : List ℕ} → plate ≡ sides-of (job-of j .plate) → PieceArray (job-of j) (weight-in ws) n pieces → length floors ≡ 2002
+  pub boundable : {plate : Sides} {n : ℕ} {pieces floors : List ℕ} → plate ≡ sides-of (widened (job-of j) .plate) → PieceArray (widened (job-of j)) (weight-in ws) n pieces → length floors ≡ 2042
       → Boundable (pieces-job (rect-of plate) n pieces) q floors
   boundable {plate} {n} {pieces} {floors} e a h =
       let k = weights-passed (block-job s choices) ws (accepted-both s choices ws (t .accepted) .1) in
-      let b : Boundable (pieces-job (job-of j .plate) n pieces) q floors =
+      let b : Boundable (pieces-job (widened (job-of j) .plate) n pieces) q floors =
       record { in-range = pieces-range (job-of j) (weight-in ws) n pieces a range-taken; most = omega (arith, k .1, t .capacity-is); floors-there = h } in
       subst (λ p. Boundable (pieces-job (rect-of p) n pieces) q floors) (sym e) b
 
   -- and what the bound of the pieces says of the job's block
-  pub job-bounded : {plate : Sides} {n : ℕ} {pieces floors : List ℕ} {old new : Memory} {r : BoundAnswer} → plate ≡ sides-of (job-of j .plate) → PieceArray (job-of j) (weight-in ws) n pieces
-      → Bounded (pieces-job (rect-of plate) n pieces) (heavy-in pieces) q old new floors r → Bounded (block-job s choices) (weight-in ws) (block-capacity s choices ws) old new floors r
+  pub job-bounded : {plate : Sides} {n : ℕ} {pieces floors : List ℕ} {old new : Memory} {r : BoundAnswer} → plate ≡ sides-of (widened (job-of j) .plate) → PieceArray (widened (job-of j)) (weight-in ws) n pieces
+      → Bounded (pieces-job (rect-of plate) n pieces) (heavy-in pieces) q old new floors r → Bounded (wide-job s choices) (weight-in ws) (block-capacity s choices ws) old new floors r
   job-bounded {plate} {n} {pieces} {floors} {old} {new} {r} e a b =
-      let c = pieces-bounded (job-of j) (weight-in ws) n pieces a q old new floors r (subst (λ p. Bounded (pieces-job (rect-of p) n pieces) (heavy-in pieces) q old new floors r) e b) in
-      let d : Bounded (job-of j) (weight-in ws) (block-capacity s choices ws) old new floors r = subst (λ q. Bounded (job-of j) (weight-in ws) q old new floors r) (t .capacity-is) c in
-      subst (λ j. Bounded (job-of j) (weight-in ws) (block-capacity s choices ws) old new floors r) (t .record-is) d
+      let c = pieces-bounded (widened (job-of j)) (weight-in ws) n pieces a q old new floors r (subst (λ p. Bounded (pieces-job (rect-of p) n pieces) (heavy-in pieces) q old new floors r) e b) in
+      let d : Bounded (widened (job-of j)) (weight-in ws) (block-capacity s choices ws) old new floors r = subst (λ q. Bounded (widened (job-of j)) (weight-in ws) q old new floors r) (t .capacity-is) c in
+      subst (λ j. Bounded (widened (job-of j)) (weight-in ws) (block-capacity s choices ws) old new floors r) (t .record-is) d
 
 -- an answer's number and values are those of its verdict
 said-by : (v : Checked) (b : BoundReport) → bound-outcome (answer-by v b) ≡ outcome-by v (report-values b)
@@ -70,7 +69,7 @@ said-by (Refused r) b = refl
 pub exact-by : (s : List ℕ) (choices : Choices) (ws : List ℕ) (m : Memory) → BoundSaid s choices ws (bound-answer s choices ws m)
 exact-by s choices ws m b e =
     let w = answered-behind (bound-verdict s choices ws m) (block-report s choices ws) (sym e) in
-    let v = passed-both (accept-verdict s choices ws) (first-refusal (memory-checks (block-job s choices) (block-capacity s choices ws) m)) (w .0) in
+    let v = passed-both (accept-verdict s choices ws) (first-refusal (memory-checks (wide-job s choices) (block-capacity s choices ws) m)) (w .0) in
     rw (w .1) (bound-held (block-job s choices) (weight-in ws) (accepted-in-range s choices ws (v .0)))
 
 module _ (s : List ℕ) (choices : Choices) (ws : List ℕ) (old : Memory) where
@@ -82,19 +81,19 @@ module _ (s : List ℕ) (choices : Choices) (ws : List ℕ) (old : Memory) where
         outcome = ap (λ x. bound-outcome x) e ∙ said-by (bound-verdict s choices ws old) (block-report s choices ws);
         memory = l;
         exact = λ b f. exact-by s choices ws old b (sym e ∙ f);
-        recursion = recursion (block-job s choices) (weight-in ws);
-        normal = normal-listed (block-job s choices);
+        recursion = recursion (wide-job s choices) (weight-in ws);
+        normal = normal-listed (wide-job s choices);
         floor = λ a. floor-figures (block-job s choices) (weight-in ws) (accepted-in-range s choices ws a);
       }
 
   -- the job or its weights are refused
   pub early : (r : Refusal) → accept-verdict s choices ws ≡ Refused r → BoundPromises s choices ws old old (answer.Refused r)
   early r v =
-      let p = refused-before (block-job s choices) (weight-in ws) (block-capacity s choices ws) old (answer.Answered (block-report s choices ws)) answer.Refused v in
+      let p = refused-before (wide-job s choices) (weight-in ws) (block-capacity s choices ws) old (answer.Answered (block-report s choices ws)) answer.Refused v in
       promised (answer.Refused r) (p .0) (p .1)
 
   -- both are accepted
-  pub accepted : Accepted s choices ws → {new : Memory} {floors : List ℕ} (r : BoundAnswer) → Bounded (block-job s choices) (weight-in ws) (block-capacity s choices ws) old new floors r
+  pub accepted : Accepted s choices ws → {new : Memory} {floors : List ℕ} (r : BoundAnswer) → Bounded (wide-job s choices) (weight-in ws) (block-capacity s choices ws) old new floors r
       → BoundPromises s choices ws old new r
   accepted v {new} {floors} r b =
-      promised r (b .answer ∙ sym (ap (λ v. answer-by (next v (first-refusal (memory-checks (block-job s choices) (block-capacity s choices ws) old))) (block-report s choices ws)) v)) (rw v (b .memory))
+      promised r (b .answer ∙ sym (ap (λ v. answer-by (next v (first-refusal (memory-checks (wide-job s choices) (block-capacity s choices ws) old))) (block-report s choices ws)) v)) (rw v (b .memory))

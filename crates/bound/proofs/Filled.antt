@@ -18,13 +18,13 @@ use Rattle.table.specs.declared.TableSize.{TableSize}
 use Rattle.table.specs.Contracts.{Mapped, Positions, Fillable}
 use Rattle.bound.specs.Contracts.{SidesMapped, BothMapped, Boundable}
 
-side-most : (J : Job) → InTableRange J → (d : Direction) → side d (J .plate) ≤ 1000
+side-most : (J : Job) → InTableRange J → (d : Direction) → side d (J .plate) ≤ 1020
 side-most J h Length = h .plate-length .1
 side-most J h Width = h .plate-width .1
 
 module _ (J : Job) (d : Direction) {n : ℕ} {old list : List ℕ} (h : Holds (normal-positions J d) n old list) where
   -- a list of normal positions can be mapped
-  pub map-ready : InTableRange J → Mappable list n (side d (J .plate)) 1001
+  pub map-ready : InTableRange J → Mappable list n (side d (J .plate)) 1021
   map-ready g =
       let r = positions-rising J d list n (holds-length h) (holds-take h) in
       let m = side-most J g d in
@@ -69,7 +69,7 @@ module _ (r : Rect) (count : ℕ) (pieces : List ℕ) where
     both-mapped {floors} m = record {
       entries = m .entries;
       lengths = mapped J Length a floors (m .lengths-mapped);
-      widths = mapped J Width b (drop 1001 floors) (m .widths-mapped);
+      widths = mapped J Width b (drop 1021 floors) (m .widths-mapped);
     }
 
     -- what the fill asks
@@ -82,6 +82,6 @@ module _ (r : Rect) (count : ℕ) (pieces : List ℕ) where
           most = given .most;
           floors-there = m .entries;
           lengths = positions J Length a floors (omega (arith, most .plate-length .1, m .entries)) (both .lengths);
-          widths = positions J Width b (drop 1001 floors) (omega (arith, most .plate-width .1, m .entries, length-drop 1001 floors)) (both .widths);
+          widths = positions J Width b (drop 1021 floors) (omega (arith, most .plate-width .1, m .entries, length-drop 1021 floors)) (both .widths);
           room = room;
         }

@@ -15,7 +15,7 @@ use Rattle.bound.specs.declared.BoundAnswer.the-variants as answer
 -- the bound of a job in range holds at its capacity
 pub bound-held : (J : Job) (weight : ℕ → ℕ) → InRange J → BoundHolds J weight (capacity J weight) (bound-of J weight)
 bound-held J weight h = record {
-  most = bound-exact J weight;
+  most = bound-exact J weight h;
   demands = none-above J weight h;
   ceiling = bound-ceiling J weight h;
   figure = refl;

@@ -14,8 +14,8 @@ use Rattle.cutting.proofs.Members.{table-solid}
 use Rattle.cutting.proofs.Table.{positions-some, positions-length, positions-normal, positions-floor, figure-floor}
 use Rattle.table.specs.Table.{position-count, position, words-needed, Figures}
 
--- p and r are at most 1,001
-pub count-most : (J : Job) → InTableRange J → (d : Direction) → position-count J d ≤ 1001
+-- p and r are at most 1,021
+pub count-most : (J : Job) → InTableRange J → (d : Direction) → position-count J d ≤ 1021
 count-most J h Length = omega (arith, positions-length J Length, h .plate-length .1)
 count-most J h Width = omega (arith, positions-length J Width, h .plate-width .1)
 
@@ -31,7 +31,7 @@ words-some J q =
     let c : 1 ≤ q + 1 = omega arith in
     omega (arith, mul-le-mul (mul-le-mul a b) c)
 
-pub words-most : (J : Job) → InTableRange J → (q : ℕ) → q ≤ 4095 → words-needed J q ≤ 4104196096
+pub words-most : (J : Job) → InTableRange J → (q : ℕ) → q ≤ 4095 → words-needed J q ≤ 4269838336
 words-most J h q l =
     let c : q + 1 ≤ 4096 = omega arith in
     omega (arith, mul-le-mul (mul-le-mul (count-most J h Length) (count-most J h Width)) c)

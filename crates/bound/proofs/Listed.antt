@@ -8,7 +8,7 @@ use lib.ListN.{length, getD, drop}
 use Rattle.cutting.specs.declared.Direction.{Direction}
 use Rattle.cutting.specs.declared.Direction.the-variants.{Length, Width}
 use Rattle.cutting.specs.Saws.{floor}
-use Rattle.cutting.specs.Job.{Job, InRange, figure-of, normal-positions}
+use Rattle.cutting.specs.Job.{Job, InRange, widened, figure-of, normal-positions}
 use Rattle.cutting.specs.Listed.{InTableRange, size-in, price-in, heavy-in, pieces-job, PieceArray}
 use Rattle.cutting.proofs.Listed.{listed-normal, listed-positions, listed-figure, listed-range}
 use Rattle.refusal.specs.Refusals.{first-refusal}
@@ -22,13 +22,14 @@ use Rattle.bound.specs.Contracts.{BothMapped, Bounded}
 use Rattle.bound.specs.declared.BoundAnswer.{BoundAnswer}
 use Rattle.bound.proofs.Storage.{report-is}
 
+-- the plain job of the pieces of a job in range, the kerf added, is in the table's ranges
+pub pieces-range : (J : Job) (weight : ℕ → ℕ) (n : ℕ) (pieces : List ℕ) → PieceArray (widened J) weight n pieces → InRange J → InTableRange (pieces-job (widened J .plate) n pieces)
+pieces-range J weight n pieces array h = listed-range J weight n (size-in pieces) (price-in pieces) (heavy-in pieces) (array .listing) h
+
 module _ (J : Job) (weight : ℕ → ℕ) (n : ℕ) (pieces : List ℕ) (array : PieceArray J weight n pieces) where
   -- the plain job of the pieces
   abbrev N : Job
   N = pieces-job (J .plate) n pieces
-
-  pub pieces-range : InRange J → InTableRange N
-  pieces-range h = listed-range J weight n (size-in pieces) (price-in pieces) (heavy-in pieces) (array .listing) h
 
   same-positions : (d : Direction) → normal-positions N d ≡ normal-positions J d
   same-positions d = listed-positions J weight n (size-in pieces) (price-in pieces) (heavy-in pieces) (array .listing) d
@@ -59,7 +60,7 @@ module _ (J : Job) (weight : ℕ → ℕ) (n : ℕ) (pieces : List ℕ) (array :
       (omega (arith, f .0, same-count d), sym (same-position d (getD floors x 0)) ∙ f .1 ∙ ap (λ t. floor t x) (listed-normal J weight n (size-in pieces) (price-in pieces) (heavy-in pieces) (array .listing) d))
 
   pub same-both : {floors : List ℕ} → BothMapped N floors → BothMapped J floors
-  same-both {floors} m = record { entries = m .entries; lengths = same-mapped Length floors (m .lengths); widths = same-mapped Width (drop 1001 floors) (m .widths) }
+  same-both {floors} m = record { entries = m .entries; lengths = same-mapped Length floors (m .lengths); widths = same-mapped Width (drop 1021 floors) (m .widths) }
 
   module _ (q : ℕ) (old new : Memory) where
     same-checks : first-refusal (memory-checks N q old) ≡ first-refusal (memory-checks J q old)

@@ -9,7 +9,7 @@ use lib.ListN.{length}
 use Rattle.cutting.specs.declared.Direction.the-variants.{Length, Width}
 use Rattle.cutting.specs.Limits.{most-figure}
 use Rattle.cutting.specs.Lists.{over}
-use Rattle.cutting.specs.Job.{Job, capacity, at-full-demand, figure-of, bound-of, normal-positions}
+use Rattle.cutting.specs.Job.{Job, widened, capacity, at-full-demand, figure-of, bound-of, normal-positions}
 use Rattle.cutting.specs.Promises.{NoneAbove, PlateHolds, MostWithin, Recursion, NormalSums, FloorFigures}
 use Rattle.refusal.specs.Refusals.{Check, Outcome, next, first-refusal, by-check, refused-as, outcome-by}
 use Rattle.refusal.specs.declared.Checked.{Checked}
@@ -22,7 +22,9 @@ use Rattle.bound.specs.declared.BoundReport.{BoundReport}
 use Rattle.bound.specs.declared.BoundAnswer.{BoundAnswer}
 use Rattle.bound.specs.declared.BoundAnswer.the-variants as answer
 
--- check 19: a list shorter than L + 1 or W + 1
+-- The lists, the table and the figures are those of the job with the kerf added to every side, cut without loss: J is that job in the
+-- definitions up to `Leaves`.
+-- check 19: a list shorter than the plate's length, or width, and one word more
 abbrev pub list-check : Job → ℕ → ℕ → Check
 list-check J m n = (ltb m (J .plate .0 + 1) || ltb n (J .plate .1 + 1), ListShort)
 
@@ -70,21 +72,25 @@ pub record Leaves (before : Checked) (J : Job) (weight : ℕ → ℕ) (q : ℕ) 
   pub widths : new .widths ≡ list-after (next before (first-refusal (list-check J (length (old .lengths)) (length (old .widths)) ∷ []))) (normal-positions J Width) (old .widths)
   pub table : TableAfter (next before (first-refusal (memory-checks J q old))) J weight q (old .table) (new .table)
 
+-- the job of a block with the kerf added to every side
+abbrev pub wide-job : List ℕ → Choices → Job
+wide-job s choices = widened (block-job s choices)
+
 -- the capacity of a job block and weights
 abbrev pub block-capacity : List ℕ → Choices → List ℕ → ℕ
 block-capacity s choices ws = capacity (block-job s choices) (weight-in ws)
 
 -- the verdict of the checks that stand before the storage's, 1 to 9
 abbrev pub accept-verdict : List ℕ → Choices → List ℕ → Checked
-accept-verdict s choices ws = first-refusal (job-checks s ++ weight-checks (block-job s choices) ws)
+accept-verdict s choices ws = first-refusal (job-checks s choices ++ weight-checks (block-job s choices) ws)
 
 -- the verdict of the bound call: 1 to 9, 19, 20
 abbrev pub bound-verdict : List ℕ → Choices → List ℕ → Memory → Checked
-bound-verdict s choices ws m = next (accept-verdict s choices ws) (first-refusal (memory-checks (block-job s choices) (block-capacity s choices ws) m))
+bound-verdict s choices ws m = next (accept-verdict s choices ws) (first-refusal (memory-checks (wide-job s choices) (block-capacity s choices ws) m))
 
 -- what the bound call reports of a job block and weights
 abbrev pub block-report : List ℕ → Choices → List ℕ → BoundReport
-block-report s choices ws = bound-report (block-job s choices) (weight-in ws) (block-capacity s choices ws)
+block-report s choices ws = bound-report (wide-job s choices) (weight-in ws) (block-capacity s choices ws)
 
 -- what the bound call answers
 abbrev pub bound-answer : List ℕ → Choices → List ℕ → Memory → BoundAnswer
@@ -92,7 +98,7 @@ bound-answer s choices ws m = answer-by (bound-verdict s choices ws m) (block-re
 
 -- what it leaves in lent memory
 abbrev pub BoundLeaves : List ℕ → Choices → List ℕ → Memory → Memory → Type 0
-BoundLeaves s choices ws old new = Leaves (accept-verdict s choices ws) (block-job s choices) (weight-in ws) (block-capacity s choices ws) old new
+BoundLeaves s choices ws old new = Leaves (accept-verdict s choices ws) (wide-job s choices) (weight-in ws) (block-capacity s choices ws) old new
 
 -- a report's values: the bound, Q, p and r
 abbrev pub report-values : BoundReport → List ℕ
@@ -108,13 +114,14 @@ abbrev pub bound-said : List ℕ → Choices → List ℕ → Memory → Outcome
 bound-said s choices ws m = outcome-by (bound-verdict s choices ws m) (report-values (block-report s choices ws))
 
 -- what a bound n at the capacity q is: the most that a guillotine tree of weight at most q earns; no less than any tree that keeps the
--- demands earns; at most 1,000,000,000,000; the recursion's figure at the plate and q. The capacity is the job's, no tree on the plate
+-- demands earns; at most 1,000,000,000,000; the recursion's figure, the kerf added to
+-- every side, at the plate and q. The capacity is the job's, no tree on the plate
 -- has more copies of a kind than it counts as what the plate holds, and the bound of the full demands is no less than n
 pub record BoundHolds (J : Job) (weight : ℕ → ℕ) (q n : ℕ) : Type 0 where
   pub most : MostWithin J weight q n
   pub demands : NoneAbove J n
   pub ceiling : n ≤ most-figure
-  pub figure : n ≡ figure-of J weight (J .plate .0) (J .plate .1) q
+  pub figure : n ≡ figure-of (widened J) weight (widened J .plate .0) (widened J .plate .1) q
   pub capacity-is : q ≡ capacity J weight
   pub held : PlateHolds J
   pub full-demand : n ≤ bound-of (at-full-demand J) weight
@@ -124,13 +131,13 @@ abbrev pub BoundSaid : List ℕ → Choices → List ℕ → BoundAnswer → Typ
 BoundSaid s choices ws r = (b : BoundReport) → r ≡ answer.Answered b → BoundHolds (block-job s choices) (weight-in ws) (b .capacity) (b .bound)
 
 -- what the bound call promises of its answer and of the memory that it is lent: both are the definitions', number and values too; an
--- answered bound holds; the figures follow the recursion, the normal positions are the sums, and where job and weights are accepted a
+-- answered bound holds; with the kerf added to every side the figures follow the recursion, the normal positions are the sums, and where job and weights are accepted a
 -- tabled figure is that of every rectangle whose largest normal sides it has
 pub record BoundPromises (s : List ℕ) (choices : Choices) (ws : List ℕ) (old new : Memory) (r : BoundAnswer) : Type 0 where
   pub answers : r ≡ bound-answer s choices ws old
   pub outcome : bound-outcome r ≡ bound-said s choices ws old
   pub memory : BoundLeaves s choices ws old new
   pub exact : BoundSaid s choices ws r
-  pub recursion : Recursion (block-job s choices) (weight-in ws)
-  pub normal : NormalSums (block-job s choices)
-  pub floor : Accepted s choices ws → FloorFigures (block-job s choices) (weight-in ws)
+  pub recursion : Recursion (wide-job s choices) (weight-in ws)
+  pub normal : NormalSums (wide-job s choices)
+  pub floor : Accepted s choices ws → FloorFigures (wide-job s choices) (weight-in ws)

@@ -18,23 +18,23 @@ use Rattle.bound.specs.declared.BoundAnswer.the-variants.{Answered}
 use Rattle.bound.specs.Bound.{Memory, Leaves, memory-checks, answer-by, bound-report}
 
 -- an array maps every length and every width of the plate to the last entry of a list that is not above it: the lengths first, the
--- widths from entry 1,001 on
+-- widths from entry 1,021 on
 pub record SidesMapped (size : TableSize) (normal-lengths normal-widths floors : List ℕ) : Type 0 where
-  pub entries : length floors ≡ 2002
+  pub entries : length floors ≡ 2042
   pub lengths-mapped : Floors normal-lengths (size .rows) (size .length + 1) floors
-  pub widths-mapped : Floors normal-widths (size .columns) (size .width + 1) (drop 1001 floors)
+  pub widths-mapped : Floors normal-widths (size .columns) (size .width + 1) (drop 1021 floors)
 
--- one array has the floors of both sides: those of the lengths first, those of the widths from entry 1,001 on
+-- one array has the floors of both sides: those of the lengths first, those of the widths from entry 1,021 on
 pub record BothMapped (J : Job) (floors : List ℕ) : Type 0 where
-  pub entries : length floors ≡ 2002
+  pub entries : length floors ≡ 2042
   pub lengths : Mapped J Length floors
-  pub widths : Mapped J Width (drop 1001 floors)
+  pub widths : Mapped J Width (drop 1021 floors)
 
 -- what the bound of pieces asks: a plain job in range, a capacity, and room for the floors of both sides
 pub record Boundable (J : Job) (q : ℕ) (floors : List ℕ) : Type 0 where
   pub in-range : InTableRange J
   pub most : q ≤ most-capacity
-  pub floors-there : length floors ≡ 2002
+  pub floors-there : length floors ≡ 2042
 
 -- the answer of a job, weights and a capacity that were accepted, what it leaves in lent memory, and where it has a report the floors of
 -- both sides

@@ -15,7 +15,7 @@ ghost use mathlib.Core.Bool.{_||_};
 ghost use Prim.Native.Nat.{_+_, _*_, _≤_};
 ghost use lib.Dec.{ltb};
 ghost use lib.ListN.{length};
-ghost use Rattle.cutting.specs.Limits.{most-side, most-capacity};
+ghost use Rattle.cutting.specs.Limits.{most-wide-side, most-capacity};
 ghost use Rattle.cutting.specs.Sides.{rect-of};
 ghost use Rattle.cutting.specs.Listed.{heavy-in, pieces-job};
 ghost use Rattle.job.specs.Block.{with-full-demand};
@@ -40,7 +40,7 @@ pub enum BoundAnswer {
 
 // The words that a table needs.
 fn words(p: u16, r: u16, q: u16) -> u64
-    requires { ⌜ (p ≤ most-side + 1) × (r ≤ most-side + 1) × (q ≤ most-capacity) ⌝ }
+    requires { ⌜ (p ≤ most-wide-side + 1) × (r ≤ most-wide-side + 1) × (q ≤ most-capacity) ⌝ }
     ensures { λ n. ⌜ n ≡ p * r * (q + 1) ⌝ }
 {
     (p as u64) * (r as u64) * ((q as u64) + 1)
@@ -56,13 +56,13 @@ fn lists_short(m: usize, n: usize, length: u16, width: u16) -> bool
     n < (width as usize) + 1
 }
 
-// The floors of both sides into one array: those of the lengths first, those of the widths from entry 1,001 on.
+// The floors of both sides into one array: those of the lengths first, those of the widths from entry 1,021 on.
 fn map_sides(size: TableSize, lengths: &[u16], widths: &[u16], floors: &mut [u16])
-    requires { ⌜ Mappable (now lengths) (size .rows) (size .length) 1001 × Mappable (now widths) (size .columns) (size .width) 1001 × (length (now floors) ≡ 2002) ⌝ }
+    requires { ⌜ Mappable (now lengths) (size .rows) (size .length) 1021 × Mappable (now widths) (size .columns) (size .width) 1021 × (length (now floors) ≡ 2042) ⌝ }
     ensures { λ _. ⌜ SidesMapped size (now (lengths .entry)) (now (widths .entry)) (now (floors .exit)) ⌝ }
 {
-    map_floors(lengths, size.rows, size.length, &mut floors[..1001]);
-    map_floors(widths, size.columns, size.width, &mut floors[1001..]);
+    map_floors(lengths, size.rows, size.length, &mut floors[..1021]);
+    map_floors(widths, size.columns, size.width, &mut floors[1021..]);
 }
 
 // The figures of pieces, into a table that is long enough: the fill for one share or for many.
@@ -85,7 +85,7 @@ fn fill_table(
 }
 
 // The bound of pieces on a plate at a capacity: refusals 19 and 20, then the lists, the floors of both sides, the table and the report. The
-// 2,002 entries for the floors are lent, so that a caller who goes on to write the plan has them.
+// 2,042 entries for the floors are lent, so that a caller who goes on to write the plan has them.
 pub fn bound_of_pieces(
     plate: Sides,
     count: u16,
@@ -161,7 +161,7 @@ pub fn bound(
     let plate = plate_of(record);
     let listing = list_pieces(record, weights);
     let pieces = listing.pieces;
-    let mut floors = [0u16; 2002];
+    let mut floors = [0u16; 2042];
     bound_of_pieces(
         plate,
         listing.count,

@@ -3,7 +3,7 @@ use mathlib.Core.Path.{refl}
 use denote.Ref.{now}
 use Rattle.job.proofs.Taken.{Taken, taken, refused-both}
 use Rattle.bound.specs.Bound.{lent}
-use Rattle.bound.proofs.Calls.{listable, boundable, job-bounded, early, accepted}
+use Rattle.bound.proofs.Calls.{range-taken, listable, boundable, job-bounded, early, accepted}
 use borrow.Author.Needs.{needs}
 use Rattle.bound.proofs.bound.Statement.{statement}
 use Rattle.bound.proofs.bound.Tie as tie
@@ -24,7 +24,9 @@ enum-told : tie.Need-enum-told
 enum-told c = search needs
 
 plate-of-requires : tie.Need-plate-of-requires
-plate-of-requires c κs = search needs
+plate-of-requires c κs =
+    let e = c .before .before .before .before .before .before .before .before .before .args in
+    range-taken (now (e .block)) (e .choices) (now (e .weights)) (taken (now (e .block)) (e .choices) (now (e .weights)) (c .before .before .before .accept .ensures .0) (c .before .enum-told .given .1))
 
 list-pieces-requires : tie.Need-list-pieces-requires
 list-pieces-requires c κs =
