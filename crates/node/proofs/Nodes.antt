@@ -2,7 +2,7 @@
 use mathlib.Core.Path.{_≡_, _∙_, refl, sym, ap, ap₂, subst}
 use mathlib.Core.Bool.{Bool, true, false, not}
 use mathlib.Core.List.{List}
-use Prim.Native.Nat.{ℕ, _-_, _*_, _≤_, _<_}
+use Prim.Native.Nat.{ℕ, _+_, _-_, _*_, _≤_, _<_}
 use native.Mathlib.Nat.{mul-le-mul}
 use native.Mathlib.Omega.{arith}
 use lib.Dec.{T, leb, ltb, eqb}
@@ -79,7 +79,7 @@ module _ (J : Job) (c : List ℕ) (r : Rect) (k : ℕ) where
     known = le-ltb (most-kind (J .turning)) kind h
 
     -- a cut has check 14 alone
-    pub cut-checks : (d : Direction) (x : ℕ) → node-of kind o ≡ Cut d x → first-refusal (node-checks J c r k kind o) ≡ refuse-when (outside 1 (side d r - 1) x) (Operand k)
+    pub cut-checks : (d : Direction) (x : ℕ) → node-of kind o ≡ Cut d x → first-refusal (node-checks J c r k kind o) ≡ refuse-when (outside 1 (side d r - J .kerf - 1) x) (Operand k)
     unfolding first-refusal
     cut-checks d x e = simp (known, e) (sym (next-passed _))
 
@@ -109,25 +109,25 @@ module _ (J : Job) (c : List ℕ) (r : Rect) (k : ℕ) where
 pub fits-area : (q r : Rect) → fits-in q r ≡ true → q .0 * q .1 ≤ r .0 * r .1
 fits-area q r f = let h = true-fits-in q r (subst T (sym f) tt) in mul-le-mul (h .0) (h .1)
 
--- a position from 1 on is outside a cut's range where the side is no greater
-pub past-side : (s x : ℕ) → 1 ≤ x → leb s x ≡ outside 1 (s - 1) x
-past-side s x h = go (leb s x) refl
+-- a position from 1 on is outside a cut's range where, with the kerf, it reaches the side
+pub past-side : (s k x : ℕ) → 1 ≤ x → leb s (x + k) ≡ outside 1 (s - k - 1) x
+past-side s k x h = go (leb s (x + k)) refl
   where
-    go : (b : Bool) → leb s x ≡ b → b ≡ outside 1 (s - 1) x
-    go true e = let k = leb-true s x e in simp (le-ltb x 1 h, lt-ltb (s - 1) x (omega arith))
-    go false e = let k = leb-false s x e in simp (le-ltb x 1 h, le-ltb (s - 1) x (omega arith))
+    go : (b : Bool) → leb s (x + k) ≡ b → b ≡ outside 1 (s - k - 1) x
+    go true e = let l = leb-true s (x + k) e in simp (le-ltb x 1 h, lt-ltb (s - k - 1) x (omega arith))
+    go false e = let l = leb-false s (x + k) e in simp (le-ltb x 1 h, le-ltb (s - k - 1) x (omega arith))
 
 -- a position in a cut's range, and one that is not outside it
-inside : (s x : ℕ) → 1 ≤ x → x < s → outside 1 (s - 1) x ≡ false
-inside s x h l = simp (le-ltb x 1 h, le-ltb (s - 1) x (omega arith))
+inside : (s k x : ℕ) → 1 ≤ x → x + k < s → outside 1 (s - k - 1) x ≡ false
+inside s k x h l = simp (le-ltb x 1 h, le-ltb (s - k - 1) x (omega arith))
 
-pub inside-range : (s x : ℕ) → outside 1 (s - 1) x ≡ false → (1 ≤ x) × (x < s)
-inside-range s x e = go (ltb x 1) refl (ltb (s - 1) x) refl e
+pub inside-range : (s k x : ℕ) → outside 1 (s - k - 1) x ≡ false → (1 ≤ x) × (x + k < s)
+inside-range s k x e = go (ltb x 1) refl (ltb (s - k - 1) x) refl e
   where
-    go : (a : Bool) → ltb x 1 ≡ a → (b : Bool) → ltb (s - 1) x ≡ b → outside 1 (s - 1) x ≡ false → (1 ≤ x) × (x < s)
+    go : (a : Bool) → ltb x 1 ≡ a → (b : Bool) → ltb (s - k - 1) x ≡ b → outside 1 (s - k - 1) x ≡ false → (1 ≤ x) × (x + k < s)
     go true p b q f = let z : _≡_ {A = Bool} true false = simp p at f in absurd (let u : _≡_ {A = ℕ} 0 1 = cc in let w : ⊥ = omega arith in w)
     go false p true q f = let z : _≡_ {A = Bool} true false = simp (p, q) at f in absurd (let u : _≡_ {A = ℕ} 0 1 = cc in let w : ⊥ = omega arith in w)
-    go false p false q f = let h = ltb-false x 1 p in let k = ltb-false (s - 1) x q in (omega arith, omega arith)
+    go false p false q f = let h = ltb-false x 1 p in let l = ltb-false (s - k - 1) x q in (omega arith, omega arith)
 
 -- a node is known by its kind and operand
 pub node-back : (n : Node) → node-of (kind-of n) (operand-of n) ≡ n
@@ -150,7 +150,7 @@ abbrev pub NodeFits : Job → List ℕ → Rect → Node → Type 0
 NodeFits J c r Waste = Unit {0}
 NodeFits J c r (Piece i) = PieceFits J c r (laid.upright i)
 NodeFits J c r (Turned i) = PieceFits J c r (laid.turned i)
-NodeFits J c r (Cut d x) = (1 ≤ x) × (x < side d r)
+NodeFits J c r (Cut d x) = (1 ≤ x) × (x + J .kerf < side d r)
 
 -- a turned piece is a kind of node only where pieces may be turned
 turned-kind : (b : Bool) → T b → 4 ≤ most-kind b
@@ -174,17 +174,17 @@ pub node-passes : (J : Job) (c : List ℕ) (r : Rect) (k : ℕ) (n : Node) → N
 node-passes J c r k Waste h = waste-checks J c r k 0
 node-passes J c r k (Piece i) h = piece-passes J c r k 1 i (omega (arith, least-kind (J .turning))) false i refl (h .0 .0) (h .1) (h .2)
 node-passes J c r k (Turned i) h = piece-passes J c r k 4 i (turned-kind (J .turning) (h .0 .2)) true i refl (h .0 .0) (h .1) (h .2)
-node-passes J c r k (Cut d x) h = cut-checks J c r k (kind-of (Cut d x)) x (cut-kind (J .turning) d x) d x (node-back (Cut d x)) ∙ ap (λ b. refuse-when b (Operand k)) (inside (side d r) x (h .0) (h .1))
+node-passes J c r k (Cut d x) h = cut-checks J c r k (kind-of (Cut d x)) x (cut-kind (J .turning) d x) d x (node-back (Cut d x)) ∙ ap (λ b. refuse-when b (Operand k)) (inside (side d r) (J .kerf) x (h .0) (h .1))
 
 -- and only such a node
-node-read : (J : Job) (c : List ℕ) (r : Rect) (k o : ℕ) (n : Node) → Read k o n → ltb (most-kind (J .turning)) k ≡ false → unnumbered J n ≡ false → misplaced r n o ≡ false → misfit J r n ≡ false → excess J c n ≡ false
+node-read : (J : Job) (c : List ℕ) (r : Rect) (k o : ℕ) (n : Node) → Read k o n → ltb (most-kind (J .turning)) k ≡ false → unnumbered J n ≡ false → misplaced (J .kerf) r n o ≡ false → misfit J r n ≡ false → excess J c n ≡ false
     → ((k, o) ≡ pair-of n) × NodeFits J c r n
 node-read J c r k o Waste (is-waste e) a b d f g = (ap₂ (λ x y. (x, y)) e (eqb-true o 0 (not-false (eqb o 0) d)), tt)
 node-read J c r k o (Piece i) (is-piece e) a b d f g =
     let left = leb-false (J .demand o) (getD c o 0) g in
     (ap (λ x. (x, o)) e, ((leb-false (J .count) o b, omega (arith, left)), not-false (fits-in (J .size o) r) f, left))
-node-read J c r k o (Cut Length x) (is-length e) a b d f g = (ap (λ x. (x, o)) e, inside-range (r .0) o d)
-node-read J c r k o (Cut Width x) (is-width e) a b d f g = (ap (λ x. (x, o)) e, inside-range (r .1) o d)
+node-read J c r k o (Cut Length x) (is-length e) a b d f g = (ap (λ x. (x, o)) e, inside-range (r .0) (J .kerf) o d)
+node-read J c r k o (Cut Width x) (is-width e) a b d f g = (ap (λ x. (x, o)) e, inside-range (r .1) (J .kerf) o d)
 node-read J c r k o (Turned i) (is-turned h) a b d f g =
     let e = kind-turned (J .turning) k h (ltb-false (most-kind (J .turning)) k a) in
     let left = leb-false (J .demand o) (getD c o 0) g in

@@ -19,25 +19,28 @@ use Rattle.refusal.specs.declared.Checked.the-variants.{Passed, Refused}
 use Rattle.node.specs.declared.Tally.{Tally}
 use Rattle.node.specs.declared.NodeAnswer.{NodeAnswer}
 use Rattle.job.specs.Block.{outside}
-use Rattle.node.specs.Nodes.{node-of, most-kind, node-checks, with-waste, with-piece, tallied, copied}
+use Rattle.node.specs.Nodes.{node-of, most-kind, node-checks, with-waste, with-piece, with-cut, tallied, copied}
 use Rattle.node.specs.Placed.{lying-as, laying, Sized, Grows, stopped, Placed}
 use Rattle.node.proofs.Nodes.{waste-checks, piece-passes, cut-checks}
 
 -- the sums of fewer nodes
 pub sized-more : {m n : ℕ} {t : Tally} → m ≤ n → Sized m t → Sized n t
-sized-more h s = record { profit = omega (arith, s .profit); pieces = omega (arith, s .pieces); waste = omega (arith, s .waste); trim = omega (arith, s .trim) }
+sized-more h s = record { profit = omega (arith, s .profit); pieces = omega (arith, s .pieces); waste = omega (arith, s .waste); trim = omega (arith, s .trim); sawdust = omega (arith, s .sawdust) }
 
 -- sums that stay
 pub grows-not : (t : Tally) → Grows t t
 grows-not t n s = sized-more (omega arith) s
 
--- sums that grow by less than 2 ^ 32: the waste, or all the others
-pub waste-grows : (t : Tally) (a : ℕ) → a < 2 ^ 32 → Grows t (record { profit = t .profit; pieces = t .pieces; waste = t .waste + a; trim = t .trim })
-waste-grows t a h n s = record { profit = omega (arith, s .profit); pieces = omega (arith, s .pieces); waste = omega (arith, s .waste); trim = omega (arith, s .trim) }
+-- sums that grow by less than 2 ^ 32: by waste, by a piece, by a cut
+pub waste-grows : (t : Tally) (a : ℕ) → a < 2 ^ 32 → Grows t (record { profit = t .profit; pieces = t .pieces; waste = t .waste + a; trim = t .trim; sawdust = t .sawdust })
+waste-grows t a h n s = record { profit = omega (arith, s .profit); pieces = omega (arith, s .pieces); waste = omega (arith, s .waste); trim = omega (arith, s .trim); sawdust = omega (arith, s .sawdust) }
 
 pub piece-grows : (t : Tally) (a b c : ℕ) → a < 2 ^ 32 → b < 2 ^ 32 → c < 2 ^ 32
-    → Grows t (record { profit = t .profit + a; pieces = t .pieces + b; waste = t .waste; trim = t .trim + c })
-piece-grows t a b c f g h n s = record { profit = omega (arith, s .profit); pieces = omega (arith, s .pieces); waste = omega (arith, s .waste); trim = omega (arith, s .trim) }
+    → Grows t (record { profit = t .profit + a; pieces = t .pieces + b; waste = t .waste; trim = t .trim + c; sawdust = t .sawdust })
+piece-grows t a b c f g h n s = record { profit = omega (arith, s .profit); pieces = omega (arith, s .pieces); waste = omega (arith, s .waste); trim = omega (arith, s .trim); sawdust = omega (arith, s .sawdust) }
+
+pub cut-grows : (t : Tally) (a : ℕ) → a < 2 ^ 32 → Grows t (record { profit = t .profit; pieces = t .pieces; waste = t .waste; trim = t .trim; sawdust = t .sawdust + a })
+cut-grows t a h n s = record { profit = omega (arith, s .profit); pieces = omega (arith, s .pieces); waste = omega (arith, s .waste); trim = omega (arith, s .trim); sawdust = omega (arith, s .sawdust) }
 
 -- a refused node did not pass
 never : {t : Tally} {r : Refusal} {a : NodeAnswer} {A : Type 0} → a ≡ stopped r t → a .verdict ≡ Passed → A
@@ -83,14 +86,14 @@ piece-placed J k kind o r t c s copies b i h e n f d p g m = record {
 }
 
 -- a cut
-pub cut-placed : (J : Job) (k kind o : ℕ) (r : Rect) (t : Tally) (c : List ℕ) (v : Checked) (d : Direction) (x : ℕ) → v ≡ refuse-when (outside 1 (side d r - 1) x) (Operand k)
-    → kind ≤ most-kind (J .turning) → node-of kind o ≡ Cut d x → Placed J k kind o r t c (record { verdict = v; tally = t }) c
-cut-placed J k kind o r t c v d x e h n =
+pub cut-placed : (J : Job) (k kind o : ℕ) (r : Rect) (t : Tally) (c : List ℕ) (v : Checked) (s : Tally) (d : Direction) (x kerf : ℕ) → v ≡ refuse-when (outside 1 (side d r - kerf - 1) x) (Operand k)
+    → s ≡ with-cut kerf d r t → Grows t s → J .kerf ≡ kerf → kind ≤ most-kind (J .turning) → node-of kind o ≡ Cut d x → Placed J k kind o r t c (record { verdict = v; tally = s }) c
+cut-placed J k kind o r t c v s d x kerf e f g b h n =
     record {
-      verdict = e ∙ sym (cut-checks J c r k kind o h d x n);
-      sums = λ p. sym (ap (λ m. tallied J m r t) n);
+      verdict = e ∙ sym (cut-checks J c r k kind o h d x n ∙ ap (λ m. refuse-when (outside 1 (side d r - m - 1) x) (Operand k)) b);
+      sums = λ p. f ∙ sym (ap (λ m. tallied J m r t) n ∙ ap (λ m. with-cut m d r t) b);
       counts = λ p. sym (ap (λ m. copied m c) n);
-      sized = grows-not t;
+      sized = g;
     }
 
 -- a node whose kind is known

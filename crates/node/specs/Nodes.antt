@@ -2,16 +2,17 @@
 -- parts that it leaves to be filled, and what it adds to the sums and to the copies.
 use mathlib.Core.Bool.{Bool, true, false, not}
 use mathlib.Core.List.{List, [], _∷_}
-use Prim.Native.Nat.{ℕ, _+_, _-_}
+use Prim.Native.Nat.{ℕ, _+_, _-_, _*_}
 use lib.Dec.{leb, ltb, eqb}
 use lib.ListN.{getD, set}
+use Rattle.cutting.specs.declared.Direction.{Direction}
 use Rattle.cutting.specs.declared.Direction.the-variants.{Length, Width}
 use Rattle.cutting.specs.declared.Node.{Node}
 use Rattle.cutting.specs.declared.Node.the-variants.{Waste, Piece, Turned, Cut}
 use Rattle.cutting.specs.Tree.{Rect, side, part}
 use Rattle.cutting.specs.Pieces as laid
 use Rattle.cutting.specs.Pieces.{fits-in}
-use Rattle.cutting.specs.Areas.{area}
+use Rattle.cutting.specs.Areas.{area, breadth}
 use Rattle.cutting.specs.Job.{Job, laid}
 use Rattle.refusal.specs.declared.Refusal.the-variants.{NodeKind, PieceNumber, Operand, Misfit, Excess}
 use Rattle.refusal.specs.Refusals.{Check}
@@ -43,12 +44,13 @@ of-piece f a (Cut d x) = a
 abbrev pub unnumbered : Job → Node → Bool
 unnumbered J n = of-piece (λ p. leb (J .count) (laid.kind p)) false n
 
--- 14: a waste operand that is not 0, or a cut position outside 1 to the side less 1
-abbrev pub misplaced : Rect → Node → ℕ → Bool
-misplaced r Waste operand = not (eqb operand 0)
-misplaced r (Piece i) operand = false
-misplaced r (Turned i) operand = false
-misplaced r (Cut d x) operand = outside 1 (side d r - 1) x
+-- 14: a waste operand that is not 0, or a cut position outside 1 to the side less the kerf less 1; a side of at most the kerf and 1 has
+-- no position
+abbrev pub misplaced : ℕ → Rect → Node → ℕ → Bool
+misplaced kerf r Waste operand = not (eqb operand 0)
+misplaced kerf r (Piece i) operand = false
+misplaced kerf r (Turned i) operand = false
+misplaced kerf r (Cut d x) operand = outside 1 (side d r - kerf - 1) x
 
 -- 15: a piece that does not fit the rectangle as it lies
 abbrev pub misfit : Job → Rect → Node → Bool
@@ -63,32 +65,36 @@ abbrev pub node-checks : Job → List ℕ → Rect → ℕ → ℕ → ℕ → L
 node-checks J copies r k kind operand =
     (ltb (most-kind (J .turning)) kind, NodeKind k)
     ∷ (unnumbered J (node-of kind operand), PieceNumber k)
-    ∷ (misplaced r (node-of kind operand) operand, Operand k)
+    ∷ (misplaced (J .kerf) r (node-of kind operand) operand, Operand k)
     ∷ (misfit J r (node-of kind operand), Misfit k)
     ∷ (excess J copies (node-of kind operand), Excess k)
     ∷ []
 
--- the parts of a rectangle that a node leaves to be filled, first part first
-abbrev pub parts : Node → Rect → List Rect
-parts Waste r = []
-parts (Piece i) r = []
-parts (Turned i) r = []
-parts (Cut d x) r = part d x r ∷ part d (side d r - x) r ∷ []
+-- the parts of a rectangle that a node leaves to be filled, first part first; a cut takes the kerf from the second
+abbrev pub parts : ℕ → Node → Rect → List Rect
+parts kerf Waste r = []
+parts kerf (Piece i) r = []
+parts kerf (Turned i) r = []
+parts kerf (Cut d x) r = part d x r ∷ part d (side d r - x - kerf) r ∷ []
 
 -- the sums with a waste node more: its area
 abbrev pub with-waste : Rect → Tally → Tally
-with-waste r t = record { profit = t .profit; pieces = t .pieces; waste = t .waste + area r; trim = t .trim }
+with-waste r t = record { profit = t .profit; pieces = t .pieces; waste = t .waste + area r; trim = t .trim; sawdust = t .sawdust }
 
 -- the sums with a piece of a price and a size more: its price, its area, and the rest of the rectangle as trim
 abbrev pub with-piece : ℕ → Rect → Rect → Tally → Tally
-with-piece price size r t = record { profit = t .profit + price; pieces = t .pieces + area size; waste = t .waste; trim = t .trim + (area r - area size) }
+with-piece price size r t = record { profit = t .profit + price; pieces = t .pieces + area size; waste = t .waste; trim = t .trim + (area r - area size); sawdust = t .sawdust }
+
+-- the sums with a cut more: the kerf times the side along which it runs
+abbrev pub with-cut : ℕ → Direction → Rect → Tally → Tally
+with-cut kerf d r t = record { profit = t .profit; pieces = t .pieces; waste = t .waste; trim = t .trim; sawdust = t .sawdust + kerf * breadth d r }
 
 -- the sums with one node more
 abbrev pub tallied : Job → Node → Rect → Tally → Tally
 tallied J Waste r t = with-waste r t
 tallied J (Piece i) r t = with-piece (J .price i) (laid J (laid.upright i)) r t
 tallied J (Turned i) r t = with-piece (J .price i) (laid J (laid.turned i)) r t
-tallied J (Cut d x) r t = t
+tallied J (Cut d x) r t = with-cut (J .kerf) d r t
 
 -- the copies of each kind, upright and turned together, with one node more
 abbrev pub copied : Node → List ℕ → List ℕ

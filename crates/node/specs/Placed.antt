@@ -36,6 +36,7 @@ pub record Sized (n : ℕ) (t : Tally) : Type 0 where
   pub pieces : t .pieces ≤ 2 ^ 32 * n
   pub waste : t .waste ≤ 2 ^ 32 * n
   pub trim : t .trim ≤ 2 ^ 32 * n
+  pub sawdust : t .sawdust ≤ 2 ^ 32 * n
 
 -- sums with at most one node more
 abbrev pub Grows : Tally → Tally → Type 0

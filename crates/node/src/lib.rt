@@ -17,18 +17,19 @@ ghost use Rattle.cutting.specs.declared.Node.the-variants.{Cut};
 ghost use Rattle.cutting.specs.Tree.{side};
 ghost use Rattle.cutting.specs.Sides.{rect-of, sides-of};
 ghost use Rattle.cutting.specs.Pieces.{fits-in};
-ghost use Rattle.cutting.specs.Areas.{area};
+ghost use Rattle.cutting.specs.Areas.{area, breadth};
 ghost use Rattle.cutting.specs.Job.{Job};
 ghost use Rattle.job.specs.Block.{outside, job-from};
-ghost use Rattle.node.specs.Nodes.{node-of, most-kind, with-waste, with-piece};
+ghost use Rattle.node.specs.Nodes.{node-of, most-kind, with-waste, with-piece, with-cut};
 ghost use Rattle.node.specs.Placed.{Sized, Grows, stopped, Placed, lying-as, laying};
 
-// The sums over the nodes read: profit, and the areas of pieces, waste nodes and trim.
+// The sums over the nodes read: profit, and the areas of pieces, waste nodes, trim and sawdust.
 pub struct Tally {
     pub profit: u64,
     pub pieces: u64,
     pub waste: u64,
     pub trim: u64,
+    pub sawdust: u64,
 }
 
 // A node as a plan's arrays have it: its place, its kind and its operand.
@@ -38,10 +39,11 @@ pub struct NodeEntry {
     pub operand: u16,
 }
 
-// How many kinds there are, and whether they may be turned.
-pub struct Kinds {
+// What a job says of every node: how many kinds there are, whether pieces may be turned, and the kerf.
+pub struct Rules {
     pub count: u16,
     pub turning: bool,
+    pub kerf: u16,
 }
 
 // A node that lays a piece: its place, the number of its kind, and whether it is turned.
@@ -99,14 +101,25 @@ fn lay(upright: Sides, turned: bool) -> Sides
     if turned { turn(upright) } else { upright }
 }
 
-// Whether a cut's position is outside 1 to the side less 1.
-fn outside_cut(d: Direction, x: u16, whole: Sides) -> bool
-    ensures { λ r. ⌜ r ≡ outside 1 (side d (rect-of whole) - 1) x ⌝ }
+// Whether a cut's position is outside 1 to the side less the kerf less 1.
+fn outside_cut(d: Direction, x: u16, kerf: u16, whole: Sides) -> bool
+    ensures { λ r. ⌜ r ≡ outside 1 (side d (rect-of whole) - kerf - 1) x ⌝ }
 {
     if x < 1 {
         return true;
     }
-    cut_side(d, whole) <= x
+    let whole_side = cut_side(d, whole);
+    (whole_side as u32) <= (x as u32) + (kerf as u32)
+}
+
+// The side along which a cut runs.
+fn cut_breadth(d: Direction, whole: Sides) -> u16
+    ensures { λ r. ⌜ r ≡ breadth d (rect-of whole) ⌝ }
+{
+    match d {
+        Direction::Length => whole.width,
+        Direction::Width => whole.length,
+    }
 }
 
 // The sums with a waste node more.
@@ -120,6 +133,7 @@ fn add_waste(room: Sides, t: Tally) -> Tally
         pieces: t.pieces,
         waste: t.waste + waste,
         trim: t.trim,
+        sawdust: t.sawdust,
     }
 }
 
@@ -135,6 +149,26 @@ fn add_piece(price: u32, piece: Sides, room: Sides, t: Tally) -> Tally
         pieces: t.pieces + used,
         waste: t.waste,
         trim: t.trim + left,
+        sawdust: t.sawdust,
+    }
+}
+
+// The sums with a cut more: the sawdust is what the blade takes, the kerf by the side along which the cut runs.
+fn add_cut(d: Direction, kerf: u16, room: Sides, t: Tally) -> Tally
+    requires { ⌜ Sized 4094 t ⌝ }
+    ensures { λ r. ⌜ (r ≡ with-cut kerf d (rect-of room) t) × Grows t r ⌝ }
+{
+    let taken = Sides {
+        length: kerf,
+        width: cut_breadth(d, room),
+    };
+    let dust = area(taken);
+    Tally {
+        profit: t.profit,
+        pieces: t.pieces,
+        waste: t.waste,
+        trim: t.trim,
+        sawdust: t.sawdust + dust,
     }
 }
 
@@ -184,8 +218,8 @@ fn place_piece(
     t: Tally,
 ) -> NodeAnswer
     requires { ⌜ Sized 4094 t × (count ≤ 64) ⌝ }
-    ensures { λ r. ⌜ ((l w : ℕ) (turning full : Bool) (kind operand : ℕ) → kind ≤ most-kind turning → node-of kind operand ≡ laying (node .turned) (node .number)
-        → Placed (job-from l w turning full count (now («kind_lengths» .entry)) (now («kind_widths» .entry)) (now (prices .entry)) (now (demands .entry))) (node .at) kind operand (rect-of room) t (now (copies .entry)) r (now (copies .exit))) ⌝ }
+    ensures { λ r. ⌜ ((l w kerf : ℕ) (turning full : Bool) (kind operand : ℕ) → kind ≤ most-kind turning → node-of kind operand ≡ laying (node .turned) (node .number)
+        → Placed (job-from l w kerf turning full count (now («kind_lengths» .entry)) (now («kind_widths» .entry)) (now (prices .entry)) (now (demands .entry))) (node .at) kind operand (rect-of room) t (now (copies .entry)) r (now (copies .exit))) ⌝ }
 {
     let i = node.number;
     if count <= i {
@@ -212,14 +246,15 @@ fn place_piece(
     }
 }
 
-// A cut: its parts are left to be filled.
-fn place_cut(d: Direction, x: u16, at: u16, room: Sides, t: Tally) -> NodeAnswer
-    ensures { λ r. ⌜ ((J : Job) (copies : List ℕ) (kind operand : ℕ) → kind ≤ most-kind (J .turning) → node-of kind operand ≡ Cut d x → Placed J at kind operand (rect-of room) t copies r copies) ⌝ }
+// A cut: its sawdust is counted, and its parts are left to be filled.
+fn place_cut(d: Direction, x: u16, kerf: u16, at: u16, room: Sides, t: Tally) -> NodeAnswer
+    requires { ⌜ Sized 4094 t ⌝ }
+    ensures { λ r. ⌜ ((J : Job) (copies : List ℕ) (kind operand : ℕ) → J .kerf ≡ kerf → kind ≤ most-kind (J .turning) → node-of kind operand ≡ Cut d x → Placed J at kind operand (rect-of room) t copies r copies) ⌝ }
 {
-    let verdict = refuse_if(outside_cut(d, x, room), Refusal::Operand(at));
+    let verdict = refuse_if(outside_cut(d, x, kerf, room), Refusal::Operand(at));
     NodeAnswer {
         verdict: verdict,
-        tally: t,
+        tally: add_cut(d, kerf, room, t),
     }
 }
 
@@ -230,17 +265,17 @@ pub fn check_node(
     prices: &[u32; 64],
     demands: &[u16; 64],
     copies: &mut [u16; 64],
-    kinds: Kinds,
+    rules: Rules,
     node: NodeEntry,
     room: Sides,
     t: Tally,
 ) -> NodeAnswer
-    requires { ⌜ Sized 4094 t × (kinds .count ≤ 64) ⌝ }
-    ensures { λ r. ⌜ ((l w : ℕ) (full : Bool) → Placed (job-from l w (kinds .turning) full (kinds .count) (now («kind_lengths» .entry)) (now («kind_widths» .entry)) (now (prices .entry)) (now (demands .entry))) (node .at) (node .kind) (node .operand) (rect-of room) t (now (copies .entry)) r (now (copies .exit))) ⌝ }
+    requires { ⌜ Sized 4094 t × (rules .count ≤ 64) ⌝ }
+    ensures { λ r. ⌜ ((l w : ℕ) (full : Bool) → Placed (job-from l w (rules .kerf) (rules .turning) full (rules .count) (now («kind_lengths» .entry)) (now («kind_widths» .entry)) (now (prices .entry)) (now (demands .entry))) (node .at) (node .kind) (node .operand) (rect-of room) t (now (copies .entry)) r (now (copies .exit))) ⌝ }
 {
     let at = node.at;
     let operand = node.operand;
-    if last_kind(kinds.turning) < node.kind {
+    if last_kind(rules.turning) < node.kind {
         return refuse(Refusal::NodeKind(at), t);
     }
     let decoded = decode(node.kind, operand);
@@ -252,7 +287,7 @@ pub fn check_node(
             prices,
             demands,
             copies,
-            kinds.count,
+            rules.count,
             piece_entry(at, i, false),
             room,
             t,
@@ -263,11 +298,11 @@ pub fn check_node(
             prices,
             demands,
             copies,
-            kinds.count,
+            rules.count,
             piece_entry(at, i, true),
             room,
             t,
         ),
-        Node::Cut(d, x) => place_cut(d, x, at, room, t),
+        Node::Cut(d, x) => place_cut(d, x, rules.kerf, at, room, t),
     }
 }

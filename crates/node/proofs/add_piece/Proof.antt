@@ -8,23 +8,8 @@ use Rattle.node.proofs.Placed.{piece-grows}
 use Rattle.node.proofs.add_piece.Statement.{statement}
 use Rattle.node.proofs.add_piece.Tie as tie
 
-area-requires : tie.Need-area-requires
-area-requires c κs = search needs
-
-area-requires-2 : tie.Need-area-requires-2
-area-requires-2 c κs = search needs
-
 sub-left : tie.Need-sub-left
 sub-left c = omega (arith, fits-area (rect-of (c .before .before .args .piece)) (rect-of (c .before .before .args .room)) (c .before .before .pre .1))
-
-add-t8 : tie.Need-add-t8
-add-t8 c = search needs
-
-add-t9 : tie.Need-add-t9
-add-t9 c = search needs
-
-add-t10 : tie.Need-add-t10
-add-t10 c = search needs
 
 returns : tie.Need-returns
 returns c =
@@ -34,4 +19,4 @@ returns c =
 
 pub add-piece-spec : {M : Type 1} → statement M
 add-piece-spec =
-    tie.close (tie.spec area-requires area-requires-2 sub-left add-t8 add-t9 add-t10 returns)
+    tie.close (tie.spec (λ c. search needs) (λ c. search needs) sub-left (λ c. search needs) (λ c. search needs) (λ c. search needs) returns)

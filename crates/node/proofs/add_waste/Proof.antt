@@ -4,14 +4,8 @@ use Rattle.node.proofs.Placed.{waste-grows}
 use Rattle.node.proofs.add_waste.Statement.{statement}
 use Rattle.node.proofs.add_waste.Tie as tie
 
-area-requires : tie.Need-area-requires
-area-requires c κs = search needs
-
-add-t4 : tie.Need-add-t4
-add-t4 c = search needs
-
 returns : tie.Need-returns
 returns c = (simp (c .before .area .ensures .0), waste-grows (c .before .before .args .t) (c .before .area .result) (c .before .area .ensures .1))
 
 pub add-waste-spec : {M : Type 1} → statement M
-add-waste-spec = tie.close (tie.spec area-requires add-t4 returns)
+add-waste-spec = tie.close (tie.spec (λ c. search needs) (λ c. search needs) returns)

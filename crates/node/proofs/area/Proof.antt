@@ -6,12 +6,6 @@ use Rattle.node.proofs.Product.{below}
 use Rattle.node.proofs.area.Statement.{statement}
 use Rattle.node.proofs.area.Tie as tie
 
-cast-result : tie.Need-cast-result
-cast-result c = search needs
-
-cast-result-2 : tie.Need-cast-result-2
-cast-result-2 c = search needs
-
 mul-result : tie.Need-mul-result
 mul-result c = record { fits = omega (arith, below 16 {a = c .before .before .args .s .length} {b = c .before .before .args .s .width} (omega arith) (omega arith)) }
 
@@ -19,4 +13,4 @@ returns : tie.Need-returns
 returns c = (refl, below 16 {a = c .before .before .args .s .length} {b = c .before .before .args .s .width} (omega arith) (omega arith))
 
 pub area-spec : {M : Type 1} → statement M
-area-spec = tie.close (tie.spec cast-result cast-result-2 mul-result returns)
+area-spec = tie.close (tie.spec (λ c. search needs) (λ c. search needs) mul-result returns)

@@ -1,5 +1,5 @@
 -- `node::check_node` meets its contract: a kind past the last is refused, and else the node decides.
-use mathlib.Core.Path.{_∙_, sym, ap, subst}
+use mathlib.Core.Path.{_∙_, refl, sym, ap}
 use native.Mathlib.Omega.{arith}
 use denote.Ref.{now}
 use borrow.Author.Needs.{needs}
@@ -11,56 +11,17 @@ use Rattle.node.proofs.Placed.{stops, placed-as, placed-at}
 use Rattle.node.proofs.check_node.Statement.{statement}
 use Rattle.node.proofs.check_node.Tie as tie
 
-last-kind-requires : tie.Need-last-kind-requires
-last-kind-requires c κs = search needs
-
-refuse-requires : tie.Need-refuse-requires
-refuse-requires c κs = search needs
-
 returns : tie.Need-returns
 returns c l w full =
     let a = c .before .before .before .before .args in
-    let J = job-from l w (a .kinds .turning) full (a .kinds .count) (now (a .kind-lengths)) (now (a .kind-widths)) (now (a .prices)) (now (a .demands)) in
+    let J = job-from l w (a .rules .kerf) (a .rules .turning) full (a .rules .count) (now (a .kind-lengths)) (now (a .kind-widths)) (now (a .prices)) (now (a .demands)) in
     stops J (a .node .at) (a .node .kind) (a .node .operand) (rect-of (a .room)) (a .t) (now (a .copies)) (c .refuse .result) _ (c .refuse .ensures)
     (kind-refused J (now (a .copies)) (rect-of (a .room)) (a .node .at) (a .node .kind) (a .node .operand) (omega (arith, c .before .if1 .taken, c .before .before .before .last-kind .ensures)))
-
-decode-requires : tie.Need-decode-requires
-decode-requires c κs = search needs
-
-enum-told : tie.Need-enum-told
-enum-told c = search needs
-
-place-waste-requires : tie.Need-place-waste-requires
-place-waste-requires c κs = search needs
-
-enum-known-decoded : tie.Need-enum-known-decoded
-enum-known-decoded c = search needs
-
-piece-entry-requires : tie.Need-piece-entry-requires
-piece-entry-requires c κs = search needs
-
-place-piece-requires : tie.Need-place-piece-requires
-place-piece-requires c κs = search needs
-
-enum-known-decoded-2 : tie.Need-enum-known-decoded-2
-enum-known-decoded-2 c = search needs
-
-piece-entry-requires-2 : tie.Need-piece-entry-requires-2
-piece-entry-requires-2 c κs = search needs
-
-place-piece-requires-2 : tie.Need-place-piece-requires-2
-place-piece-requires-2 c κs = search needs
-
-enum-known-decoded-3 : tie.Need-enum-known-decoded-3
-enum-known-decoded-3 c = search needs
-
-place-cut-requires : tie.Need-place-cut-requires
-place-cut-requires c κs = search needs
 
 returns-2 : tie.Need-returns-2
 returns-2 c l w full =
     let a = c .before .before .before .before .before .before .before .args in
-    let J = job-from l w (a .kinds .turning) full (a .kinds .count) (now (a .kind-lengths)) (now (a .kind-widths)) (now (a .prices)) (now (a .demands)) in
+    let J = job-from l w (a .rules .kerf) (a .rules .turning) full (a .rules .count) (now (a .kind-lengths)) (now (a .kind-widths)) (now (a .prices)) (now (a .demands)) in
     placed-as {J = J} (waste-kind (a .node .kind) (a .node .operand) (sym (c .before .before .before .decode .ensures) ∙ c .before .enum-told .given .1)) (c .place-waste .ensures J (now (a .copies)))
 
 returns-3 : tie.Need-returns-3
@@ -68,7 +29,7 @@ returns-3 c l w full =
     let a = c .before .before .before .before .before .before .before .before .before .before .args in
     let e = c .before .piece-entry .ensures in
     placed-at (sym (ap (λ p. p .at) e))
-    (c .place-piece .ensures l w (a .kinds .turning) full (a .node .kind) (a .node .operand) (omega (arith, c .before .before .before .before .before .before .before .if1 .left, c .before .before .before .before .before .before .before .before .before .last-kind .ensures))
+    (c .place-piece .ensures l w (a .rules .kerf) (a .rules .turning) full (a .node .kind) (a .node .operand) (omega (arith, c .before .before .before .before .before .before .before .if1 .left, c .before .before .before .before .before .before .before .before .before .last-kind .ensures))
     (sym (c .before .before .before .before .before .before .decode .ensures) ∙ c .before .before .before .before .decoded .given .1 ∙ sym (ap (λ p. laying (p .turned) (p .number)) e)))
 
 returns-4 : tie.Need-returns-4
@@ -76,33 +37,33 @@ returns-4 c l w full =
     let a = c .before .before .before .before .before .before .before .before .before .before .args in
     let e = c .before .piece-entry2 .ensures in
     placed-at (sym (ap (λ p. p .at) e))
-    (c .place-piece2 .ensures l w (a .kinds .turning) full (a .node .kind) (a .node .operand) (omega (arith, c .before .before .before .before .before .before .before .if1 .left, c .before .before .before .before .before .before .before .before .before .last-kind .ensures))
+    (c .place-piece2 .ensures l w (a .rules .kerf) (a .rules .turning) full (a .node .kind) (a .node .operand) (omega (arith, c .before .before .before .before .before .before .before .if1 .left, c .before .before .before .before .before .before .before .before .before .last-kind .ensures))
     (sym (c .before .before .before .before .before .before .decode .ensures) ∙ c .before .before .before .before .decoded2 .given .1 ∙ sym (ap (λ p. laying (p .turned) (p .number)) e)))
 
 returns-5 : tie.Need-returns-5
 returns-5 c l w full =
     let a = c .before .before .before .before .before .before .before .before .args in
-    let J = job-from l w (a .kinds .turning) full (a .kinds .count) (now (a .kind-lengths)) (now (a .kind-widths)) (now (a .prices)) (now (a .demands)) in
-    c .place-cut .ensures J (now (a .copies)) (a .node .kind) (a .node .operand) (omega (arith, c .before .before .before .before .before .if1 .left, c .before .before .before .before .before .before .before .last-kind .ensures)) (sym (c .before .before .before .before .decode .ensures) ∙ c .before .before .decoded3 .given .1)
+    let J = job-from l w (a .rules .kerf) (a .rules .turning) full (a .rules .count) (now (a .kind-lengths)) (now (a .kind-widths)) (now (a .prices)) (now (a .demands)) in
+    c .place-cut .ensures J (now (a .copies)) (a .node .kind) (a .node .operand) refl (omega (arith, c .before .before .before .before .before .if1 .left, c .before .before .before .before .before .before .before .last-kind .ensures)) (sym (c .before .before .before .before .decode .ensures) ∙ c .before .before .decoded3 .given .1)
 
 pub check-node-spec : {M : Type 1} → statement M
 check-node-spec =
     tie.close
     (tie.spec
-    last-kind-requires
-    refuse-requires
+    (λ c. search needs)
+    (λ c. search needs)
     returns
-    decode-requires
-    enum-told
-    place-waste-requires
-    enum-known-decoded
-    piece-entry-requires
-    place-piece-requires
-    enum-known-decoded-2
-    piece-entry-requires-2
-    place-piece-requires-2
-    enum-known-decoded-3
-    place-cut-requires
+    (λ c. search needs)
+    (λ c. search needs)
+    (λ c. search needs)
+    (λ c. search needs)
+    (λ c. search needs)
+    (λ c. search needs)
+    (λ c. search needs)
+    (λ c. search needs)
+    (λ c. search needs)
+    (λ c. search needs)
+    (λ c. search needs)
     returns-2
     returns-3
     returns-4

@@ -4,9 +4,6 @@ use borrow.Author.Needs.{needs}
 use Rattle.node.proofs.lay.Statement.{statement}
 use Rattle.node.proofs.lay.Tie as tie
 
-turn-requires : tie.Need-turn-requires
-turn-requires c κs = search needs
-
 returns : tie.Need-returns
 returns c = rw (c .before .if1 .taken) (c .turn .ensures)
 
@@ -14,4 +11,4 @@ returns-2 : tie.Need-returns-2
 returns-2 c = rw (c .if1 .left)
 
 pub lay-spec : {M : Type 1} → statement M
-lay-spec = tie.close (tie.spec turn-requires returns returns-2)
+lay-spec = tie.close (tie.spec (λ c. search needs) returns returns-2)

@@ -1,5 +1,6 @@
--- `node::outside_cut` meets its contract: from 1 on, a position is outside where the side is no greater.
+-- `node::outside_cut` meets its contract: from 1 on, a position is outside where, with the kerf, it reaches the side.
 use mathlib.Core.Path.{_∙_, ap}
+use Prim.Native.Nat.{_+_}
 use lib.Dec.{leb}
 use borrow.Author.Tests.{lt-ltb}
 use borrow.Author.Needs.{needs}
@@ -10,11 +11,9 @@ use Rattle.node.proofs.outside_cut.Tie as tie
 returns : tie.Need-returns
 returns c = simp (lt-ltb _ _ (c .if1 .taken))
 
-cut-side-requires : tie.Need-cut-side-requires
-cut-side-requires c κs = search needs
-
 returns-2 : tie.Need-returns-2
-returns-2 c = ap (λ s. leb s (c .before .before .args .x)) (c .cut-side .ensures) ∙ past-side _ (c .before .before .args .x) (c .before .if1 .left)
+returns-2 c = let a = c .before .before .args in
+    ap (λ s. leb s (a .x + a .kerf)) (c .cut-side .ensures) ∙ past-side _ (a .kerf) (a .x) (c .before .if1 .left)
 
 pub outside-cut-spec : {M : Type 1} → statement M
-outside-cut-spec = tie.close (tie.spec returns cut-side-requires returns-2)
+outside-cut-spec = tie.close (tie.spec returns (λ c. search needs) (λ c. search needs) (λ c. search needs) returns-2)

@@ -5,15 +5,9 @@ use Rattle.node.proofs.Placed.{waste-placed}
 use Rattle.node.proofs.place_waste.Statement.{statement}
 use Rattle.node.proofs.place_waste.Tie as tie
 
-refuse-if-requires : tie.Need-refuse-if-requires
-refuse-if-requires c κs = search needs
-
-add-waste-requires : tie.Need-add-waste-requires
-add-waste-requires c κs = search needs
-
 returns : tie.Need-returns
 returns c = let a = c .before .before .args in
     λ J copies. waste-placed J (a .at) (a .operand) (rect-of (a .room)) (a .t) copies (c .before .refuse-if .result) (c .add-waste .result) (c .before .refuse-if .ensures) (c .add-waste .ensures .0) (c .add-waste .ensures .1)
 
 pub place-waste-spec : {M : Type 1} → statement M
-place-waste-spec = tie.close (tie.spec refuse-if-requires add-waste-requires returns)
+place-waste-spec = tie.close (tie.spec (λ c. search needs) (λ c. search needs) returns)
