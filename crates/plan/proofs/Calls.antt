@@ -33,11 +33,11 @@ module _ (s : List ℕ) (choices : Choices) {a : JobAnswer} (e : a ≡ read-of s
   read-range = subst (λ (j : JobRecord). InRange (job-of j)) (sym (read.answered s choices e p .1)) (read.read-in-range s choices (read.answered s choices e p .0))
 
   -- what follows for the job that was read is the answer
-  pub read-on : (f : Job → PlanAnswer) → f (job-of (a .job)) ≡ proceed (first-refusal (job-checks s)) (f (block-job s choices))
+  pub read-on : (f : Job → PlanAnswer) → f (job-of (a .job)) ≡ proceed (first-refusal (job-checks s choices)) (f (block-job s choices))
   read-on f = ap (λ (j : JobRecord). f (job-of j)) (read.answered s choices e p .1) ∙ sym (ap (λ v. proceed v (f (block-job s choices))) (read.answered s choices e p .0))
 
 -- a job that is refused
-pub read-stops : (s : List ℕ) (choices : Choices) {a : JobAnswer} {r : Refusal} (b : PlanAnswer) → a ≡ read-of s choices → a .verdict ≡ Refused r → unreported (a .verdict) ≡ proceed (first-refusal (job-checks s)) b
+pub read-stops : (s : List ℕ) (choices : Choices) {a : JobAnswer} {r : Refusal} (b : PlanAnswer) → a ≡ read-of s choices → a .verdict ≡ Refused r → unreported (a .verdict) ≡ proceed (first-refusal (job-checks s choices)) b
 read-stops s choices b e p = ap unreported p ∙ sym (ap (λ v. proceed v b) (read.refused s choices e p))
 
 module _ (J : Job) (p : List ℕ) where
@@ -65,12 +65,12 @@ module _ (J : Job) (p : List ℕ) where
     block-many m = block-on ∙ many-refused J (plan-kinds p) (plan-operands p) (kinds-length ∙ sym operands-length) (omega (arith, kinds-length, m)) (omega (arith, kinds-length, m))
 
 -- both calls pass exactly for the plans of trees
-arrays-checked : (s : List ℕ) (choices : Choices) (kinds operands : List ℕ) → ChecksPlan (JobPasses s) (block-job s choices) kinds operands (arrays-answer s choices kinds operands)
-arrays-checked s choices kinds operands = checked-after (first-refusal (job-checks s)) (λ p. plans-checked (block-job s choices) (read.read-in-range s choices p .kinds .1) kinds operands) (λ a. (a, tt)) (λ v b. v)
+arrays-checked : (s : List ℕ) (choices : Choices) (kinds operands : List ℕ) → ChecksPlan (JobPasses s choices) (block-job s choices) kinds operands (arrays-answer s choices kinds operands)
+arrays-checked s choices kinds operands = checked-after (first-refusal (job-checks s choices)) (λ p. plans-checked (block-job s choices) (read.read-in-range s choices p .kinds .1) kinds operands) (λ a. (a, tt)) (λ v b. v)
 
-block-checked : (s : List ℕ) (choices : Choices) (p : List ℕ) → ChecksPlan (JobPasses s × BlockPasses p) (block-job s choices) (plan-kinds p) (plan-operands p) (block-answer s choices p)
+block-checked : (s : List ℕ) (choices : Choices) (p : List ℕ) → ChecksPlan (JobPasses s choices × BlockPasses p) (block-job s choices) (plan-kinds p) (plan-operands p) (block-answer s choices p)
 unfolding plan-block-answer
-block-checked s choices p = checked-after (first-refusal (job-checks s))
+block-checked s choices p = checked-after (first-refusal (job-checks s choices))
     (λ v. checked-after (first-refusal (block-checks p)) (λ w. plans-checked (block-job s choices) (read.read-in-range s choices v .kinds .1) (plan-kinds p) (plan-operands p)) (λ a. (a, tt)) (λ v b. v))
     (λ a. (a .0, a .1)) (λ v b. (v, b))
 
@@ -81,21 +81,21 @@ outcome-after (Refused r) a = refl
 
 -- so an answer that equals the definition meets the whole contract
 pub arrays-met : (s : List ℕ) (choices : Choices) (kinds operands : List ℕ) {r : PlanAnswer} → r ≡ arrays-answer s choices kinds operands
-    → (r ≡ arrays-answer s choices kinds operands) × ((plan-outcome r ≡ arrays-said s choices kinds operands) × ChecksPlan (JobPasses s) (block-job s choices) kinds operands r)
+    → (r ≡ arrays-answer s choices kinds operands) × ((plan-outcome r ≡ arrays-said s choices kinds operands) × ChecksPlan (JobPasses s choices) (block-job s choices) kinds operands r)
 arrays-met s choices kinds operands e = (
   e,
   (
-    ap (λ a. plan-outcome a) e ∙ outcome-after (first-refusal (job-checks s)) (plan-answer (block-job s choices) kinds operands),
-    subst (λ (a : PlanAnswer). ChecksPlan (JobPasses s) (block-job s choices) kinds operands a) (sym e) (arrays-checked s choices kinds operands),
+    ap (λ a. plan-outcome a) e ∙ outcome-after (first-refusal (job-checks s choices)) (plan-answer (block-job s choices) kinds operands),
+    subst (λ (a : PlanAnswer). ChecksPlan (JobPasses s choices) (block-job s choices) kinds operands a) (sym e) (arrays-checked s choices kinds operands),
   ),
 )
 
 pub block-met : (s : List ℕ) (choices : Choices) (p : List ℕ) {r : PlanAnswer} → r ≡ block-answer s choices p
-    → (r ≡ block-answer s choices p) × ((plan-outcome r ≡ block-said s choices p) × ChecksPlan (JobPasses s × BlockPasses p) (block-job s choices) (plan-kinds p) (plan-operands p) r)
+    → (r ≡ block-answer s choices p) × ((plan-outcome r ≡ block-said s choices p) × ChecksPlan (JobPasses s choices × BlockPasses p) (block-job s choices) (plan-kinds p) (plan-operands p) r)
 block-met s choices p e = (
   e,
   (
-    ap (λ a. plan-outcome a) e ∙ outcome-after (first-refusal (job-checks s)) (plan-block-answer (block-job s choices) p),
-    subst (λ (a : PlanAnswer). ChecksPlan (JobPasses s × BlockPasses p) (block-job s choices) (plan-kinds p) (plan-operands p) a) (sym e) (block-checked s choices p),
+    ap (λ a. plan-outcome a) e ∙ outcome-after (first-refusal (job-checks s choices)) (plan-block-answer (block-job s choices) p),
+    subst (λ (a : PlanAnswer). ChecksPlan (JobPasses s choices × BlockPasses p) (block-job s choices) (plan-kinds p) (plan-operands p) a) (sym e) (block-checked s choices p),
   ),
 )

@@ -2,7 +2,7 @@
 use mathlib.Core.Path.{_≡_, _∙_, refl, sym, ap, subst}
 use mathlib.Core.Bool.{true}
 use mathlib.Core.List.{List, [], _∷_, _++_}
-use Prim.Native.Nat.{ℕ, zero, suc, _+_, _-_, _≤_, _<_}
+use Prim.Native.Nat.{ℕ, zero, suc, _+_, _≤_, _<_}
 use native.Mathlib.Decide.{ℕ-discrete}
 use native.Mathlib.Omega.{arith}
 use lib.Dec.{T}
@@ -24,8 +24,8 @@ use Rattle.refusal.specs.declared.Checked.the-variants.{Passed, Refused}
 use Rattle.node.proofs.Nodes.{pair-of, PieceFits, NodeFits, node-passed}
 use Rattle.plan.specs.declared.Report.{Report}
 use Rattle.plan.specs.declared.PlanAnswer.{PlanAnswer}
-use Rattle.plan.specs.Plan.{node-of, proceed, walk}
-use Rattle.plan.proofs.Counts.{added}
+use Rattle.plan.specs.Plan.{node-of, counted, proceed, walk}
+use Rattle.plan.proofs.Counts.{second, added}
 use Rattle.plan.proofs.Preorder.{written, written-cut, count-cut}
 use Rattle.plan.proofs.Trees.{node-walks}
 
@@ -69,8 +69,8 @@ module _ (J : Job) (few : J .count ≤ 64) where
   piece-lies : (c : List ℕ) (p : laid.Piece) (r : Rect) → PieceFits J c r p → GuillotineTree J (r .0) (r .1) (piece p)
   piece-lies c p r f = let z = fits-true (laid J p) r (f .1) in (f .0, z .0, z .1)
 
-  join-parts : (d : Direction) (x : ℕ) (a b : Tree laid.Piece) (r : Rect) → (1 ≤ x) × (x < side d r)
-      → GuillotineTree J (part d x r .0) (part d x r .1) a → GuillotineTree J (part d (side d r - x) r .0) (part d (side d r - x) r .1) b → GuillotineTree J (r .0) (r .1) (cut d x a b)
+  join-parts : (d : Direction) (x : ℕ) (a b : Tree laid.Piece) (r : Rect) → (1 ≤ x) × (x + J .kerf < side d r)
+      → GuillotineTree J (part d x r .0) (part d x r .1) a → GuillotineTree J (second J d x r .0) (second J d x r .1) b → GuillotineTree J (r .0) (r .1) (cut d x a b)
   join-parts Length x a b r h g k = (h .0, h .1, g, k)
   join-parts Width x a b r h g k = (h .0, h .1, g, k)
 
@@ -89,15 +89,16 @@ module _ (J : Job) (few : J .count ≤ 64) where
       record { tree = piece (laid.turned i); left = ns; nodes = refl; on = piece-lies (s .copies) (laid.turned i) r f; goes = node-walks J k (Turned i) ns r rs s f; kept = kept-piece i (s .copies) h (f .0 .0) (f .2) }
   after-node m parse k (Cut d x) ns r rs s l h f p =
       let w = node-walks J k (Cut d x) ns r rs s f in
-      let a = parse (k + 1) ns (part d x r) (part d (side d r - x) r ∷ rs) s l h (ap (λ (z : PlanAnswer). z .verdict) (sym w) ∙ p) in
+      let z = counted J (Cut d x) r s in
+      let a = parse (k + 1) ns (part d x r) (second J d x r ∷ rs) z l h (ap (λ (z : PlanAnswer). z .verdict) (sym w) ∙ p) in
       let less : length (a .left) ≤ m = omega (arith, ap length (a .nodes), length-append (written (a .tree)) (a .left)) in
-      let b = parse (k + 1 + node-count (a .tree)) (a .left) (part d (side d r - x) r) rs (added J (a .tree) (part d x r) s) less (a .kept) (ap (λ (z : PlanAnswer). z .verdict) (sym (w ∙ a .goes)) ∙ p) in
+      let b = parse (k + 1 + node-count (a .tree)) (a .left) (second J d x r) rs (added J (a .tree) (part d x r) z) less (a .kept) (ap (λ (z : PlanAnswer). z .verdict) (sym (w ∙ a .goes)) ∙ p) in
       record {
         tree = cut d x (a .tree) (b .tree);
         left = b .left;
         nodes = ap (λ l. pair-of (Cut d x) ∷ l) (a .nodes ∙ ap (λ l. written (a .tree) ++ l) (b .nodes)) ∙ sym (written-cut d x (a .tree) (b .tree) (b .left));
         on = join-parts d x (a .tree) (b .tree) r f (a .on) (b .on);
-        goes = w ∙ a .goes ∙ b .goes ∙ ap (λ n. walk J n (b .left) rs (added J (b .tree) (part d (side d r - x) r) (added J (a .tree) (part d x r) s)))
+        goes = w ∙ a .goes ∙ b .goes ∙ ap (λ n. walk J n (b .left) rs (added J (b .tree) (second J d x r) (added J (a .tree) (part d x r) z)))
             (let e : k + 1 + node-count (a .tree) + node-count (b .tree) ≡ k + node-count (cut d x (a .tree) (b .tree)) = omega (arith, count-cut d x (a .tree) (b .tree)) in e);
         kept = b .kept;
       }

@@ -31,7 +31,7 @@ use Rattle.plan.specs.Plan.{plan-checks, plan-answer, walk, node-of, nod
 use Rattle.plan.specs.Trees.{PlanOf, tree-report, ChecksPlan}
 use Rattle.plan.proofs.Walk.{nodes-length}
 use Rattle.plan.proofs.Whole.{walks-on}
-use Rattle.plan.proofs.Counts.{added, added-profit, added-pieces, added-waste, added-trim, added-length, added-copies}
+use Rattle.plan.proofs.Counts.{added, added-profit, added-pieces, added-waste, added-trim, added-sawdust, added-length, added-copies}
 use Rattle.plan.proofs.Preorder.{written, count-written, arrays-written, kinds-length, operands-length, written-kinds, written-operands}
 use Rattle.plan.proofs.Trees.{tree-walks}
 use Rattle.plan.proofs.Parse.{no-pass, proceed-passed, Kept, parse}
@@ -50,15 +50,15 @@ walk-zeros J k [] [] s = λ r e. no-pass (sym e)
 walk-zeros J k (n ∷ ns) [] s = λ r e. refl
 walk-zeros J k [] (q ∷ rs) s = λ r e. refl
 walk-zeros J k (n ∷ ns) (q ∷ rs) s = proceed-zeros (first-refusal (node-checks J (s .copies) q k (n .0) (n .1))) _
-    (walk-zeros J (k + 1) ns (parts (node-of (n .0) (n .1)) q ++ rs) (counted J (node-of (n .0) (n .1)) q s))
+    (walk-zeros J (k + 1) ns (parts (J .kerf) (node-of (n .0) (n .1)) q ++ rs) (counted J (node-of (n .0) (n .1)) q s))
 
 -- a tree has no copy of a kind past the job's
 none-past : (J : Job) (t : Tree laid.Piece) (l w : ℕ) → GuillotineTree J l w t → (i : ℕ) → J .count ≤ i → copies-of i t ≡ 0
 unfolding total
 none-past J waste l w g i h = refl
 none-past J (piece p) l w g i h = simp (ne-eqb (laid.kind p) i (λ e. omega (arith, e, lie-kind J p (g .0))))
-none-past J (cut Length x a b) l w g i h = omega (arith, none-past J a x w (g .2) i h, none-past J b (l - x) w (g .3) i h)
-none-past J (cut Width x a b) l w g i h = omega (arith, none-past J a l x (g .2) i h, none-past J b l (w - x) (g .3) i h)
+none-past J (cut Length x a b) l w g i h = omega (arith, none-past J a x w (g .2) i h, none-past J b (l - x - J .kerf) w (g .3) i h)
+none-past J (cut Width x a b) l w g i h = omega (arith, none-past J a l x (g .2) i h, none-past J b l (w - x - J .kerf) (g .3) i h)
 
 -- where every rectangle is filled, the walk passes only at the end of the nodes
 ended : (J : Job) (k : ℕ) (left : List (ℕ × ℕ)) (s : Report) → walk J k left [] s .verdict ≡ Passed → (left ≡ []) × (walk J k left [] s ≡ passed s)
@@ -74,9 +74,9 @@ some-node (piece (laid.upright i)) = omega arith
 some-node (piece (laid.turned i)) = omega arith
 some-node (cut d x a b) = omega arith
 
-same-report : {p p′ q q′ w w′ m m′ : ℕ} {c c′ : List ℕ} → p ≡ p′ → c ≡ c′ → q ≡ q′ → w ≡ w′ → m ≡ m′
-    → _≡_ {A = Report} (record { profit = p; copies = c; pieces = q; waste = w; trim = m }) (record { profit = p′; copies = c′; pieces = q′; waste = w′; trim = m′ })
-same-report a b c d e = cc
+same-report : {p p′ q q′ w w′ m m′ d d′ : ℕ} {c c′ : List ℕ} → p ≡ p′ → c ≡ c′ → q ≡ q′ → w ≡ w′ → m ≡ m′ → d ≡ d′
+    → _≡_ {A = Report} (record { profit = p; copies = c; pieces = q; waste = w; trim = m; sawdust = d }) (record { profit = p′; copies = c′; pieces = q′; waste = w′; trim = m′; sawdust = d′ })
+same-report a b c d e f = cc
 
 -- the empty report has 64 entries, all 0
 empty-length : length (empty-report .copies) ≡ 64
@@ -96,6 +96,7 @@ module _ (J : Job) (few : J .count ≤ 64) where
   whole-own : (t : Tree laid.Piece) → OnPlate J t → whole t ≡ tree-report J t
   whole-own t g =
       same-report (added-profit J t (J .plate) empty-report ∙ zero-add _) copies (added-pieces J t (J .plate) empty-report ∙ zero-add _) (added-waste J t (J .plate) empty-report ∙ zero-add _) (added-trim J t (J .plate) empty-report ∙ zero-add _)
+      (added-sawdust J t (J .plate) empty-report ∙ zero-add _)
     where
       at : (i : ℕ) → i < 64 → Dec (i < J .count) → copies-of i t ≡ getD (entries (λ i. copies-of i t) (J .count)) i 0
       at i h (yes l) = sym (entries-in (λ i. copies-of i t) (J .count) i few l)
@@ -147,11 +148,11 @@ plans-checked J few kinds operands =
       before = λ p. tt;
       passes = λ u t h. ap (λ (a : PlanAnswer). a .verdict) (passes J few kinds operands t h);
       tree = λ p. (let f = cons-passed _ _ _ (proceed-passed (first-refusal (plan-checks kinds operands)) (walk J 0 (nodes-in kinds operands) (J .plate ∷ []) empty-report) p) in
-          let g = inside-range 4096 (length kinds) (cons-passed _ _ _ (f .1) .0) in
+          let g = inside-range 4096 0 (length kinds) (cons-passed _ _ _ (f .1) .0) in
           let t = parsed J few kinds operands (eqb-true (length kinds) (length operands) (not-false (eqb (length kinds) (length operands)) (f .0))) (g .0) (omega (arith, g .1)) p in
           let e = whole-own J few (t .0) (t .1 .on-plate) in
           let r = ap (λ (a : PlanAnswer). a .report) (t .2) ∙ e in
-          (t .0, t .1, record { own = r; areas = ap (λ (s : Report). s .pieces + s .waste + s .trim) r ∙ areas-sum J (t .0) (J .plate .0) (J .plate .1) (t .1 .on-plate) }));
+          (t .0, t .1, record { own = r; areas = ap (λ (s : Report). s .pieces + s .waste + s .trim + s .sawdust) r ∙ areas-sum J (t .0) (J .plate .0) (J .plate .1) (t .1 .on-plate) }));
       zeros = proceed-zeros (first-refusal (plan-checks kinds operands)) _ (walk-zeros J 0 (nodes-in kinds operands) (J .plate ∷ []) empty-report);
     }
 

@@ -1,7 +1,7 @@
 -- The walk over a tree's nodes passes and adds the tree, where its demands are kept.
 use mathlib.Core.Path.{_≡_, _∙_, refl, ap}
 use mathlib.Core.List.{List, _∷_, _++_}
-use Prim.Native.Nat.{ℕ, _+_, _-_, _≤_, _<_}
+use Prim.Native.Nat.{ℕ, _+_, _≤_, _<_}
 use native.Mathlib.Omega.{arith}
 use lib.ListN.{length, getD}
 use borrow.Author.Tests.{le-leb, eq-eqb}
@@ -17,16 +17,16 @@ use Rattle.cutting.proofs.Members.{lie-kind}
 use Rattle.node.proofs.Nodes.{node-back, pair-of, PieceFits, NodeFits, node-passes}
 use Rattle.plan.specs.declared.Report.{Report}
 use Rattle.plan.specs.Plan.{node-of, parts, counted, proceed, walk}
-use Rattle.plan.proofs.Counts.{added, added-copies, added-length}
+use Rattle.plan.proofs.Counts.{second, added, added-copies, added-length}
 use Rattle.plan.proofs.Preorder.{written, written-cut, count-cut}
 
 -- the walk goes on after a node that fits
 pub node-walks : (J : Job) (k : ℕ) (n : Node) (ns : List (ℕ × ℕ)) (r : Rect) (rs : List Rect) (s : Report) → NodeFits J (s .copies) r n
-    → walk J k (pair-of n ∷ ns) (r ∷ rs) s ≡ walk J (k + 1) ns (parts n r ++ rs) (counted J n r s)
+    → walk J k (pair-of n ∷ ns) (r ∷ rs) s ≡ walk J (k + 1) ns (parts (J .kerf) n r ++ rs) (counted J n r s)
 unfolding walk
 node-walks J k n ns r rs s h =
-    ap (λ v. proceed v (walk J (k + 1) ns (parts (node-of (kind-of n) (operand-of n)) r ++ rs) (counted J (node-of (kind-of n) (operand-of n)) r s))) (node-passes J (s .copies) r k n h)
-    ∙ ap (λ m. walk J (k + 1) ns (parts m r ++ rs) (counted J m r s)) (node-back n)
+    ap (λ v. proceed v (walk J (k + 1) ns (parts (J .kerf) (node-of (kind-of n) (operand-of n)) r ++ rs) (counted J (node-of (kind-of n) (operand-of n)) r s))) (node-passes J (s .copies) r k n h)
+    ∙ ap (λ m. walk J (k + 1) ns (parts (J .kerf) m r ++ rs) (counted J m r s)) (node-back n)
 
 module _ (J : Job) (few : J .count ≤ 64) where
   -- a report whose copies, with a tree's, keep every demand
@@ -35,7 +35,7 @@ module _ (J : Job) (few : J .count ≤ 64) where
 
   -- a guillotine tree's cut, whatever its direction
   pub cut-parts : (d : Direction) (x : ℕ) (a b : Tree laid.Piece) (r : Rect) → GuillotineTree J (r .0) (r .1) (cut d x a b)
-      → (1 ≤ x) × (x < side d r) × GuillotineTree J (part d x r .0) (part d x r .1) a × GuillotineTree J (part d (side d r - x) r .0) (part d (side d r - x) r .1) b
+      → (1 ≤ x) × (x + J .kerf < side d r) × GuillotineTree J (part d x r .0) (part d x r .1) a × GuillotineTree J (second J d x r .0) (second J d x r .1) b
   cut-parts Length x a b r g = g
   cut-parts Width x a b r g = g
 
@@ -53,11 +53,12 @@ module _ (J : Job) (few : J .count ≤ 64) where
   tree-walks (piece (laid.turned i)) k ns r rs s g h = node-walks J k (Turned i) ns r rs s (piece-fits (laid.turned i) r s g h)
   tree-walks (cut d x a b) k ns r rs s g h =
       let p = cut-parts d x a b r g in
-      let m = added J a (part d x r) s in
-      let l = added-length J a (part d x r) s in
+      let z = counted J (Cut d x) r s in
+      let m = added J a (part d x r) z in
+      let l = added-length J a (part d x r) z in
       ap (λ l. walk J k l (r ∷ rs) s) (written-cut d x a b ns)
       ∙ node-walks J k (Cut d x) (written a ++ (written b ++ ns)) r rs s (p .0, p .1)
-      ∙ tree-walks a (k + 1) (written b ++ ns) (part d x r) (part d (side d r - x) r ∷ rs) s (p .2) (h .0, λ i c. omega (arith, h .1 i c))
-      ∙ tree-walks b (k + 1 + node-count a) ns (part d (side d r - x) r) rs m (p .3)
-      (l ∙ h .0, λ i c. omega (arith, h .1 i c, added-copies J a (part d x r) s i (omega (arith, h .0, c, few))))
-      ∙ ap (λ n. walk J n ns rs (added J b (part d (side d r - x) r) m)) (let e : k + 1 + node-count a + node-count b ≡ k + node-count (cut d x a b) = omega (arith, count-cut d x a b) in e)
+      ∙ tree-walks a (k + 1) (written b ++ ns) (part d x r) (second J d x r ∷ rs) z (p .2) (h .0, λ i c. omega (arith, h .1 i c))
+      ∙ tree-walks b (k + 1 + node-count a) ns (second J d x r) rs m (p .3)
+      (l ∙ h .0, λ i c. omega (arith, h .1 i c, added-copies J a (part d x r) z i (omega (arith, h .0, c, few))))
+      ∙ ap (λ n. walk J n ns rs (added J b (second J d x r) m)) (let e : k + 1 + node-count a + node-count b ≡ k + node-count (cut d x a b) = omega (arith, count-cut d x a b) in e)

@@ -17,15 +17,18 @@ use Rattle.cutting.specs.Job.{Job}
 use Rattle.refusal.specs.declared.Refusal.{Refusal}
 use Rattle.refusal.specs.declared.Refusal.the-variants.{NodeMissing, NodeLeft}
 use Rattle.refusal.specs.declared.Checked.the-variants.{Passed, Refused}
+use Rattle.job.specs.declared.JobRecord.{JobRecord}
+use Rattle.job.specs.Block.{job-from, job-of}
 use Rattle.node.specs.declared.Tally.{Tally}
 use Rattle.node.specs.declared.NodeEntry.{NodeEntry}
 use Rattle.node.specs.declared.NodeAnswer.{NodeAnswer}
+use Rattle.node.specs.declared.Rules.{Rules}
 use Rattle.node.specs.Placed.{Sized, Placed}
 use Rattle.node.proofs.Nodes.{NodeFits, node-passed}
 use Rattle.plan.specs.declared.Report.{Report}
 use Rattle.plan.specs.declared.PlanAnswer.{PlanAnswer}
 use Rattle.plan.specs.Plan.{node-of, parts, counted, plan-report, empty-report, passed, refused, unreported, proceed, walk, nodes-in}
-use Rattle.plan.specs.Walk.{waiting, no-sums, entry-at, CutInside, Held, Opens}
+use Rattle.plan.specs.Walk.{waiting, no-sums, rules-of, entry-at, CutInside, Held, Opens}
 
 -- two arrays of one length have as many nodes
 pub nodes-length : (kinds operands : List ℕ) → length kinds ≡ length operands → length (nodes-in kinds operands) ≡ length kinds
@@ -59,7 +62,7 @@ module _ (J : Job) (kinds operands : List ℕ) (same : length kinds ≡ length o
         (placed : Placed J k (getD kinds k 0) (getD operands k 0) r t copies a after) where
       -- what follows the node
       abbrev then : PlanAnswer
-      then = walk J (k + 1) (drop (k + 1) (nodes-in kinds operands)) (parts (node-of (getD kinds k 0) (getD operands k 0)) r ++ rs) (counted J (node-of (getD kinds k 0) (getD operands k 0)) r (plan-report t copies))
+      then = walk J (k + 1) (drop (k + 1) (nodes-in kinds operands)) (parts (J .kerf) (node-of (getD kinds k 0) (getD operands k 0)) r ++ rs) (counted J (node-of (getD kinds k 0) (getD operands k 0)) r (plan-report t copies))
 
       opens-to : from k (r ∷ rs) t copies ≡ proceed (a .verdict) then
       unfolding walk
@@ -70,12 +73,18 @@ module _ (J : Job) (kinds operands : List ℕ) (same : length kinds ≡ length o
       stops e = opens-to ∙ ap (λ v. proceed v then) e ∙ sym (ap unreported e)
 
       -- the walk goes on after one that passes
-      pub steps : a .verdict ≡ Passed → from k (r ∷ rs) t copies ≡ from (k + 1) (parts (node-of (getD kinds k 0) (getD operands k 0)) r ++ rs) (a .tally) after
+      pub steps : a .verdict ≡ Passed → from k (r ∷ rs) t copies ≡ from (k + 1) (parts (J .kerf) (node-of (getD kinds k 0) (getD operands k 0)) r ++ rs) (a .tally) after
       steps e = opens-to ∙ ap (λ v. proceed v then) e
-          ∙ ap₂ (λ s c. from (k + 1) (parts (node-of (getD kinds k 0) (getD operands k 0)) r ++ rs) s c) (sym (placed .sums e)) (sym (placed .counts e))
+          ∙ ap₂ (λ s c. from (k + 1) (parts (J .kerf) (node-of (getD kinds k 0) (getD operands k 0)) r ++ rs) s c) (sym (placed .sums e)) (sym (placed .counts e))
 
--- a cut that passed its checks has its position inside the side
-pub fits-inside : (J : Job) (copies : List ℕ) (r : Rect) (n : Node) → NodeFits J copies r n → CutInside n r
+-- a node checked by the rules of a job that was read is checked by the job
+pub by-rules : (j : JobRecord) {q : Rules} {k kind operand : ℕ} {r : Rect} {t : Tally} {copies : List ℕ} {a : NodeAnswer} {after : List ℕ} → q ≡ rules-of j
+    → Placed (job-from (j .length) (j .width) (q .kerf) (q .turning) (j .«full_demand») (q .count) (j .lengths) (j .widths) (j .prices) (j .demands)) k kind operand r t copies a after → Placed (job-of j) k kind operand r t copies a after
+by-rules j {q} {k} {kind} {operand} {r} {t} {copies} {a} {after} e p =
+    subst (λ (x : Rules). Placed (job-from (j .length) (j .width) (x .kerf) (x .turning) (j .«full_demand») (x .count) (j .lengths) (j .widths) (j .prices) (j .demands)) k kind operand r t copies a after) e p
+
+-- a cut that passed its checks has its position, and the kerf, inside the side
+pub fits-inside : (J : Job) (copies : List ℕ) (r : Rect) (n : Node) → NodeFits J copies r n → CutInside (J .kerf) n r
 fits-inside J copies r Waste h = tt
 fits-inside J copies r (Piece i) h = tt
 fits-inside J copies r (Turned i) h = tt
@@ -130,12 +139,12 @@ parts-wait lengths widths n first second h l w =
     (stored-past L W n (first .0) (first .1) (n - 1) (omega arith) ∙ stored-past lengths widths (n - 1) (second .0) (second .1) (n - 1) (omega arith))))
 
 -- the parts that a cut leaves
-pub cut-waits : (lengths widths : List ℕ) (n : ℕ) (node : Node) (d : Direction) (x : ℕ) (r : Rect) (first second : Sides) → 1 ≤ n → n < length lengths → n < length widths
-    → node ≡ Cut d x → first ≡ sides-of (part d x r) → second ≡ sides-of (part d (side d r - x) r)
-    → waiting (set (set lengths (n - 1) (second .length)) n (first .length)) (set (set widths (n - 1) (second .width)) n (first .width)) (n + 1) ≡ parts node r ++ waiting lengths widths (n - 1)
-cut-waits lengths widths n node d x r first second h l w c e f =
+pub cut-waits : (lengths widths : List ℕ) (n : ℕ) (node : Node) (d : Direction) (x kerf : ℕ) (r : Rect) (first second : Sides) → 1 ≤ n → n < length lengths → n < length widths
+    → node ≡ Cut d x → first ≡ sides-of (part d x r) → second ≡ sides-of (part d (side d r - x - kerf) r)
+    → waiting (set (set lengths (n - 1) (second .length)) n (first .length)) (set (set widths (n - 1) (second .width)) n (first .width)) (n + 1) ≡ parts kerf node r ++ waiting lengths widths (n - 1)
+cut-waits lengths widths n node d x kerf r first second h l w c e f =
     parts-wait lengths widths n (rect-of first) (rect-of second) h l w ∙ ap₂ (λ p q. rect-of p ∷ rect-of q ∷ waiting lengths widths (n - 1)) e f
-    ∙ sym (ap (λ m. parts m r ++ waiting lengths widths (n - 1)) c)
+    ∙ sym (ap (λ m. parts kerf m r ++ waiting lengths widths (n - 1)) c)
 
 -- where the walk stands before node k: n rectangles wait in two arrays
 pub record Walking (J : Job) (kinds operands copies lengths widths : List ℕ) (n : ℕ) (t : Tally) (k : ℕ) : Type 0 where
@@ -153,7 +162,7 @@ begins J kinds operands t e = rw e
       nodes = omega arith;
       few = omega arith;
       held = (length-replicate {A = ℕ} 4096 (J .plate .0), length-replicate {A = ℕ} 4096 (J .plate .1));
-      sized = record { profit = omega arith; pieces = omega arith; waste = omega arith; trim = omega arith };
+      sized = record { profit = omega arith; pieces = omega arith; waste = omega arith; trim = omega arith; sawdust = omega arith };
       walks = refl;
     })
 
@@ -189,7 +198,7 @@ module _ {J : Job} {kinds operands copies lengths widths : List ℕ} {n : ℕ} {
       -- it passes
       module _ (v : a .verdict ≡ Passed) where
         -- its parts can be put in the list
-        pub opens : length kinds ≤ 4095 → {node : Node} → node ≡ node-of (e .kind) (e .operand) → Opens node (rect-of room) lengths widths n
+        pub opens : length kinds ≤ 4095 → {node : Node} → node ≡ node-of (e .kind) (e .operand) → Opens (J .kerf) node (rect-of room) lengths widths n
         opens most {node} m =
             record {
               some = some;
@@ -200,7 +209,7 @@ module _ {J : Job} {kinds operands copies lengths widths : List ℕ} {n : ℕ} {
 
         -- and the walk goes on
         pub goes-on : {node : Node} → node ≡ node-of (e .kind) (e .operand) → (lengths′ widths′ : List ℕ) (n′ : ℕ)
-            → (waiting lengths′ widths′ n′ ≡ parts node (rect-of room) ++ waiting lengths widths (n - 1)) × (n′ ≤ n + 1) × Held lengths′ widths′ → Walking J kinds operands after lengths′ widths′ n′ (a .tally) (k + 1)
+            → (waiting lengths′ widths′ n′ ≡ parts (J .kerf) node (rect-of room) ++ waiting lengths widths (n - 1)) × (n′ ≤ n + 1) × Held lengths′ widths′ → Walking J kinds operands after lengths′ widths′ n′ (a .tally) (k + 1)
         goes-on {node} m lengths′ widths′ n′ w =
             record {
               nodes = omega arith;
@@ -208,5 +217,5 @@ module _ {J : Job} {kinds operands copies lengths widths : List ℕ} {n : ℕ} {
               held = w .2;
               sized = placed .sized k (given .sized);
               walks = opened ∙ steps J kinds operands same k more (waiting lengths widths (n - 1)) at-k v
-                  ∙ sym (ap (λ rs. from J kinds operands same (k + 1) rs (a .tally) after) (w .0 ∙ ap (λ x. parts x (rect-of room) ++ waiting lengths widths (n - 1)) (m ∙ ap (λ (x : NodeEntry). node-of (x .kind) (x .operand)) here)));
+                  ∙ sym (ap (λ rs. from J kinds operands same (k + 1) rs (a .tally) after) (w .0 ∙ ap (λ x. parts (J .kerf) x (rect-of room) ++ waiting lengths widths (n - 1)) (m ∙ ap (λ (x : NodeEntry). node-of (x .kind) (x .operand)) here)));
             }

@@ -2,7 +2,7 @@
 -- values too.
 use mathlib.Core.Path.{_≡_}
 use mathlib.Core.Bool.{_||_, not}
-use mathlib.Core.List.{List, [], _∷_, map}
+use mathlib.Core.List.{List, [], _∷_, _++_, map}
 use Prim.Native.Nat.{ℕ, _+_, _*_}
 use lib.Dec.{ltb, eqb}
 use lib.ListN.{length, take, drop}
@@ -21,7 +21,7 @@ use Rattle.plan.specs.Plan.{proceed, plan-answer}
 
 -- what a plan's arrays answer for a job block
 abbrev pub arrays-answer : List ℕ → Choices → List ℕ → List ℕ → PlanAnswer
-arrays-answer s choices kinds operands = proceed (first-refusal (job-checks s)) (plan-answer (block-job s choices) kinds operands)
+arrays-answer s choices kinds operands = proceed (first-refusal (job-checks s choices)) (plan-answer (block-job s choices) kinds operands)
 
 -- a plan block: the node count, that many kinds, that many operands
 abbrev pub plan-count : List ℕ → ℕ
@@ -43,19 +43,19 @@ plan-block-answer J p = proceed (first-refusal (block-checks p)) (plan-answer J 
 
 -- what a plan block answers for a job block
 abbrev pub block-answer : List ℕ → Choices → List ℕ → PlanAnswer
-block-answer s choices p = proceed (first-refusal (job-checks s)) (plan-block-answer (block-job s choices) p)
+block-answer s choices p = proceed (first-refusal (job-checks s choices)) (plan-block-answer (block-job s choices) p)
 
--- no check of a job block refuses it
-abbrev pub JobPasses : List ℕ → Type 0
-JobPasses s = first-refusal (job-checks s) ≡ Passed
+-- no check of a job block, read by the choices of a call, refuses it
+abbrev pub JobPasses : List ℕ → Choices → Type 0
+JobPasses s choices = first-refusal (job-checks s choices) ≡ Passed
 
 -- and a plan block has the bytes of its nodes
 abbrev pub BlockPasses : List ℕ → Type 0
 BlockPasses p = first-refusal (block-checks p) ≡ Passed
 
--- a plan's report in words: profit, the areas of pieces, waste nodes and trim, and the copies of each kind
+-- a plan's report in words: profit, the areas of pieces, waste nodes and trim, the copies of each kind, and the sawdust's area
 abbrev pub plan-values : Report → List ℕ
-plan-values r = r .profit ∷ r .pieces ∷ r .waste ∷ r .trim ∷ r .copies
+plan-values r = r .profit ∷ r .pieces ∷ r .waste ∷ r .trim ∷ (r .copies ++ (r .sawdust ∷ []))
 
 -- the number and values of a plan's answer
 abbrev pub plan-outcome : PlanAnswer → Outcome
@@ -67,8 +67,8 @@ said-after v a = outcome-by (next v (a .verdict)) (plan-values (a .report))
 
 -- the number and values that the check of a plan's arrays answers for a job block
 abbrev pub arrays-said : List ℕ → Choices → List ℕ → List ℕ → Outcome
-arrays-said s choices kinds operands = said-after (first-refusal (job-checks s)) (plan-answer (block-job s choices) kinds operands)
+arrays-said s choices kinds operands = said-after (first-refusal (job-checks s choices)) (plan-answer (block-job s choices) kinds operands)
 
 -- the number and values that the check of a plan block answers for a job block
 abbrev pub block-said : List ℕ → Choices → List ℕ → Outcome
-block-said s choices p = said-after (first-refusal (job-checks s)) (plan-block-answer (block-job s choices) p)
+block-said s choices p = said-after (first-refusal (job-checks s choices)) (plan-block-answer (block-job s choices) p)

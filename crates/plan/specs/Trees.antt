@@ -6,7 +6,7 @@ use Rattle.cutting.specs.Limits.{most-nodes}
 use Rattle.cutting.specs.Tree.{Tree}
 use Rattle.cutting.specs.Pieces.{Piece}
 use Rattle.cutting.specs.Preorder.{node-count, kinds-of, operands-of}
-use Rattle.cutting.specs.Job.{Job, OnPlate, profit, copies-of, KeepsDemands, pieces-area-of, waste-area-of, trim-area-of}
+use Rattle.cutting.specs.Job.{Job, OnPlate, profit, copies-of, KeepsDemands, pieces-area-of, waste-area-of, trim-area-of, sawdust-area-of}
 use Rattle.refusal.specs.declared.Refusal.{Refusal}
 use Rattle.refusal.specs.declared.Checked.the-variants.{Passed, Refused}
 use Rattle.job.specs.Block.{entries}
@@ -28,14 +28,15 @@ tree-report J t = record {
   profit = profit J t;
   copies = entries (λ i. copies-of i t) (J .count);
   pieces = pieces-area-of J t;
-  waste = waste-area-of (J .plate .0) (J .plate .1) t;
+  waste = waste-area-of J (J .plate .0) (J .plate .1) t;
   trim = trim-area-of J (J .plate .0) (J .plate .1) t;
+  sawdust = sawdust-area-of J (J .plate .0) (J .plate .1) t;
 }
 
--- a report is a tree's own, and its areas sum to the plate's
+-- a report is a tree's own, and its four areas sum to the plate's
 pub record Reports (J : Job) (t : Tree Piece) (r : Report) : Type 0 where
   pub own : r ≡ tree-report J t
-  pub areas : r .pieces + r .waste + r .trim ≡ J .plate .0 * J .plate .1
+  pub areas : r .pieces + r .waste + r .trim + r .sawdust ≡ J .plate .0 * J .plate .1
 
 -- where what stands before the plan's checks holds, an answer passes exactly for the plan of a tree; it then reports that tree, and a
 -- refusal reports zeros

@@ -8,8 +8,8 @@ use job::Choices;
 use job::JobRecord;
 use job::read_job;
 use job::read_u16;
-use node::Kinds;
 use node::NodeEntry;
+use node::Rules;
 use node::Tally;
 use node::check_node;
 use node::decode;
@@ -25,17 +25,18 @@ ghost use Rattle.cutting.specs.Job.{Job, InRange};
 ghost use Rattle.job.specs.Block.{job-of};
 ghost use Rattle.job.specs.Weights.{block-job};
 ghost use Rattle.plan.specs.Plan.{parts, plan-report, empty-report, unreported, nodes-in, walk, plan-answer};
-ghost use Rattle.plan.specs.Walk.{waiting, no-sums, entry-at, Held, Opens, Walkable};
+ghost use Rattle.plan.specs.Walk.{waiting, no-sums, rules-of, entry-at, Held, Opens, Walkable};
 ghost use Rattle.plan.specs.Trees.{ChecksPlan};
 ghost use Rattle.plan.specs.Calls.{arrays-answer, plan-count, plan-kinds, plan-operands, plan-block-answer, block-answer, JobPasses, BlockPasses, plan-outcome, arrays-said, block-said};
 
-// What a passed plan reports: profit, copies of each of 64 kinds, and the areas of pieces, waste nodes and trim.
+// What a passed plan reports: profit, copies of each of 64 kinds, and the areas of pieces, waste nodes, trim and sawdust.
 pub struct Report {
     pub profit: u64,
     pub copies: [u16; 64],
     pub pieces: u64,
     pub waste: u64,
     pub trim: u64,
+    pub sawdust: u64,
 }
 
 // What the check of a plan answers: where it is refused, the report is all zeros.
@@ -57,6 +58,7 @@ fn without_report(verdict: Checked) -> PlanAnswer
             pieces: 0,
             waste: 0,
             trim: 0,
+            sawdust: 0,
         },
     }
 }
@@ -70,6 +72,18 @@ fn no_sums() -> Tally
         pieces: 0,
         waste: 0,
         trim: 0,
+        sawdust: 0,
+    }
+}
+
+// What a job that was read says of every node.
+fn rules_of(job: JobRecord) -> Rules
+    ensures { λ r. ⌜ r ≡ rules-of job ⌝ }
+{
+    Rules {
+        count: job.count,
+        turning: job.turning,
+        kerf: job.kerf,
     }
 }
 
@@ -100,13 +114,14 @@ fn next_room(lengths: &[u16; 4096], widths: &[u16; 4096], n: usize) -> Sides
 // The next rectangle is taken from the list of n that wait, and the parts that its node leaves are put there, the first part last.
 fn leave_parts(
     node: Node,
+    kerf: u16,
     room: Sides,
     lengths: &mut [u16; 4096],
     widths: &mut [u16; 4096],
     n: usize,
 ) -> usize
-    requires { ⌜ Opens node (rect-of room) (now lengths) (now widths) n ⌝ }
-    ensures { λ r. ⌜ (waiting (now (lengths .exit)) (now (widths .exit)) r ≡ parts node (rect-of room) ++ waiting (now (lengths .entry)) (now (widths .entry)) (n - 1)) × (r ≤ n + 1) × Held (now (lengths .exit)) (now (widths .exit)) ⌝ }
+    requires { ⌜ Opens kerf node (rect-of room) (now lengths) (now widths) n ⌝ }
+    ensures { λ r. ⌜ (waiting (now (lengths .exit)) (now (widths .exit)) r ≡ parts kerf node (rect-of room) ++ waiting (now (lengths .entry)) (now (widths .entry)) (n - 1)) × (r ≤ n + 1) × Held (now (lengths .exit)) (now (widths .exit)) ⌝ }
 {
     let top = n - 1;
     match node {
@@ -115,7 +130,7 @@ fn leave_parts(
         Node::Turned(_) => top,
         Node::Cut(d, x) => {
             let first = first_part(d, x, room);
-            let second = second_part(d, x, room);
+            let second = second_part(d, x, kerf, room);
             lengths[top] = second.length;
             widths[top] = second.width;
             lengths[n] = first.length;
@@ -140,6 +155,7 @@ fn finish(n: usize, k: u16, t: Tally, copies: [u16; 64]) -> PlanAnswer
             pieces: t.pieces,
             waste: t.waste,
             trim: t.trim,
+            sawdust: t.sawdust,
         },
     }
 }
@@ -153,6 +169,7 @@ fn walk_nodes(job: JobRecord, kinds: &[u8], operands: &[u16]) -> PlanAnswer
     let kind_widths = job.widths;
     let prices = job.prices;
     let demands = job.demands;
+    let rules = rules_of(job);
     let mut copies = [0u16; 64];
     let mut lengths = [job.length; 4096];
     let mut widths = [job.width; 4096];
@@ -164,17 +181,13 @@ fn walk_nodes(job: JobRecord, kinds: &[u8], operands: &[u16]) -> PlanAnswer
         }
         let e = entry(kinds, operands, k);
         let room = next_room(&lengths, &widths, n);
-        let allowed = Kinds {
-            count: job.count,
-            turning: job.turning,
-        };
         let a = check_node(
             &kind_lengths,
             &kind_widths,
             &prices,
             &demands,
             &mut copies,
-            allowed,
+            rules,
             e,
             room,
             t,
@@ -185,7 +198,7 @@ fn walk_nodes(job: JobRecord, kinds: &[u8], operands: &[u16]) -> PlanAnswer
         };
         t = a.tally;
         let node = decode(e.kind, e.operand);
-        n = leave_parts(node, room, &mut lengths, &mut widths, n);
+        n = leave_parts(node, job.kerf, room, &mut lengths, &mut widths, n);
     }
     finish(n, kinds.len() as u16, t, copies)
 }
@@ -212,7 +225,7 @@ pub fn check_nodes(job: JobRecord, kinds: &[u8], operands: &[u16]) -> PlanAnswer
 pub fn check_plan(block: &[u8], choices: Choices, kinds: &[u8], operands: &[u16]) -> PlanAnswer
     ensures answer { λ r. ⌜ r ≡ arrays-answer (now (block .entry)) choices (now (kinds .entry)) (now (operands .entry)) ⌝ }
     ensures outcome { λ r. ⌜ plan-outcome r ≡ arrays-said (now (block .entry)) choices (now (kinds .entry)) (now (operands .entry)) ⌝ }
-    ensures trees { λ r. ⌜ ChecksPlan (JobPasses (now (block .entry))) (block-job (now (block .entry)) choices) (now (kinds .entry)) (now (operands .entry)) r ⌝ }
+    ensures trees { λ r. ⌜ ChecksPlan (JobPasses (now (block .entry)) choices) (block-job (now (block .entry)) choices) (now (kinds .entry)) (now (operands .entry)) r ⌝ }
 {
     let read = read_job(block, choices);
     let verdict = read.verdict;
@@ -259,7 +272,7 @@ fn check_block(job: JobRecord, plan: &[u8]) -> PlanAnswer
 pub fn check_plan_block(block: &[u8], choices: Choices, plan: &[u8]) -> PlanAnswer
     ensures answer { λ r. ⌜ r ≡ block-answer (now (block .entry)) choices (now (plan .entry)) ⌝ }
     ensures outcome { λ r. ⌜ plan-outcome r ≡ block-said (now (block .entry)) choices (now (plan .entry)) ⌝ }
-    ensures trees { λ r. ⌜ ChecksPlan (JobPasses (now (block .entry)) × BlockPasses (now (plan .entry))) (block-job (now (block .entry)) choices) (plan-kinds (now (plan .entry))) (plan-operands (now (plan .entry))) r ⌝ }
+    ensures trees { λ r. ⌜ ChecksPlan (JobPasses (now (block .entry)) choices × BlockPasses (now (plan .entry))) (block-job (now (block .entry)) choices) (plan-kinds (now (plan .entry))) (plan-operands (now (plan .entry))) r ⌝ }
 {
     let read = read_job(block, choices);
     let verdict = read.verdict;

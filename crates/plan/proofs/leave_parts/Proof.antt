@@ -22,7 +22,7 @@ returns-3 c = (rw (c .enum-told3 .given .1), omega arith, c .before .before .pre
 
 returns-4 : tie.Need-returns-4
 returns-4 c = let a = c .before .before .before .before .before .args in let given = c .before .before .before .before .before .pre in (
-  cut-waits (now (a .lengths)) (now (a .widths)) (a .n) (a .node) _ _ (rect-of (a .room)) (c .before .first-part .result) (c .second-part .result)
+  cut-waits (now (a .lengths)) (now (a .widths)) (a .n) (a .node) _ _ (a .kerf) (rect-of (a .room)) (c .before .first-part .result) (c .second-part .result)
       (given .some) (omega (arith, given .held .0)) (omega (arith, given .held .1)) (c .before .before .before .node .given .1) (c .before .first-part .ensures) (c .second-part .ensures),
   omega arith,
   (simp length-set (given .held .0), simp length-set (given .held .1)),
