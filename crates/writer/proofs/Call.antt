@@ -12,7 +12,7 @@ use Rattle.refusal.specs.Refusals.{next, first-refusal, outcome-by}
 use Rattle.refusal.specs.declared.Refusal.{Refusal}
 use Rattle.refusal.specs.declared.Checked.{Checked}
 use Rattle.refusal.specs.declared.Checked.the-variants.{Passed, Refused}
-use Rattle.cutting.specs.Job.{plan-under}
+use Rattle.cutting.specs.Job.{widened, plan-under}
 use Rattle.job.specs.declared.Choices.{Choices}
 use Rattle.job.specs.declared.JobRecord.{JobRecord}
 use Rattle.job.specs.Block.{job-of}
@@ -58,7 +58,7 @@ module _ (s : List ℕ) (choices : Choices) (ws : List ℕ) (old : bound.Memory)
       accepted-by : Accepted s choices ws
       accepted-by =
           let stored = passed-both (bound.bound-verdict s choices ws old) (nodes-verdict (block-plan s choices ws) kinds operands) (reported .0) in
-          passed-both (bound.accept-verdict s choices ws) (first-refusal (bound.memory-checks (block-job s choices) (bound.block-capacity s choices ws) old)) (stored .0) .0
+          passed-both (bound.accept-verdict s choices ws) (first-refusal (bound.memory-checks (bound.wide-job s choices) (bound.block-capacity s choices ws) old)) (stored .0) .0
 
     plan-kept : PlanWritten s choices ws kinds operands new-kinds new-operands r
     plan-kept b w = record {
@@ -86,7 +86,7 @@ module _ (s : List ℕ) (choices : Choices) (ws : List ℕ) (old : bound.Memory)
 
   -- what a verdict before the storage's checks leads to
   abbrev after : Checked → Checked
-  after v = next (next v (first-refusal (bound.memory-checks (block-job s choices) (bound.block-capacity s choices ws) old))) (nodes-verdict (block-plan s choices ws) kinds operands)
+  after v = next (next v (first-refusal (bound.memory-checks (bound.wide-job s choices) (bound.block-capacity s choices ws) old))) (nodes-verdict (block-plan s choices ws) kinds operands)
 
   -- the job or its weights are refused: nothing is changed
   pub unaccepted : {x : Refusal} → bound.accept-verdict s choices ws ≡ Refused x → WritePromises s choices ws old old kinds operands kinds operands (answer.Refused x)
@@ -94,13 +94,13 @@ module _ (s : List ℕ) (choices : Choices) (ws : List ℕ) (old : bound.Memory)
       (rw v (record { lengths = refl; widths = refl; table = refl }))
 
   -- both are accepted: what planning the job answers and leaves is what the call does
-  pub accepted : {j : JobRecord} {q : ℕ} → Taken s choices ws j q → {new : bound.Memory} {new-kinds new-operands : List ℕ} {r : WriteAnswer} → bound.Leaves Passed (job-of j) (weight-in ws) q old new
-      → Planned (room-verdict (job-of j) q old (plan-under (job-of j) (weight-in ws) q) kinds operands) (bound.bound-report (job-of j) (weight-in ws) q) (plan-under (job-of j) (weight-in ws) q) kinds operands new-kinds new-operands r
+  pub accepted : {j : JobRecord} {q : ℕ} → Taken s choices ws j q → {new : bound.Memory} {new-kinds new-operands : List ℕ} {r : WriteAnswer} → bound.Leaves Passed (widened (job-of j)) (weight-in ws) q old new
+      → Planned (room-verdict (widened (job-of j)) q old (plan-under (job-of j) (weight-in ws) q) kinds operands) (bound.bound-report (widened (job-of j)) (weight-in ws) q) (plan-under (job-of j) (weight-in ws) q) kinds operands new-kinds new-operands r
       → WritePromises s choices ws old new kinds operands new-kinds new-operands r
   accepted t {new} {new-kinds} {new-operands} {r} left p =
       let v = t .accepted in
       let plan : Planned (after Passed) (bound.block-report s choices ws) (block-plan s choices ws) kinds operands new-kinds new-operands r = rw (t .record-is, t .capacity-is) at p in
-      let memory : bound.Leaves Passed (block-job s choices) (weight-in ws) (bound.block-capacity s choices ws) old new = rw (t .record-is, t .capacity-is) at left in
+      let memory : bound.Leaves Passed (bound.wide-job s choices) (weight-in ws) (bound.block-capacity s choices ws) old new = rw (t .record-is, t .capacity-is) at left in
       promised (subst (λ v. Planned (after v) (bound.block-report s choices ws) (block-plan s choices ws) kinds operands new-kinds new-operands r) (sym v) plan) (rw v memory)
 
 -- a plan that was written has at most 4,095 nodes, and each array holds them

@@ -1,32 +1,38 @@
 -- The plan behind the bound by its choices: the tree below each node that the choice answers, and the number of its nodes.
-use mathlib.Core.Path.{_≡_, refl, sym, _∙_, ap}
+use mathlib.Core.Path.{_≡_, refl, sym, _∙_, ap, subst}
 use mathlib.Core.Bool.{Bool, true, false}
 use mathlib.Core.List.{List, [], _∷_, _++_}
 use Prim.Native.Nat.{ℕ, _+_, _-_, _/_, _%_, _≤_, _<_}
 use native.Mathlib.Nat.{mul-le-mul}
+use native.Mathlib.Decide.{decLe}
 use native.Mathlib.Omega.{arith}
-use lib.Dec.{eqb}
+use borrow.Author.Tests.{lt-ltb, le-ltb}
+use lib.Dec.{T, leb, leb→le, le→leb, eqb}
 use Rattle.cutting.specs.declared.Direction.{Direction}
 use Rattle.cutting.specs.declared.Direction.the-variants.{Length, Width}
-use Rattle.cutting.specs.declared.Node.the-variants.{Cut}
-use Rattle.cutting.specs.Tree.{Rect, side, part, Tree, piece, cut}
+use Rattle.cutting.specs.declared.Node.{Node}
+use Rattle.cutting.specs.declared.Node.the-variants.{Waste, Turned, Cut}
+use Rattle.cutting.specs.declared.Node.the-variants as node
+use Rattle.cutting.specs.Tree.{Rect, side, part, Tree, piece}
 use Rattle.cutting.specs.Pieces.{Piece, kind}
 use Rattle.cutting.specs.Sides.{rect-of, sides-of}
 use Rattle.cutting.specs.Preorder.{preorder, node-count}
-use Rattle.cutting.specs.Choice.{Choice, as-waste, as-piece, as-cut}
-use Rattle.cutting.specs.Job.{Job, plan-of, plan-choice, plan-after}
-use Rattle.cutting.specs.Listed.{InTableRange, heavy-in, node-in, piece-way, numbered-piece, laid-tree}
+use Rattle.cutting.specs.Choice.{Choice, as-waste, as-piece, as-cut, cut-remains, or-first}
+use Rattle.cutting.specs.Job.{Job, lossless-plan, normal-side, plan-choice, KindsAbove}
+use Rattle.cutting.specs.Listed.{InTableRange, heavy-in, node-in, piece-way, numbered-piece, laid-tree, array-plan}
 use Rattle.cutting.proofs.Members.{table-solid}
 use Rattle.cutting.proofs.Sound.{Sound, choice-sound}
-use Rattle.cutting.proofs.Plan.{plan-tree, plan-recursion}
+use Rattle.cutting.proofs.Plan.{lossless-tree}
+use Rattle.cutting.proofs.Laid.{array-after, array-recursion}
+use Rattle.cutting.proofs.Table.{positions-above}
 use Rattle.table.specs.declared.TableSize.{TableSize}
 use Rattle.table.specs.Contracts.{size-job}
 use Rattle.choice.specs.declared.Cell.{Cell}
 use Rattle.choice.specs.declared.Chosen.{Chosen}
 use Rattle.choice.specs.Search.{laying, node-of}
 use Rattle.choice.specs.Choice.{Inside, chosen-of, chosen-at}
-use Rattle.writer.specs.Contracts.{plan-at}
-use Rattle.writer.proofs.Preorder.{nodes-most, count-laid}
+use Rattle.writer.specs.Contracts.{plan-at, left-out, first-of, half-of}
+use Rattle.writer.proofs.Preorder.{nodes-most, count-sawn, count-laid}
 
 -- the node that a number stands for is its piece's
 number-nodes : (number : ℕ) → preorder (piece (numbered-piece number)) ≡ node-of number ∷ []
@@ -37,42 +43,54 @@ number-nodes number = go (eqb (number % 2) 0)
     go true = refl
     go false = refl
 
-module _ (size : TableSize) (pieces : List ℕ) (l w c : ℕ) where
-  -- the plain job of the pieces, and the tree after a choice with the pieces that the numbers stand for
+-- a cut whose second part is below 1, by the sides and by the remainder
+left-remains : (s x k : ℕ) → leb s (x + k) ≡ false → cut-remains k (s - x) ≡ true
+left-remains s x k e = lt-ltb k (s - x) (let h = leb-above s (x + k) e in omega arith)
+  where
+    leb-above : (a b : ℕ) → leb a b ≡ false → b < a
+    leb-above a b e = go (decLe a b)
+      where
+        go : Dec (a ≤ b) → b < a
+        go (yes l) = absurd (subst T e (le→leb a b l))
+        go (no l) = omega arith
+
+left-falls : (s x k : ℕ) → leb s (x + k) ≡ true → cut-remains k (s - x) ≡ false
+left-falls s x k e = le-ltb k (s - x) (let h = leb→le s (x + k) (subst T (sym e) tt) in omega arith)
+
+module _ (kerf : ℕ) (size : TableSize) (pieces : List ℕ) (r : Rect) (c : ℕ) where
+  -- the plain job of the pieces, the plan of a rectangle, and the tree after a choice
   abbrev N : Job
   N = size-job size pieces
 
-  abbrev laid-after : Choice Piece ℕ → Tree Piece
-  laid-after u = laid-tree pieces (plan-after N (heavy-in pieces) l w u)
+  abbrev plan-in : Rect → ℕ → Tree Piece
+  plan-in q k = array-plan kerf (size .length, size .width) (size .count) pieces q k
 
-  leaf-after : (u : Choice Piece ℕ) → ((d : Direction) (x : ℕ) → chosen-of pieces u .node ≡ Cut d x → ⊥) → preorder (laid-after u) ≡ chosen-of pieces u .node ∷ []
+  abbrev after-choice : Choice Piece ℕ → Tree Piece
+  after-choice u = array-after kerf (size .length, size .width) (size .count) pieces r u
+
+  leaf-after : (u : Choice Piece ℕ) → ((d : Direction) (x : ℕ) → chosen-of pieces u .node ≡ Cut d x → ⊥) → preorder (after-choice u) ≡ chosen-of pieces u .node ∷ []
   unfolding preorder
   leaf-after as-waste k = refl
   leaf-after (as-piece p) k = number-nodes (node-in pieces (kind p))
   leaf-after (as-cut d x q) k = absurd (k d x refl)
-
-  -- the plan of a rectangle
-  abbrev plan-in : Rect → ℕ → Tree Piece
-  plan-in r k = laid-tree pieces (plan-of N (heavy-in pieces) (r .0) (r .1) k)
-
-  cut-same : (d : Direction) (x : ℕ) (q : ℕ × ℕ) → laid-after (as-cut d x q) ≡ cut d x (plan-in (part d x (l, w)) (q .0)) (plan-in (part d (side d (l, w) - x) (l, w)) (q .1))
-  cut-same Length x q = refl
-  cut-same Width x q = refl
 
   -- a number's node is no cut
   no-cut : {A : Type 0} (b : Bool) (i : ℕ) (d : Direction) (x : ℕ) → laying b i ≡ Cut d x → A
   no-cut true i d x e = absurd (let z : _≡_ {A = ℕ} 0 1 = cc in omega arith)
   no-cut false i d x e = absurd (let z : _≡_ {A = ℕ} 0 1 = cc in omega arith)
 
-  cut-after : (u : Choice Piece ℕ) (d : Direction) (x : ℕ) → Sound N (heavy-in pieces) l w c u → chosen-of pieces u .node ≡ Cut d x
-      → (1 ≤ x) × (x < side d (l, w)) × (chosen-of pieces u .share ≤ c)
-      × (laid-after u ≡ cut d x (plan-in (part d x (l, w)) (chosen-of pieces u .share)) (plan-in (part d (side d (l, w) - x) (l, w)) (c - chosen-of pieces u .share)))
+  -- the tree of a cut: the cut at its position less the kerf, or its first part alone
+  abbrev cut-tree : Direction → ℕ → ℕ → Tree Piece
+  cut-tree d x share = or-first (cut-remains kerf (side d r - x)) d (x - kerf) (plan-in (part d x r) share) (plan-in (part d (side d r - x) r) (c - share))
+
+  cut-after : (u : Choice Piece ℕ) (d : Direction) (x : ℕ) → Sound N (heavy-in pieces) (r .0) (r .1) c u → chosen-of pieces u .node ≡ Cut d x
+      → (1 ≤ x) × (x < side d r) × (chosen-of pieces u .share ≤ c) × T (normal-side N d x) × (after-choice u ≡ cut-tree d x (chosen-of pieces u .share))
   cut-after as-waste d x s e = absurd (let z : _≡_ {A = ℕ} 0 1 = cc in omega arith)
   cut-after (as-piece p) d x s e = no-cut (eqb (node-in pieces (kind p) % 2) 0) (node-in pieces (kind p) / 2) d x e
   cut-after (as-cut f y q) d x s e =
       let a : f ≡ d = cc in
       let b : y ≡ x = cc in
-      rw (sym a, sym b) (s .0, s .1, s .2, cut-same f y q ∙ ap (λ k. cut f y (plan-in (part f y (l, w)) (q .0)) (plan-in (part f (side f (l, w) - y) (l, w)) k)) (s .3))
+      rw (sym a, sym b) (s .0, s .1, s .2, s .4, ap (λ k. or-first (cut-remains kerf (side f r - y)) f (y - kerf) (plan-in (part f y r) (q .0)) (plan-in (part f (side f r - y) r) k)) (s .3))
 
 -- the cells of a cut's two parts
 abbrev pub first-cell : Cell → Direction → ℕ → ℕ → Cell
@@ -80,10 +98,6 @@ first-cell cell d x share = record { sides = sides-of (part d x (rect-of (cell .
 
 abbrev pub second-cell : Cell → Direction → ℕ → ℕ → Cell
 second-cell cell d x share = record { sides = sides-of (part d (side d (rect-of (cell .sides)) - x) (rect-of (cell .sides))); share = cell .share - share }
-
--- the half perimeter of a cell
-abbrev pub half-of : Cell → ℕ
-half-of cell = cell .sides .length + cell .sides .width
 
 -- both lie on the plate where the cell does, and are less than the whole
 pub record Parts (J : Job) (size : TableSize) (cell a b : Cell) : Type 0 where
@@ -107,48 +121,88 @@ parts cell at Width x share p q s = record {
   second-less = omega arith;
 }
 
-module _ (size : TableSize) (pieces : List ℕ) (h : InTableRange (size-job size pieces)) (cell : Cell) (at : Inside (size-job size pieces) size cell) where
-  -- the plan has at most 1,999,999 nodes
-  pub plan-nodes : node-count (plan-at size pieces cell) < 2000000
+module _ (kerf : ℕ) (size : TableSize) (pieces : List ℕ) (h : InTableRange (size-job size pieces)) (cell : Cell) (at : Inside (size-job size pieces) size cell) where
+  -- the plan has fewer than 2,080,800 nodes
+  pub plan-nodes : node-count (plan-at kerf size pieces cell) < 2080800
   plan-nodes =
       let J = size-job size pieces in
       let l = cell .sides .length in
       let w = cell .sides .width in
-      let t = plan-of J (heavy-in pieces) l w (cell .share) in
-      let p = plan-tree J (heavy-in pieces) (table-solid J h) l w (cell .share) (at .on-length) (at .on-width) in
-      let x : l ≤ 1000 = omega (arith, at .on-length, h .plate-length) in
-      let y : w ≤ 1000 = omega (arith, at .on-width, h .plate-width) in
-      omega (arith, count-laid pieces t, nodes-most J t l w (p .0) (at .some-length) (at .some-width), mul-le-mul x y)
+      let t = lossless-plan J (heavy-in pieces) (l, w) (cell .share) in
+      let x : l ≤ 1020 = omega (arith, at .on-length, h .plate-length) in
+      let y : w ≤ 1020 = omega (arith, at .on-width, h .plate-width) in
+      omega (arith, count-sawn kerf (l, w) (laid-tree pieces t), count-laid pieces t, nodes-most J t l w (lossless-tree J (heavy-in pieces) (l, w) (cell .share) refl) (at .some-length) (at .some-width), mul-le-mul x y)
 
   -- what the node of a choice says of the plan
   module _ {r : Chosen} (e : r ≡ chosen-at size pieces cell) where
     abbrev chosen : Choice Piece ℕ
     chosen = plan-choice (size-job size pieces) (heavy-in pieces) (cell .sides .length) (cell .sides .width) (cell .share)
 
-    after : plan-at size pieces cell ≡ laid-after size pieces (cell .sides .length) (cell .sides .width) (cell .share) chosen
+    after : plan-at kerf size pieces cell ≡ after-choice kerf size pieces (rect-of (cell .sides)) (cell .share) chosen
     after =
         let J = size-job size pieces in
-        ap (laid-tree pieces) (plan-recursion J (heavy-in pieces) (table-solid J h) (cell .sides .length) (cell .sides .width) (cell .share) (at .on-length) (at .on-width))
+        array-recursion kerf (size .length, size .width) (size .count) pieces (table-solid J h) (rect-of (cell .sides)) (cell .share) (at .on-length, at .on-width)
 
     -- a node that is no cut is all of the plan
-    pub leaf-nodes : ((d : Direction) (x : ℕ) → r .node ≡ Cut d x → ⊥) → preorder (plan-at size pieces cell) ≡ r .node ∷ []
-    leaf-nodes k = ap preorder after ∙ leaf-after size pieces (cell .sides .length) (cell .sides .width) (cell .share) chosen (λ d x n. k d x (ap (λ u. u .node) e ∙ n)) ∙ ap (λ u. u .node ∷ []) (sym e)
+    pub leaf-nodes : ((d : Direction) (x : ℕ) → r .node ≡ Cut d x → ⊥) → preorder (plan-at kerf size pieces cell) ≡ r .node ∷ []
+    leaf-nodes k = ap preorder after ∙ leaf-after kerf size pieces (rect-of (cell .sides)) (cell .share) chosen (λ d x n. k d x (ap (λ u. u .node) e ∙ n)) ∙ ap (λ u. u .node ∷ []) (sym e)
 
-    module _ {d : Direction} {x : ℕ} (n : r .node ≡ Cut d x) where
-      found-cut : (1 ≤ x) × (x < side d (rect-of (cell .sides))) × (r .share ≤ cell .share)
-          × (plan-at size pieces cell ≡ cut d x (plan-at size pieces (first-cell cell d x (r .share))) (plan-at size pieces (second-cell cell d x (r .share))))
+    module _ (thick : KindsAbove kerf (size-job size pieces)) {d : Direction} {x : ℕ} (n : r .node ≡ Cut d x) where
+      found-cut : (1 ≤ x) × (x < side d (rect-of (cell .sides))) × (r .share ≤ cell .share) × T (normal-side (size-job size pieces) d x)
+          × (plan-at kerf size pieces cell ≡ cut-tree kerf size pieces (rect-of (cell .sides)) (cell .share) d x (r .share))
       found-cut =
           let J = size-job size pieces in
           let sound = choice-sound J (heavy-in pieces) (cell .sides .length) (cell .sides .width) (cell .share) in
-          let f = cut-after size pieces (cell .sides .length) (cell .sides .width) (cell .share) chosen d x sound (ap (λ u. u .node) (sym e) ∙ n) in
-          rw e (f .0, f .1, f .2, after ∙ f .3)
+          let f = cut-after kerf size pieces (rect-of (cell .sides)) (cell .share) chosen d x sound (ap (λ u. u .node) (sym e) ∙ n) in
+          rw e (f .0, f .1, f .2, f .3, after ∙ f .4)
 
-      pub cut-position : (x ≤ side d (rect-of (cell .sides))) × (r .share ≤ cell .share)
-      cut-position = (omega (arith, found-cut .1), found-cut .2)
+      -- its position is above the kerf and below the side
+      pub cut-position : (kerf < x) × (x < side d (rect-of (cell .sides))) × (r .share ≤ cell .share)
+      cut-position = (positions-above (size-job size pieces) d kerf thick x (found-cut .0) (found-cut .3), found-cut .1, found-cut .2)
 
       pub cut-parts : Parts (size-job size pieces) size cell (first-cell cell d x (r .share)) (second-cell cell d x (r .share))
       cut-parts = parts cell at d x (r .share) (found-cut .0) (found-cut .1) (found-cut .2)
 
-      pub cut-nodes : preorder (plan-at size pieces cell) ≡ Cut d x ∷ (preorder (plan-at size pieces (first-cell cell d x (r .share))) ++ preorder (plan-at size pieces (second-cell cell d x (r .share))))
+      -- a cut that is left out: the plan goes on with the first part
+      pub cut-falls : left-out kerf (Cut d x) (rect-of (cell .sides)) ≡ true → plan-at kerf size pieces cell ≡ plan-at kerf size pieces (first-cell cell d x (r .share))
+      cut-falls f = found-cut .4 ∙ ap (λ b. or-first b d (x - kerf) (plan-at kerf size pieces (first-cell cell d x (r .share))) (plan-at kerf size pieces (second-cell cell d x (r .share)))) (left-falls (side d (rect-of (cell .sides))) x kerf f)
+
+      -- one that remains: it stands at its position less the kerf, before its parts
+      pub cut-nodes : left-out kerf (Cut d x) (rect-of (cell .sides)) ≡ false
+          → preorder (plan-at kerf size pieces cell) ≡ Cut d (x - kerf) ∷ (preorder (plan-at kerf size pieces (first-cell cell d x (r .share))) ++ preorder (plan-at kerf size pieces (second-cell cell d x (r .share))))
       unfolding preorder
-      cut-nodes = ap preorder (found-cut .3)
+      cut-nodes f =
+          ap preorder (found-cut .4 ∙ ap (λ b. or-first b d (x - kerf) (plan-at kerf size pieces (first-cell cell d x (r .share))) (plan-at kerf size pieces (second-cell cell d x (r .share)))) (left-remains (side d (rect-of (cell .sides))) x kerf f))
+
+    -- past a cut that is left out: the same plan from a smaller cell on the plate
+    abbrev pub GoesOn : Cell → Type 0
+    GoesOn a = (plan-at kerf size pieces cell ≡ plan-at kerf size pieces a) × Inside (size-job size pieces) size a × (half-of a < half-of cell)
+
+    pub goes-on : KindsAbove kerf (size-job size pieces) → left-out kerf (r .node) (rect-of (cell .sides)) ≡ true → {a : Cell} → a ≡ first-of cell r (r .node) → GoesOn a
+    goes-on thick f g = subst GoesOn (sym g) (go (r .node) refl f)
+      where
+        go : (m : Node) → r .node ≡ m → left-out kerf m (rect-of (cell .sides)) ≡ true → GoesOn (first-of cell r m)
+        go (Cut d x) n f = (cut-falls thick n f, cut-parts thick n .first-inside, cut-parts thick n .first-less)
+        go Waste n f = absurd (subst T (sym f) tt)
+        go (node.Piece i) n f = absurd (subst T (sym f) tt)
+        go (Turned i) n f = absurd (subst T (sym f) tt)
+
+-- a node that is no cut is not left out, and has no first part
+module _ (m : Node) (k : (d : Direction) (x : ℕ) → m ≡ Cut d x → ⊥) where
+  pub none-left-out : (kerf : ℕ) (r : Rect) → false ≡ left-out kerf m r
+  none-left-out kerf r = go m k
+    where
+      go : (m : Node) → ((d : Direction) (x : ℕ) → m ≡ Cut d x → ⊥) → false ≡ left-out kerf m r
+      go Waste k = refl
+      go (node.Piece i) k = refl
+      go (Turned i) k = refl
+      go (Cut d x) k = absurd (k d x refl)
+
+  pub no-first : (cell : Cell) (r : Chosen) → cell ≡ first-of cell r m
+  no-first cell r = go m k
+    where
+      go : (m : Node) → ((d : Direction) (x : ℕ) → m ≡ Cut d x → ⊥) → cell ≡ first-of cell r m
+      go Waste k = refl
+      go (node.Piece i) k = refl
+      go (Turned i) k = refl
+      go (Cut d x) k = absurd (k d x refl)

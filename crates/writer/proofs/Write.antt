@@ -18,8 +18,10 @@ use Rattle.cutting.specs.Limits.{most-capacity}
 use Rattle.cutting.specs.Tree.{Tree}
 use Rattle.cutting.specs.Pieces.{Piece}
 use Rattle.cutting.specs.Sides.{rect-of, sides-of}
-use Rattle.cutting.specs.Job.{Job, normal-positions, plan-under}
-use Rattle.cutting.specs.Listed.{InTableRange, heavy-in, pieces-job, PieceArray}
+use Rattle.cutting.specs.Job.{Job, widened, normal-positions, plan-under}
+use Rattle.cutting.specs.Listed.{InTableRange, size-in, price-in, heavy-in, pieces-job, PieceArray}
+use Rattle.cutting.proofs.Members.{range-solid, widened-above}
+use Rattle.cutting.proofs.Listed.{listed-above}
 use Rattle.cutting.proofs.Laid.{laid-plan}
 use Rattle.refusal.specs.Refusals.{next, refuse-when, first-refusal}
 use Rattle.refusal.specs.declared.Refusal.{Refusal}
@@ -44,7 +46,7 @@ use Rattle.writer.specs.declared.WriteReport.{WriteReport}
 use Rattle.writer.specs.declared.WriteAnswer.{WriteAnswer}
 use Rattle.writer.specs.declared.WriteAnswer.the-variants as answer
 use Rattle.writer.specs.Write.{nodes-verdict, reported}
-use Rattle.writer.specs.Contracts.{NodesListed, Copyable, table-of, whole-plan, Weighed, room-verdict, Planned}
+use Rattle.writer.specs.Contracts.{NodesListed, Copyable, table-of, whole-plan, Thick, Weighed, room-verdict, Planned}
 use Rattle.writer.proofs.Listed.{copied-over}
 
 -- three tests of which none holds
@@ -109,32 +111,32 @@ module _ (plate : Sides) (n : ℕ) (pieces : List ℕ) (q : ℕ) (range : InTabl
       }
 
 -- what the bound of a job's pieces asks
-pub boundable : {J : Job} {ws : List ℕ} {q : ℕ} → Weighed J ws q → {plate : Sides} {n : ℕ} {pieces floors : List ℕ} → plate ≡ sides-of (J .plate) → PieceArray J (weight-in ws) n pieces → length floors ≡ 2002
+pub boundable : {J : Job} {ws : List ℕ} {q : ℕ} → Weighed J ws q → {plate : Sides} {n : ℕ} {pieces floors : List ℕ} → plate ≡ sides-of (widened J .plate) → PieceArray (widened J) (weight-in ws) n pieces → length floors ≡ 2042
     → Boundable (pieces-job (rect-of plate) n pieces) q floors
 boundable {J} {ws} {q} given {plate} {n} {pieces} {floors} on array h =
     subst (λ p. Boundable (pieces-job (rect-of p) n pieces) q floors) (sym on) (record { in-range = pieces-range J (weight-in ws) n pieces array (given .in-range); most = given .most; floors-there = h })
 
 -- the plan of a job by the answer of its pieces' bound
-module _ {J : Job} {ws : List ℕ} {q : ℕ} (given : Weighed J ws q) {plate : Sides} {n : ℕ} {pieces : List ℕ} (on : plate ≡ sides-of (J .plate)) (array : PieceArray J (weight-in ws) n pieces)
+module _ {J : Job} {ws : List ℕ} {q : ℕ} (given : Weighed J ws q) {plate : Sides} {n : ℕ} {pieces : List ℕ} (on : plate ≡ sides-of (widened J .plate)) (array : PieceArray (widened J) (weight-in ws) n pieces)
     {old new : bound.Memory} {floors : List ℕ} {b : BoundAnswer} (left : Bounded (pieces-job (rect-of plate) n pieces) (heavy-in pieces) q old new floors b) where
-  -- the same of the job
-  whole : Bounded J (weight-in ws) q old new floors b
-  whole = pieces-bounded J (weight-in ws) n pieces array q old new floors b (subst (λ p. Bounded (pieces-job (rect-of p) n pieces) (heavy-in pieces) q old new floors b) on left)
+  -- the same of the job, the kerf added to every side
+  whole : Bounded (widened J) (weight-in ws) q old new floors b
+  whole = pieces-bounded (widened J) (weight-in ws) n pieces array q old new floors b (subst (λ p. Bounded (pieces-job (rect-of p) n pieces) (heavy-in pieces) q old new floors b) on left)
 
-  pub memory-left : bound.Leaves Passed J (weight-in ws) q old new
+  pub memory-left : bound.Leaves Passed (widened J) (weight-in ws) q old new
   memory-left = whole .memory
 
   abbrev storage : Checked
-  storage = first-refusal (bound.memory-checks J q old)
+  storage = first-refusal (bound.memory-checks (widened J) q old)
 
   abbrev T : Tree Piece
   T = plan-under J (weight-in ws) q
 
   abbrev R : BoundReport
-  R = bound.bound-report J (weight-in ws) q
+  R = bound.bound-report (widened J) (weight-in ws) q
 
   -- the bound is refused: so is the plan
-  pub bound-refused : (kinds operands : List ℕ) {r : Refusal} → b ≡ bounded.Refused r → Planned (room-verdict J q old T kinds operands) R T kinds operands kinds operands (answer.Refused r)
+  pub bound-refused : (kinds operands : List ℕ) {r : Refusal} → b ≡ bounded.Refused r → Planned (room-verdict (widened J) q old T kinds operands) R T kinds operands kinds operands (answer.Refused r)
   bound-refused kinds operands {r} e =
       let v = refused-behind storage R (sym e ∙ whole .answer) in
       subst (λ v. Planned (next v (nodes-verdict T kinds operands)) R T kinds operands kinds operands (answer.Refused r)) (sym v) (untouched R T kinds operands r)
@@ -144,19 +146,23 @@ module _ {J : Job} {ws : List ℕ} {q : ℕ} (given : Weighed J ws q) {plate : S
     pub plan-ready : ChoiceInput (table-of plate n report) pieces (new .lengths) (new .widths) floors (new .table)
     plan-ready =
         let range = subst (λ p. InTableRange (pieces-job (rect-of p) n pieces)) (sym on) (pieces-range J (weight-in ws) n pieces array (given .in-range)) in
-        choice-input plate n pieces q range (given .most) (array-numbered J (weight-in ws) n pieces array (given .in-range .kinds .1)) old new floors left report e
+        choice-input plate n pieces q range (given .most) (array-numbered (widened J) (weight-in ws) n pieces array (given .in-range .kinds .1)) old new floors left report e
 
     stored : (storage ≡ Passed) × (report ≡ R)
     stored = answered-behind storage R (sym e ∙ whole .answer)
 
+    -- every side of the pieces is above the kerf
+    pub plan-thick : Thick (J .kerf) (table-of plate n report) pieces
+    plan-thick = listed-above (widened J) (weight-in ws) n (size-in pieces) (price-in pieces) (heavy-in pieces) (array .listing) (J .kerf) (widened-above J (range-solid J (given .in-range)))
+
     -- the plan of the pieces is the job's
-    same-plan : whole-plan (table-of plate n report) pieces ≡ T
-    same-plan = rw (on, stored .1) (laid-plan J (weight-in ws) n pieces array (given .in-range) (J .plate .0) (J .plate .1) q (omega arith) (omega arith))
+    same-plan : whole-plan (J .kerf) (table-of plate n report) pieces ≡ T
+    same-plan = rw (on, stored .1) (laid-plan J (weight-in ws) n pieces array (range-solid J (given .in-range)) (widened J .plate .0) (widened J .plate .1) q (omega arith) (omega arith))
 
     -- check 21 alone is left
     pub plan-made : {kinds operands new-kinds new-operands : List ℕ} {r : WriteAnswer}
-        → Planned (nodes-verdict (whole-plan (table-of plate n report) pieces) kinds operands) report (whole-plan (table-of plate n report) pieces) kinds operands new-kinds new-operands r
-        → Planned (room-verdict J q old T kinds operands) R T kinds operands new-kinds new-operands r
+        → Planned (nodes-verdict (whole-plan (J .kerf) (table-of plate n report) pieces) kinds operands) report (whole-plan (J .kerf) (table-of plate n report) pieces) kinds operands new-kinds new-operands r
+        → Planned (room-verdict (widened J) q old T kinds operands) R T kinds operands new-kinds new-operands r
     plan-made {kinds} {operands} {new-kinds} {new-operands} {r} p =
         let a = subst (λ t. Planned (nodes-verdict t kinds operands) report t kinds operands new-kinds new-operands r) same-plan p in
         let c = subst (λ x. Planned (nodes-verdict T kinds operands) x T kinds operands new-kinds new-operands r) (stored .1) a in

@@ -1,18 +1,22 @@
 -- What only the inner contracts of the writing call cite: the walk down a plan by a list of waiting cells in one array, three entries a
 -- cell, the next cell last; and what a verdict makes of the answer and of the plan arrays.
 use mathlib.Core.Path.{_≡_}
+use mathlib.Core.Bool.{Bool, false}
 use mathlib.Core.List.{List, [], _∷_, _++_}
 use Prim.Native.Nat.{ℕ, zero, suc, _+_, _*_, _≤_, _<_}
+use lib.Dec.{leb}
 use lib.ListN.{length, getD, set}
 use lib.Seq.{sets}
 use Rattle.cutting.specs.declared.Node.{Node}
-use Rattle.cutting.specs.Tree.{Tree}
+use Rattle.cutting.specs.declared.Node.the-variants.{Waste, Piece, Turned, Cut}
+use Rattle.cutting.specs.Tree.{Rect, side, part, Tree}
 use Rattle.cutting.specs.Preorder.{preorder, kinds-of, operands-of, node-count}
 use Rattle.cutting.specs.Limits.{most-capacity}
-use Rattle.cutting.specs.Pieces.{Piece}
+use Rattle.cutting.specs.Pieces as laid
 use Rattle.cutting.specs.declared.Sides.{Sides}
-use Rattle.cutting.specs.Job.{Job, InRange, plan-of}
-use Rattle.cutting.specs.Listed.{heavy-in, laid-tree}
+use Rattle.cutting.specs.Sides.{rect-of, sides-of}
+use Rattle.cutting.specs.Job.{Job, InRange, KindsAbove}
+use Rattle.cutting.specs.Listed.{array-plan}
 use Rattle.refusal.specs.Refusals.{next, first-refusal}
 use Rattle.refusal.specs.declared.Checked.{Checked}
 use Rattle.table.specs.declared.TableSize.{TableSize}
@@ -20,7 +24,9 @@ use Rattle.table.specs.Contracts.{size-job}
 use Rattle.bound.specs.declared.BoundReport.{BoundReport}
 use Rattle.bound.specs.Bound.{Memory, memory-checks, list-after}
 use Rattle.choice.specs.declared.Cell.{Cell}
-use Rattle.choice.specs.Choice.{Inside}
+use Rattle.choice.specs.declared.Chosen.{Chosen}
+use Rattle.choice.specs.Choice.{Inside, chosen-at}
+use Rattle.writer.specs.declared.nodes.Settled.{Settled}
 use Rattle.writer.specs.declared.nodes.Step.{Step}
 use Rattle.writer.specs.declared.WriteAnswer.{WriteAnswer}
 use Rattle.writer.specs.Write.{nodes-verdict, reported, write-answer-by}
@@ -33,35 +39,65 @@ cell-at waiting i = record { sides = record { length = getD waiting (3 * i) 0; w
 abbrev pub with-cell : List ℕ → ℕ → Cell → List ℕ
 with-cell waiting i cell = set (set (set waiting (3 * i) (cell .sides .length)) (3 * i + 1) (cell .sides .width)) (3 * i + 2) (cell .share)
 
--- the plan from a cell downward: that of the plain job of the array, with the pieces that the numbers stand for
-abbrev pub plan-at : TableSize → List ℕ → Cell → Tree Piece
-plan-at size pieces cell = laid-tree pieces (plan-of (size-job size pieces) (heavy-in pieces) (cell .sides .length) (cell .sides .width) (cell .share))
+-- the plan from a cell downward, as the saw cuts it: that of the plain job of the array, with the pieces that the numbers stand for
+abbrev pub plan-at : ℕ → TableSize → List ℕ → Cell → Tree laid.Piece
+plan-at kerf size pieces cell = array-plan kerf (size .length, size .width) (size .count) pieces (rect-of (cell .sides)) (cell .share)
 
 -- the cell of the plate with all of the capacity, and the plan from it
 abbrev pub plate-cell : TableSize → Cell
 plate-cell size = record { sides = record { length = size .length; width = size .width }; share = size .capacity }
 
-abbrev pub whole-plan : TableSize → List ℕ → Tree Piece
-whole-plan size pieces = plan-at size pieces (plate-cell size)
+abbrev pub whole-plan : ℕ → TableSize → List ℕ → Tree laid.Piece
+whole-plan kerf size pieces = plan-at kerf size pieces (plate-cell size)
 
 -- the nodes to come: the plans of the first n waiting cells in preorder, the last cell's first
-unfoldable pub nodes-left : TableSize → List ℕ → List ℕ → ℕ → List Node
-nodes-left size pieces waiting zero = []
-nodes-left size pieces waiting (suc n) = preorder (plan-at size pieces (cell-at waiting n)) ++ nodes-left size pieces waiting n
+unfoldable pub nodes-left : ℕ → TableSize → List ℕ → List ℕ → ℕ → List Node
+nodes-left kerf size pieces waiting zero = []
+nodes-left kerf size pieces waiting (suc n) = preorder (plan-at kerf size pieces (cell-at waiting n)) ++ nodes-left kerf size pieces waiting n
+
+-- a cut is left out: its second part would be below 1
+abbrev pub left-out : ℕ → Node → Rect → Bool
+left-out kerf Waste r = false
+left-out kerf (Piece i) r = false
+left-out kerf (Turned i) r = false
+left-out kerf (Cut d x) r = leb (side d r) (x + kerf)
+
+-- the cell of a cut's first part
+abbrev pub first-of : Cell → Chosen → Node → Cell
+first-of cell chosen Waste = cell
+first-of cell chosen (Piece i) = cell
+first-of cell chosen (Turned i) = cell
+first-of cell chosen (Cut d x) = record { sides = sides-of (part d x (rect-of (cell .sides))); share = chosen .share }
+
+-- the half perimeter of a cell
+abbrev pub half-of : Cell → ℕ
+half-of cell = cell .sides .length + cell .sides .width
+
+-- the cell that the plan of a cell goes on with, past the cuts that are left out, and the choice there
+pub record SettledAt (kerf : ℕ) (size : TableSize) (pieces : List ℕ) (cell : Cell) (r : Settled) : Type 0 where
+  pub same : plan-at kerf size pieces cell ≡ plan-at kerf size pieces (r .cell)
+  pub choice : r .chosen ≡ chosen-at size pieces (r .cell)
+  pub inside : Inside (size-job size pieces) size (r .cell)
+  pub smaller : half-of (r .cell) ≤ half-of cell
+  pub remains : left-out kerf (r .chosen .node) (rect-of (r .cell .sides)) ≡ false
+
+-- every side of the pieces is above the kerf, which was added to it
+abbrev pub Thick : ℕ → TableSize → List ℕ → Type 0
+Thick kerf size pieces = KindsAbove kerf (size-job size pieces)
 
 -- each of the first n cells lies on the plate, and its half perimeter and its place are at most the plate's half perimeter
 pub record Waiting (size : TableSize) (pieces waiting : List ℕ) (n : ℕ) : Type 0 where
-  pub entries : length waiting ≡ 6000
+  pub entries : length waiting ≡ 6120
   pub inside : (i : ℕ) → i < n → Inside (size-job size pieces) size (cell-at waiting i)
   pub smaller : (i : ℕ) → i < n → cell-at waiting i .sides .length + cell-at waiting i .sides .width + i ≤ size .length + size .width
 
 -- a step takes the first of the nodes to come
-pub record Stepped (size : TableSize) (pieces old new : List ℕ) (n : ℕ) (step : Step) : Type 0 where
-  pub nodes : nodes-left size pieces old n ≡ step .node ∷ nodes-left size pieces new (step .depth)
+pub record Stepped (kerf : ℕ) (size : TableSize) (pieces old new : List ℕ) (n : ℕ) (step : Step) : Type 0 where
+  pub nodes : nodes-left kerf size pieces old n ≡ step .node ∷ nodes-left kerf size pieces new (step .depth)
   pub waits : Waiting size pieces new (step .depth)
 
 -- the nodes of a tree are counted, and listed from the first entries of two lists on, as far as the lists go
-pub record NodesListed (t : Tree Piece) (kinds operands new-kinds new-operands : List ℕ) (n : ℕ) : Type 0 where
+pub record NodesListed (t : Tree laid.Piece) (kinds operands new-kinds new-operands : List ℕ) (n : ℕ) : Type 0 where
   pub number : n ≡ node-count t
   pub kinds-listed : new-kinds ≡ sets kinds 0 (kinds-of t)
   pub operands-listed : new-operands ≡ sets operands 0 (operands-of t)
@@ -84,11 +120,11 @@ pub record Weighed (J : Job) (ws : List ℕ) (q : ℕ) : Type 0 where
   pub most : q ≤ most-capacity
 
 -- the verdict of the checks that an accepted job is left to: 19, 20, then 21
-abbrev pub room-verdict : Job → ℕ → Memory → Tree Piece → List ℕ → List ℕ → Checked
+abbrev pub room-verdict : Job → ℕ → Memory → Tree laid.Piece → List ℕ → List ℕ → Checked
 room-verdict J q m t kinds operands = next (first-refusal (memory-checks J q m)) (nodes-verdict t kinds operands)
 
 -- what a verdict makes of the answer, and of the plan arrays: the plan over their old contents, or as they were
-pub record Planned (v : Checked) (b : BoundReport) (t : Tree Piece) (kinds operands new-kinds new-operands : List ℕ) (r : WriteAnswer) : Type 0 where
+pub record Planned (v : Checked) (b : BoundReport) (t : Tree laid.Piece) (kinds operands new-kinds new-operands : List ℕ) (r : WriteAnswer) : Type 0 where
   pub answer : r ≡ write-answer-by v (reported b (node-count t))
   pub kinds-left : new-kinds ≡ list-after v (kinds-of t) kinds
   pub operands-left : new-operands ≡ list-after v (operands-of t) operands

@@ -19,13 +19,13 @@ ghost use mathlib.Core.Path.{_≡_};
 ghost use mathlib.Core.Bool.{_||_};
 ghost use lib.Dec.{ltb};
 ghost use Rattle.cutting.specs.Limits.{most-nodes};
-ghost use Rattle.cutting.specs.Job.{plan-under};
+ghost use Rattle.cutting.specs.Job.{widened, plan-under};
 ghost use Rattle.job.specs.Block.{with-full-demand, job-of};
 ghost use Rattle.job.specs.Weights.{weight-in};
 ghost use Rattle.refusal.specs.declared.Checked.the-variants.{Passed};
 ghost use Rattle.bound.specs.Bound.{lent, Leaves, bound-report};
 ghost use Rattle.choice.specs.Choice.{ChoiceInput};
-ghost use Rattle.writer.specs.Contracts.{table-of, whole-plan, Weighed, room-verdict, Planned};
+ghost use Rattle.writer.specs.Contracts.{table-of, whole-plan, Thick, Weighed, room-verdict, Planned};
 ghost use Rattle.writer.specs.Write.{reported, nodes-verdict, WritePromises};
 
 // What the writing call reports: what the bound call does, and the number of the plan's nodes.
@@ -69,11 +69,17 @@ fn with_nodes(report: BoundReport, nodes: u64) -> WriteReport
     }
 }
 
+// The bound's report, and the kerf that the plan loses at each cut.
+struct Sawing {
+    report: BoundReport,
+    kerf: u16,
+}
+
 // The plan of pieces whose lists, floors and table are filled: refusal 21 with the nodes needed, or the plan in preorder.
 fn plan_of_pieces(
     size: TableSize,
     pieces: &[u32; 640],
-    report: BoundReport,
+    sawing: Sawing,
     normal_lengths: &[u16],
     normal_widths: &[u16],
     floors: &[u16],
@@ -81,13 +87,14 @@ fn plan_of_pieces(
     kinds: &mut [u8],
     operands: &mut [u16],
 ) -> WriteAnswer
-    requires { ⌜ ChoiceInput size (now pieces) (now «normal_lengths») (now «normal_widths») (now floors) (now table) ⌝ }
-    ensures { λ r. ⌜ Planned (nodes-verdict (whole-plan size (now (pieces .entry))) (now (kinds .entry)) (now (operands .entry))) report (whole-plan size (now (pieces .entry)))
+    requires { ⌜ ChoiceInput size (now pieces) (now «normal_lengths») (now «normal_widths») (now floors) (now table) × Thick (sawing .kerf) size (now pieces) ⌝ }
+    ensures { λ r. ⌜ Planned (nodes-verdict (whole-plan (sawing .kerf) size (now (pieces .entry))) (now (kinds .entry)) (now (operands .entry))) (sawing .report) (whole-plan (sawing .kerf) size (now (pieces .entry)))
         (now (kinds .entry)) (now (operands .entry)) (now (kinds .exit)) (now (operands .exit)) r ⌝ }
 {
     let mut own_kinds = [0u8; 4095];
     let mut own_operands = [0u16; 4095];
     let count = list_nodes(
+        sawing.kerf,
         size,
         pieces,
         normal_lengths,
@@ -102,6 +109,7 @@ fn plan_of_pieces(
         return WriteAnswer::Refused(Refusal::PlanLong(nodes));
     }
     copy_nodes(count, &own_kinds[..], &own_operands[..], kinds, operands);
+    let report = sawing.report;
     let written = with_nodes(report, nodes);
     WriteAnswer::Written(written)
 }
@@ -132,16 +140,16 @@ fn write_accepted(
     operands: &mut [u16],
 ) -> WriteAnswer
     requires { ⌜ Weighed (job-of job) (now weights) q ⌝ }
-    ensures memory { λ _. ⌜ Leaves Passed (job-of job) (weight-in (now (weights .entry))) q
+    ensures memory { λ _. ⌜ Leaves Passed (widened (job-of job)) (weight-in (now (weights .entry))) q
         (lent (now («normal_lengths» .entry)) (now («normal_widths» .entry)) (now (table .entry))) (lent (now («normal_lengths» .exit)) (now («normal_widths» .exit)) (now (table .exit))) ⌝ }
-    ensures plan { λ r. ⌜ Planned (room-verdict (job-of job) q (lent (now («normal_lengths» .entry)) (now («normal_widths» .entry)) (now (table .entry))) (plan-under (job-of job) (weight-in (now (weights .entry))) q) (now (kinds .entry)) (now (operands .entry)))
-        (bound-report (job-of job) (weight-in (now (weights .entry))) q) (plan-under (job-of job) (weight-in (now (weights .entry))) q) (now (kinds .entry)) (now (operands .entry)) (now (kinds .exit)) (now (operands .exit)) r ⌝ }
+    ensures plan { λ r. ⌜ Planned (room-verdict (widened (job-of job)) q (lent (now («normal_lengths» .entry)) (now («normal_widths» .entry)) (now (table .entry))) (plan-under (job-of job) (weight-in (now (weights .entry))) q) (now (kinds .entry)) (now (operands .entry)))
+        (bound-report (widened (job-of job)) (weight-in (now (weights .entry))) q) (plan-under (job-of job) (weight-in (now (weights .entry))) q) (now (kinds .entry)) (now (operands .entry)) (now (kinds .exit)) (now (operands .exit)) r ⌝ }
 {
     let plate = plate_of(job);
     let listing = list_pieces(job, weights);
     let count = listing.count;
     let pieces = listing.pieces;
-    let mut floors = [0u16; 2002];
+    let mut floors = [0u16; 2042];
     let bounded = bound_of_pieces(
         plate,
         count,
@@ -157,7 +165,10 @@ fn write_accepted(
         BoundAnswer::Answered(report) => plan_of_pieces(
             table_of(plate, count, report),
             &pieces,
-            report,
+            Sawing {
+                report: report,
+                kerf: job.kerf,
+            },
             &normal_lengths[..],
             &normal_widths[..],
             &floors[..],

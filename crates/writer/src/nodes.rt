@@ -1,22 +1,32 @@
 // The nodes of the plan from the plate downward, in preorder: their number, and the kinds and operands of as many as two lists hold. The
-// walk has a list of waiting cells, the next on top: a node's cell makes way for the second part of its cut with the first part above it.
-// The half perimeter of a waiting cell and its place are at most the plate's half perimeter, so at most 1,999 cells wait, and one array of
-// 6,000 entries holds them.
+// walk has a list of waiting cells, the next on top: a node's cell makes way for the second part of its cut with the first part above it. A
+// cut whose second part would be below 1 is left out: the walk goes on with its first part. Cells have the kerf added to their sides.
+// The half perimeter of a waiting cell and its place are at most the plate's half perimeter, so at most 2,039 cells wait, and one array of
+// 6,120 entries holds them.
 use choice::Cell;
+use choice::Chosen;
 use choice::choose;
 use cutting::Direction;
 use cutting::Node;
 use cutting::Sides;
+use cutting::cut_side;
 use cutting::first_part;
-use cutting::second_part;
 use table::TableSize;
 ghost use mathlib.Core.Path.{_≡_};
 ghost use Prim.Native.Nat.{_<_};
 ghost use lib.ListN.{length, set};
 ghost use lib.Seq.{paste};
 ghost use Rattle.cutting.specs.Preorder.{kind-of, operand-of};
-ghost use Rattle.choice.specs.Choice.{ChoiceInput};
-ghost use Rattle.writer.specs.Contracts.{cell-at, with-cell, plate-cell, whole-plan, Waiting, Stepped, NodesListed, Copyable};
+ghost use Rattle.cutting.specs.Sides.{rect-of};
+ghost use Rattle.table.specs.Contracts.{size-job};
+ghost use Rattle.choice.specs.Choice.{ChoiceInput, Inside};
+ghost use Rattle.writer.specs.Contracts.{cell-at, with-cell, plate-cell, whole-plan, left-out, first-of, SettledAt, Thick, Waiting, Stepped, NodesListed, Copyable};
+
+// A cell and the choice there, which is no cut that is left out.
+struct Settled {
+    pub cell: Cell,
+    pub chosen: Chosen,
+}
 
 // A step of the walk: the node that it reached, and how many cells wait after it.
 struct Step {
@@ -65,8 +75,8 @@ fn operand(node: Node) -> u16
 }
 
 // The cell that waits at a place of the list: three entries, its length, width and share.
-fn waiting_cell(waiting: &[u16; 6000], i: usize) -> Cell
-    requires { ⌜ i < 2000 ⌝ }
+fn waiting_cell(waiting: &[u16; 6120], i: usize) -> Cell
+    requires { ⌜ i < 2040 ⌝ }
     ensures { λ r. ⌜ r ≡ cell-at (now (waiting .entry)) i ⌝ }
 {
     let at = 3 * i;
@@ -80,8 +90,8 @@ fn waiting_cell(waiting: &[u16; 6000], i: usize) -> Cell
 }
 
 // Puts a cell at a place of the list.
-fn put_cell(waiting: &mut [u16; 6000], i: usize, cell: Cell)
-    requires { ⌜ (i < 2000) × (length (now waiting) ≡ 6000) ⌝ }
+fn put_cell(waiting: &mut [u16; 6120], i: usize, cell: Cell)
+    requires { ⌜ (i < 2040) × (length (now waiting) ≡ 6120) ⌝ }
     ensures { λ _. ⌜ now (waiting .exit) ≡ with-cell (now (waiting .entry)) i cell ⌝ }
 {
     let at = 3 * i;
@@ -90,24 +100,48 @@ fn put_cell(waiting: &mut [u16; 6000], i: usize, cell: Cell)
     waiting[at + 2] = cell.share;
 }
 
-// The node of the cell on top, which the parts of its cut replace, the second below the first.
-fn next_node(
-    waiting: &mut [u16; 6000],
-    depth: usize,
+// Whether the choice at a cell is a cut that is left out: its second part would be below 1.
+fn left_out(cell: Cell, chosen: Chosen, kerf: u16) -> bool
+    ensures { λ r. ⌜ r ≡ left-out kerf (chosen .node) (rect-of (cell .sides)) ⌝ }
+{
+    let node = chosen.node;
+    let Node::Cut(d, x) = node else {
+        return false;
+    };
+    (cut_side(d, cell.sides) as u32) <= (x as u32) + (kerf as u32)
+}
+
+// The cell of a cut's first part.
+fn first_cell(cell: Cell, chosen: Chosen) -> Cell
+    ensures { λ r. ⌜ r ≡ first-of cell chosen (chosen .node) ⌝ }
+{
+    let node = chosen.node;
+    let Node::Cut(d, x) = node else {
+        return cell;
+    };
+    Cell {
+        sides: first_part(d, x, cell.sides),
+        share: chosen.share,
+    }
+}
+
+// The cell that the plan of a cell goes on with: past the cuts that are left out, first part after first part.
+fn settle(
+    cell: Cell,
+    kerf: u16,
     size: TableSize,
     pieces: &[u32; 640],
     normal_lengths: &[u16],
     normal_widths: &[u16],
     floors: &[u16],
     table: &[u64],
-) -> Step
-    requires { ⌜ ChoiceInput size (now pieces) (now «normal_lengths») (now «normal_widths») (now floors) (now table) × Waiting size (now pieces) (now waiting) depth × (0 < depth) ⌝ }
-    ensures { λ r. ⌜ Stepped size (now (pieces .entry)) (now (waiting .entry)) (now (waiting .exit)) depth r ⌝ }
+) -> Settled
+    requires { ⌜ ChoiceInput size (now pieces) (now «normal_lengths») (now «normal_widths») (now floors) (now table) × Thick kerf size (now pieces) × Inside (size-job size (now pieces)) size cell ⌝ }
+    ensures { λ r. ⌜ SettledAt kerf size (now (pieces .entry)) cell r ⌝ }
 {
-    let top = depth - 1;
-    let cell = waiting_cell(waiting, top);
-    let chosen = choose(
-        cell,
+    let mut at = cell;
+    let mut chosen = choose(
+        at,
         size,
         pieces,
         normal_lengths,
@@ -115,6 +149,52 @@ fn next_node(
         floors,
         table,
     );
+    while left_out(at, chosen, kerf) {
+        at = first_cell(at, chosen);
+        chosen = choose(
+            at,
+            size,
+            pieces,
+            normal_lengths,
+            normal_widths,
+            floors,
+            table,
+        );
+    }
+    Settled {
+        cell: at,
+        chosen: chosen,
+    }
+}
+
+// The node of the cell on top, which the parts of its cut replace, the second below the first. A cut stands at its position less the kerf.
+fn next_node(
+    waiting: &mut [u16; 6120],
+    depth: usize,
+    kerf: u16,
+    size: TableSize,
+    pieces: &[u32; 640],
+    normal_lengths: &[u16],
+    normal_widths: &[u16],
+    floors: &[u16],
+    table: &[u64],
+) -> Step
+    requires { ⌜ ChoiceInput size (now pieces) (now «normal_lengths») (now «normal_widths») (now floors) (now table) × Thick kerf size (now pieces) × Waiting size (now pieces) (now waiting) depth × (0 < depth) ⌝ }
+    ensures { λ r. ⌜ Stepped kerf size (now (pieces .entry)) (now (waiting .entry)) (now (waiting .exit)) depth r ⌝ }
+{
+    let top = depth - 1;
+    let settled = settle(
+        waiting_cell(waiting, top),
+        kerf,
+        size,
+        pieces,
+        normal_lengths,
+        normal_widths,
+        floors,
+        table,
+    );
+    let cell = settled.cell;
+    let chosen = settled.chosen;
     let node = chosen.node;
     let Node::Cut(d, x) = node else {
         return Step {
@@ -122,18 +202,15 @@ fn next_node(
             depth: top,
         };
     };
-    let first = Cell {
-        sides: first_part(d, x, cell.sides),
-        share: chosen.share,
-    };
+    let rest = cut_side(d, cell.sides) - x;
     let second = Cell {
-        sides: second_part(d, x, cell.sides),
+        sides: first_part(d, rest, cell.sides),
         share: cell.share - chosen.share,
     };
     put_cell(waiting, top, second);
-    put_cell(waiting, depth, first);
+    put_cell(waiting, depth, first_cell(cell, chosen));
     Step {
-        node: node,
+        node: Node::Cut(d, x - kerf),
         depth: depth + 1,
     }
 }
@@ -158,6 +235,7 @@ fn put_operand(operands: &mut [u16], at: usize, node: Node)
 
 // The number of nodes of the plan from the plate downward; lists them in preorder from the first entries on, as far as the lists go.
 pub fn list_nodes(
+    kerf: u16,
     size: TableSize,
     pieces: &[u32; 640],
     normal_lengths: &[u16],
@@ -167,10 +245,10 @@ pub fn list_nodes(
     kinds: &mut [u8],
     operands: &mut [u16],
 ) -> usize
-    requires { ⌜ ChoiceInput size (now pieces) (now «normal_lengths») (now «normal_widths») (now floors) (now table) ⌝ }
-    ensures { λ r. ⌜ NodesListed (whole-plan size (now (pieces .entry))) (now (kinds .entry)) (now (operands .entry)) (now (kinds .exit)) (now (operands .exit)) r ⌝ }
+    requires { ⌜ ChoiceInput size (now pieces) (now «normal_lengths») (now «normal_widths») (now floors) (now table) × Thick kerf size (now pieces) ⌝ }
+    ensures { λ r. ⌜ NodesListed (whole-plan kerf size (now (pieces .entry))) (now (kinds .entry)) (now (operands .entry)) (now (kinds .exit)) (now (operands .exit)) r ⌝ }
 {
-    let mut waiting = [0u16; 6000];
+    let mut waiting = [0u16; 6120];
     let plate = plate_cell(size);
     put_cell(&mut waiting, 0, plate);
     let mut depth: usize = 1;
@@ -179,6 +257,7 @@ pub fn list_nodes(
         let step = next_node(
             &mut waiting,
             depth,
+            kerf,
             size,
             pieces,
             normal_lengths,

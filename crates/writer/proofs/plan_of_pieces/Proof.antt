@@ -22,7 +22,7 @@ too-long-requires c κs = search needs
 returns : tie.Need-returns
 returns c =
     let e = c .before .before .before .before .before .before .before .before .before .before .before .before .before .args in
-    plan-refused (e .report) (whole-plan (e .size) (now (e .pieces))) (now (e .kinds)) (now (e .operands)) (c .before .before .before .before .list-nodes .ensures) (c .before .too-long .ensures) (c .if1 .taken)
+    plan-refused (e .sawing .report) (whole-plan (e .sawing .kerf) (e .size) (now (e .pieces))) (now (e .kinds)) (now (e .operands)) (c .before .before .before .before .list-nodes .ensures) (c .before .too-long .ensures) (c .if1 .taken)
 
 slice-aggregate-copy-nodes : tie.Need-slice-aggregate-copy-nodes
 slice-aggregate-copy-nodes c = search needs
@@ -33,7 +33,7 @@ slice-aggregate-copy-nodes-2 c = search needs
 copy-nodes-requires : tie.Need-copy-nodes-requires
 copy-nodes-requires c κs =
     let e = c .before .before .before .before .before .before .before .before .before .before .before .before .before .before .before .before .before .args in
-    copy-ready (e .report) (whole-plan (e .size) (now (e .pieces))) (now (e .kinds)) (now (e .operands)) (c .before .before .before .before .before .before .before .before .list-nodes .ensures) (c .before .before .before .before .before .too-long .ensures) refl refl (c .before .before .before .before .if1 .left)
+    copy-ready (e .sawing .report) (whole-plan (e .sawing .kerf) (e .size) (now (e .pieces))) (now (e .kinds)) (now (e .operands)) (c .before .before .before .before .before .before .before .before .list-nodes .ensures) (c .before .before .before .before .before .too-long .ensures) refl refl (c .before .before .before .before .if1 .left)
 
 with-nodes-requires : tie.Need-with-nodes-requires
 with-nodes-requires c κs = search needs
@@ -46,8 +46,12 @@ same-length-2 c = search needs
 
 returns-2 : tie.Need-returns-2
 returns-2 c =
-    let e = c .before .before .before .before .before .before .before .before .before .before .before .before .before .before .before .before .before .before .before .before .before .before .before .args in
-    plan-written (e .report) (whole-plan (e .size) (now (e .pieces))) (now (e .kinds)) (now (e .operands)) (c .before .before .before .before .before .before .before .before .before .before .before .before .before .before .list-nodes .ensures) (c .before .before .before .before .before .before .before .before .before .before .before .too-long .ensures) refl refl (c .before .before .before .before .before .before .before .before .before .before .if1 .left) (c .with-nodes .ensures) (c .before .before .before .before .before .copy-nodes .ensures .0) (c .before .before .before .before .before .copy-nodes .ensures .1)
+    let copied = c .before .before .before .before .before .before in
+    let tested = copied .before .before .before .before .before in
+    let listed = tested .before .before .before .before in
+    let e = listed .before .before .before .before .before .before .before .before .before .args in
+    plan-written (e .sawing .report) (whole-plan (e .sawing .kerf) (e .size) (now (e .pieces))) (now (e .kinds)) (now (e .operands)) (listed .list-nodes .ensures) (tested .before .too-long .ensures) refl refl (tested .if1 .left)
+    (c .with-nodes .ensures) (copied .copy-nodes .ensures .0) (copied .copy-nodes .ensures .1)
 
 pub plan-of-pieces-spec : {M : Type 1} → statement M
 plan-of-pieces-spec =

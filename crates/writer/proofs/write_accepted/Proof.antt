@@ -2,15 +2,15 @@
 use mathlib.Core.Path.{refl}
 use borrow.Author.Needs.{needs}
 use denote.Ref.{now}
-use Rattle.writer.proofs.Write.{boundable, memory-left, bound-refused, plan-ready, plan-made}
+use Rattle.writer.proofs.Write.{boundable, memory-left, bound-refused, plan-ready, plan-thick, plan-made}
 use Rattle.writer.proofs.write_accepted.Statement.{statement}
 use Rattle.writer.proofs.write_accepted.Tie as tie
 
 plate-of-requires : tie.Need-plate-of-requires
-plate-of-requires c κs = search needs
+plate-of-requires c κs = c .before .before .before .before .before .before .pre .in-range
 
 list-pieces-requires : tie.Need-list-pieces-requires
-list-pieces-requires c κs = let given = c .before .before .before .before .before .before .before .pre in (given .in-range .kinds .1, given .weights)
+list-pieces-requires c κs = let given = c .before .before .before .before .before .before .before .pre in (given .in-range, given .weights)
 
 slice-aggregate-bound-of-pieces : tie.Need-slice-aggregate-bound-of-pieces
 slice-aggregate-bound-of-pieces c = search needs
@@ -31,7 +31,15 @@ slice-aggregate-plan-of-pieces : tie.Need-slice-aggregate-plan-of-pieces
 slice-aggregate-plan-of-pieces c = search needs
 
 plan-of-pieces-requires : tie.Need-plan-of-pieces-requires
-plan-of-pieces-requires c κs = rw (c .before .before .before .before .before .before .before .table-of .ensures) (plan-ready (c .before .before .before .before .before .before .before .before .before .before .before .before .before .before .before .before .before .before .before .before .before .before .before .before .before .before .before .before .before .before .before .before .before .pre) (c .before .before .before .before .before .before .before .before .before .before .before .before .before .before .before .before .before .before .before .before .before .before .before .before .before .before .plate-of .ensures) (c .before .before .before .before .before .before .before .before .before .before .before .before .before .before .before .before .before .before .before .before .before .before .before .before .before .list-pieces .ensures) (c .before .before .before .before .before .before .before .before .before .before .before .before .before .before .before .before .before .before .bound-of-pieces .ensures) (c .before .before .before .before .before .before .before .before .before .bounded2 .given .1))
+plan-of-pieces-requires c κs =
+    let table = c .before .before .before .before .before .before .before in
+    let answered = table .before .before in
+    let found = answered .before .before .before .before .before .before .before .before .before in
+    let pieces = found .before .before .before .before .before .before .before in
+    let given = pieces .before .before .before .before .before .before .before .before .pre in
+    let ready = plan-ready given (pieces .before .plate-of .ensures) (pieces .list-pieces .ensures) (found .bound-of-pieces .ensures) (answered .bounded2 .given .1) in
+    let thick = plan-thick given (pieces .before .plate-of .ensures) (pieces .list-pieces .ensures) (found .bound-of-pieces .ensures) (answered .bounded2 .given .1) in
+    rw (table .table-of .ensures) (ready, thick)
 
 same-length : tie.Need-same-length
 same-length c = search needs

@@ -15,14 +15,14 @@ use Rattle.writer.proofs.nodes.list_nodes.Statement.{statement}
 use Rattle.writer.proofs.nodes.list_nodes.Tie as tie
 
 abbrev Inv-loop : tie.InvT-loop
-Inv-loop size pieces normal-lengths normal-widths floors table kinds₀ operands₀ waiting₀ depth₀ nodes₀ kinds operands waiting depth nodes = Waiting size pieces waiting depth
-    × (nodes + length (nodes-left size pieces waiting depth) ≡ node-count (whole-plan size pieces))
+Inv-loop kerf size pieces normal-lengths normal-widths floors table kinds₀ operands₀ waiting₀ depth₀ nodes₀ kinds operands waiting depth nodes = Waiting size pieces waiting depth
+    × (nodes + length (nodes-left kerf size pieces waiting depth) ≡ node-count (whole-plan kerf size pieces))
     × (length kinds ≡ length kinds₀) × (length operands ≡ length operands₀)
-    × (sets kinds nodes (map (λ n. kind-of n) (nodes-left size pieces waiting depth)) ≡ sets kinds₀ 0 (kinds-of (whole-plan size pieces)))
-    × (sets operands nodes (map (λ n. operand-of n) (nodes-left size pieces waiting depth)) ≡ sets operands₀ 0 (operands-of (whole-plan size pieces)))
+    × (sets kinds nodes (map (λ n. kind-of n) (nodes-left kerf size pieces waiting depth)) ≡ sets kinds₀ 0 (kinds-of (whole-plan kerf size pieces)))
+    × (sets operands nodes (map (λ n. operand-of n) (nodes-left kerf size pieces waiting depth)) ≡ sets operands₀ 0 (operands-of (whole-plan kerf size pieces)))
 
 abbrev μ-loop : tie.MeasureT-loop
-μ-loop size pieces normal-lengths normal-widths floors table kinds₀ operands₀ waiting₀ depth₀ nodes₀ kinds operands waiting depth nodes = length (nodes-left size pieces waiting depth)
+μ-loop kerf size pieces normal-lengths normal-widths floors table kinds₀ operands₀ waiting₀ depth₀ nodes₀ kinds operands waiting depth nodes = length (nodes-left kerf size pieces waiting depth)
 
 put-cell-requires : tie.Need-put-cell-requires Inv-loop μ-loop
 put-cell-requires c κs = (omega arith, refl)
@@ -30,19 +30,20 @@ put-cell-requires c κs = (omega arith, refl)
 loop-holds : tie.Need-loop-holds Inv-loop μ-loop
 loop-holds c =
     let e = c .before .before .before .before .before .before .before .before .before .args in
+    let kerf = e .kerf in
     let size = e .size in
     let pieces = now (e .pieces) in
-    let h = c .before .before .before .before .before .before .before .before .before .pre .tabled .in-range in
-    let p = c .put-cell .ensures ∙ ap (λ cell. with-cell (replicate 6000 0) 0 cell) (c .before .before .plate-cell .ensures) in
-    let l = plan-left size pieces h (replicate 6000 0) refl p in
-    let t = whole-plan size pieces in
-    (plate-waits size pieces h (replicate 6000 0) refl p, omega (arith, count-left size pieces h (replicate 6000 0) refl p), refl, refl, kinds-begin t l (now (e .kinds)), operands-begin t l (now (e .operands)))
+    let h = c .before .before .before .before .before .before .before .before .before .pre .0 .tabled .in-range in
+    let p = c .put-cell .ensures ∙ ap (λ cell. with-cell (replicate 6120 0) 0 cell) (c .before .before .plate-cell .ensures) in
+    let l = plan-left kerf size pieces h (replicate 6120 0) refl p in
+    let t = whole-plan kerf size pieces in
+    (plate-waits kerf size pieces h (replicate 6120 0) refl p, omega (arith, count-left kerf size pieces h (replicate 6120 0) refl p), refl, refl, kinds-begin t l (now (e .kinds)), operands-begin t l (now (e .operands)))
 
 next-node-requires : tie.Need-next-node-requires Inv-loop μ-loop
-next-node-requires c κs = (c .before .before .before .before .before .before .before .before .before .before .before .before .pre, c .before .before .loop .inv .0, search needs)
+next-node-requires c κs = let e = c .before .before .before .before .before .before .before .before .before .before .before .before in (e .pre .0, e .pre .1, c .before .before .loop .inv .0, search needs)
 
 add-nodes : tie.Need-add-nodes Inv-loop μ-loop
-add-nodes c = omega (arith, c .before .before .before .before .before .before .before .before .before .before .before .loop .inv .1, whole-nodes (c .before .before .before .before .before .before .before .before .before .before .before .before .before .before .before .before .before .before .before .before .before .args .size) (now (c .before .before .before .before .before .before .before .before .before .before .before .before .before .before .before .before .before .before .before .before .before .args .pieces)) (c .before .before .before .before .before .before .before .before .before .before .before .before .before .before .before .before .before .before .before .before .before .pre .tabled .in-range))
+add-nodes c = omega (arith, c .before .before .before .before .before .before .before .before .before .before .before .loop .inv .1, whole-nodes (c .before .before .before .before .before .before .before .before .before .before .before .before .before .before .before .before .before .before .before .before .before .args .kerf) (c .before .before .before .before .before .before .before .before .before .before .before .before .before .before .before .before .before .before .before .before .before .args .size) (now (c .before .before .before .before .before .before .before .before .before .before .before .before .before .before .before .before .before .before .before .before .before .args .pieces)) (c .before .before .before .before .before .before .before .before .before .before .before .before .before .before .before .before .before .before .before .before .before .pre .0 .tabled .in-range))
 
 loop-less : tie.Need-loop-less Inv-loop μ-loop
 loop-less c = omega (arith, ap length (c .before .before .before .before .before .before .before .before .next-node .ensures .nodes))
@@ -72,7 +73,7 @@ returns c =
     let e = c .before .before .before .before .before .before .before .before .before .before .before .args in
     let turn = c .before .loop in
     let z : turn .depth ≡ 0 = search needs in
-    let none = ap (nodes-left (e .size) (now (e .pieces)) (turn .waiting)) z ∙ none-left (e .size) (now (e .pieces)) (turn .waiting) in
+    let none = ap (nodes-left (e .kerf) (e .size) (now (e .pieces)) (turn .waiting)) z ∙ none-left (e .kerf) (e .size) (now (e .pieces)) (turn .waiting) in
     record {
       number = omega (arith, turn .inv .1, ap length none);
       kinds-listed = all-listed (λ n. kind-of n) (turn .kinds) (turn .nodes) none (turn .inv .4);

@@ -1,62 +1,83 @@
 -- `writer::nodes::next_node` meets its contract.
-use Rattle.writer.proofs.Waiting.{place, top-inside, leaf-stepped, cut-ready, cut-stepped}
-use native.Mathlib.Omega.{arith}
-use borrow.Author.Needs.{needs}
+use mathlib.Core.Path.{_≡_, sym, _∙_, ap, ap₂}
 use mathlib.Core.List.{[], _∷_}
-use mathlib.Core.Path.{_∙_, ap}
-use lib.ListN.{length, length-set}
+use Prim.Native.Nat.{_-_, _≤_, _<_}
+use native.Mathlib.Omega.{arith}
 use types.Run.{miss}
-use Prim.Native.Nat.{_<_}
+use borrow.Author.Needs.{needs}
+use lib.ListN.{length, length-set}
+use Rattle.cutting.specs.Sides.{rect-of, sides-of}
+use Rattle.cutting.specs.Tree.{side, part}
+use Rattle.writer.specs.Contracts.{first-of}
+use Rattle.writer.proofs.Waiting.{place, top-inside, leaf-stepped, cut-ready, cut-stepped}
 use Rattle.writer.proofs.nodes.next_node.Statement.{statement}
 use Rattle.writer.proofs.nodes.next_node.Tie as tie
 
--- at most 1,999 cells wait
-few : (s : tie.Start) → s .args .depth < 2000
-few s = place (s .pre .0 .tabled .in-range) (s .pre .1) (s .pre .2)
+-- at most 2,039 cells wait
+few : (s : tie.Start) → s .args .depth < 2040
+few s = place (s .pre .0 .tabled .in-range) (s .pre .2) (s .pre .3)
 
 waiting-cell-requires : tie.Need-waiting-cell-requires
 waiting-cell-requires c κs = omega (arith, few (c .before .before .before .before .before))
 
-choose-requires : tie.Need-choose-requires
-choose-requires c κs =
+settle-requires : tie.Need-settle-requires
+settle-requires c κs =
     let e = c .before .before .before .before .before .before in
-    (e .pre .0, rw (c .waiting-cell .ensures) (top-inside (e .pre .0 .tabled .in-range) (e .pre .1) (e .pre .2)))
+    (e .pre .0, e .pre .1, rw (c .waiting-cell .ensures) (top-inside (e .pre .0 .tabled .in-range) (e .pre .2) (e .pre .3)))
 
 returns : tie.Need-returns
 returns c =
-    let e = c .before .before .before .before .before .before .before .before in
-    leaf-stepped (e .pre .0 .tabled .in-range) (e .pre .1) (e .pre .2) (c .before .before .waiting-cell .ensures) (c .before .choose .ensures) (λ d x n. miss (0 ∷ 1 ∷ 2 ∷ []) 3 tt (rw n at (c .match .keys2)))
+    let settled = c .before .before .before in
+    let e = settled .before .before .before .before .before .before .before in
+    leaf-stepped (e .pre .0 .tabled .in-range) (e .pre .2) (e .pre .3) (settled .before .waiting-cell .ensures) (settled .settle .ensures) (λ d x n. miss (0 ∷ 1 ∷ 2 ∷ []) 3 tt (rw n at (c .match .keys2)))
 
-second-part-requires : tie.Need-second-part-requires
-second-part-requires c κs =
-    let e = c .before .before .before .before .before .before .before .before .before .before .before in
-    cut-ready (e .pre .0 .tabled .in-range) (e .pre .1) (e .pre .2) (c .before .before .before .before .before .waiting-cell .ensures) (c .before .before .before .before .choose .ensures) (c .before .before .node .given .1) .0
+-- where the cut is known
+abbrev start : tie.After-known-told → tie.Start
+start k = k .before .before .before .before .before .before .before .before .before .before .before .before
 
-sub-t19 : tie.Need-sub-t19
-sub-t19 c =
-    let e = c .before .before .before .before .before .before .before .before .before .before .before .before .before .before in
-    cut-ready (e .pre .0 .tabled .in-range) (e .pre .1) (e .pre .2) (c .before .before .before .before .before .before .before .before .waiting-cell .ensures) (c .before .before .before .before .before .before .before .choose .ensures) (c .before .before .before .before .before .node .given .1) .1
+-- the cut's position is above the kerf and below the side
+ready : (k : tie.After-known-told) → (let s = k .before .before .before .before .before .settle .result in let cut = k .before .node .given .0 in
+    (start k .args .kerf < cut .1 .0) × (cut .1 .0 < side (cut .0) (rect-of (s .cell .sides))) × (s .chosen .share ≤ s .cell .share))
+ready k =
+    let settled = k .before .before .before .before .before in
+    let e = start k in
+    cut-ready (e .pre .0 .tabled .in-range) (e .pre .2) (e .pre .3) (settled .before .waiting-cell .ensures) (settled .settle .ensures) (e .pre .1) (k .before .node .given .1)
+
+sub-rest : tie.Need-sub-rest
+sub-rest c = omega (arith, ready (c .before) .1, c .cut-side .ensures)
+
+sub-t21 : tie.Need-sub-t21
+sub-t21 c = ready (c .before .before .before .before) .2
 
 put-cell-requires : tie.Need-put-cell-requires
-put-cell-requires c κs =
-    let e = c .before .before .before .before .before .before .before .before .before .before .before .before .before .before .before in
-    (omega (arith, few e), e .pre .1 .entries)
+put-cell-requires c κs = let e = start (c .before .before .before .before .before) in (omega (arith, few e), e .pre .2 .entries)
 
 put-cell-requires-2 : tie.Need-put-cell-requires-2
 put-cell-requires-2 c κs =
-    let e = c .before .before .before .before .before .before .before .before .before .before .before .before .before .before .before .before .before in
-    (few e, ap length (c .before .put-cell .ensures) ∙ simp length-set (e .pre .1 .entries))
+    let e = start (c .before .before .before .before .before .before .before .before) in
+    (few e, ap length (c .before .before .put-cell .ensures) ∙ simp length-set (e .pre .2 .entries))
 
-add-t23 : tie.Need-add-t23
-add-t23 c = omega (arith, few (c .before .before .before .before .before .before .before .before .before .before .before .before .before .before .before .before .before .before))
+sub-t21-2 : tie.Need-sub-t21-2
+sub-t21-2 c = omega (arith, ready (c .before .before .before .before .before .before .before .before .before) .0)
+
+add-t27 : tie.Need-add-t27
+add-t27 c = omega (arith, few (start (c .before .before .before .before .before .before .before .before .before)))
 
 returns-2 : tie.Need-returns-2
 returns-2 c =
-    let e = c .before .before .before .before .before .before .before .before .before .before .before .before .before .before .before .before .before .before in
-    cut-stepped (e .pre .0 .tabled .in-range) (e .pre .1) (e .pre .2) (c .before .before .before .before .before .before .before .before .before .before .before .before .waiting-cell .ensures) (c .before .before .before .before .before .before .before .before .before .before .before .choose .ensures) (c .before .before .before .before .before .before .before .before .before .node .given .1) (c .before .before .before .before .before .before .before .first-part .ensures) (c .before .before .before .before .before .before .second-part .ensures) (c .before .before .put-cell .ensures) (c .put-cell2 .ensures)
+    let k = c .before .before .before .before .before .before .before .before .before in
+    let settled = k .before .before .before .before .before in
+    let e = start k in
+    let s = settled .settle .result in
+    let cut = k .before .node .given in
+    cut-stepped (e .pre .0 .tabled .in-range) (e .pre .2) (e .pre .3) (settled .before .waiting-cell .ensures) (settled .settle .ensures) (e .pre .1) (cut .1)
+    (c .before .first-cell .ensures ∙ ap (first-of (s .cell) (s .chosen)) (cut .1))
+    (c .before .before .before .before .before .before .before .first-part .ensures
+    ∙ ap (λ n. sides-of (part (cut .0 .0) (n - cut .0 .1 .0) (rect-of (s .cell .sides)))) (c .before .before .before .before .before .before .before .before .cut-side .ensures))
+    (c .before .before .before .put-cell .ensures) (c .put-cell2 .ensures)
 
 pub next-node-spec : {M : Type 1} → statement M
 next-node-spec =
     tie.close
-    (tie.spec (λ c. search needs) waiting-cell-requires choose-requires (λ c. search needs) returns
-    (λ c. search needs) second-part-requires sub-t19 put-cell-requires put-cell-requires-2 add-t23 returns-2)
+    (tie.spec (λ c. search needs) waiting-cell-requires settle-requires (λ c. search needs) returns (λ c κs. search needs) sub-rest (λ c κs. search needs)
+    sub-t21 put-cell-requires (λ c κs. search needs) put-cell-requires-2 sub-t21-2 add-t27 returns-2)
