@@ -23,7 +23,7 @@ use Rattle.job.proofs.Weights.{refusal-answered, accepted-both}
 use Rattle.job.proofs.Taken.{Taken, both-by}
 use Rattle.plan.specs.declared.PlanAnswer.{PlanAnswer}
 use Rattle.plan.specs.Plan.{plan-answer}
-use Rattle.bound.specs.Bound.{Memory, Leaves, memory-checks, block-capacity, block-report, accept-verdict}
+use Rattle.bound.specs.Bound.{Memory, Leaves, memory-checks, wide-job, block-capacity, block-report, accept-verdict}
 use Rattle.bound.specs.Contracts.{Bounded}
 use Rattle.bound.proofs.Holds.{answered-behind, refused-behind}
 use Rattle.bound.proofs.Calls.{refused-before}
@@ -58,7 +58,7 @@ module _ (s : List ℕ) (choices : Choices) (ws kinds operands : List ℕ) (old 
   unrefused = compared (plan-answer (block-job s choices) kinds operands .report .profit) (bound-of (block-job s choices) (weight-in ws))
 
   -- the answer and the memory give the rest
-  promised : {new : Memory} (r : Certificate) → r ≡ certificate-of s choices ws kinds operands old → Leaves (plan-verdict s choices ws kinds operands) (block-job s choices) (weight-in ws) (block-capacity s choices ws) old new
+  promised : {new : Memory} (r : Certificate) → r ≡ certificate-of s choices ws kinds operands old → Leaves (plan-verdict s choices ws kinds operands) (wide-job s choices) (weight-in ws) (block-capacity s choices ws) old new
       → CertifyPromises s choices ws kinds operands old new r
   promised r e l =
       let hold = certificates-hold s choices ws kinds operands old in
@@ -72,7 +72,7 @@ module _ (s : List ℕ) (choices : Choices) (ws kinds operands : List ℕ) (old 
 
   -- a refusal before the storage checks, handed on
   early : {v : Checked} (r : Refusal) {c : Certificate} → plan-verdict s choices ws kinds operands ≡ Refused r → v ≡ Refused r → c ≡ handed-on v (compared 0 0) → CertifyPromises s choices ws kinds operands old old c
-  early r {c} e v h = let p = refused-before (block-job s choices) (weight-in ws) (block-capacity s choices ws) old unrefused certificate.Refused e in promised c (h ∙ ap (λ v. handed-on v (compared 0 0)) v ∙ p .0) (p .1)
+  early r {c} e v h = let p = refused-before (wide-job s choices) (weight-in ws) (block-capacity s choices ws) old unrefused certificate.Refused e in promised c (h ∙ ap (λ v. handed-on v (compared 0 0)) v ∙ p .0) (p .1)
 
   -- the plan's verdict after that of job and weights
   after : {v : Checked} → accept-verdict s choices ws ≡ v → plan-verdict s choices ws kinds operands ≡ next v (plan-answer (block-job s choices) kinds operands .verdict)
@@ -99,11 +99,11 @@ module _ (s : List ℕ) (choices : Choices) (ws kinds operands : List ℕ) (old 
     pub plan-refused : (r : Refusal) {c : Certificate} → a .verdict ≡ Refused r → c ≡ handed-on (a .verdict) (compared 0 0) → CertifyPromises s choices ws kinds operands old old c
     plan-refused r p h = early r (walked ∙ p) p h
 
-    module _ (passed : a .verdict ≡ Passed) {new : Memory} {floors : List ℕ} {found : BoundAnswer} (whole : Bounded (block-job s choices) (weight-in ws) (block-capacity s choices ws) old new floors found) where
-      left : Leaves (plan-verdict s choices ws kinds operands) (block-job s choices) (weight-in ws) (block-capacity s choices ws) old new
+    module _ (passed : a .verdict ≡ Passed) {new : Memory} {floors : List ℕ} {found : BoundAnswer} (whole : Bounded (wide-job s choices) (weight-in ws) (block-capacity s choices ws) old new floors found) where
+      left : Leaves (plan-verdict s choices ws kinds operands) (wide-job s choices) (weight-in ws) (block-capacity s choices ws) old new
       left = rw (walked ∙ passed) (whole .memory)
 
-      answer : {v : Checked} → first-refusal (memory-checks (block-job s choices) (block-capacity s choices ws) old) ≡ v → certificate-of s choices ws kinds operands old ≡ handed-on v unrefused
+      answer : {v : Checked} → first-refusal (memory-checks (wide-job s choices) (block-capacity s choices ws) old) ≡ v → certificate-of s choices ws kinds operands old ≡ handed-on v unrefused
       answer e = ap (λ v. handed-on v unrefused) (ap₂ next (walked ∙ passed) e)
 
       pub storage-refused : {v : Checked} (r : Refusal) {c : Certificate} → found ≡ bound.Refused r → v ≡ storage-verdict found → c ≡ handed-on v (compared 0 0) → CertifyPromises s choices ws kinds operands old new c
@@ -112,7 +112,7 @@ module _ (s : List ℕ) (choices : Choices) (ws kinds operands : List ℕ) (old 
 
       module _ (x : BoundReport) (e : found ≡ bound.Answered x) where
         -- the report behind a bound that was answered
-        reported : (first-refusal (memory-checks (block-job s choices) (block-capacity s choices ws) old) ≡ Passed) × (x .bound ≡ bound-of (block-job s choices) (weight-in ws))
+        reported : (first-refusal (memory-checks (wide-job s choices) (block-capacity s choices ws) old) ≡ Passed) × (x .bound ≡ bound-of (block-job s choices) (weight-in ws))
         reported = let v = answered-behind _ (block-report s choices ws) (sym e ∙ whole .answer) in (v .0, ap (λ (y : BoundReport). y .bound) (v .1))
 
         pub certified : {c : Certificate} → c ≡ compared (a .report .profit) (x .bound) → CertifyPromises s choices ws kinds operands old new c

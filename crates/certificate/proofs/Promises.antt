@@ -18,14 +18,14 @@ use Rattle.job.proofs.Weights.{accepted-in-range}
 use Rattle.plan.specs.declared.Report.{Report}
 use Rattle.plan.specs.Plan.{plan-answer}
 use Rattle.plan.proofs.Plans.{plans-checked}
-use Rattle.bound.specs.Bound.{Memory, memory-checks, block-capacity, accept-verdict}
+use Rattle.bound.specs.Bound.{Memory, memory-checks, wide-job, block-capacity, accept-verdict}
 use Rattle.bound.proofs.Calls.{exact-by}
 use Rattle.certificate.specs.Certificate.{certify-verdict, plan-verdict, certificate-of}
 use Rattle.certificate.specs.Promises.{PlansJudged, BoundsHold, PlansEarn, Earns, BestSaid, GapSaid, CertificatesHold, BoundExact}
 use Rattle.certificate.proofs.Comparison.{best-passed, gap-passed, best-equal, gap-differs}
 
 -- a passed plan's report is its tree's own, and it earns at most the bound
-module _ (s : List ℕ) (choices : Choices) (ws kinds operands : List ℕ) (good : first-refusal (job-checks s) ≡ Passed) (walked : plan-answer (block-job s choices) kinds operands .verdict ≡ Passed) where
+module _ (s : List ℕ) (choices : Choices) (ws kinds operands : List ℕ) (good : first-refusal (job-checks s choices) ≡ Passed) (walked : plan-answer (block-job s choices) kinds operands .verdict ≡ Passed) where
   abbrev J : Job
   J = block-job s choices
 
@@ -39,11 +39,11 @@ module _ (s : List ℕ) (choices : Choices) (ws kinds operands : List ℕ) (good
 
 module _ (s : List ℕ) (choices : Choices) (ws kinds operands : List ℕ) (m : Memory) (passed : certify-verdict s choices ws kinds operands m ≡ Passed) where
   -- what stands behind a certificate
-  pub behind : (first-refusal (job-checks s) ≡ Passed) × (plan-answer (block-job s choices) kinds operands .verdict ≡ Passed)
+  pub behind : (first-refusal (job-checks s choices) ≡ Passed) × (plan-answer (block-job s choices) kinds operands .verdict ≡ Passed)
   behind =
-      let a = passed-both (plan-verdict s choices ws kinds operands) (first-refusal (memory-checks (block-job s choices) (block-capacity s choices ws) m)) passed in
+      let a = passed-both (plan-verdict s choices ws kinds operands) (first-refusal (memory-checks (wide-job s choices) (block-capacity s choices ws) m)) passed in
       let b = passed-both (accept-verdict s choices ws) (plan-answer (block-job s choices) kinds operands .verdict) (a .0) in
-      (append-passed (job-checks s) (weight-checks (block-job s choices) ws) (b .0) .0, b .1)
+      (append-passed (job-checks s choices) (weight-checks (block-job s choices) ws) (b .0) .0, b .1)
 
 pub plans-judged : PlansJudged
 plans-judged s choices kinds operands good =
@@ -58,7 +58,7 @@ pub plans-earn : PlansEarn
 plans-earn s choices ws accepted = let h = accepted-in-range s choices ws accepted in (trees.plan-follows (block-job s choices) (weight-in ws) h, plan-bound (block-job s choices) (weight-in ws) (range-solid (block-job s choices) h))
 
 pub bound-exact : BoundExact
-bound-exact s choices ws accepted = (trees.bound-exact (block-job s choices) (weight-in ws), trees.none-above (block-job s choices) (weight-in ws) (accepted-in-range s choices ws accepted))
+bound-exact s choices ws accepted = let h = accepted-in-range s choices ws accepted in (trees.bound-exact (block-job s choices) (weight-in ws) h, trees.none-above (block-job s choices) (weight-in ws) h)
 
 module _ (s : List ℕ) (choices : Choices) (ws kinds operands : List ℕ) (m : Memory) where
   best-holds : BestSaid (block-job s choices) (weight-in ws) kinds operands (certificate-of s choices ws kinds operands m)

@@ -1,8 +1,8 @@
 -- Demand 1 of specs/Promises, proved: the first condition that holds decides, and what a refused call leaves in lent memory.
-use mathlib.Core.Path.{_≡_, ap}
+use mathlib.Core.Path.{_≡_, sym, ap}
 use mathlib.Core.Bool.{Bool, true, false, _||_}
 use mathlib.Core.List.{List, [], _∷_, List·Memᴰ·head, List·Memᴰ·tail, List·Memᴰ·not-nil}
-use Prim.Native.Nat.{ℕ, _+_, _≤_}
+use Prim.Native.Nat.{ℕ, _+_}
 use native.Mathlib.Omega.{arith}
 use lib.Dec.{ltb}
 use lib.ListN.{length}
@@ -38,7 +38,7 @@ first-decides ((false, x) ∷ cs) =
 
 -- what a refusal leaves
 abbrev Left : Checked → Job → Memory → Memory → Refusal → Type 0
-Left before J old new r = (number-of r ≤ 19 → new ≡ old)
+Left before J old new r = ((number-of r ≡ 20 → ⊥) → new ≡ old)
     × (before ≡ Passed → number-of r ≡ 20 → (new .lengths ≡ over (normal-positions J Length) (old .lengths)) × (new .widths ≡ over (normal-positions J Width) (old .widths)))
     × (new .table ≡ old .table)
 
@@ -56,7 +56,7 @@ stored true c n J weight q old new l w t r e =
     (λ h. memory-is old new l w t, λ p k. absurd (omega (arith, k, ap number-of f)), t)
 stored false true n J weight q old new l w t r e =
     let f : TableShort n ≡ r = cc in
-    (λ h. absurd (omega (arith, h, ap number-of f)), λ p k. (l, w), t)
+    (λ h. absurd (h (sym (ap number-of f))), λ p k. (l, w), t)
 stored false false n J weight q old new l w t r e = absurd (let z : _≡_ {A = ℕ} 0 1 = cc in omega arith)
 
 pub memory-kept : MemoryKept

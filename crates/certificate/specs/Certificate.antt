@@ -10,17 +10,17 @@ use Rattle.refusal.specs.declared.Checked.{Checked}
 use Rattle.job.specs.declared.Choices.{Choices}
 use Rattle.job.specs.Weights.{block-job, weight-in}
 use Rattle.plan.specs.Plan.{plan-answer}
-use Rattle.bound.specs.Bound.{Memory, memory-checks, block-capacity, accept-verdict}
+use Rattle.bound.specs.Bound.{Memory, memory-checks, wide-job, block-capacity, accept-verdict}
 use Rattle.certificate.specs.declared.Certificate.{Certificate}
 use Rattle.certificate.specs.declared.Certificate.the-variants as certificate
 
--- the verdict of the checks that stand before the storage's: 1 to 9, then the plan's, 10 to 18
+-- the verdict of the checks that stand before the storage's: 1 to 9 and 27, then the plan's, 10 to 18
 abbrev pub plan-verdict : List ℕ → Choices → List ℕ → List ℕ → List ℕ → Checked
 plan-verdict s choices ws kinds operands = next (accept-verdict s choices ws) (plan-answer (block-job s choices) kinds operands .verdict)
 
 -- the verdict of all checks: then storage, 19 and 20
 abbrev pub certify-verdict : List ℕ → Choices → List ℕ → List ℕ → List ℕ → Memory → Checked
-certify-verdict s choices ws kinds operands m = next (plan-verdict s choices ws kinds operands) (first-refusal (memory-checks (block-job s choices) (block-capacity s choices ws) m))
+certify-verdict s choices ws kinds operands m = next (plan-verdict s choices ws kinds operands) (first-refusal (memory-checks (wide-job s choices) (block-capacity s choices ws) m))
 
 abbrev pub compared-by : Bool → ℕ → ℕ → Certificate
 compared-by true profit bound = certificate.Best profit

@@ -4,7 +4,7 @@
 use mathlib.Core.Path.{_≡_}
 use mathlib.Core.Bool.{true, false}
 use mathlib.Core.List.{List, _∷_, _++_, List·Memᴰ}
-use Prim.Native.Nat.{ℕ, _+_, _≤_, _<_}
+use Prim.Native.Nat.{ℕ, _+_, _<_}
 use Rattle.cutting.specs.declared.Direction.the-variants.{Length, Width}
 use Rattle.cutting.specs.Lists.{over}
 use Rattle.cutting.specs.Tree.{Tree}
@@ -20,7 +20,7 @@ use Rattle.job.specs.Block.{job-checks}
 use Rattle.job.specs.Weights.{block-job, weight-in, Accepted}
 use Rattle.plan.specs.Plan.{plan-answer}
 use Rattle.plan.specs.Trees.{PlanOf, tree-report}
-use Rattle.bound.specs.Bound.{Memory, Leaves, block-capacity, memory-checks, bound-answer, BoundSaid}
+use Rattle.bound.specs.Bound.{Memory, Leaves, wide-job, block-capacity, memory-checks, bound-answer, BoundSaid}
 use Rattle.certificate.specs.Certificate.{plan-verdict, certificate-of, certificate-outcome, certificate-said}
 use Rattle.certificate.specs.declared.Certificate.{Certificate}
 use Rattle.certificate.specs.declared.Certificate.the-variants.{Best, Gap}
@@ -34,18 +34,19 @@ abbrev pub FirstDecides : Type 0
 FirstDecides = (cs : List Check) → (first-refusal cs ≡ Passed → NoneHolds cs)
     × ((r : Refusal) → first-refusal cs ≡ Refused r → (before : List Check) × (after : List Check) × (cs ≡ before ++ ((true, r) ∷ after)) × NoneHolds before)
 
--- demand 1, lent memory: numbers 1 to 19 change nothing; on 20 the lists are filled; on every refusal the table is as it was
+-- demand 1, lent memory: a refusal of any number but 20 changes nothing; on 20 the lists are filled; on every refusal the table is as it
+-- was. Of a call, J is its job with the kerf added to every side
 abbrev pub MemoryKept : Type 0
 MemoryKept = (before : Checked) (J : Job) (weight : ℕ → ℕ) (q : ℕ) (old new : Memory) → Leaves before J weight q old new
     → (r : Refusal) → next before (first-refusal (memory-checks J q old)) ≡ Refused r
-    → (number-of r ≤ 19 → new ≡ old)
+    → ((number-of r ≡ 20 → ⊥) → new ≡ old)
     × (before ≡ Passed → number-of r ≡ 20 → (new .lengths ≡ over (normal-positions J Length) (old .lengths)) × (new .widths ≡ over (normal-positions J Width) (old .widths)))
     × (new .table ≡ old .table)
 
 -- demand 2, the plan: for every good job block a plan passes exactly when its arrays are those of a guillotine tree on the plate that
 -- keeps every demand and has at most 4,095 nodes, and what it then reports is that tree's own
 abbrev pub PlansJudged : Type 0
-PlansJudged = (s : List ℕ) (choices : Choices) (kinds operands : List ℕ) → first-refusal (job-checks s) ≡ Passed
+PlansJudged = (s : List ℕ) (choices : Choices) (kinds operands : List ℕ) → first-refusal (job-checks s choices) ≡ Passed
     → (plan-answer (block-job s choices) kinds operands .verdict ≡ Passed
     → (t : Tree Piece) × PlanOf (block-job s choices) t kinds operands × (plan-answer (block-job s choices) kinds operands .report ≡ tree-report (block-job s choices) t))
     × ((t : Tree Piece) → PlanOf (block-job s choices) t kinds operands → plan-answer (block-job s choices) kinds operands .verdict ≡ Passed)
@@ -80,7 +81,7 @@ GapSaid J weight kinds operands r = (n gap : ℕ) → r ≡ Gap n gap → Earns 
 pub record CertifyPromises (s : List ℕ) (choices : Choices) (ws kinds operands : List ℕ) (old new : Memory) (r : Certificate) : Type 0 where
   pub answers : r ≡ certificate-of s choices ws kinds operands old
   pub outcome : certificate-outcome r ≡ certificate-said s choices ws kinds operands old
-  pub memory : Leaves (plan-verdict s choices ws kinds operands) (block-job s choices) (weight-in ws) (block-capacity s choices ws) old new
+  pub memory : Leaves (plan-verdict s choices ws kinds operands) (wide-job s choices) (weight-in ws) (block-capacity s choices ws) old new
   pub best : BestSaid (block-job s choices) (weight-in ws) kinds operands r
   pub gap : GapSaid (block-job s choices) (weight-in ws) kinds operands r
 

@@ -1,5 +1,5 @@
 // The certificate: a checked plan's profit against the bound. "Best" is a statement about every guillotine tree that keeps the demands
-// (specs/Promises). The call hands on the first refusal met, 1 to 20, and leaves lists and table as the bound call does.
+// (specs/Promises). The call hands on the first refusal met, 1 to 20 or 27, and leaves lists and table as the bound call does.
 use bound::BoundAnswer;
 use job::Choices;
 use job::WeightsAnswer;
@@ -99,7 +99,7 @@ pub fn certify(
     let report = drawn.report;
     let listing = list_pieces(record, weights);
     let pieces = listing.pieces;
-    let mut floors = [0u16; 2002];
+    let mut floors = [0u16; 2042];
     let found = bound::bound_of_pieces(
         plate_of(record),
         listing.count,

@@ -89,7 +89,9 @@ list-pieces-requires c κs =
     listable (now (start k .args .block)) (start k .args .choices) (now (start k .args .weights)) (took k)
 
 plate-of-requires : tie.Need-plate-of-requires
-plate-of-requires c κs = search needs
+plate-of-requires c κs =
+    let k = c .before .before .before .before .before .before .before in
+    range-taken (now (start k .args .block)) (start k .args .choices) (now (start k .args .weights)) (took k)
 
 slice-aggregate-bound-of-pieces : tie.Need-slice-aggregate-bound-of-pieces
 slice-aggregate-bound-of-pieces c = search needs
