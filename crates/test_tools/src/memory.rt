@@ -35,10 +35,10 @@ fn fill_table(table: &mut [u64]) {
     }
 }
 
-pub fn marked_list() -> [u16; 1008]
-    ensures { λ r. ⌜ 1008 ≡ length r ⌝ }
+pub fn marked_list() -> [u16; 1028]
+    ensures { λ r. ⌜ 1028 ≡ length r ⌝ }
 {
-    let mut list = [0u16; 1008];
+    let mut list = [0u16; 1028];
     fill_list(&mut list);
     list
 }
