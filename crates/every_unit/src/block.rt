@@ -1,5 +1,6 @@
 // A job as a job block and weights for the planner: how many bytes there are, and then each.
 use crate::job::DEMAND;
+use crate::job::OLD_BLOCK;
 use crate::job::PLATE;
 use crate::job::PRICE;
 use crate::job::WEIGHTS;
@@ -32,11 +33,17 @@ fn kind_field(t: &Words, j: usize) -> usize {
     pair_field(t, minus(j, sizes))
 }
 
+// How many fields the header has: plate length and width, number of kinds and, but in an old block, the kerf.
+fn header_fields(t: &Words) -> usize {
+    if word(t, OLD_BLOCK, 0) == 1 { 3 } else { 4 }
+}
+
 fn field(t: &Words, j: usize) -> usize {
-    if j < 3 {
+    let header = header_fields(t);
+    if j < header {
         return word(t, PLATE, j);
     }
-    kind_field(t, minus(j, 3))
+    kind_field(t, minus(j, header))
 }
 
 // The j-th field, lowest byte first.
@@ -53,9 +60,10 @@ fn put_fields(t: &mut Words, n: usize) {
     }
 }
 
-// Writes the job block, and how many weights there are.
-pub fn write_block(t: &mut Words) {
+// Writes the job block, old or new, and how many weights there are.
+pub fn write_block(t: &mut Words, old: bool) {
     let n = kind_count(t);
+    put(t, OLD_BLOCK, 0, old as usize);
     put(t, WEIGHTS, 0, n);
-    put_fields(t, plus(3, times(5, n)));
+    put_fields(t, plus(header_fields(t), times(5, n)));
 }

@@ -1,5 +1,6 @@
 // The figures of every rectangle and share, by the definition: 0; the price of any kind that fits, upright or as the choice of turning
-// allows, and weighs at most the share; every length cut with every division of the share; every width cut likewise.
+// allows, and weighs at most the share; every length cut with every division of the share; every width cut likewise. The rectangles are
+// those that the saw leaves: a cut at x of a side n leaves x and n - x - k, k the kerf, both at least 1.
 use crate::job::BOUND;
 use crate::job::CAPACITY;
 use crate::job::FIGURES;
@@ -13,6 +14,7 @@ use crate::job::WEIGHT;
 use crate::job::WIDTH_COUNT;
 use crate::job::WORD_COUNT;
 use crate::job::fits;
+use crate::job::kerf;
 use crate::job::kind_count;
 use crate::job::may_turn;
 use crate::job::note_capacity;
@@ -74,13 +76,15 @@ fn best_division(t: &Words, first: usize, second: usize, c: usize) -> usize {
     best
 }
 
-// The most that a cut of a side earns. The cell of a part of size x begins x strides after the first place.
+// The most that a cut of a side earns, the two parts taking what the blade leaves. The cell of a part of size x begins x strides after
+// the first place.
 fn best_cut(t: &Words, first: usize, stride: usize, side: usize, c: usize) -> usize {
+    let both = minus(side, kerf(t));
     let mut best: usize = 0;
-    for i in 0..minus(side, 1) {
+    for i in 0..minus(both, 1) {
         let x = plus(i, 1);
         let one = plus(first, times(stride, x));
-        let other = plus(first, times(stride, minus(side, x)));
+        let other = plus(first, times(stride, minus(both, x)));
         best = larger(best, best_division(t, one, other, c));
     }
     best
@@ -126,13 +130,18 @@ fn note_bound(t: &mut Words) {
     put(t, BOUND, 0, x);
 }
 
+// The side that a normal position stands for: the kerf less, and 0 for position 0.
+fn normal_side(t: &Words, positions: usize, i: usize) -> usize {
+    minus(word(t, positions, i), kerf(t))
+}
+
 // Where the figures of the n-th normal length and width begin, the widths running fastest.
 fn normal_cell(t: &Words, n: usize) -> usize {
     let r = word(t, WIDTH_COUNT, 0);
     cell(
         t,
-        word(t, NORMAL_LENGTHS, quotient(n, r)),
-        word(t, NORMAL_WIDTHS, rest(n, r)),
+        normal_side(t, NORMAL_LENGTHS, quotient(n, r)),
+        normal_side(t, NORMAL_WIDTHS, rest(n, r)),
     )
 }
 
@@ -149,8 +158,8 @@ fn count_words(t: &mut Words) {
     put(t, WORD_COUNT, 0, times(cells, shares(t)));
 }
 
-// Moves the figures of the planner's table to the front, in its order. No figure is overwritten before it is moved, because an entry of
-// a list is not less than its number.
+// Moves the figures of the planner's table to the front, in its order. No figure is overwritten before it is moved, because the side that
+// an entry of a list stands for is not less than the entry's number.
 fn keep_normal(t: &mut Words) {
     for k in 0..word(t, WORD_COUNT, 0) {
         let x = normal_figure(t, k);

@@ -6,19 +6,24 @@ use test_tools::quotient;
 use test_tools::times;
 use test_tools::word;
 
-// Plate length, plate width, number of kinds.
+// Plate length, plate width, number of kinds, kerf.
 pub const PLATE: usize = 9000;
 
+pub const KERF: usize = 9003;
+
 // 1 where pieces may be turned, and 0 where they may not.
-pub const TURNING: usize = 9003;
+pub const TURNING: usize = 9004;
 
 // 1 where the capacity is that of the full demands, and 0 where it counts what the plate can hold.
-pub const FULL_DEMAND: usize = 9004;
+pub const FULL_DEMAND: usize = 9005;
+
+// 1 where the job is written as an old block, which has no kerf, and else 0.
+pub const OLD_BLOCK: usize = 9006;
 
 // What is left of the capacity while a job is drawn, and the state of the random numbers.
-pub const LEFT: usize = 9005;
+pub const LEFT: usize = 9007;
 
-pub const STATE: usize = 9006;
+pub const STATE: usize = 9008;
 
 // A number of each kind.
 pub const KIND_LENGTH: usize = 9010;
@@ -45,6 +50,7 @@ pub const WIDTH_COUNT: usize = 9403;
 
 pub const WORD_COUNT: usize = 9404;
 
+// At most 1,021 positions each: up to a side of 1,000 and a kerf of 20.
 pub const NORMAL_LENGTHS: usize = 10000;
 
 pub const NORMAL_WIDTHS: usize = 12000;
@@ -52,7 +58,7 @@ pub const NORMAL_WIDTHS: usize = 12000;
 // Which positions are normal, on the side at hand.
 pub const MARKS: usize = 14000;
 
-// The figures of every length, width and share.
+// The figures of every length, width and share, up to the block's bytes.
 pub const FIGURES: usize = 16000;
 
 // A side of the plate: 0 the length, 1 the width.
@@ -67,6 +73,21 @@ pub fn kind_count(t: &Words) -> usize {
 // A side of a kind: 0 the length, 1 the width.
 pub fn kind_side(t: &Words, side: usize, i: usize) -> usize {
     word(t, plus(KIND_LENGTH, times(70, side)), i)
+}
+
+// What the blade takes of a side at a cut.
+pub fn kerf(t: &Words) -> usize {
+    word(t, KERF, 0)
+}
+
+// A side of the plate and one kerf: the pieces along it take their own side and a kerf each.
+pub fn plate_room(t: &Words, side: usize) -> usize {
+    plus(plate_side(t, side), kerf(t))
+}
+
+// A side of a kind and one kerf.
+pub fn kind_room(t: &Words, side: usize, i: usize) -> usize {
+    plus(kind_side(t, side, i), kerf(t))
 }
 
 pub fn may_turn(t: &Words) -> bool {
@@ -89,18 +110,18 @@ pub fn widths(t: &Words) -> usize {
     plus(plate_side(t, 1), 1)
 }
 
-// How often a kind's sides go into the plate's.
+// How often a kind's sides go into the plate's, a kerf added to each.
 fn by_sides(t: &Words, i: usize) -> usize {
-    let along = quotient(plate_side(t, 0), kind_side(t, 0, i));
-    let across = quotient(plate_side(t, 1), kind_side(t, 1, i));
+    let along = quotient(plate_room(t, 0), kind_room(t, 0, i));
+    let across = quotient(plate_room(t, 1), kind_room(t, 1, i));
     times(along, across)
 }
 
-// How often a kind's area goes into the plate's.
+// How often a kind's area goes into the plate's, a kerf added to each side.
 fn by_area(t: &Words, i: usize) -> usize {
     quotient(
-        times(plate_side(t, 0), plate_side(t, 1)),
-        times(kind_side(t, 0, i), kind_side(t, 1, i)),
+        times(plate_room(t, 0), plate_room(t, 1)),
+        times(kind_room(t, 0, i), kind_room(t, 1, i)),
     )
 }
 

@@ -13,6 +13,7 @@ pub use figures::compute;
 pub use job::BOUND;
 pub use job::CAPACITY;
 pub use job::FIGURES;
+pub use job::KERF;
 pub use job::KIND_LENGTH;
 pub use job::LENGTH_COUNT;
 pub use job::NORMAL_LENGTHS;

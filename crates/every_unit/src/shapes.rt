@@ -1,6 +1,6 @@
 // Jobs drawn at random. A shape is the row of a script: a least and a greatest number each for plate length, plate width, number of kinds,
-// kind length, kind width and price; the step of prices; a least and a greatest demand and weight; the greatest capacity; and the form of
-// the sizes: 0 free, 1 with a first kind of 1 by 1, 2 all as the first kind's.
+// kerf, kind length, kind width and price; the step of prices; a least and a greatest demand and weight; the greatest capacity; and the
+// form of the sizes: 0 free, 1 with a first kind of 1 by 1, 2 all as the first kind's.
 use crate::job::DEMAND;
 use crate::job::KIND_LENGTH;
 use crate::job::LEFT;
@@ -54,15 +54,15 @@ fn formed(form: usize, i: usize, drawn: usize, first: usize) -> usize {
 
 // Draws a side of a kind: 0 the length, 1 the width.
 fn draw_side(t: &mut Words, side: usize, i: usize) {
-    let drawn = draw(t, plus(6, times(2, side)));
-    let size = formed(word(t, ROW, 18), i, drawn, kind_side(t, side, 0));
+    let drawn = draw(t, plus(8, times(2, side)));
+    let size = formed(word(t, ROW, 20), i, drawn, kind_side(t, side, 0));
     put(t, plus(KIND_LENGTH, times(70, side)), i, size);
 }
 
 // Draws a price and lowers it to a multiple of the step.
 fn draw_price(t: &mut Words, i: usize) {
-    let drawn = draw(t, 10);
-    put(t, PRICE, i, minus(drawn, rest(drawn, word(t, ROW, 12))));
+    let drawn = draw(t, 12);
+    put(t, PRICE, i, minus(drawn, rest(drawn, word(t, ROW, 14))));
 }
 
 // A weight, lowered where demand times weight is more than is left of the capacity.
@@ -76,8 +76,8 @@ fn lowered(weight: usize, demand: usize, left: usize) -> usize {
 
 // Draws demand and weight, and takes their product from what is left of the capacity.
 fn draw_terms(t: &mut Words, i: usize) {
-    let demand = draw(t, 13);
-    let drawn = draw(t, 15);
+    let demand = draw(t, 15);
+    let drawn = draw(t, 17);
     let left = word(t, LEFT, 0);
     let weight = lowered(drawn, demand, left);
     put(t, DEMAND, i, demand);
@@ -98,17 +98,18 @@ fn draw_kinds(t: &mut Words) {
     }
 }
 
-// Draws one of the plate's numbers: length, width, number of kinds.
-fn draw_plate(t: &mut Words, which: usize) {
+// Draws one of the header's numbers: plate length, plate width, number of kinds, kerf.
+fn draw_header(t: &mut Words, which: usize) {
     let x = draw(t, times(2, which));
     put(t, PLATE, which, x);
 }
 
 // Draws a job of the shape in the row.
 pub fn draw_job(t: &mut Words) {
-    draw_plate(t, 0);
-    draw_plate(t, 1);
-    draw_plate(t, 2);
-    put(t, LEFT, 0, word(t, ROW, 17));
+    draw_header(t, 0);
+    draw_header(t, 1);
+    draw_header(t, 2);
+    draw_header(t, 3);
+    put(t, LEFT, 0, word(t, ROW, 19));
     draw_kinds(t);
 }

@@ -1,12 +1,13 @@
 // Normal positions by reachability: 0 is normal, and so is what a kind leads to from a normal position. An upright kind leads by its own
-// side, a turned one by its other side, and each only where it fits the plate as it lies.
+// side and a kerf, a turned one by its other side and a kerf, and each only where it fits the plate as it lies.
 use crate::job::LENGTH_COUNT;
 use crate::job::MARKS;
 use crate::job::NORMAL_LENGTHS;
 use crate::job::fits;
 use crate::job::kind_count;
-use crate::job::kind_side;
+use crate::job::kind_room;
 use crate::job::may_turn;
+use crate::job::plate_room;
 use crate::job::plate_side;
 use test_tools::Words;
 use test_tools::minus;
@@ -25,14 +26,14 @@ fn leads_by(t: &Words, size: usize, x: usize) -> bool {
 
 fn leads_upright(t: &Words, side: usize, i: usize, x: usize) -> bool {
     if fits(t, i, plate_side(t, 0), plate_side(t, 1)) {
-        return leads_by(t, kind_side(t, side, i), x);
+        return leads_by(t, kind_room(t, side, i), x);
     }
     false
 }
 
 fn leads_turned(t: &Words, side: usize, i: usize, x: usize) -> bool {
     if fits(t, i, plate_side(t, 1), plate_side(t, 0)) {
-        return leads_by(t, kind_side(t, minus(1, side), i), x);
+        return leads_by(t, kind_room(t, minus(1, side), i), x);
     }
     false
 }
@@ -66,10 +67,10 @@ fn add_position(t: &mut Words, side: usize, x: usize, n: usize) -> usize {
     plus(n, normal)
 }
 
-// Lists the normal positions on a side of the plate (0 the length, 1 the width), rising.
+// Lists the normal positions up to a side of the plate and a kerf (0 the length, 1 the width), rising.
 pub fn list_positions(t: &mut Words, side: usize) {
     let mut n: usize = 0;
-    for x in 0..plus(plate_side(t, side), 1) {
+    for x in 0..plus(plate_room(t, side), 1) {
         n = add_position(t, side, x, n);
     }
     put(t, LENGTH_COUNT, side, n);

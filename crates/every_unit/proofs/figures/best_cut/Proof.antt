@@ -8,8 +8,10 @@ pub best-cut-spec : {M : Type 1} → statement M
 best-cut-spec =
     tie.close
     (tie.spec
-    (λ t first stride side c best₀ i₀ i-end best i. i ≤ i-end)
-    (λ t first stride side c best₀ i₀ i-end best i. i-end - i)
+    (λ t first stride side c both best₀ i₀ i-end best i. i ≤ i-end)
+    (λ t first stride side c both best₀ i₀ i-end best i. i-end - i)
+    (search needs)
+    (search needs)
     (search needs)
     (search needs)
     (search needs)
