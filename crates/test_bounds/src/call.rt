@@ -75,7 +75,7 @@ fn note_table(t: &mut Words, table: &[u64]) {
     put(t, OTHER_WORDS, 0, n);
 }
 
-fn note_left(t: &mut Words, lengths: &[u16; 1008], widths: &[u16; 1008], table: &[u64; 36872]) {
+fn note_left(t: &mut Words, lengths: &[u16; 1028], widths: &[u16; 1028], table: &[u64; 36872]) {
     note_list(t, OTHER_LENGTHS, lengths, NORMAL_LENGTHS, LENGTH_COUNT);
     note_list(t, OTHER_WIDTHS, widths, NORMAL_WIDTHS, WIDTH_COUNT);
     note_table(t, table);
@@ -93,6 +93,7 @@ fn choose_call(
     let choices = Choices {
         turning: way.turning,
         full_demand: false,
+        old_block: way.old_block,
     };
     if way.full_demand {
         return bound::bound_full_demand(block, choices, weights, lengths, widths, table);
@@ -136,7 +137,8 @@ fn call_lent(t: &mut Words, way: Choices) {
     note_left(t, &lengths, &widths, &table);
 }
 
-pub fn try_bound(t: &mut Words, way: Choices) {
-    write_block(t);
+// Writes the block, old or new, and makes the call.
+pub fn try_bound(t: &mut Words, old: bool, way: Choices) {
+    write_block(t, old);
     call_lent(t, way);
 }

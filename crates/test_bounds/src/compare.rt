@@ -1,5 +1,6 @@
 // Generated jobs of one shape: the second computation, the bound call, and what differs. Each job is compared in three ways: 0 with upright
 // pieces alone, 1 with pieces that may be turned, 2 with the capacity of the full demands, every second job with pieces that may be turned.
+// Half of the jobs that lose no kerf are given as old blocks.
 use crate::call::ANSWER;
 use crate::call::LENT_LENGTHS;
 use crate::call::LENT_WIDTHS;
@@ -10,6 +11,7 @@ use crate::call::OTHER_WORDS;
 use crate::call::try_bound;
 use every_unit::BOUND;
 use every_unit::CAPACITY;
+use every_unit::KERF;
 use every_unit::PLATE;
 use every_unit::WORD_COUNT;
 use every_unit::compute;
@@ -30,7 +32,7 @@ use test_tools::word;
 
 const JOBS: usize = 70;
 
-// Of a shape and each way: jobs that agreed, table words compared, sum of the bounds. Then the greatest capacity.
+// Of a shape and each way: jobs that agreed, table words compared, sum of the bounds. Then the greatest capacity and kerf.
 const AGREED: usize = 60050;
 
 const TABLE_WORDS: usize = 60053;
@@ -38,6 +40,8 @@ const TABLE_WORDS: usize = 60053;
 const BOUNDS: usize = 60056;
 
 const GREATEST: usize = 60059;
+
+const GREATEST_KERF: usize = 60060;
 
 // Of all shapes: jobs drawn, and jobs that agreed each way.
 const ALL_DRAWN: usize = 60070;
@@ -52,16 +56,17 @@ const FIRST_WAY: usize = 60081;
 const FIRST_OTHER: usize = 60082;
 
 // Lends as much as a word says, and some more.
-fn lend(t: &mut Words, at: usize, from: usize, i: usize, spare: usize) {
-    let n = plus(word(t, from, i), spare);
+fn lend(t: &mut Words, at: usize, from: usize, i: usize, more: usize) {
+    let n = plus(word(t, from, i), more);
     put(t, at, 0, n);
 }
 
-// Lends the memory that is needed, and for every second job some more.
+// Lends the memory that is needed, and for every second job some more: of each list a side of the plate, the kerf and one.
 fn lend_all(t: &mut Words, number: usize) {
     let spare = times(number % 2, number % 8);
-    lend(t, LENT_LENGTHS, PLATE, 0, plus(spare, 1));
-    lend(t, LENT_WIDTHS, PLATE, 1, plus(spare, 1));
+    let beyond = plus(plus(word(t, KERF, 0), 1), spare);
+    lend(t, LENT_LENGTHS, PLATE, 0, beyond);
+    lend(t, LENT_WIDTHS, PLATE, 1, beyond);
     lend(t, LENT_WORDS, WORD_COUNT, 0, spare);
 }
 
@@ -91,15 +96,17 @@ fn difference(t: &Words) -> usize {
     times(4, (word(t, OTHER_WORDS, 0) != 0) as usize)
 }
 
-fn note_capacity(t: &mut Words) {
-    let most = larger(word(t, GREATEST, 0), word(t, CAPACITY, 0));
-    put(t, GREATEST, 0, most);
+// Keeps the greater of two words.
+fn note_greatest(t: &mut Words, at: usize, from: usize) {
+    let most = larger(word(t, at, 0), word(t, from, 0));
+    put(t, at, 0, most);
 }
 
 fn note_sizes(t: &mut Words, way: usize) {
     add(t, plus(TABLE_WORDS, way), word(t, WORD_COUNT, 0));
     add(t, plus(BOUNDS, way), word(t, BOUND, 0));
-    note_capacity(t);
+    note_greatest(t, GREATEST, CAPACITY);
+    note_greatest(t, GREATEST_KERF, KERF);
 }
 
 fn note_agreed(t: &mut Words, way: usize) {
@@ -133,18 +140,29 @@ fn turns(way: usize, n: usize) -> bool {
     way == 1
 }
 
+// Whether the n-th job is given as an old block.
+fn old_block(t: &Words, n: usize) -> bool {
+    if word(t, KERF, 0) == 0 {
+        return n % 4 < 2;
+    }
+    false
+}
+
 // Compares the job at hand in one way.
 fn compare_way(t: &mut Words, way: usize) {
     let n = word(t, ALL_DRAWN, 0);
     let turning = turns(way, n);
     let full_demand = way == 2;
+    let old = old_block(t, n);
     compute(t, turning, full_demand);
     lend_all(t, n);
     try_bound(
         t,
+        old,
         Choices {
             turning: turning,
             full_demand: full_demand,
+            old_block: old,
         },
     );
     note_sizes(t, way);
@@ -168,7 +186,7 @@ fn compare_jobs(t: &mut Words, n: usize) {
 
 // Compares the jobs of the shape in the row.
 pub fn compare_shape(t: &mut Words) {
-    clear(t, AGREED, 10);
+    clear(t, AGREED, 11);
     compare_jobs(t, JOBS);
     print_shape(t);
 }
@@ -176,7 +194,7 @@ pub fn compare_shape(t: &mut Words) {
 fn print_shape(t: &Words) {
     print_numbers(b": # jobs; ", &[JOBS as u64]);
     print_words(
-        b"agreed # upright, # turned, # full demand; table words #, #, #; sums of bounds #, #, #; greatest capacity #",
+        b"agreed # upright, # turned, # full demand; table words #, #, #; sums of bounds #, #, #; greatest capacity #, kerf #",
         t,
         AGREED,
     );

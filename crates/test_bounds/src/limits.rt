@@ -1,6 +1,7 @@
 // A case at the limits: the job in the row, in which all kinds but the last are alike, and the memory that it is lent. The row has plate
-// length and width; number of kinds; kind length, width, price, demand and weight; the last kind's price; entries of the two lists and
-// words of the table that are lent; 1 where pieces may be turned, else 0; 1 for the capacity of the full demands, else 0.
+// length and width; number of kinds; kerf; kind length, width, price, demand and weight; the last kind's price; entries of the two lists
+// and words of the table that are lent; and, 1 for yes and 0 for no, whether pieces may be turned, whether the capacity is that of the
+// full demands, whether the block is written as an old one and whether it is read as an old one.
 use crate::call::ANSWER;
 use crate::call::LENT_LENGTHS;
 use crate::call::OTHER_LENGTHS;
@@ -23,20 +24,20 @@ use test_tools::word;
 // The five numbers of every kind, which stand 70 words apart.
 fn copy_kinds(t: &mut Words) {
     for i in 0..350 {
-        let x = word(t, ROW, plus(3, i / 70));
+        let x = word(t, ROW, plus(4, i / 70));
         put(t, KIND_LENGTH, i, x);
     }
 }
 
 fn price_last(t: &mut Words) {
     let n = word(t, ROW, 2);
-    let price = word(t, ROW, 8);
+    let price = word(t, ROW, 9);
     put(t, PRICE, minus(n, 1), price);
 }
 
 fn make_job(t: &mut Words) {
-    copy(t, PLATE, ROW, 3);
-    copy(t, LENT_LENGTHS, plus(ROW, 9), 3);
+    copy(t, PLATE, ROW, 4);
+    copy(t, LENT_LENGTHS, plus(ROW, 10), 3);
     copy_kinds(t);
     price_last(t);
 }
@@ -54,10 +55,12 @@ pub fn run_limit(t: &mut Words) {
     make_job(t);
     clear(t, LENGTH_COUNT, 3);
     let way = Choices {
-        turning: word(t, ROW, 12) == 1,
-        full_demand: word(t, ROW, 13) == 1,
+        turning: word(t, ROW, 13) == 1,
+        full_demand: word(t, ROW, 14) == 1,
+        old_block: word(t, ROW, 16) == 1,
     };
-    try_bound(t, way);
+    let old = word(t, ROW, 15) == 1;
+    try_bound(t, old, way);
     print_answer(t);
     print_words(b"; changed # # #", t, OTHER_LENGTHS);
 }
