@@ -2,7 +2,7 @@
 use mathlib.Core.Path.{_≡_, refl, sym, _∙_, ap, ap₂, subst}
 use mathlib.Core.Bool.{Bool, true, false, _||_}
 use mathlib.Core.List.{List, [], _∷_, _++_}
-use Prim.Native.Nat.{ℕ, _+_, _≤_, _<_}
+use Prim.Native.Nat.{ℕ, suc, _+_, _≤_, _<_}
 use native.Mathlib.Numerals.{add-one}
 use native.Mathlib.Omega.{arith}
 use lib.Dec.{ltb}
@@ -90,3 +90,8 @@ module _ (n choices : ℕ) (old : List ℕ) {before : ℕ} (e : before ≡ early
     called {m} {new} h l =
         let t = goes-on (ltb (length old) n) (unknown choices) e h in
         subst (λ b. Left-by b Leaves m new) (sym (ap₂ (λ a b. a || b) (t .0) (t .1))) l
+
+-- values stored one list after the other
+pub sets-append : (xs zs old : List ℕ) (i : ℕ) → sets old i (xs ++ zs) ≡ sets (sets old i xs) (i + length xs) zs
+sets-append [] zs old i = let e : i ≡ i + 0 = omega arith in ap (λ k. sets old k zs) e
+sets-append (x ∷ xs) zs old i = let e : suc i + length xs ≡ i + suc (length xs) = omega arith in sets-append xs zs (set old i x) (suc i) ∙ ap (λ k. sets (sets (set old i x) (suc i) xs) k zs) e

@@ -70,24 +70,24 @@ module _ (Before : Type 0) (s : List ℕ) (choices : ℕ) (kinds operands : List
       passed (Refused r) p e = absurd (omega (arith, number-some r, e, g .0 ∙ ap (λ v. outcome-by v (plan-values (a .report)) .0) p))
 
   -- both cases of an exported check, whichever way the plan is given: stopped, and called
-  module _ (said : Outcome) {before : ℕ} (e : before ≡ early 68 (length old) choices) where
+  module _ (said : Outcome) {before : ℕ} (e : before ≡ early 69 (length old) choices) where
     abbrev pub ChecksAnswer : ℕ → List ℕ → Type 0
-    ChecksAnswer n new = (n ≡ returned 68 old choices said) × ((new ≡ answered 68 old choices said) × TreeChecked Before s choices kinds operands old new n)
+    ChecksAnswer n new = (n ≡ returned 69 old choices said) × ((new ≡ answered 69 old choices said) × TreeChecked Before s choices kinds operands old new n)
 
     pub check-stops : 0 < before → ChecksAnswer before old
     check-stops h =
-        let a = stops 68 choices old e said h in (
+        let a = stops 69 choices old e said h in (
           a .0,
           (
             a .1,
             record {
               tree = λ z. absurd (omega (arith, z, h));
-              passes = λ k u b t p. e ∙ ap₂ (λ x y. returned-by x y (0, [])) (le-ltb (length old) 68 k) u;
+              passes = λ k u b t p. e ∙ ap₂ (λ x y. returned-by x y (0, [])) (le-ltb (length old) 69 k) u;
             },
           ),
         )
 
     pub check-called : {n : ℕ} {new : List ℕ} {r : PlanAnswer} → before ≤ 0 → plan-outcome r ≡ said → ChecksPlan Before (job-with s choices) kinds operands r → Gives (plan-outcome r) n old new → ChecksAnswer n new
     check-called {r = r} h o checks g =
-        let a = enough 68 choices old e said h o g in
+        let a = enough 69 choices old e said h o g in
         (a .0, (a .1, tree-given r checks g))

@@ -17,7 +17,7 @@ use Rattle.job.specs.declared.Choices.{Choices}
 use Rattle.job.specs.Weights.{block-job, weight-in}
 use Rattle.plan.specs.Calls.{plan-values}
 use Rattle.plan.specs.Trees.{PlanOf, tree-report}
-use Rattle.bound.specs.Bound.{Memory, Leaves, BoundHolds, block-capacity}
+use Rattle.bound.specs.Bound.{Memory, Leaves, BoundHolds, wide-job, block-capacity}
 use Rattle.writer.specs.Write.{array-after, block-plan}
 use Rattle.certificate.specs.Certificate.{plan-verdict}
 use Rattle.certificate.specs.Promises.{Earns}
@@ -26,15 +26,15 @@ use Rattle.certificate.specs.declared.Certificate.the-variants.{Gap}
 
 -- a word of choices has a bit that is no choice
 abbrev pub unknown : ℕ → Bool
-unknown choices = ltb 3 choices
+unknown choices = ltb 7 choices
 
 -- whether a word has the bit of value n
 abbrev pub bit : ℕ → ℕ → Bool
 bit n word = eqb (word / n % 2) 1
 
--- the choices of a word: bit 1 is turning, bit 2 full demand
+-- the choices of a word: bit 1 is turning, bit 2 full demand, bit 4 the old block
 abbrev pub choices-of : ℕ → Choices
-choices-of choices = record { turning = bit 1 choices; «full_demand» = bit 2 choices }
+choices-of choices = record { turning = bit 1 choices; «full_demand» = bit 2 choices; «old_block» = bit 4 choices }
 
 -- the job of a block with the choices of a word
 abbrev pub job-with : List ℕ → ℕ → Job
@@ -89,7 +89,7 @@ PlanLeft s choices ws m old new =
 
 -- what certify leaves in lent memory
 abbrev pub CertificateLeaves : List ℕ → Choices → (ws kinds operands : List ℕ) → Memory → Memory → Type 0
-CertificateLeaves s choices ws kinds operands old new = Leaves (plan-verdict s choices ws kinds operands) (block-job s choices) (weight-in ws) (block-capacity s choices ws) old new
+CertificateLeaves s choices ws kinds operands old new = Leaves (plan-verdict s choices ws kinds operands) (wide-job s choices) (weight-in ws) (block-capacity s choices ws) old new
 
 -- a certificate's profit and gap sum to at most the bound's ceiling
 abbrev pub GapWithin : Certificate → Type 0
@@ -104,7 +104,7 @@ answer-word answer i = getD answer i 0
 -- 0 for every such plan
 pub record TreeChecked (Before : Type 0) (s : List ℕ) (choices : ℕ) (kinds operands old new : List ℕ) (n : ℕ) : Type 0 where
   pub tree : n ≡ 0 → (t : Tree Piece) × PlanOf (job-with s choices) t kinds operands × (new ≡ over (plan-values (tree-report (job-with s choices) t)) old)
-  pub passes : 68 ≤ length old → unknown choices ≡ false → Before → (t : Tree Piece) → PlanOf (job-with s choices) t kinds operands → n ≡ 0
+  pub passes : 69 ≤ length old → unknown choices ≡ false → Before → (t : Tree Piece) → PlanOf (job-with s choices) t kinds operands → n ≡ 0
 
 -- a certificate where 0 is returned: the plan is that of a tree that keeps every demand and earns the profit, profit and gap sum to the
 -- bound, and no tree that keeps every demand earns more than it; so a gap of 0 says that none earns more than the plan

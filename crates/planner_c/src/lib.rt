@@ -12,8 +12,8 @@ ghost use Rattle.writer.specs.Write.{write-said};
 ghost use Rattle.certificate.specs.Certificate.{certificate-said};
 ghost use Rattle.planner_c.specs.Exports.{choices-of, job-with, returned, answered, Left, CertificateLeaves, PlanLeft, PlanGiven, TreeChecked, BoundGiven, CertificateGiven};
 
-// The check of a plan's arrays for a job block. The answer has 68 words: profit, the areas of pieces, waste nodes and trim, and the
-// copies of 64 kinds.
+// The check of a plan's arrays for a job block. The answer has 69 words: profit, the areas of pieces, waste nodes and trim, the copies of
+// 64 kinds, and the area of the sawdust.
 #[no_mangle]
 pub extern "C" fn planner_check_plan(
     block: &[u8],
@@ -22,11 +22,11 @@ pub extern "C" fn planner_check_plan(
     operands: &[u16],
     answer: &mut [u64],
 ) -> u32
-    ensures number { λ n. ⌜ n ≡ returned 68 (now (answer .entry)) choices (arrays-said (now (block .entry)) (choices-of choices) (now (kinds .entry)) (now (operands .entry))) ⌝ }
-    ensures words { λ _. ⌜ now (answer .exit) ≡ answered 68 (now (answer .entry)) choices (arrays-said (now (block .entry)) (choices-of choices) (now (kinds .entry)) (now (operands .entry))) ⌝ }
-    ensures trees { λ n. ⌜ TreeChecked (JobPasses (now (block .entry))) (now (block .entry)) choices (now (kinds .entry)) (now (operands .entry)) (now (answer .entry)) (now (answer .exit)) n ⌝ }
+    ensures number { λ n. ⌜ n ≡ returned 69 (now (answer .entry)) choices (arrays-said (now (block .entry)) (choices-of choices) (now (kinds .entry)) (now (operands .entry))) ⌝ }
+    ensures words { λ _. ⌜ now (answer .exit) ≡ answered 69 (now (answer .entry)) choices (arrays-said (now (block .entry)) (choices-of choices) (now (kinds .entry)) (now (operands .entry))) ⌝ }
+    ensures trees { λ n. ⌜ TreeChecked (JobPasses (now (block .entry)) (choices-of choices)) (now (block .entry)) choices (now (kinds .entry)) (now (operands .entry)) (now (answer .entry)) (now (answer .exit)) n ⌝ }
 {
-    let stop = choices::early(answer.len(), 68, choices);
+    let stop = choices::early(answer.len(), 69, choices);
     if 0 < stop {
         return stop;
     }
@@ -42,11 +42,11 @@ pub extern "C" fn planner_check_plan_block(
     plan: &[u8],
     answer: &mut [u64],
 ) -> u32
-    ensures number { λ n. ⌜ n ≡ returned 68 (now (answer .entry)) choices (block-said (now (block .entry)) (choices-of choices) (now (plan .entry))) ⌝ }
-    ensures words { λ _. ⌜ now (answer .exit) ≡ answered 68 (now (answer .entry)) choices (block-said (now (block .entry)) (choices-of choices) (now (plan .entry))) ⌝ }
-    ensures trees { λ n. ⌜ TreeChecked (JobPasses (now (block .entry)) × BlockPasses (now (plan .entry))) (now (block .entry)) choices (plan-kinds (now (plan .entry))) (plan-operands (now (plan .entry))) (now (answer .entry)) (now (answer .exit)) n ⌝ }
+    ensures number { λ n. ⌜ n ≡ returned 69 (now (answer .entry)) choices (block-said (now (block .entry)) (choices-of choices) (now (plan .entry))) ⌝ }
+    ensures words { λ _. ⌜ now (answer .exit) ≡ answered 69 (now (answer .entry)) choices (block-said (now (block .entry)) (choices-of choices) (now (plan .entry))) ⌝ }
+    ensures trees { λ n. ⌜ TreeChecked (JobPasses (now (block .entry)) (choices-of choices) × BlockPasses (now (plan .entry))) (now (block .entry)) choices (plan-kinds (now (plan .entry))) (plan-operands (now (plan .entry))) (now (answer .entry)) (now (answer .exit)) n ⌝ }
 {
-    let stop = choices::early(answer.len(), 68, choices);
+    let stop = choices::early(answer.len(), 69, choices);
     if 0 < stop {
         return stop;
     }

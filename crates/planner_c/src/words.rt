@@ -11,7 +11,7 @@ use writer::WriteReport;
 ghost use mathlib.Core.Path.{_≡_};
 ghost use mathlib.Core.List.{[], _∷_};
 ghost use Prim.Native.Nat.{_≤_, _<_};
-ghost use lib.ListN.{length};
+ghost use lib.ListN.{length, set};
 ghost use lib.Seq.{sets};
 ghost use Rattle.cutting.specs.Limits.{most-kinds};
 ghost use Rattle.cutting.specs.Lists.{over};
@@ -136,19 +136,28 @@ fn put_copies(copies: [u16; 64], answer: &mut [u64])
     }
 }
 
-// What a passed plan reports: profit, the areas of pieces, waste nodes and trim, and the copies.
+// The area of the sawdust, into the word behind the copies.
+fn put_sawdust(sawdust: u64, answer: &mut [u64])
+    requires { ⌜ 69 ≤ length (now answer) ⌝ }
+    ensures { λ _. ⌜ now (answer .exit) ≡ set (now (answer .entry)) 68 sawdust ⌝ }
+{
+    answer[68] = sawdust;
+}
+
+// What a passed plan reports: profit, the areas of pieces, waste nodes and trim, the copies, and the area of the sawdust.
 fn put_report(r: Report, answer: &mut [u64])
-    requires { ⌜ 68 ≤ length (now answer) ⌝ }
+    requires { ⌜ 69 ≤ length (now answer) ⌝ }
     ensures { λ _. ⌜ now (answer .exit) ≡ over (plan-values r) (now (answer .entry)) ⌝ }
 {
     put_four(r.profit, r.pieces, r.waste, r.trim, answer);
     let copies = r.copies;
     put_copies(copies, answer);
+    put_sawdust(r.sawdust, answer);
 }
 
 // What the check of a plan answers.
 pub fn put_plan(a: PlanAnswer, answer: &mut [u64]) -> u32
-    requires { ⌜ 68 ≤ length (now answer) ⌝ }
+    requires { ⌜ 69 ≤ length (now answer) ⌝ }
     ensures { λ n. ⌜ Gives (plan-outcome a) n (now (answer .entry)) (now (answer .exit)) ⌝ }
 {
     let verdict = a.verdict;

@@ -17,7 +17,7 @@ returns c =
     check-stops _ (now (a .block)) (a .choices) (now (a .kinds)) (now (a .operands)) (now (a .answer)) (arrays-said (now (a .block)) (choices-of (a .choices)) (now (a .kinds)) (now (a .operands))) (c .before .early .ensures) (c .if1 .taken)
 
 put-plan-requires : tie.Need-put-plan-requires
-put-plan-requires c κs = let a = c .before .before .before .before .before .before .before .before .before .args in words-enough 68 (a .choices) (now (a .answer)) (c .before .before .before .before .early .ensures) (c .before .before .before .if1 .left)
+put-plan-requires c κs = let a = c .before .before .before .before .before .before .before .before .before .args in words-enough 69 (a .choices) (now (a .answer)) (c .before .before .before .before .early .ensures) (c .before .before .before .if1 .left)
 
 returns-2 : tie.Need-returns-2
 returns-2 c =
@@ -26,7 +26,7 @@ returns-2 c =
     let k = c .before .before .before .before .before .choices-of .ensures in
     check-called _ (now (a .block)) (a .choices) (now (a .kinds)) (now (a .operands)) (now (a .answer)) (arrays-said (now (a .block)) (choices-of (a .choices)) (now (a .kinds)) (now (a .operands))) (c .before .before .before .before .before .before .before .early .ensures) (c .before .before .before .before .before .before .if1 .left)
     (e .1 .0 ∙ ap (λ x. arrays-said (now (a .block)) x (now (a .kinds)) (now (a .operands))) k)
-    (of-word (λ x r. ChecksPlan (JobPasses (now (a .block))) (block-job (now (a .block)) x) (now (a .kinds)) (now (a .operands)) r) k (e .1 .1)) (c .before .before .put-plan .ensures)
+    (of-word (λ x r. ChecksPlan (JobPasses (now (a .block)) x) (block-job (now (a .block)) x) (now (a .kinds)) (now (a .operands)) r) k (e .1 .1)) (c .before .before .put-plan .ensures)
 
 pub planner-check-plan-spec : {M : Type 1} → statement M
 planner-check-plan-spec = tie.close (tie.spec (search needs) returns (search needs) (search needs) put-plan-requires (search needs) returns-2)
