@@ -13,7 +13,7 @@ use Rattle.cutting.specs.Figure.{figure}
 use Rattle.cutting.specs.Saws.{saw-normal}
 use Rattle.cutting.specs.Preorder.{node-count}
 use Rattle.cutting.specs.Job.{capacity, pieces, by-kind, bound-of, normal-side}
-use Rattle.cutting.proofs.Members.{range-solid}
+use Rattle.cutting.proofs.Members.{range-solid, widened-solid}
 use Rattle.cutting.proofs.Table.{figure-normal}
 use Rattle.refusal.specs.Refusals.{first-refusal}
 use Rattle.refusal.specs.declared.Checked.the-variants.{Passed, Refused}
@@ -23,7 +23,7 @@ use Rattle.job.specs.Weights.{block-job, weight-in, Accepted}
 use Rattle.job.proofs.Weights.{accepted-in-range}
 use Rattle.plan.specs.Plan.{plan-answer}
 use Rattle.table.specs.Table.{position-count, words-needed}
-use Rattle.bound.specs.Bound.{Memory, memory-checks, bound-said}
+use Rattle.bound.specs.Bound.{Memory, wide-job, memory-checks, bound-said}
 use Rattle.writer.specs.Write.{block-plan, write-said}
 use Rattle.certificate.specs.Certificate.{certificate-said}
 use Rattle.examples.specs.Examples.{LongLists, Enough, TooShort}
@@ -35,15 +35,15 @@ module _ (choices : Choices) (s ws : List ℕ) where
 
   -- the table words that they need
   abbrev pub words-in : ℕ
-  words-in = words-needed (block-job s choices) capacity-in
+  words-in = words-needed (wide-job s choices) capacity-in
 
   -- their bound from cuts at normal positions
   abbrev pub bound-in : ℕ
-  bound-in = figure (pieces (block-job s choices)) (saw-normal (normal-side (block-job s choices))) (by-kind (weight-in ws)) (block-job s choices .plate) capacity-in
+  bound-in = figure (pieces (wide-job s choices)) (saw-normal (normal-side (wide-job s choices))) (by-kind (weight-in ws)) (wide-job s choices .plate) capacity-in
 
   -- the values of their bound
   abbrev pub values-in : List ℕ
-  values-in = bound-in ∷ capacity-in ∷ position-count (block-job s choices) Length ∷ position-count (block-job s choices) Width ∷ []
+  values-in = bound-in ∷ capacity-in ∷ position-count (wide-job s choices) Length ∷ position-count (wide-job s choices) Width ∷ []
 
   -- the values of a plan's certificate: the gap, the bound and the profit
   abbrev pub certificate-in : (kinds operands : List ℕ) → List ℕ
@@ -53,15 +53,15 @@ module _ (choices : Choices) (s ws : List ℕ) where
 
   module _ (good : Accepted s choices ws) where
     bound-normal : bound-of (block-job s choices) (weight-in ws) ≡ bound-in
-    bound-normal = figure-normal (block-job s choices) (weight-in ws) (range-solid (block-job s choices) (accepted-in-range s choices ws good)) _ _ capacity-in (omega arith) (omega arith)
+    bound-normal = figure-normal (wide-job s choices) (weight-in ws) (widened-solid (block-job s choices) (range-solid (block-job s choices) (accepted-in-range s choices ws good))) _ _ capacity-in (omega arith) (omega arith)
 
     module _ (m : Memory) where
       -- check 19 passes
-      lists-pass : LongLists s choices m → (ltb (length (m .lengths)) (block-job s choices .plate .0 + 1) || ltb (length (m .widths)) (block-job s choices .plate .1 + 1)) ≡ false
-      lists-pass h = simp (le-ltb (length (m .lengths)) (block-job s choices .plate .0 + 1) (omega (arith, h)), le-ltb (length (m .widths)) (block-job s choices .plate .1 + 1) (omega (arith, h)))
+      lists-pass : LongLists s choices m → (ltb (length (m .lengths)) (wide-job s choices .plate .0 + 1) || ltb (length (m .widths)) (wide-job s choices .plate .1 + 1)) ≡ false
+      lists-pass h = simp (le-ltb (length (m .lengths)) (wide-job s choices .plate .0 + 1) (omega (arith, h)), le-ltb (length (m .widths)) (wide-job s choices .plate .1 + 1) (omega (arith, h)))
 
       -- check 20 refuses
-      table-short : TooShort s choices words-in m → first-refusal (memory-checks (block-job s choices) capacity-in m) ≡ Refused (TableShort words-in)
+      table-short : TooShort s choices words-in m → first-refusal (memory-checks (wide-job s choices) capacity-in m) ≡ Refused (TableShort words-in)
       unfolding first-refusal
       table-short h = simp (lists-pass (h .0), lt-ltb (length (m .table)) words-in (h .1))
 
@@ -70,7 +70,7 @@ module _ (choices : Choices) (s ws : List ℕ) where
 
       module _ (enough : Enough s choices words-in m) where
         -- both pass
-        storage-passes : first-refusal (memory-checks (block-job s choices) capacity-in m) ≡ Passed
+        storage-passes : first-refusal (memory-checks (wide-job s choices) capacity-in m) ≡ Passed
         unfolding first-refusal
         storage-passes = simp (lists-pass (enough .0), le-ltb (length (m .table)) words-in (enough .1))
 

@@ -13,9 +13,9 @@ use Rattle.cutting.specs.Pieces.{sized}
 use Rattle.cutting.specs.Saws.{floor, saw-normal, saw-written}
 use Rattle.cutting.specs.Shares.{by-weight}
 use Rattle.cutting.specs.Normal.{summed, normal?, sides}
-use Rattle.cutting.specs.Choice.{choice, plan-within, written}
+use Rattle.cutting.specs.Choice.{choice, plan-within, written, sawn}
 use Rattle.cutting.specs.Preorder.{preorder, kinds-of, operands-of, node-count}
-use Rattle.cutting.specs.Job.{ordered, members, pieces, normal-positions, plan-of}
+use Rattle.cutting.specs.Job.{ordered, members, pieces, normal-positions, lossless-plan, plan-of}
 use Rattle.refusal.specs.Refusals.{first-refusal}
 use Rattle.refusal.specs.declared.Checked.the-variants.{Passed}
 use Rattle.job.specs.Block.{price-at, demand-at, each-kind, job-checks, entries, record-of}
@@ -24,7 +24,7 @@ use Rattle.plan.specs.Plan.{walk, plan-answer}
 use Rattle.plan.specs.Calls.{JobPasses}
 use Rattle.writer.specs.Write.{block-plan}
 use Rattle.examples.specs.Examples as line
-use Rattle.examples.specs.Examples.{Example, no-choice, RefusedAs, PassedTo, ExampleHolds, misfit-job, marked}
+use Rattle.examples.specs.Examples.{Example, old-block, RefusedAs, PassedTo, ExampleHolds, misfit-job, marked}
 use Rattle.examples.proofs.Calls as call
 use Rattle.examples.proofs.Calls.{words-in, values-in, certificate-in}
 use Rattle.examples.proofs.Plans.{first-verdict, begins-refused, begins-passed}
@@ -37,10 +37,10 @@ Computed (line.bounds choices s ws words bound q p r) = Accepted s choices ws ×
 Computed (line.writes choices s ws words bound q p r nodes kinds operands) =
     Accepted s choices ws × (words-in choices s ws ≡ words) × (values-in choices s ws ≡ bound ∷ q ∷ p ∷ r ∷ []) × (node-count (block-plan s choices ws) ≡ nodes) × (nodes ≤ 4095)
     × (kinds-of (block-plan s choices ws) ≡ kinds) × (operands-of (block-plan s choices ws) ≡ operands)
-Computed (line.passes s kinds operands profit copies pieces waste trim) = ExampleHolds (line.passes s kinds operands profit copies pieces waste trim)
+Computed (line.passes choices s kinds operands profit copies pieces waste trim sawdust) = ExampleHolds (line.passes choices s kinds operands profit copies pieces waste trim sawdust)
 Computed (line.refused s kinds operands number place) = ExampleHolds (line.refused s kinds operands number place)
-Computed (line.first-refused s kind operand number place) = JobPasses s × RefusedAs number place (first-verdict (block-job s no-choice) kind operand)
-Computed (line.first-passes s kind operand) = JobPasses s × PassedTo 0 (first-verdict (block-job s no-choice) kind operand)
+Computed (line.first-refused s kind operand number place) = JobPasses s old-block × RefusedAs number place (first-verdict (block-job s old-block) kind operand)
+Computed (line.first-passes s kind operand) = JobPasses s old-block × PassedTo 0 (first-verdict (block-job s old-block) kind operand)
 Computed (line.certifies choices s ws kinds operands words gap bound profit) =
     Accepted s choices ws × (words-in choices s ws ≡ words) × (plan-answer (block-job s choices) kinds operands .verdict ≡ Passed) × (certificate-in choices s ws kinds operands ≡ gap ∷ bound ∷ profit ∷ [])
 
@@ -53,7 +53,7 @@ holds (line.bounds choices s ws words bound q p r) c = (
 )
 holds (line.writes choices s ws words bound q p r nodes kinds operands) c =
     (λ m ks os h k o. call.written choices s ws (c .0) m (rw (c .1) h) ks os (rw (c .3) (c .4)) (rw (c .3) k) (rw (c .3) o) ∙ cc, c .5, c .6)
-holds (line.passes s kinds operands profit copies pieces waste trim) c = c
+holds (line.passes choices s kinds operands profit copies pieces waste trim sawdust) c = c
 holds (line.refused s kinds operands number place) c = c
 holds (line.first-refused s kind operand number place) c = begins-refused s (c .0) kind operand number place (c .1)
 holds (line.first-passes s kind operand) c = begins-passed s (c .0) kind operand (c .1)
@@ -84,14 +84,14 @@ module _ (a b c d e f weight : ℕ) where
   priced = misfit-job (a ∷ b ∷ c ∷ d ∷ e ∷ f ∷ [])
 
   -- it is accepted where its price and its demand are in range
-  pub misfit-accepted : price-at priced 0 ≤ 1000000 → demand-at priced 0 ≤ 255 → Accepted priced no-choice (weight ∷ [])
+  pub misfit-accepted : price-at 6 priced 0 ≤ 1000000 → demand-at 6 priced 0 ≤ 255 → Accepted priced old-block (weight ∷ [])
   unfolding range sum first-refusal each-kind job-checks entries record-of
-  misfit-accepted price demand = simp (le-ltb 1000000 (price-at priced 0) price, le-ltb 255 (demand-at priced 0) demand, misfit.none-weighed (demand-at priced 0) weight)
+  misfit-accepted price demand = simp (le-ltb 1000000 (price-at 6 priced 0) price, le-ltb 255 (demand-at 6 priced 0) demand, misfit.none-weighed (demand-at 6 priced 0) weight)
 
-module _ (pair ws : List ℕ) (good : Accepted (misfit-job pair) no-choice ws) where
+module _ (pair ws : List ℕ) (good : Accepted (misfit-job pair) old-block ws) where
   -- the table's computations, line by line
   computed : AllComputed (marked pair ws)
-  unfolding marked range sum filter each any greatest leaf best step after figure sized floor saw-normal saw-written by-weight summed normal? sides choice plan-within written preorder kinds-of operands-of node-count ordered members pieces normal-positions plan-of first-refusal each-kind job-checks entries record-of walk plan-answer
+  unfolding marked range sum filter each any greatest leaf best step after figure sized floor saw-normal saw-written by-weight summed normal? sides choice plan-within written sawn lossless-plan preorder kinds-of operands-of node-count ordered members pieces normal-positions plan-of first-refusal each-kind job-checks entries record-of walk plan-answer
   computed =
       refl
       and refl
@@ -118,6 +118,8 @@ module _ (pair ws : List ℕ) (good : Accepted (misfit-job pair) no-choice ws) w
       and (refl, refl, refl, refl)
       and (refl, refl, refl, refl)
       and (refl, refl, refl)
+      and (refl, refl, refl)
+      and refl
       and done
 
   -- every marked example holds

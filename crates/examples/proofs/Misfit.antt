@@ -16,12 +16,13 @@ use Rattle.cutting.specs.Pieces.{Piece, kind, ways, sized}
 use Rattle.cutting.specs.Saws.{floor, saw-normal, saw-written}
 use Rattle.cutting.specs.Shares.{by-weight}
 use Rattle.cutting.specs.Normal.{summed, normal?, normal, sides}
-use Rattle.cutting.specs.Choice.{choice, plan-within, written}
-use Rattle.cutting.specs.Job.{Job, laid, capacity, ordered, members, pieces, by-kind, normal-positions, plan-of}
+use Rattle.cutting.specs.Choice.{choice, plan-within, written, sawn}
+use Rattle.cutting.specs.Job.{Job, laid, capacity, ordered, members, pieces, by-kind, normal-positions, lossless-plan, plan-of}
 use Rattle.job.specs.Block.{entries, record-of}
 use Rattle.job.specs.Weights.{block-job, weight-in}
+use Rattle.bound.specs.Bound.{wide-job}
 use Rattle.writer.specs.Write.{block-plan}
-use Rattle.examples.specs.Examples.{no-choice, misfit-job}
+use Rattle.examples.specs.Examples.{old-block, misfit-job}
 use Rattle.examples.proofs.Calls.{words-in, bound-in, values-in}
 
 -- where no copy is counted, none is weighed
@@ -30,11 +31,11 @@ none-weighed demand weight = let e : min demand 0 ≡ 0 = omega arith in rw e (o
 
 module _ (pair ws : List ℕ) where
   abbrev J : Job
-  J = block-job (misfit-job pair) no-choice
+  J = wide-job (misfit-job pair) old-block
 
   -- none can lie on the plate, so the capacity is 0
   abbrev misfit-capacity : ℕ
-  misfit-capacity = capacity J (weight-in ws)
+  misfit-capacity = capacity (block-job (misfit-job pair) old-block) (weight-in ws)
 
   none : misfit-capacity ≡ 0
   unfolding range sum entries record-of
@@ -56,7 +57,7 @@ module _ (pair ws : List ℕ) where
       go Width false = refl
 
   -- the bound is 0
-  nothing : bound-in no-choice (misfit-job pair) ws ≡ 0
+  nothing : bound-in old-block (misfit-job pair) ws ≡ 0
   unfolding range filter each any greatest leaf best step after figure sized floor saw-normal by-weight summed normal? sides ordered members pieces entries record-of
   nothing = go (leb 1 (J .demand 0))
     where
@@ -65,16 +66,16 @@ module _ (pair ws : List ℕ) where
       go false = refl
 
   -- and its plan is waste
-  pub wasted : block-plan (misfit-job pair) no-choice ws ≡ waste
-  unfolding range filter each any greatest leaf best step after figure sized floor saw-normal saw-written by-weight summed normal? sides choice plan-within written ordered members pieces plan-of entries record-of
-  wasted = go (leb 1 (J .demand 0))
+  pub wasted : block-plan (misfit-job pair) old-block ws ≡ waste
+  unfolding range filter each any greatest leaf best step after figure sized floor saw-normal saw-written by-weight summed normal? sides choice plan-within written sawn lossless-plan ordered members pieces plan-of entries record-of
+  wasted = ap (sawn (block-job (misfit-job pair) old-block .kerf) (J .plate)) (go (leb 1 (J .demand 0)))
     where
       go : (b : Bool) → written (sized (either b) (λ p. J .price (kind p)) (laid J)) (saw-written (normal (either b) (laid J) (J .plate))) (by-kind (weight-in ws)) (J .plate) misfit-capacity ≡ waste
       go true = refl
       go false = refl
 
-  pub words : words-in no-choice (misfit-job pair) ws ≡ 1
+  pub words : words-in old-block (misfit-job pair) ws ≡ 1
   words = let l = ap length (alone Length) in let w = ap length (alone Width) in rw (l, w, none) (omega arith)
 
-  pub values : values-in no-choice (misfit-job pair) ws ≡ 0 ∷ 0 ∷ 1 ∷ 1 ∷ []
+  pub values : values-in old-block (misfit-job pair) ws ≡ 0 ∷ 0 ∷ 1 ∷ 1 ∷ []
   values = let l = ap length (alone Length) in let w = ap length (alone Width) in rw (nothing, l, w, none) refl

@@ -16,7 +16,7 @@ use Rattle.plan.specs.declared.PlanAnswer.{PlanAnswer}
 use Rattle.plan.specs.Plan.{node-checks, empty-report, proceed, walk, nodes-in, plan-answer}
 use Rattle.plan.specs.Calls.{JobPasses}
 use Rattle.plan.proofs.Whole.{walks-on}
-use Rattle.examples.specs.Examples.{no-choice, RefusedAs, PassedTo, Beginning}
+use Rattle.examples.specs.Examples.{old-block, RefusedAs, PassedTo, Beginning}
 
 -- a check whose place is past node j, and what follows it
 check-past : (j : ℕ) (b : Bool) (r : Refusal) (v : Checked) → j < place-of r → PassedTo j v → PassedTo j (next (refuse-when b r) v)
@@ -64,15 +64,15 @@ module _ (J : Job) (kind operand : ℕ) (ns : List (ℕ × ℕ)) where
   unfolding walk
   walk-passed h = proceed-past 0 (first-verdict J kind operand) _ h (walk-past J 0 1 (omega arith) ns _ _)
 
-module _ (s : List ℕ) (good : JobPasses s) (kind operand : ℕ) where
+module _ (s : List ℕ) (good : JobPasses s old-block) (kind operand : ℕ) where
   -- the walk decides for every plan with this first node
-  begins : (P : Checked → Type 0) → ((ns : List (ℕ × ℕ)) → P (walk (block-job s no-choice) 0 ((kind, operand) ∷ ns) (block-job s no-choice .plate ∷ []) empty-report .verdict)) → Beginning s kind operand P
+  begins : (P : Checked → Type 0) → ((ns : List (ℕ × ℕ)) → P (walk (block-job s old-block) 0 ((kind, operand) ∷ ns) (block-job s old-block .plate ∷ []) empty-report .verdict)) → Beginning s kind operand P
   begins P h kinds operands e l =
-      let on = ap (λ v. proceed v (plan-answer (block-job s no-choice) (kind ∷ kinds) (operand ∷ operands))) good ∙ walks-on (block-job s no-choice) (kind ∷ kinds) (operand ∷ operands) (ap suc e) (omega arith) (omega arith) in
+      let on = ap (λ v. proceed v (plan-answer (block-job s old-block) (kind ∷ kinds) (operand ∷ operands))) good ∙ walks-on (block-job s old-block) (kind ∷ kinds) (operand ∷ operands) (ap suc e) (omega arith) (omega arith) in
       subst (λ a. P (a .verdict)) (sym on) (h (nodes-in kinds operands))
 
-  pub begins-refused : (number place : ℕ) → RefusedAs number place (first-verdict (block-job s no-choice) kind operand) → Beginning s kind operand (RefusedAs number place)
-  begins-refused number place h = begins (RefusedAs number place) (λ ns. walk-refused (block-job s no-choice) kind operand ns number place h)
+  pub begins-refused : (number place : ℕ) → RefusedAs number place (first-verdict (block-job s old-block) kind operand) → Beginning s kind operand (RefusedAs number place)
+  begins-refused number place h = begins (RefusedAs number place) (λ ns. walk-refused (block-job s old-block) kind operand ns number place h)
 
-  pub begins-passed : PassedTo 0 (first-verdict (block-job s no-choice) kind operand) → Beginning s kind operand (PassedTo 0)
-  begins-passed h = begins (PassedTo 0) (λ ns. walk-passed (block-job s no-choice) kind operand ns h)
+  pub begins-passed : PassedTo 0 (first-verdict (block-job s old-block) kind operand) → Beginning s kind operand (PassedTo 0)
+  begins-passed h = begins (PassedTo 0) (λ ns. walk-passed (block-job s old-block) kind operand ns h)

@@ -1,7 +1,7 @@
 -- The marked examples of the scope as one table, in its order. A job is its block's bytes, and each line says what a call answers on them,
 -- as a number and values. That every line holds is `marked-hold` of proofs/Examples.
 use mathlib.Core.Path.{_≡_}
-use mathlib.Core.Bool.{false}
+use mathlib.Core.Bool.{true, false}
 use mathlib.Core.List.{List, [], _∷_, _++_}
 use Prim.Native.Nat.{ℕ, _-_, _≤_, _<_}
 use lib.ListN.{length, replicate}
@@ -17,7 +17,7 @@ use Rattle.job.specs.declared.Choices.{Choices}
 use Rattle.job.specs.Block.{with-full-demand}
 use Rattle.job.specs.Weights.{block-job}
 use Rattle.plan.specs.Calls.{arrays-answer}
-use Rattle.bound.specs.Bound.{Memory, bound-said}
+use Rattle.bound.specs.Bound.{Memory, wide-job, bound-said}
 use Rattle.writer.specs.Write.{block-plan, write-said}
 use Rattle.certificate.specs.Certificate.{certificate-said}
 
@@ -30,8 +30,8 @@ pub data Example : Type 0 where
   bounds : Choices → (job weights : List ℕ) (words bound q p r : ℕ) → Example
   -- the writing call answers the bound, Q, p, r and the node count, and writes this plan
   writes : Choices → (job weights : List ℕ) (words bound q p r nodes : ℕ) (kinds operands : List ℕ) → Example
-  -- a plan passes with a profit, copies of each kind and areas of pieces, waste nodes and trim
-  passes : (job kinds operands : List ℕ) (profit : ℕ) (copies : List ℕ) (pieces waste trim : ℕ) → Example
+  -- a plan passes with a profit, copies of each kind and areas of pieces, waste nodes, trim and sawdust
+  passes : Choices → (job kinds operands : List ℕ) (profit : ℕ) (copies : List ℕ) (pieces waste trim sawdust : ℕ) → Example
   -- a plan is refused, with a number and a place
   refused : (job kinds operands : List ℕ) (number place : ℕ) → Example
   -- a plan's first node decides, whatever follows it: refused, or passed at that node
@@ -40,17 +40,21 @@ pub data Example : Type 0 where
   -- the certificate of a plan under weights answers the gap, 0 for best, the bound and the profit
   certifies : Choices → (job weights kinds operands : List ℕ) (words gap bound profit : ℕ) → Example
 
--- the marked examples make no choice
+-- the marked examples' jobs are old blocks, and make no other choice
+abbrev pub old-block : Choices
+old-block = record { turning = false; «full_demand» = false; «old_block» = true }
+
+-- no choice at all: a block with a kerf
 abbrev pub no-choice : Choices
-no-choice = record { turning = false; «full_demand» = false }
+no-choice = record { turning = false; «full_demand» = false; «old_block» = false }
 
 -- the capacity of the full demands
 abbrev pub full : Choices
-full = with-full-demand no-choice
+full = with-full-demand old-block
 
--- lent lists that hold every length up to the plate's sides
+-- lent lists that hold every length up to the plate's sides, the kerf added
 abbrev pub LongLists : List ℕ → Choices → Memory → Type 0
-LongLists s choices m = (block-job s choices .plate .0 < length (m .lengths)) × (block-job s choices .plate .1 < length (m .widths))
+LongLists s choices m = (wide-job s choices .plate .0 < length (m .lengths)) × (wide-job s choices .plate .1 < length (m .widths))
 
 -- lent memory of any contents that is long enough: such lists, and a table of so many words
 abbrev pub Enough : List ℕ → Choices → ℕ → Memory → Type 0
@@ -72,7 +76,7 @@ PassedTo k (Refused r) = k < place-of r
 
 -- the verdict of every plan with this first node, as many kinds as operands and at most 4,095 nodes, has a property
 abbrev pub Beginning : List ℕ → ℕ → ℕ → (Checked → Type 0) → Type 0
-Beginning s kind operand P = (kinds operands : List ℕ) → length kinds ≡ length operands → length kinds < most-nodes → P (arrays-answer s no-choice (kind ∷ kinds) (operand ∷ operands) .verdict)
+Beginning s kind operand P = (kinds operands : List ℕ) → length kinds ≡ length operands → length kinds < most-nodes → P (arrays-answer s old-block (kind ∷ kinds) (operand ∷ operands) .verdict)
 
 -- copies as a report has them: 64 numbers, 0 past the job's kinds
 abbrev pub padded : List ℕ → List ℕ
@@ -80,16 +84,16 @@ padded xs = xs ++ replicate (most-kinds - length xs) 0
 
 -- what each line means; where the table is too short the call gives refusal 20 with the words needed
 abbrev pub ExampleHolds : Example → Type 0
-ExampleHolds (positions s d xs) = normal-positions (block-job s no-choice) d ≡ xs
+ExampleHolds (positions s d xs) = normal-positions (wide-job s old-block) d ≡ xs
 ExampleHolds (bounds choices s ws words bound q p r) =
     ((m : Memory) → Enough s choices words m → bound-said s choices ws m ≡ (0, bound ∷ q ∷ p ∷ r ∷ []))
     × ((m : Memory) → TooShort s choices words m → bound-said s choices ws m ≡ (20, words ∷ []))
 ExampleHolds (writes choices s ws words bound q p r nodes kinds operands) =
     ((m : Memory) (ks os : List ℕ) → Enough s choices words m → nodes ≤ length ks → nodes ≤ length os → write-said s choices ws m ks os ≡ (0, bound ∷ q ∷ p ∷ r ∷ nodes ∷ []))
     × (kinds-of (block-plan s choices ws) ≡ kinds) × (operands-of (block-plan s choices ws) ≡ operands)
-ExampleHolds (passes s kinds operands profit copies pieces waste trim) =
-    arrays-answer s no-choice kinds operands ≡ record { verdict = Passed; report = record { profit = profit; copies = padded copies; pieces = pieces; waste = waste; trim = trim } }
-ExampleHolds (refused s kinds operands number place) = RefusedAs number place (arrays-answer s no-choice kinds operands .verdict)
+ExampleHolds (passes choices s kinds operands profit copies pieces waste trim sawdust) =
+    arrays-answer s choices kinds operands ≡ record { verdict = Passed; report = record { profit = profit; copies = padded copies; pieces = pieces; waste = waste; trim = trim; sawdust = sawdust } }
+ExampleHolds (refused s kinds operands number place) = RefusedAs number place (arrays-answer s old-block kinds operands .verdict)
 ExampleHolds (first-refused s kind operand number place) = Beginning s kind operand (RefusedAs number place)
 ExampleHolds (first-passes s kind operand) = Beginning s kind operand (PassedTo 0)
 ExampleHolds (certifies choices s ws kinds operands words gap bound profit) = (m : Memory) → Enough s choices words m → certificate-said s choices ws kinds operands m ≡ (0, gap ∷ bound ∷ profit ∷ [])
@@ -125,6 +129,10 @@ loose-job =
 abbrev pub roomy-job : List ℕ
 roomy-job = 5 ∷ 0 ∷ 3 ∷ 0 ∷ 1 ∷ 0 ∷ 2 ∷ 0 ∷ 2 ∷ 0 ∷ 5 ∷ 0 ∷ 0 ∷ 0 ∷ 200 ∷ 0 ∷ []
 
+-- plate 5 by 3, kerf 1, one kind 2 by 3 of price 7 and demand 2
+abbrev pub sawn-job : List ℕ
+sawn-job = 5 ∷ 0 ∷ 3 ∷ 0 ∷ 1 ∷ 0 ∷ 1 ∷ 0 ∷ 2 ∷ 0 ∷ 3 ∷ 0 ∷ 7 ∷ 0 ∷ 0 ∷ 0 ∷ 2 ∷ 0 ∷ []
+
 -- the lines; the scope leaves the price, the demand and the weight of the kind 2 by 2 free
 unfoldable pub marked : (pair ws : List ℕ) → List Example
 marked pair ws =
@@ -132,17 +140,17 @@ marked pair ws =
     positions job-s Length (0 ∷ 2 ∷ 3 ∷ 4 ∷ 5 ∷ [])
     ∷ positions job-s Width (0 ∷ 1 ∷ 2 ∷ 3 ∷ [])
     -- Weights 0 0 0: bound 19, 20 table words.
-    ∷ bounds no-choice job-s (0 ∷ 0 ∷ 0 ∷ []) 20 19 0 5 4
+    ∷ bounds old-block job-s (0 ∷ 0 ∷ 0 ∷ []) 20 19 0 5 4
     -- Weights 0 1 0: capacity 2, bound 16, 60 words.
-    ∷ bounds no-choice job-s (0 ∷ 1 ∷ 0 ∷ []) 60 16 2 5 4
+    ∷ bounds old-block job-s (0 ∷ 1 ∷ 0 ∷ []) 60 16 2 5 4
     -- Kinds 2 1 3 1 1, operands 2 0 1 1 2: profit 16, one copy of each, areas 13, 0, 2. Best under weights 0 1 0; gap 3 under 0 0 0.
-    ∷ passes job-s (2 ∷ 1 ∷ 3 ∷ 1 ∷ 1 ∷ []) (2 ∷ 0 ∷ 1 ∷ 1 ∷ 2 ∷ []) 16 (1 ∷ 1 ∷ 1 ∷ []) 13 0 2
-    ∷ certifies no-choice job-s (0 ∷ 1 ∷ 0 ∷ []) (2 ∷ 1 ∷ 3 ∷ 1 ∷ 1 ∷ []) (2 ∷ 0 ∷ 1 ∷ 1 ∷ 2 ∷ []) 60 0 16 16
-    ∷ certifies no-choice job-s (0 ∷ 0 ∷ 0 ∷ []) (2 ∷ 1 ∷ 3 ∷ 1 ∷ 1 ∷ []) (2 ∷ 0 ∷ 1 ∷ 1 ∷ 2 ∷ []) 20 3 19 16
+    ∷ passes old-block job-s (2 ∷ 1 ∷ 3 ∷ 1 ∷ 1 ∷ []) (2 ∷ 0 ∷ 1 ∷ 1 ∷ 2 ∷ []) 16 (1 ∷ 1 ∷ 1 ∷ []) 13 0 2 0
+    ∷ certifies old-block job-s (0 ∷ 1 ∷ 0 ∷ []) (2 ∷ 1 ∷ 3 ∷ 1 ∷ 1 ∷ []) (2 ∷ 0 ∷ 1 ∷ 1 ∷ 2 ∷ []) 60 0 16 16
+    ∷ certifies old-block job-s (0 ∷ 0 ∷ 0 ∷ []) (2 ∷ 1 ∷ 3 ∷ 1 ∷ 1 ∷ []) (2 ∷ 0 ∷ 1 ∷ 1 ∷ 2 ∷ []) 20 3 19 16
     -- Kind 0, operand 0: profit 0, areas 0, 15, 0.
-    ∷ passes job-s (0 ∷ []) (0 ∷ []) 0 (0 ∷ 0 ∷ 0 ∷ []) 0 15 0
+    ∷ passes old-block job-s (0 ∷ []) (0 ∷ []) 0 (0 ∷ 0 ∷ 0 ∷ []) 0 15 0 0
     -- Kind 1, operand 0: profit 7, areas 6, 0, 9.
-    ∷ passes job-s (1 ∷ []) (0 ∷ []) 7 (1 ∷ 0 ∷ 0 ∷ []) 6 0 9
+    ∷ passes old-block job-s (1 ∷ []) (0 ∷ []) 7 (1 ∷ 0 ∷ 0 ∷ []) 6 0 9 0
     -- Kinds 2 1 3 1 3 1 1, operands 2 0 1 1 1 1 1: refusal 16 at node 6.
     ∷ refused job-s (2 ∷ 1 ∷ 3 ∷ 1 ∷ 3 ∷ 1 ∷ 1 ∷ []) (2 ∷ 0 ∷ 1 ∷ 1 ∷ 1 ∷ 1 ∷ 1 ∷ []) 16 6
     -- First node kind 2, operand 5: 14 at node 0. Operand 4 passes there.
@@ -153,19 +161,22 @@ marked pair ws =
     -- Kinds 0 0, operands 0 0: 18 at 1.
     ∷ refused job-s (0 ∷ 0 ∷ []) (0 ∷ 0 ∷ []) 18 1
     -- Plate 1 by 1, one kind 2 by 2: bound 0, only position 0 on each side, plan one waste node.
-    ∷ bounds no-choice (misfit-job pair) ws 1 0 0 1 1
+    ∷ bounds old-block (misfit-job pair) ws 1 0 0 1 1
     ∷ positions (misfit-job pair) Length (0 ∷ [])
     ∷ positions (misfit-job pair) Width (0 ∷ [])
-    ∷ writes no-choice (misfit-job pair) ws 1 0 0 1 1 1 (0 ∷ []) (0 ∷ [])
+    ∷ writes old-block (misfit-job pair) ws 1 0 0 1 1 1 (0 ∷ []) (0 ∷ [])
     -- Plate 2 by 3, only kind 0 of S with demand 0, weight 0: bound 0, plan one waste node.
-    ∷ bounds no-choice cancelled-job (0 ∷ []) 1 0 0 1 1
-    ∷ writes no-choice cancelled-job (0 ∷ []) 1 0 0 1 1 1 (0 ∷ []) (0 ∷ [])
+    ∷ bounds old-block cancelled-job (0 ∷ []) 1 0 0 1 1
+    ∷ writes old-block cancelled-job (0 ∷ []) 1 0 0 1 1 1 (0 ∷ []) (0 ∷ [])
     -- Plate 3 by 1, kinds 1 by 1, demand 1, and 9 by 9, demand 3, weights 1 1: capacity 1, bound 1, and with the full demands 4 and 3.
-    ∷ bounds no-choice loose-job (1 ∷ 1 ∷ []) 16 1 1 4 2
+    ∷ bounds old-block loose-job (1 ∷ 1 ∷ []) 16 1 1 4 2
     ∷ bounds full loose-job (1 ∷ 1 ∷ []) 40 3 4 4 2
     -- A piece of 1 by 1 and waste, profit 1: best, and with the full demands a gap of 2.
-    ∷ certifies no-choice loose-job (1 ∷ 1 ∷ []) (2 ∷ 1 ∷ 0 ∷ []) (1 ∷ 0 ∷ 0 ∷ []) 16 0 1 1
+    ∷ certifies old-block loose-job (1 ∷ 1 ∷ []) (2 ∷ 1 ∷ 0 ∷ []) (1 ∷ 0 ∷ 0 ∷ []) 16 0 1 1
     ∷ certifies full loose-job (1 ∷ 1 ∷ []) (2 ∷ 1 ∷ 0 ∷ []) (1 ∷ 0 ∷ 0 ∷ []) 40 2 3 1
     -- Plate 5 by 3, kind 2 by 2 of price 5 and demand 200, weight 1: capacity 2, bound 10.
-    ∷ bounds no-choice roomy-job (1 ∷ []) 18 10 2 3 2
+    ∷ bounds old-block roomy-job (1 ∷ []) 18 10 2 3 2
+    -- Plate 5 by 3, kerf 1, kind 2 by 3 of price 7 and demand 2: bound 14 under weight 0; cut at 2, profit 14, areas 12, 0, 0 and sawdust 3.
+    ∷ bounds no-choice sawn-job (0 ∷ []) 6 14 0 3 2
+    ∷ passes no-choice sawn-job (2 ∷ 1 ∷ 1 ∷ []) (2 ∷ 0 ∷ 0 ∷ []) 14 (2 ∷ []) 12 0 0 3
     ∷ []
