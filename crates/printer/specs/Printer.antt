@@ -10,7 +10,7 @@ use Rattle.cutting.specs.Job.{Job}
 use Rattle.job.specs.Block.{count-at}
 use Rattle.plan.specs.Trees.{PlanOf}
 
--- the job is the first 6 + 10n bytes, or all if fewer are there; the rest are weights
+-- the job, an old block, is the first 6 + 10n bytes, or all if fewer are there; the rest are weights
 abbrev pub job-end : List ℕ → ℕ
 job-end s = min (length s) (6 + 10 * count-at s)
 

@@ -1,4 +1,4 @@
-// The bound printer: splits the input into a job block and weights, and prints the bound and the plan behind it, or the refusal.
+// The bound printer: splits the input into an old job block and weights, and prints the bound and the plan behind it, or the refusal.
 // What decides is proved here or in the crates below: where the job ends, the plan with its profit, whether it keeps the demands.
 use job::Choices;
 use job::read_job;
@@ -17,7 +17,7 @@ ghost use Rattle.job.specs.Weights.{block-job};
 ghost use Rattle.plan.specs.Calls.{JobPasses};
 ghost use Rattle.printer.specs.Printer.{job-end, Keeps};
 
-// Where the job ends in the input.
+// Where the job, an old block, ends in the input.
 pub fn job_end(input: &[u8]) -> usize
     ensures { λ r. ⌜ (r ≡ job-end (now (input .entry))) × (r ≤ length (now (input .entry))) ⌝ }
 {
@@ -34,7 +34,7 @@ pub fn job_end(input: &[u8]) -> usize
 
 // Whether two arrays are a plan of the job that keeps every demand.
 pub fn keeps_demands(block: &[u8], choices: Choices, kinds: &[u8], operands: &[u16]) -> bool
-    ensures { λ r. ⌜ Keeps (JobPasses (now (block .entry))) (block-job (now (block .entry)) choices) (now (kinds .entry)) (now (operands .entry)) r ⌝ }
+    ensures { λ r. ⌜ Keeps (JobPasses (now (block .entry)) choices) (block-job (now (block .entry)) choices) (now (kinds .entry)) (now (operands .entry)) r ⌝ }
 {
     let answer = check_plan(block, choices, kinds, operands);
     let verdict = answer.verdict;
@@ -189,12 +189,13 @@ fn print_answer(block: &[u8], choices: Choices, weights: &[u8]) {
     }
 }
 
-// The bound and the plan of an input: a job block, then its weights. No piece is turned.
+// The bound and the plan of an input: an old job block, then its weights. No piece is turned.
 pub fn print_plan(input: &[u8]) {
     let end = job_end(input);
     let choices = Choices {
         turning: false,
         full_demand: false,
+        old_block: true,
     };
     print_answer(&input[..end], choices, &input[end..]);
 }
