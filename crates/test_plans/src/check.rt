@@ -32,7 +32,7 @@ fn print_report(r: Report) {
     print_numbers(b" profit #", &[r.profit]);
     let copies = r.copies;
     print_copies(copies);
-    print_numbers(b" areas # # #;", &[r.pieces, r.waste, r.trim]);
+    print_numbers(b" areas # # # #;", &[r.pieces, r.waste, r.trim, r.sawdust]);
 }
 
 fn print_answer(a: PlanAnswer) {

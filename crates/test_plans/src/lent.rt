@@ -25,6 +25,9 @@ pub const TURNING: usize = 12500;
 
 pub const FULL_DEMAND: usize = 12600;
 
+// Whether the job block is the old one: 1, or 0.
+pub const OLD_BLOCK: usize = 12700;
+
 pub const REMARK: usize = 13000;
 
 pub const KINDS: usize = 20000;
@@ -39,6 +42,7 @@ pub fn choices(t: &Words) -> Choices {
     Choices {
         turning: word(t, TURNING, 1) == 1,
         full_demand: word(t, FULL_DEMAND, 1) == 1,
+        old_block: word(t, OLD_BLOCK, 1) == 1,
     }
 }
 
@@ -47,6 +51,7 @@ pub fn other_choices(choices: Choices) -> Choices {
     Choices {
         turning: choices.turning,
         full_demand: false,
+        old_block: choices.old_block,
     }
 }
 
