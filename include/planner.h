@@ -18,21 +18,23 @@ extern "C" {
  * does not see the stack: this is an assumption, tested from outside on the deepest and longest
  * inputs.
  *
- * Job block. Plate length, plate width, number n of kinds; then n sizes (length, width); all of two
- * bytes, lowest byte first. Then n pairs of price (four bytes) and demand (two bytes). 6 + 10n bytes.
+ * Job block. Plate length, plate width, number n of kinds, kerf k; then n sizes (length, width); all
+ * of two bytes, lowest byte first. Then n pairs of price (four bytes) and demand (two bytes).
+ * 8 + 10n bytes. The old block has no kerf and 6 + 10n bytes; it is read with k = 0.
  * A kind of demand 0 is cancelled; it keeps its number. The others are ordered.
  *
  * Choices. A word of bits, one for each choice of the call; 0 makes none.
  *   PLANNER_TURNING      any piece may be turned
  *   PLANNER_FULL_DEMAND  the capacity counts every demand in full; a plan check reads no capacity
+ *   PLANNER_OLD_BLOCK    the job block is the old one
  *
  * Weights. One byte for each kind. The capacity is the sum, over the kinds, of weight times the
  * lesser of the demand and the copies that the plate can hold. With PLANNER_FULL_DEMAND it is the
  * sum of weight times demand, as it was in certificates filed before the plate was counted.
  *
- * Copies that the plate can hold. Plate length over piece length, times width over width, each
- * rounded down. With PLANNER_TURNING plate area over piece area, rounded down, or 0 if the piece fits
- * the plate neither way. No tree on the plate has more copies of a kind.
+ * Copies that the plate can hold, all sides taken with k added. Plate length over piece length, times
+ * width over width, each rounded down. With PLANNER_TURNING plate area over piece area, rounded down,
+ * or 0 if the piece fits the plate neither way. No tree on the plate has more copies of a kind.
  *
  * Plan. A tree in preorder, as two arrays of one length: the kind of each node and its operand.
  *   0 waste, operand 0
@@ -42,34 +44,39 @@ extern "C" {
  *   4 turned piece, whose length lies along the width, operand its number; with PLANNER_TURNING only
  * A plan block is the node count (two bytes), the kinds (a byte each), the operands (two bytes each).
  *
+ * Kerf. The width of the blade, which each cut loses. A cut of a side at position t leaves a first
+ * part of t and a second part of side - t - k, each at least 1. Its sawdust is k times the other side.
+ *
  * Tree. A guillotine tree on a rectangle is waste, a piece of an ordered kind that fits there, or a
- * cut with a guillotine tree on each part. With PLANNER_TURNING a piece is upright or turned; a
- * turned one fits where its sides exchanged fit. A tree may have any number of nodes. It earns the
- * sum of its pieces' prices, weighs the sum of their weights, and keeps every demand when no kind
- * has more copies in it, upright and turned together, than its demand.
+ * cut, which loses the kerf, with a guillotine tree on each part. With PLANNER_TURNING a piece is
+ * upright or turned; a turned one fits where its sides exchanged fit. A tree may have any number of
+ * nodes. It earns the sum of its pieces' prices, weighs the sum of their weights, and keeps every
+ * demand when no kind has more copies in it, upright and turned together, than its demand.
  *
- * Normal lengths. 0 and all sums, with repetition, of lengths of ordered kinds that fit the plate, up
- * to the plate's length; normal widths likewise. With PLANNER_TURNING the lengths are those of kinds
- * that fit the plate upright and the widths of kinds that fit it turned; normal widths the other way
- * about.
+ * Normal lengths, all sides taken with k added. 0 and all sums, with repetition, of lengths of
+ * ordered kinds that fit the plate, up to the plate's length; normal widths likewise. With
+ * PLANNER_TURNING the lengths are those of kinds that fit the plate upright and the widths of kinds
+ * that fit it turned; normal widths the other way about.
  *
- * Storage. `lengths` needs plate length + 1 words, `widths` plate width + 1, `table` p * r *
+ * Storage. `lengths` needs plate length + k + 1 words, `widths` plate width + k + 1, `table` p * r *
  * (capacity + 1), where p and r are the numbers of normal lengths and widths. A call that fills them
  * leaves the p normal lengths and the r normal widths in the lists, rising, and in the table at word
  * (a * r + b) * (capacity + 1) + c the figure of the a-th normal length, the b-th normal width and
- * share c, all counted from 0. All later words keep what they held.
+ * share c, all counted from 0: the most that a tree of weight at most c earns on the rectangle whose
+ * sides are these less k, and 0 where a or b is 0. All later words keep what they held.
  *
  * Return value.
- *   0        done; `answer` holds the words that the function names, and its later words are kept
- *   1 to 21  refused, see below; answer[0] is the place, and the other words of `answer` are kept
- *   100      `answer` has fewer words than the function names; nothing was changed
- *   101      `choices` has a bit that is no choice, and `answer` is long enough; nothing was changed
+ *   0            done; `answer` holds the words that the function names; its later words are kept
+ *   1 to 21, 27  refused, see below; answer[0] is the place; the other words of `answer` are kept
+ *   100          `answer` has fewer words than the function names; nothing was changed
+ *   101          `choices` has a bit that is no choice, `answer` is long enough; nothing was changed
  *
  * Refusals, in the order of the checks, the first one met, with their places.
- *    1  job of fewer than 6 bytes                              0
+ *    1  job of fewer than 8 bytes, an old block of 6           0
  *    2  plate length or width outside 1 to 1000                0
  *    3  number of kinds outside 1 to 64                        0
- *    4  job not 6 + 10n bytes                                  0
+ *   27  kerf above 20                                          0
+ *    4  job not 8 + 10n bytes, an old block not 6 + 10n        0
  *    5  a side of a kind outside 1 to 1000                     kind
  *    6  price above 1000000                                    kind
  *    7  demand above 255                                       kind
@@ -80,7 +87,7 @@ extern "C" {
  *   11  no node, or above 4095                                 0
  *   12  kind of node above 3, or above 4 with PLANNER_TURNING  node
  *   13  piece number n or more                                 node
- *   14  cut outside 1 to side - 1, or waste operand not 0      node
+ *   14  cut outside 1 to side - k - 1, or waste operand not 0  node
  *   15  piece does not fit                                     node
  *   16  this copy passes its demand                            node
  *   17  a node is wanted and none is left                      node count
@@ -89,8 +96,8 @@ extern "C" {
  *   20  table too short                                        words needed
  *   21  plan needs above 4095 nodes, or more than an array     nodes needed
  *       of the plan holds
- * Numbers 1 to 19 change no lent memory but answer[0]. On 20 the lists are filled and the table is
- * untouched. On 21 lists and table are filled and the plan arrays untouched. */
+ * Numbers 1 to 19 and 27 change no lent memory but answer[0]. On 20 the lists are filled and the
+ * table is untouched. On 21 lists and table are filled and the plan arrays untouched. */
 
 enum {
     PLANNER_DONE = 0,
@@ -101,23 +108,24 @@ enum {
 /* Bits of `choices`. */
 enum {
     PLANNER_TURNING = 1,
-    PLANNER_FULL_DEMAND = 2
+    PLANNER_FULL_DEMAND = 2,
+    PLANNER_OLD_BLOCK = 4
 };
 
 /* Words of `answer`. */
 enum {
-    PLANNER_REPORT_WORDS = 68,
+    PLANNER_REPORT_WORDS = 69,
     PLANNER_BOUND_WORDS = 4,
     PLANNER_PLAN_WORDS = 5,
     PLANNER_CERTIFICATE_WORDS = 3
 };
 
-/* Checks a plan (refusals 1 to 7 and 10 to 18). For an accepted job and a long enough answer it
+/* Checks a plan (refusals 1 to 7, 10 to 18, 27). For an accepted job and a long enough answer it
  * returns 0 exactly if the arrays are the preorder of a guillotine tree on the plate that keeps
  * every demand and has at most 4095 nodes; the answer is that tree's own.
  * answer[0] profit, the sum of the prices; answer[1] area of the pieces, answer[2] of the waste
  * nodes, answer[3] of the trim; answer[4 + i] copies of kind i, upright and turned, 0 past the job's
- * kinds. */
+ * kinds; answer[68] area of the sawdust. The four areas sum to the plate's. */
 uint32_t planner_check_plan(
     const uint8_t *job, size_t job_len,
     uint32_t choices,
@@ -132,9 +140,9 @@ uint32_t planner_check_plan_block(
     const uint8_t *plan, size_t plan_len,
     uint64_t *answer, size_t answer_len);
 
-/* Computes the relaxed bound (refusals 1 to 9, 19, 20) and fills the storage. The bound is exactly
- * the most that a guillotine tree on the plate of weight at most the capacity earns, and no tree
- * that keeps every demand earns more. With the same weights, bound and capacity are never above
+/* Computes the relaxed bound (refusals 1 to 9, 19, 20, 27) and fills the storage. The bound is
+ * exactly the most that a guillotine tree on the plate of weight at most the capacity earns, and no
+ * tree that keeps every demand earns more. With the same weights, bound and capacity are never above
  * those with PLANNER_FULL_DEMAND.
  * answer[0] bound, answer[1] capacity, answer[2] p, answer[3] r. */
 uint32_t planner_bound(
@@ -146,9 +154,10 @@ uint32_t planner_bound(
     uint64_t *table, size_t table_len,
     uint64_t *answer, size_t answer_len);
 
-/* Writes the plan behind the bound (refusals 1 to 9, 19 to 21) and fills the storage. The arrays
+/* Writes the plan behind the bound (refusals 1 to 9, 19 to 21, 27) and fills the storage. The arrays
  * hold the preorder of a guillotine tree on the plate of weight at most the capacity that earns the
- * bound. It may exceed demands. Entries of the arrays past the plan keep what they held.
+ * bound. It may exceed demands. A cut whose second part would be below 1 is left out. Entries of the
+ * arrays past the plan keep what they held.
  * answer[0] bound, answer[1] capacity, answer[2] p, answer[3] r, answer[4] node count. */
 uint32_t planner_write_plan(
     const uint8_t *job, size_t job_len,
@@ -161,9 +170,10 @@ uint32_t planner_write_plan(
     uint16_t *operands, size_t operands_len,
     uint64_t *answer, size_t answer_len);
 
-/* Certifies a plan (refusals 1 to 20) and fills the storage. The gap is 0 exactly if the checked
+/* Certifies a plan (refusals 1 to 20, 27) and fills the storage. The gap is 0 exactly if the checked
  * profit equals the bound, and then no guillotine tree on the plate that keeps every demand earns
- * more; in any case none earns more than profit and gap together.
+ * more; in any case none earns more than profit and gap together. Both hold as well of trees that are
+ * cut at m-ths of a unit, for every whole m of at least 1.
  * answer[0] gap, bound less profit; answer[1] bound, answer[2] profit. */
 uint32_t planner_certify(
     const uint8_t *job, size_t job_len,

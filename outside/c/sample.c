@@ -1,20 +1,21 @@
 /* Job S of the paper from C: the bound, the plan behind it, its check and its certificate, upright
- * and with pieces that may be turned; then more copies than the plate can hold.
+ * and with pieces that may be turned; more copies than the plate can hold; a blade one unit wide.
  * The script `run` compiles this file against planner.h and compares what it prints with sample.out. */
 #include "planner.h"
 #include <inttypes.h>
 #include <stdio.h>
 
 static uint8_t job[] = {
-    5, 0, 3, 0, 3, 0,                                     /* plate 5 by 3, three kinds */
+    5, 0, 3, 0, 3, 0, 0, 0,                               /* plate 5 by 3, three kinds, kerf 0 */
     2, 0, 3, 0, 3, 0, 1, 0, 2, 0, 2, 0,                   /* 2 by 3, 3 by 1, 2 by 2 */
     7, 0, 0, 0, 1, 0, 4, 0, 0, 0, 2, 0, 5, 0, 0, 0, 1, 0, /* price and demand of each */
 };
 static const uint8_t WEIGHTS[] = {0, 1, 0};
 
-enum { TABLE_WORDS = 80, NODES = 16, DEMAND_OF_KIND_1 = 28 };
+enum { KERF = 6, DEMAND_OF_KIND_0 = 24, DEMAND_OF_KIND_1 = 30 }; /* bytes of the job */
+enum { LENGTHS = 7, WIDTHS = 5, TABLE_WORDS = 80, NODES = 16 };
 
-static uint16_t lengths[6], widths[4];
+static uint16_t lengths[LENGTHS], widths[WIDTHS];
 static uint64_t table[TABLE_WORDS];
 
 static void refused(uint32_t number, const uint64_t *answer)
@@ -25,8 +26,9 @@ static void refused(uint32_t number, const uint64_t *answer)
 static void bound(uint32_t choices, size_t table_words)
 {
     uint64_t answer[PLANNER_BOUND_WORDS];
-    uint32_t number = planner_bound(job, sizeof job, choices, WEIGHTS, sizeof WEIGHTS, lengths, 6,
-                                    widths, 4, table, table_words, answer, PLANNER_BOUND_WORDS);
+    uint32_t number = planner_bound(job, sizeof job, choices, WEIGHTS, sizeof WEIGHTS, lengths,
+                                    LENGTHS, widths, WIDTHS, table, table_words, answer,
+                                    PLANNER_BOUND_WORDS);
     if (number == PLANNER_UNKNOWN_CHOICE)
         printf("no such choice\n");
     else if (number == PLANNER_DONE)
@@ -40,8 +42,8 @@ static size_t write_plan(uint32_t choices, uint8_t *kinds, uint16_t *operands)
 {
     uint64_t answer[PLANNER_PLAN_WORDS];
     uint32_t number = planner_write_plan(job, sizeof job, choices, WEIGHTS, sizeof WEIGHTS, lengths,
-                                         6, widths, 4, table, TABLE_WORDS, kinds, NODES, operands,
-                                         NODES, answer, PLANNER_PLAN_WORDS);
+                                         LENGTHS, widths, WIDTHS, table, TABLE_WORDS, kinds, NODES,
+                                         operands, NODES, answer, PLANNER_PLAN_WORDS);
     if (number != PLANNER_DONE) {
         refused(number, answer);
         return 0;
@@ -57,8 +59,8 @@ static void check(uint32_t choices, const uint8_t *kinds, const uint16_t *operan
     uint32_t number = planner_check_plan(job, sizeof job, choices, kinds, nodes, operands, nodes,
                                          answer, PLANNER_REPORT_WORDS);
     if (number == PLANNER_DONE)
-        printf("profit %" PRIu64 " areas %" PRIu64 " %" PRIu64 " %" PRIu64 "\n", answer[0],
-               answer[1], answer[2], answer[3]);
+        printf("profit %" PRIu64 " areas %" PRIu64 " %" PRIu64 " %" PRIu64 " sawdust %" PRIu64 "\n",
+               answer[0], answer[1], answer[2], answer[3], answer[68]);
     else
         refused(number, answer);
 }
@@ -78,8 +80,8 @@ static void certify(uint32_t choices, const uint8_t *kinds, const uint16_t *oper
 {
     uint64_t answer[PLANNER_CERTIFICATE_WORDS];
     uint32_t number = planner_certify(job, sizeof job, choices, WEIGHTS, sizeof WEIGHTS, kinds,
-                                      nodes, operands, nodes, lengths, 6, widths, 4, table,
-                                      TABLE_WORDS, answer, PLANNER_CERTIFICATE_WORDS);
+                                      nodes, operands, nodes, lengths, LENGTHS, widths, WIDTHS,
+                                      table, TABLE_WORDS, answer, PLANNER_CERTIFICATE_WORDS);
     if (number == PLANNER_DONE)
         printf("gap %" PRIu64 " bound %" PRIu64 " profit %" PRIu64 "\n", answer[0], answer[1],
                answer[2]);
@@ -106,6 +108,11 @@ int main(void)
     job[DEMAND_OF_KIND_1] = 200;
     bound(0, TABLE_WORDS);
     bound(PLANNER_FULL_DEMAND, TABLE_WORDS);
-    bound(4, TABLE_WORDS);
+    bound(8, TABLE_WORDS);
+    job[KERF] = 1;
+    job[DEMAND_OF_KIND_0] = 2;
+    nodes = write_plan(0, kinds, operands);
+    check(0, kinds, operands, nodes);
+    certify(0, kinds, operands, nodes);
     return 0;
 }
