@@ -7,6 +7,12 @@ pub const TURNING: u32 = 1;
 /// The choice that the capacity counts every demand in full.
 pub const FULL_DEMAND: u32 = 2;
 
+/// The choice that the job block is the old one, which has no kerf.
+pub const OLD_BLOCK: u32 = 4;
+
+/// Words of a report.
+pub const REPORT_WORDS: usize = 69;
+
 /// Answer of a call whose `answer` slice is too short.
 pub const ANSWER_TOO_SHORT: u32 = 100;
 
@@ -28,6 +34,7 @@ pub struct Report {
     pub waste: u64,
     pub trim: u64,
     pub copies: [u64; 64],
+    pub sawdust: u64,
 }
 
 /// The bound, the capacity and the numbers of normal lengths and widths.
@@ -73,18 +80,18 @@ pub trait Words<const N: usize>: Sized {
     fn from_words(words: [u64; N]) -> Self;
 }
 
-impl Words<68> for Report {
-    fn to_words(&self) -> [u64; 68] {
-        let mut words = [0; 68];
+impl Words<REPORT_WORDS> for Report {
+    fn to_words(&self) -> [u64; REPORT_WORDS] {
+        let mut words = [0; REPORT_WORDS];
         words[..4].copy_from_slice(&[self.profit, self.pieces, self.waste, self.trim]);
-        words[4..].copy_from_slice(&self.copies);
+        words[4..68].copy_from_slice(&self.copies);
+        words[68] = self.sawdust;
         words
     }
 
-    fn from_words(words: [u64; 68]) -> Report {
-        let mut copies = [0; 64];
-        copies.copy_from_slice(&words[4..]);
-        Report { profit: words[0], pieces: words[1], waste: words[2], trim: words[3], copies }
+    fn from_words(words: [u64; REPORT_WORDS]) -> Report {
+        let [profit, pieces, waste, trim, copies @ .., sawdust] = words;
+        Report { profit, pieces, waste, trim, copies, sawdust }
     }
 }
 

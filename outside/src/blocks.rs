@@ -4,9 +4,24 @@
 /// A kind: length, width, price, demand.
 pub type Kind = (u16, u16, u32, u16);
 
+/// A job block with this kerf.
+pub fn kerf_block(length: u16, width: u16, kerf: u16, kinds: &[Kind]) -> Vec<u8> {
+    block(&[length, width, kinds.len() as u16, kerf], kinds)
+}
+
+/// A job block with kerf 0.
 pub fn job_block(length: u16, width: u16, kinds: &[Kind]) -> Vec<u8> {
-    let mut block = Vec::with_capacity(6 + 10 * kinds.len());
-    for field in [length, width, kinds.len() as u16] {
+    kerf_block(length, width, 0, kinds)
+}
+
+/// The old block, which has no field for the kerf.
+pub fn old_block(length: u16, width: u16, kinds: &[Kind]) -> Vec<u8> {
+    block(&[length, width, kinds.len() as u16], kinds)
+}
+
+fn block(header: &[u16], kinds: &[Kind]) -> Vec<u8> {
+    let mut block = Vec::with_capacity(2 * header.len() + 10 * kinds.len());
+    for field in header {
         block.extend(field.to_le_bytes());
     }
     for (length, width, _, _) in kinds {

@@ -1,4 +1,4 @@
-// The bound: refusals 1 to 9, 19 and 20, and the contents of lists and table.
+// The bound: refusals 1 to 9, 19, 20 and 27, and the contents of lists and table.
 // The writer and the certificate prepare their storage by the same steps.
 use super::figures::Figures;
 use super::job::Job;
@@ -7,7 +7,8 @@ use super::refuse_if;
 use super::weights::capacity;
 use crate::answers::{Bound, Refusal, Storage};
 
-/// What the writer goes on with.
+/// What the writer goes on with. The sides of the cells are the normal positions with the kerf taken
+/// off again, 0 the first of them.
 pub struct Tabled {
     pub bound: Bound,
     pub figures: Figures,
@@ -32,7 +33,8 @@ pub fn tabled(
     capacity: usize,
     storage: Storage,
 ) -> Result<Tabled, Refusal> {
-    let short = storage.lengths.len() <= job.length || storage.widths.len() <= job.width;
+    let is_short = |list: &[u16], side: usize| list.len() < side + job.kerf + 1;
+    let short = is_short(storage.lengths, job.length) || is_short(storage.widths, job.width);
     refuse_if(short, 19, 0)?;
     let (lengths, widths) = normal_positions(job);
     fill(storage.lengths, &lengths);
@@ -40,6 +42,7 @@ pub fn tabled(
     let needed = lengths.len() * widths.len() * (capacity + 1);
     refuse_if(storage.table.len() < needed, 20, needed)?;
     let figures = Figures::of(job, weights, capacity);
+    let [lengths, widths] = [lengths, widths].map(|positions| without_kerf(job, positions));
     let mut words = storage.table.chunks_exact_mut(capacity + 1);
     for &length in &lengths {
         for &width in &widths {
@@ -54,6 +57,10 @@ pub fn tabled(
         widths: widths.len() as u64,
     };
     Ok(Tabled { bound, figures, lengths, widths })
+}
+
+fn without_kerf(job: &Job, positions: Vec<usize>) -> Vec<usize> {
+    positions.into_iter().map(|position| position.saturating_sub(job.kerf)).collect()
 }
 
 fn fill(list: &mut [u16], positions: &[usize]) {

@@ -1,7 +1,8 @@
 // The reference's calls with codes and answer words, as planner.h has them.
 // A short answer is told before anything else is looked at, and then a bit that is no choice.
 use crate::answers::{
-    PlanArrays, Refusal, Storage, Words, ANSWER_TOO_SHORT, FULL_DEMAND, TURNING, UNKNOWN_CHOICE,
+    PlanArrays, Refusal, Storage, Words, ANSWER_TOO_SHORT, FULL_DEMAND, OLD_BLOCK, TURNING,
+    UNKNOWN_CHOICE,
 };
 use crate::calls::Calls;
 
@@ -63,7 +64,7 @@ fn coded<const N: usize, A: Words<N>>(
     if answer.len() < N {
         return ANSWER_TOO_SHORT;
     }
-    if choices & !(TURNING | FULL_DEMAND) != 0 {
+    if choices & !(TURNING | FULL_DEMAND | OLD_BLOCK) != 0 {
         return UNKNOWN_CHOICE;
     }
     match call() {

@@ -1,5 +1,6 @@
 // The figure of every rectangle of whole sides up to the plate's, at every share.
-// Straight from its definition: nothing, a piece, or the best split of a cut at any unit.
+// Straight from its definition: nothing, a piece, or the best split of a cut at any unit, which loses
+// the kerf.
 use super::job::Job;
 
 pub struct Figures {
@@ -43,11 +44,11 @@ impl Figures {
             let (price, weight) = (job.kinds[piece.kind].price, weights[piece.kind]);
             best.iter_mut().skip(weight.into()).for_each(|b| *b = price.max(*b));
         }
-        for cut in 1..length {
-            raise(&mut best, self.shares_of(cut, width), self.shares_of(length - cut, width));
+        for (first, second) in job.parts(length) {
+            raise(&mut best, self.shares_of(first, width), self.shares_of(second, width));
         }
-        for cut in 1..width {
-            raise(&mut best, self.shares_of(length, cut), self.shares_of(length, width - cut));
+        for (first, second) in job.parts(width) {
+            raise(&mut best, self.shares_of(length, first), self.shares_of(length, second));
         }
         best
     }

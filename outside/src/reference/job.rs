@@ -1,7 +1,7 @@
-// The job block: refusals 1 to 7; and the pieces as they may lie.
+// The job block, new and old: refusals 1 to 7 and 27; the pieces as they may lie; what a cut leaves.
 // Header, then all sizes, then the pairs of price and demand.
 use super::refuse_if;
-use crate::answers::{Refusal, FULL_DEMAND, TURNING};
+use crate::answers::{Refusal, FULL_DEMAND, OLD_BLOCK, TURNING};
 
 pub struct Kind {
     pub length: usize,
@@ -21,6 +21,7 @@ pub struct Piece {
 pub struct Job {
     pub length: usize,
     pub width: usize,
+    pub kerf: usize,
     pub kinds: Vec<Kind>,
     pub turning: bool,
     pub full_demand: bool,
@@ -46,13 +47,29 @@ impl Job {
         kinds.flat_map(move |i| ways.iter().map(move |&turned| self.piece(i, turned)))
     }
 
+    /// The second part of a cut at a position; none where a part would be below 1. The blade takes
+    /// the kerf after the position.
+    pub fn second(&self, side: usize, position: usize) -> Option<usize> {
+        let second = side.checked_sub(position + self.kerf)?;
+        (position >= 1 && second >= 1).then_some(second)
+    }
+
+    /// Both parts of each cut of a side.
+    pub fn parts(&self, side: usize) -> impl Iterator<Item = (usize, usize)> + '_ {
+        (1..side).filter_map(move |first| Some((first, self.second(side, first)?)))
+    }
+
     pub fn read(block: &[u8], choices: u32) -> Result<Job, Refusal> {
-        refuse_if(block.len() < 6, 1, 0)?;
+        let chosen = |bit| choices & bit != 0;
+        let header = if chosen(OLD_BLOCK) { 6 } else { 8 };
+        refuse_if(block.len() < header, 1, 0)?;
         let (length, width, n) = (two(block, 0), two(block, 2), two(block, 4));
+        let kerf = if chosen(OLD_BLOCK) { 0 } else { two(block, 6) };
         refuse_if(is_no_side(length) || is_no_side(width), 2, 0)?;
         refuse_if(!(1..=64).contains(&n), 3, 0)?;
-        refuse_if(block.len() != 6 + 10 * n, 4, 0)?;
-        let (sizes, pairs) = block[6..].split_at(4 * n);
+        refuse_if(kerf > 20, 27, 0)?;
+        refuse_if(block.len() != header + 10 * n, 4, 0)?;
+        let (sizes, pairs) = block[header..].split_at(4 * n);
         for (i, size) in sizes.chunks(4).enumerate() {
             refuse_if(is_no_side(two(size, 0)) || is_no_side(two(size, 2)), 5, i)?;
         }
@@ -61,9 +78,8 @@ impl Job {
             refuse_if(two(pair, 4) > 255, 7, i)?;
         }
         let kinds = sizes.chunks(4).zip(pairs.chunks(6)).map(kind).collect();
-        let chosen = |bit| choices & bit != 0;
         let (turning, full_demand) = (chosen(TURNING), chosen(FULL_DEMAND));
-        Ok(Job { length, width, kinds, turning, full_demand })
+        Ok(Job { length, width, kerf, kinds, turning, full_demand })
     }
 }
 

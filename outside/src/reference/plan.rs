@@ -1,4 +1,4 @@
-// The plan check: refusals 10 to 18, and the report.
+// The plan check: refusals 10 to 18, and the report, whose four areas make up the plate.
 // Rectangles that wait for their node are kept in a list, the next one last.
 use super::job::{Job, Piece};
 use super::refuse_if;
@@ -51,7 +51,8 @@ struct Walk<'a> {
 
 impl Walk<'_> {
     fn of(job: &Job) -> Walk<'_> {
-        let report = Report { profit: 0, pieces: 0, waste: 0, trim: 0, copies: [0; 64] };
+        let copies = [0; 64];
+        let report = Report { profit: 0, pieces: 0, waste: 0, trim: 0, copies, sawdust: 0 };
         Walk { job, waiting: vec![(job.length, job.width)], report }
     }
 
@@ -70,13 +71,27 @@ impl Walk<'_> {
             refuse_if(operand >= self.job.kinds.len(), 13, at)?;
             self.piece(at, self.job.piece(operand, kind == TURNED_PIECE), length, width)?;
         } else if kind == CUT_LENGTH {
-            refuse_if(operand < 1 || operand >= length, 14, at)?;
-            self.waiting.extend([(length - operand, width), (operand, width)]);
+            let second = self.cut(at, length, operand, width)?;
+            self.waiting.extend([(second, width), (operand, width)]);
         } else {
-            refuse_if(operand < 1 || operand >= width, 14, at)?;
-            self.waiting.extend([(length, width - operand), (length, operand)]);
+            let second = self.cut(at, width, operand, length)?;
+            self.waiting.extend([(length, second), (length, operand)]);
         }
         Ok(())
+    }
+
+    /// Cuts a side at a position: the blade runs along the other side. Gives the second part.
+    fn cut(
+        &mut self,
+        at: usize,
+        side: usize,
+        position: usize,
+        along: usize,
+    ) -> Result<usize, Refusal> {
+        let out_of_range = Refusal { number: 14, place: at as u64 };
+        let second = self.job.second(side, position).ok_or(out_of_range)?;
+        self.report.sawdust += (self.job.kerf * along) as u64;
+        Ok(second)
     }
 
     fn piece(

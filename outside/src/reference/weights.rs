@@ -1,7 +1,7 @@
 // The weights and the capacity: refusals 8 and 9.
 // A kind counts with its demand, or with what the plate can hold where that is less and the full
-// demand is not chosen.
-use super::job::{Job, Kind};
+// demand is not chosen. What the plate can hold is read from sides with the kerf added.
+use super::job::Job;
 use super::refuse_if;
 use crate::answers::Refusal;
 
@@ -26,12 +26,14 @@ fn counted(job: &Job, kind: usize) -> u64 {
 /// The copies of a kind that can lie on one plate: upright ones in rows and columns; where pieces
 /// may be turned, what the areas allow, or none if it fits neither way.
 fn held(job: &Job, kind: usize) -> usize {
-    let Kind { length, width, .. } = job.kinds[kind];
+    let upright = job.piece(kind, false);
+    let sides = [job.length, job.width, upright.length, upright.width];
+    let [plate_length, plate_width, length, width] = sides.map(|side| side + job.kerf);
     let fits = |turned| job.piece(kind, turned).fits(job.length, job.width);
     if !job.turning {
-        (job.length / length) * (job.width / width)
+        (plate_length / length) * (plate_width / width)
     } else if fits(false) || fits(true) {
-        (job.length * job.width) / (length * width)
+        (plate_length * plate_width) / (length * width)
     } else {
         0
     }

@@ -1,5 +1,6 @@
 // The plan behind the bound, chosen from the figures of whole rectangles: refusal 21.
-// The order of choice is the paper's; positions are normal, the remainder is true.
+// The order of choice is the paper's; a cut stands at a side of a cell, the remainder is true. A cut
+// that has no second part is left out.
 use super::bound::{tabled, Tabled};
 use super::job::{Job, Piece};
 use super::refuse_if;
@@ -45,12 +46,18 @@ fn nodes(job: &Job, weights: &[u8], tabled: &Tabled, capacity: usize) -> Vec<(u8
             Choice::Waste => nodes.push((0, 0)),
             Choice::Piece(piece) => nodes.push((if piece.turned { 4 } else { 1 }, piece.kind)),
             Choice::CutLength(cut, first) => {
-                nodes.push((2, cut));
-                waiting.extend([(length - cut, width, share - first), (cut, width, first)]);
+                if let Some(second) = job.second(length, cut) {
+                    nodes.push((2, cut));
+                    waiting.push((second, width, share - first));
+                }
+                waiting.push((cut, width, first));
             }
             Choice::CutWidth(cut, first) => {
-                nodes.push((3, cut));
-                waiting.extend([(length, width - cut, share - first), (length, cut, first)]);
+                if let Some(second) = job.second(width, cut) {
+                    nodes.push((3, cut));
+                    waiting.push((length, second, share - first));
+                }
+                waiting.push((length, cut, first));
             }
         }
     }
@@ -70,11 +77,14 @@ fn choose(job: &Job, weights: &[u8], tabled: &Tabled, (length, width, share): Pa
     if let Some(piece) = job.pieces().find(earns) {
         return Choice::Piece(piece);
     }
-    let across = |cut| (figures.shares_of(cut, width), figures.shares_of(length - cut, width));
+    let second = |side, cut| job.second(side, cut).unwrap_or(0);
+    let across =
+        |cut| (figures.shares_of(cut, width), figures.shares_of(second(length, cut), width));
     if let Some((cut, first)) = first_pair(&tabled.lengths, length, share, value, across) {
         return Choice::CutLength(cut, first);
     }
-    let along = |cut| (figures.shares_of(length, cut), figures.shares_of(length, width - cut));
+    let along =
+        |cut| (figures.shares_of(length, cut), figures.shares_of(length, second(width, cut)));
     let (cut, first) = first_pair(&tabled.widths, width, share, value, along)
         .expect("a figure that no piece and no length cut earns is earned by a width cut");
     Choice::CutWidth(cut, first)
