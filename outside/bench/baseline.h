@@ -1,12 +1,13 @@
 /* The baseline in C: the tabled algorithm with no proofs, as fast as we know how to write it.
- * Jobs are taken as accepted and storage as large enough. */
+ * Jobs are taken as accepted, in the new block, and storage as large enough. */
 #ifndef BASELINE_H
 #define BASELINE_H
 
 #include <stddef.h>
 #include <stdint.h>
 
-enum { MOST_PIECES = 128, MOST_SIDE = 1000, MOST_NODES = 4095 };
+/* The greatest side has the greatest kerf added. */
+enum { MOST_PIECES = 128, MOST_SIDE = 1020, MOST_NODES = 4095 };
 
 typedef struct {
     int length, width;
@@ -22,10 +23,11 @@ enum { WASTE, PIECE, CUT_LENGTH, CUT_WIDTH, TURNED_PIECE };
 /* The choices that a piece may be turned, and that the capacity counts every demand in full. */
 enum { TURNING = 1, FULL_DEMAND = 2 };
 
-/* Pieces are the kinds as they may lie, each with its node in a plan. */
+/* Pieces are the kinds as they may lie, each with its node in a plan. All sides, the plate's too,
+ * have the kerf added: then parts make up a whole, and only the writer knows of the kerf. */
 typedef struct {
     Size plate;
-    int pieces, capacity;
+    int kerf, pieces, capacity;
     Size size[MOST_PIECES];
     uint64_t price[MOST_PIECES];
     int weight[MOST_PIECES];

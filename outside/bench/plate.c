@@ -8,6 +8,12 @@ static int two(const uint8_t *at)
     return at[0] | at[1] << 8;
 }
 
+/* Two sides, with the kerf added. */
+static Size sides(const uint8_t *at, int kerf)
+{
+    return (Size){two(at) + kerf, two(at + 2) + kerf};
+}
+
 static void add_piece(Job *job, Size size, uint64_t price, int weight, Node node)
 {
     int i = job->pieces++;
@@ -34,13 +40,14 @@ static int counted(Size plate, Size size, int demand, uint32_t choices)
 
 static void read_job(Job *job, const uint8_t *block, uint32_t choices, const uint8_t *weights)
 {
-    int kinds = two(block + 4);
-    const uint8_t *sizes = block + 6, *pairs = sizes + 4 * kinds;
-    job->plate = (Size){two(block), two(block + 2)};
+    int kinds = two(block + 4), kerf = two(block + 6);
+    const uint8_t *sizes = block + 8, *pairs = sizes + 4 * kinds;
+    job->plate = sides(block, kerf);
+    job->kerf = kerf;
     job->pieces = job->capacity = 0;
     for (int i = 0; i < kinds; i++) {
         const uint8_t *pair = pairs + 6 * i;
-        Size size = {two(sizes + 4 * i), two(sizes + 4 * i + 2)}, turned = {size.width, size.length};
+        Size size = sides(sizes + 4 * i, kerf), turned = {size.width, size.length};
         uint64_t price = (uint64_t)two(pair) | (uint64_t)two(pair + 2) << 16;
         int demand = two(pair + 4);
         if (demand > 0)

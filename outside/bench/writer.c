@@ -1,5 +1,6 @@
 /* The plan behind the bound, read off the table with a list of waiting rectangles.
- * A position is looked into only where both parts at the whole share could earn the value. */
+ * A position is looked into only where both parts at the whole share could earn the value.
+ * Sides have the kerf added: a second part that is no longer is none, and its cut is left out. */
 #include "baseline.h"
 #include <string.h>
 
@@ -59,7 +60,8 @@ static int find_cut(const Tabled *tabled, const Part *part, int direction, uint6
         int rest = positions->index[side - positions->at[i]];
         int c = find_share(origin + i * step, origin + rest * step, part->share, value);
         if (c >= 0) {
-            *chosen = (Choice){{CUT_LENGTH + direction, positions->at[i]}, c};
+            int position = positions->at[i] - tabled->plate->job.kerf;
+            *chosen = (Choice){{CUT_LENGTH + direction, position}, c};
             return 1;
         }
     }
@@ -81,15 +83,20 @@ static Choice choose(const Tabled *tabled, const Part *part)
     return chosen;
 }
 
-/* Puts the two parts of a cut into the list, the first one last. */
-static void split(Part *waiting, Choice cut)
+/* Puts the parts of a cut into the list in place of the whole, the first one last, and gives how many
+ * there are: 1 where there is no second. */
+static int split(Part *waiting, Choice cut, int kerf)
 {
     int direction = cut.node.kind - CUT_LENGTH;
-    waiting[1] = waiting[0];
-    waiting[0].side[direction] -= cut.node.operand;
-    waiting[0].share -= cut.share;
-    waiting[1].side[direction] = cut.node.operand;
-    waiting[1].share = cut.share;
+    Part first = waiting[0], second = waiting[0];
+    first.side[direction] = cut.node.operand + kerf;
+    first.share = cut.share;
+    second.side[direction] -= first.side[direction];
+    second.share -= first.share;
+    int parts = second.side[direction] > kerf ? 2 : 1;
+    waiting[0] = second;
+    waiting[parts - 1] = first;
+    return parts;
 }
 
 size_t write_nodes(const Plate *plate, const uint64_t *table, uint8_t *kinds, uint16_t *operands)
@@ -102,16 +109,15 @@ size_t write_nodes(const Plate *plate, const uint64_t *table, uint8_t *kinds, ui
     uint16_t operand[MOST_NODES];
     size_t count = 0;
     waiting[0] = (Part){{job->plate.length, job->plate.width}, job->capacity};
-    for (int left = 1; left > 0; count++) {
-        Choice chosen = choose(&tabled, &waiting[left - 1]);
-        if (count < MOST_NODES) {
-            kind[count] = (uint8_t)chosen.node.kind;
-            operand[count] = (uint16_t)chosen.node.operand;
+    for (int left = 1, parts; left > 0; left += parts - 1) {
+        Part *part = &waiting[left - 1];
+        Choice chosen = choose(&tabled, part);
+        int is_cut = chosen.node.kind == CUT_LENGTH || chosen.node.kind == CUT_WIDTH;
+        parts = is_cut ? split(part, chosen, job->kerf) : 0;
+        if (parts != 1 && count++ < MOST_NODES) {
+            kind[count - 1] = (uint8_t)chosen.node.kind;
+            operand[count - 1] = (uint16_t)chosen.node.operand;
         }
-        if (chosen.node.kind == CUT_LENGTH || chosen.node.kind == CUT_WIDTH)
-            split(&waiting[left++ - 1], chosen);
-        else
-            left--;
     }
     if (count <= MOST_NODES) {
         memcpy(kinds, kind, count);

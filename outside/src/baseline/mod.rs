@@ -1,4 +1,4 @@
 // The same algorithm without proofs, once in Rust and once in C, for the benchmark.
-// Both take jobs as accepted and storage as large enough.
+// Both take jobs as accepted, in the new block, and storage as large enough.
 pub mod c;
 pub mod rust;

@@ -1,5 +1,5 @@
 // The baseline in Rust: the tabled algorithm as fast as we know how to write it.
-// Jobs are taken as accepted and storage as large enough.
+// Jobs are taken as accepted, in the new block, and storage as large enough.
 mod row_fill;
 mod plate;
 mod state_fill;

@@ -1,4 +1,5 @@
-// Reading a job, its capacity and its normal positions.
+// Reading a job, its capacity and its normal positions. All sides have the kerf added: then parts
+// make up a whole, and only the writer knows of the kerf.
 // Also the two loops that all the work is in.
 use crate::answers::{FULL_DEMAND, TURNING};
 
@@ -21,6 +22,7 @@ pub struct Positions {
 }
 
 pub struct Plate {
+    pub kerf: usize,
     pub pieces: Vec<Piece>,
     pub capacity: usize,
     pub on: [Positions; 2],
@@ -28,13 +30,14 @@ pub struct Plate {
 
 impl Plate {
     pub fn read(job: &[u8], choices: u32, weights: &[u8]) -> Plate {
-        let plate = [two(job, 0), two(job, 2)];
-        let n = two(job, 4);
-        let (sizes, pairs) = (&job[6..], &job[6 + 4 * n..]);
+        let (n, kerf) = (two(job, 4), two(job, 6));
+        let side = |bytes: &[u8], at| two(bytes, at) + kerf;
+        let plate = [side(job, 0), side(job, 2)];
+        let (sizes, pairs) = (&job[8..], &job[8 + 4 * n..]);
         let mut capacity = 0;
         let mut pieces = Vec::with_capacity(2 * n);
         for (i, &weight) in weights.iter().enumerate() {
-            let [length, width] = [two(sizes, 4 * i), two(sizes, 4 * i + 2)];
+            let [length, width] = [side(sizes, 4 * i), side(sizes, 4 * i + 2)];
             let price = (two(pairs, 6 * i) + (two(pairs, 6 * i + 2) << 16)) as u64;
             let weight = usize::from(weight);
             let demand = two(pairs, 6 * i + 4);
@@ -48,10 +51,10 @@ impl Plate {
             }
         }
         let on = [LENGTH, WIDTH].map(|d| Positions::find(plate, &pieces, d));
-        Plate { pieces, capacity, on }
+        Plate { kerf, pieces, capacity, on }
     }
 
-    /// The plate's length and width.
+    /// The plate's length and width with the kerf.
     pub fn sides(&self) -> [usize; 2] {
         [self.on[LENGTH].side, self.on[WIDTH].side]
     }

@@ -1,5 +1,6 @@
 // The plan behind the bound, read off the table with a list of waiting rectangles.
 // A position is looked into only where both parts at the whole share could earn the value.
+// Sides have the kerf added: a second part that is no longer is none, and its cut is left out.
 use super::plate::{Plate, LENGTH, WIDTH};
 use crate::answers::PlanArrays;
 
@@ -40,8 +41,12 @@ pub fn write_nodes(plate: &Plate, table: &[u64], plan: PlanArrays) -> usize {
                 first.share = share;
                 second.side[direction] -= position;
                 second.share -= share;
+                if second.side[direction] <= plate.kerf {
+                    waiting.push(first);
+                    continue;
+                }
                 waiting.extend([second, first]);
-                (2 + direction as u8, position as u16)
+                (2 + direction as u8, (position - plate.kerf) as u16)
             }
         };
         if count < MOST_NODES {

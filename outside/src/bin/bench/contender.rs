@@ -54,8 +54,8 @@ pub const CONTENDERS: [Contender; 3] = [
 impl Memory {
     pub fn new(words: usize) -> Memory {
         Memory {
-            lengths: vec![0xAAAA; 1001],
-            widths: vec![0xAAAA; 1001],
+            lengths: vec![0xAAAA; 1021],
+            widths: vec![0xAAAA; 1021],
             table: vec![0xAAAA_AAAA_AAAA_AAAA; words],
             kinds: vec![0xAA; 4095],
             operands: vec![0xAAAA; 4095],

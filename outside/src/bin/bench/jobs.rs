@@ -2,7 +2,7 @@
 // Prices are areas with a premium of up to a quarter; demands are raised until Q is as wanted, which
 // counts them in full where the plate cannot hold so many.
 use outside::answers::{FULL_DEMAND, TURNING};
-use outside::blocks::{job_block, job_s, Kind};
+use outside::blocks::{job_s, kerf_block, Kind};
 use outside::random::Random;
 use outside::reference;
 
@@ -16,6 +16,7 @@ pub struct Job {
 /// What a generated job is drawn from.
 struct Draw {
     plate: u16,
+    kerf: u16,
     kinds: usize,
     sides: (usize, usize),
     weights: &'static [u8],
@@ -23,13 +24,21 @@ struct Draw {
     choices: u32,
 }
 
-const SMALL: Draw =
-    Draw { plate: 100, kinds: 20, sides: (8, 60), weights: &[0], capacity: 0, choices: 0 };
+const SMALL: Draw = Draw {
+    plate: 100,
+    kerf: 0,
+    kinds: 20,
+    sides: (8, 60),
+    weights: &[0],
+    capacity: 0,
+    choices: 0,
+};
 
 /// The fixed set.
 pub fn named() -> Vec<Job> {
     let few = Draw { weights: &[0, 1], capacity: 30, ..SMALL };
     let turning = Draw { choices: TURNING, ..few };
+    let kerf = Draw { kerf: 4, ..few };
     let half = Draw { plate: 500, kinds: 40, sides: (30, 250), ..SMALL };
     let full = Draw { plate: 1000, kinds: 50, sides: (100, 500), ..SMALL };
     let shares = Draw {
@@ -49,7 +58,7 @@ pub fn named() -> Vec<Job> {
     };
     let s = Job { name: "S".into(), block: job_s(), choices: 0, weights: vec![0, 1, 0] };
     let mut jobs = vec![s];
-    jobs.extend([SMALL, few, turning, half, full, shares, many].iter().map(draw));
+    jobs.extend([SMALL, few, turning, kerf, half, full, shares, many].iter().map(draw));
     jobs
 }
 
@@ -74,13 +83,16 @@ fn draw(from: &Draw) -> Job {
     let weights: Vec<u8> = (0..from.kinds).map(|_| random.pick(from.weights)).collect();
     raise_demands(from, &mut kinds, &weights);
     let capacity = capacity(from, &kinds, &weights);
-    let &Draw { plate, sides: (low, high), choices, .. } = from;
+    let &Draw { plate, kerf, sides: (low, high), choices, .. } = from;
     let n = kinds.len();
     let mut name = format!("{plate}×{plate}, {n} kinds of sides {low}–{high}, Q {capacity}");
+    if kerf > 0 {
+        name += &format!(", kerf {kerf}");
+    }
     for (choice, words) in [(TURNING, ", turning"), (FULL_DEMAND, ", full demand")] {
         name += if choices & choice != 0 { words } else { "" };
     }
-    Job { name, block: job_block(plate, plate, &kinds), choices, weights }
+    Job { name, block: kerf_block(plate, plate, kerf, &kinds), choices, weights }
 }
 
 fn draw_kind(random: &mut Random, (low, high): (usize, usize)) -> Kind {
@@ -103,7 +115,7 @@ fn raise_demands(from: &Draw, kinds: &mut [Kind], weights: &[u8]) {
 
 /// The capacity that the calls read, or more than any limit where they refuse it.
 fn capacity(from: &Draw, kinds: &[Kind], weights: &[u8]) -> usize {
-    let block = job_block(from.plate, from.plate, kinds);
+    let block = kerf_block(from.plate, from.plate, from.kerf, kinds);
     let job = reference::Job::read(&block, from.choices).expect("a job");
     reference::capacity(&job, weights).unwrap_or(usize::MAX)
 }
