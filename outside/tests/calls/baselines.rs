@@ -1,14 +1,13 @@
 // The benchmark's baselines against the reference: same answer and same memory on accepted jobs.
 // What they take as given is given here: an accepted job and storage that the reference found enough.
-use crate::inputs::{draw, Scale};
-use crate::lent::{Lent, Sizes};
+use crate::inputs::{draw, Scale, SMALL};
+use crate::lent::{Lent, Sizes, AMPLE};
 use crate::run::{Call, Input, ALL_CHOICES};
 use outside::answers::{PlanArrays, Storage, Words, Written};
 use outside::random::Random;
 use outside::{baseline, reference};
 
-const ROOM: Sizes =
-    Sizes { lengths: 120, widths: 120, table: 1 << 18, kinds: 4095, operands: 4095, answer: 5 };
+const ROOM: Sizes = Sizes { lengths: 120, widths: 120, table: 1 << 18, answer: 5, ..AMPLE };
 
 type WritePlan = fn(&[u8], u32, &[u8], Storage<'_>, PlanArrays<'_>) -> Written;
 
@@ -45,21 +44,18 @@ fn baselines_agree(seed: u64, jobs: usize, scale: Scale) {
 
 #[test]
 fn baselines_agree_with_shares() {
-    let scale =
-        Scale { plate: 12, side: 7, kinds: 6, price: 30, demand: 4, weight: 3, work: usize::MAX };
+    let scale = Scale { plate: 12, kerf: 3, side: 7, kinds: 6, price: 30, weight: 3, ..SMALL };
     baselines_agree(11, 6000, scale);
 }
 
 #[test]
 fn baselines_agree_with_many_shares() {
-    let scale =
-        Scale { plate: 5, side: 3, kinds: 4, price: 50, demand: 6, weight: 40, work: usize::MAX };
+    let scale = Scale { plate: 5, side: 3, price: 50, demand: 6, weight: 40, ..SMALL };
     baselines_agree(13, 1000, scale);
 }
 
 #[test]
 fn baselines_agree_without_weights() {
-    let scale =
-        Scale { plate: 60, side: 40, kinds: 9, price: 400, demand: 4, weight: 0, work: usize::MAX };
+    let scale = Scale { plate: 60, kerf: 20, side: 40, kinds: 9, price: 400, weight: 0, ..SMALL };
     baselines_agree(12, 400, scale);
 }

@@ -3,7 +3,7 @@
 use crate::examples::{answers, input, lists, plan_refused, refuses, writes, writes_alike, Node};
 use crate::run::{Call, Input, ALL_CHOICES};
 use outside::answers::TURNING;
-use outside::blocks::{job_block, Kind};
+use outside::blocks::{job_block, kerf_block, Kind};
 use outside::random::Random;
 
 fn unweighted(length: u16, width: u16, kinds: &[Kind], nodes: &[Node]) -> Input {
@@ -61,9 +61,9 @@ fn draw_both(random: &mut Random) -> ([Input; 2], Vec<u16>) {
         }
     }
     let (length, width) = (random.from(1, 8) as u16, random.from(1, 8) as u16);
-    let choices = random.pick(&ALL_CHOICES);
+    let (kerf, choices) = (random.from(0, 2) as u16, random.pick(&ALL_CHOICES));
     let job = |kinds: &[Kind], weights: &[u8]| {
-        input(job_block(length, width, kinds), weights, &[]).with(choices)
+        input(kerf_block(length, width, kerf, kinds), weights, &[]).with(choices)
     };
     ([job(&all, &weights), job(&ordered, &kept)], numbers)
 }

@@ -1,17 +1,22 @@
 // The capacity: what it counts of a kind, upright and turning, in the default form and in full
 // demand; its limit; and the table that it asks for.
 use crate::examples::{answers, input, refuses};
-use crate::lent::{Lent, Sizes};
+use crate::lent::{Lent, Sizes, AMPLE};
 use crate::run::{compare, Call, Input, ALL_CHOICES, WEIGHING_CALLS};
 use outside::answers::{FULL_DEMAND, TURNING};
-use outside::blocks::{job_block, Kind};
+use outside::blocks::{job_block, kerf_block, Kind};
 
-pub const ROOM: Sizes =
-    Sizes { lengths: 1001, widths: 1001, table: 1 << 16, kinds: 256, operands: 256, answer: 68 };
+pub const ROOM: Sizes = Sizes { table: 1 << 16, kinds: 256, operands: 256, ..AMPLE };
 
 /// So many copies, of weight 1, of one size.
-pub fn copies(demand: u16, (length, width): (u16, u16), plate: (u16, u16)) -> Input {
-    input(job_block(plate.0, plate.1, &[(length, width, 1, demand)]), &[1], &[(0, 0)])
+fn copies(demand: u16, size: (u16, u16), plate: (u16, u16)) -> Input {
+    sawn_copies(0, demand, size, plate)
+}
+
+/// The same, cut apart with a kerf.
+fn sawn_copies(kerf: u16, demand: u16, size: (u16, u16), plate: (u16, u16)) -> Input {
+    let kind = (size.0, size.1, 1, demand);
+    input(kerf_block(plate.0, plate.1, kerf, &[kind]), &[1], &[(0, 0)])
 }
 
 /// The memory that a call leaves, which must be done.
@@ -69,6 +74,17 @@ fn a_kind_that_fits_neither_way_counts_nothing() {
 fn with_turning_areas_count_if_one_way_fits() {
     capacities(&copies(200, (2, 7), (10, 3)), [0, 2, 200, 200]);
     capacities(&copies(200, (7, 2), (10, 3)), [1, 2, 200, 200]);
+}
+
+/// The plate has no kerf after its last copy.
+#[test]
+fn the_kerf_lies_between_copies() {
+    capacities(&sawn_copies(1, 200, (4, 3), (10, 5)), [2, 3, 200, 200]);
+    capacities(&sawn_copies(2, 200, (4, 3), (10, 5)), [2, 2, 200, 200]);
+    capacities(&sawn_copies(3, 200, (4, 3), (10, 5)), [1, 2, 200, 200]);
+    capacities(&sawn_copies(20, 200, (10, 5), (10, 5)), [1, 1, 200, 200]);
+    capacities(&sawn_copies(20, 200, (5, 10), (10, 5)), [0, 1, 200, 200]);
+    capacities(&sawn_copies(20, 200, (9, 6), (10, 5)), [0, 0, 200, 200]);
 }
 
 #[test]
@@ -129,6 +145,24 @@ fn held_copies_up_to_4095() {
     }
 }
 
+/// With a kerf the plate holds one copy of each kind, and two without.
+#[test]
+fn sawn_copies_up_to_4095() {
+    let kinds: Vec<Kind> = vec![(1, 1, 3, 255); 17];
+    let job = |kerf, last| {
+        let mut weights = [255; 17];
+        weights[16] = last;
+        input(kerf_block(2, 1, kerf, &kinds), &weights, &[(1, 0)])
+    };
+    for choices in [0, TURNING] {
+        answers(Call::Bound, &job(1, 15).with(choices), &[3, 4095, 2, 2]);
+        for call in WEIGHING_CALLS {
+            refuses(call, &job(1, 16).with(choices), 9, 0);
+            refuses(call, &job(0, 15).with(choices), 9, 0);
+        }
+    }
+}
+
 #[test]
 fn nothing_wraps() {
     table_words(&copies(255, (1, 1), (256, 256)), [257 * 257 * 256; 4]);
@@ -160,16 +194,17 @@ fn what_the_plate_holds_certifies_more() {
 /// turning no fewer.
 #[test]
 fn no_plate_holds_more_copies_than_counted() {
-    for plate in [(8, 8), (7, 5), (4, 9), (1, 6)] {
+    let plates = [(0, (8, 8)), (0, (7, 5)), (1, (8, 8)), (2, (4, 9)), (3, (9, 7)), (1, (1, 6))];
+    for (kerf, plate) in plates {
         for size in (1..=9).flat_map(|length| (1..=9).map(move |width| (length, width))) {
-            let counted = copies(255, size, plate);
+            let counted = sawn_copies(kerf, 255, size, plate);
             let cut = Input { weights: vec![0], ..counted.clone() };
             let [upright, turning] = [0, TURNING].map(|choices| {
                 let words = |job: &Input| words(Call::Bound, &job.clone().with(choices), ROOM);
                 (words(&counted)[1], words(&cut)[0])
             });
-            assert_eq!(upright.0, upright.1, "{size:?} on {plate:?}");
-            assert!(turning.0 >= turning.1, "{size:?} on {plate:?}");
+            assert_eq!(upright.0, upright.1, "{size:?} on {plate:?}, kerf {kerf}");
+            assert!(turning.0 >= turning.1, "{size:?} on {plate:?}, kerf {kerf}");
         }
     }
 }

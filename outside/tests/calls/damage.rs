@@ -1,16 +1,17 @@
 // Damage to inputs: bytes cut off, added and changed, fields set to the edges of their ranges.
 // A damaged input may still be accepted; the reference says what must come of it.
 use crate::run::Input;
+use outside::answers::OLD_BLOCK;
 use outside::blocks::plan_block;
 use outside::random::Random;
 
-const EDGES: [u16; 9] = [0, 1, 64, 65, 255, 256, 1000, 1001, 65535];
+const EDGES: [u16; 11] = [0, 1, 20, 21, 64, 65, 255, 256, 1000, 1001, 65535];
 const PRICE_EDGES: [u32; 4] = [1_000_000, 1_000_001, 0x0100_0000, u32::MAX];
 
 /// Damages at most one of the parts that the calls read.
 pub fn damage(random: &mut Random, input: &mut Input) {
     match random.from(0, 9) {
-        0 | 1 => damage_job(random, &mut input.job),
+        0 | 1 => damage_job(random, input),
         2 => damage_weights(random, input),
         3 | 4 => {
             damage_arrays(random, input);
@@ -21,27 +22,40 @@ pub fn damage(random: &mut Random, input: &mut Input) {
         5 if random.one_in(8) => input.plan = vec![0, 0],
         5 => damage_bytes(random, &mut input.plan),
         6 if random.one_in(4) => input.choices ^= 1 << random.from(0, 31),
+        6 if random.one_in(6) => input.choices ^= OLD_BLOCK,
         _ => {}
     }
 }
 
-fn damage_job(random: &mut Random, job: &mut Vec<u8>) {
-    let n = (job.len() - 6) / 10;
-    match random.from(0, 4) {
-        0 => damage_bytes(random, job),
-        1 => set_field(random, job, 0, 3),
-        2 => set_field(random, job, 6, 2 * n),
-        _ => damage_pair(random, job, n),
+/// Bytes before the sizes.
+fn header(input: &Input) -> usize {
+    if input.choices & OLD_BLOCK == 0 {
+        8
+    } else {
+        6
     }
 }
 
-fn damage_pair(random: &mut Random, job: &mut [u8], n: usize) {
-    let pair = 6 + 4 * n + 6 * random.from(0, n - 1);
+fn damage_job(random: &mut Random, input: &mut Input) {
+    let header = header(input);
+    let job = &mut input.job;
+    let n = (job.len() - header) / 10;
+    match random.from(0, 4) {
+        0 => damage_bytes(random, job),
+        1 => set_field(random, job, 0, header / 2),
+        2 => set_field(random, job, header, 2 * n),
+        _ => damage_pair(random, &mut job[header + 4 * n..]),
+    }
+}
+
+fn damage_pair(random: &mut Random, pairs: &mut [u8]) {
+    let at = 6 * random.from(0, pairs.len() / 6 - 1);
+    let pair = &mut pairs[at..];
     if random.one_in(2) {
-        job[pair..pair + 4].copy_from_slice(&random.pick(&PRICE_EDGES).to_le_bytes());
+        pair[..4].copy_from_slice(&random.pick(&PRICE_EDGES).to_le_bytes());
     }
     if random.one_in(2) {
-        job[pair + 4..pair + 6].copy_from_slice(&random.pick(&EDGES).to_le_bytes());
+        pair[4..6].copy_from_slice(&random.pick(&EDGES).to_le_bytes());
     }
 }
 
@@ -54,7 +68,7 @@ fn set_field(random: &mut Random, bytes: &mut [u8], start: usize, count: usize) 
 fn damage_bytes(random: &mut Random, bytes: &mut Vec<u8>) {
     let length = bytes.len();
     match random.from(0, 4) {
-        0 => bytes.truncate(random.from(0, length)),
+        0 => bytes.truncate(random.from(0, length / 2)),
         1 => bytes.truncate(length.saturating_sub(1)),
         2 => bytes.extend((0..random.from(1, 12)).map(|_| random.word() as u8)),
         _ => {
@@ -66,22 +80,23 @@ fn damage_bytes(random: &mut Random, bytes: &mut Vec<u8>) {
 }
 
 fn damage_weights(random: &mut Random, input: &mut Input) {
-    let Input { job, weights, .. } = input;
+    let weights = &mut input.weights;
     match random.from(0, 3) {
         0 => weights.truncate(weights.len() - 1),
         1 => weights.push(0),
-        2 => overload(random, job, weights),
+        2 => overload(random, input),
         _ => weights[0] = random.word() as u8,
     }
 }
 
 /// The greatest weights, and a last kind of 1 by 1, of which about as many are ordered as the
 /// capacity takes, or more.
-fn overload(random: &mut Random, job: &mut [u8], weights: &mut [u8]) {
-    let n = weights.len();
-    weights.fill(255);
-    job[4 * n + 2..4 * n + 6].copy_from_slice(&[1, 0, 1, 0]);
-    job[10 * n + 4] = random.pick(&[16, 17, 255]);
+fn overload(random: &mut Random, input: &mut Input) {
+    let (n, header) = (input.weights.len(), header(input));
+    let (sizes, pairs) = input.job[header..].split_at_mut(4 * n);
+    sizes[4 * n - 4..].copy_from_slice(&[1, 0, 1, 0]);
+    pairs[6 * n - 2] = random.pick(&[16, 17, 255]);
+    input.weights.fill(255);
 }
 
 fn damage_arrays(random: &mut Random, input: &mut Input) {

@@ -1,28 +1,30 @@
-// The deepest and the longest inputs of every call, with and without turning, on a thread with a
-// small stack. A plan on a 1,000 by 1,000 plate nests at most 1,998 cuts; a plan has at most 4,095
-// nodes.
+// The deepest and the longest inputs of every call, with and without turning and kerf, on a thread
+// with a small stack. A plan on a 1,000 by 1,000 plate nests at most 1,998 cuts; a plan has at most
+// 4,095 nodes.
 use crate::examples::{input, Node};
-use crate::lent::{Lent, Sizes};
-use crate::run::{Call, Input, ALL_CHOICES};
+use crate::lent::{Lent, Sizes, AMPLE};
+use crate::run::{areas_make_up_the_plate, Call, Input, ALL_CHOICES};
 use crate::stack::on_small_stack;
 use outside::answers::{Words, TURNING};
-use outside::blocks::{job_block, Kind};
+use outside::blocks::{job_block, kerf_block, Kind};
 use outside::random::Random;
+use outside::reference::{normal_positions, Job};
 use outside::{baseline, reference};
 
-const LARGE: Sizes =
-    Sizes { lengths: 1001, widths: 1001, table: 0, kinds: 4095, operands: 4095, answer: 68 };
+const LARGE: Sizes = Sizes { table: 0, ..AMPLE };
 
-/// Expects the reference's code and memory.
+/// Expects the reference's code and memory, in each form of the block.
 fn agrees(call: Call, input: &Input, sizes: Sizes) -> (u32, Lent) {
     let mut expected = Lent::new(sizes);
     let code = call.run(&reference::calls::CALLS, input, &mut expected);
-    let (given, lent) = on_small_stack(call, input, sizes);
-    assert_eq!((given, lent.differences(&expected)), (code, vec![]));
-    (given, lent)
+    for form in input.block_forms() {
+        let (given, lent) = on_small_stack(call, &form, sizes);
+        assert_eq!((given, lent.differences(&expected)), (code, vec![]));
+    }
+    (code, expected)
 }
 
-/// The cuts that bring a 1,000 by 1,000 plate down to one unit, each taking one unit off a side.
+/// The cuts that bring a 1,000 by 1,000 plate down, each taking one unit and the kerf off a side.
 #[derive(Clone, Copy)]
 enum Order {
     LengthsThenWidths,
@@ -31,8 +33,9 @@ enum Order {
 
 impl Order {
     /// Direction and side before the cut, for each cut.
-    fn cuts(self) -> Vec<(u8, u16)> {
-        let falling = |kind| (2..=1000).rev().map(move |side| (kind, side));
+    fn cuts(self, kerf: u16) -> Vec<(u8, u16)> {
+        let sides = (kerf + 2..=1000).rev().step_by(usize::from(kerf) + 1);
+        let falling = |kind| sides.clone().map(move |side| (kind, side));
         match self {
             Order::LengthsThenWidths => falling(2).chain(falling(3)).collect(),
             Order::Alternating => falling(2).zip(falling(3)).flat_map(|(l, w)| [l, w]).collect(),
@@ -41,15 +44,16 @@ impl Order {
 }
 
 /// Each cut inside the second part of the one before.
-fn nested_in_second_parts(order: Order) -> Vec<Node> {
-    let slices = order.cuts().into_iter().flat_map(|(kind, _)| [(kind, 1), (0, 0)]);
+fn nested_in_second_parts(order: Order, kerf: u16) -> Vec<Node> {
+    let slices = order.cuts(kerf).into_iter().flat_map(|(kind, _)| [(kind, 1), (0, 0)]);
     slices.chain([(0, 0)]).collect()
 }
 
 /// Each cut inside the first part of the one before, so that all second parts wait together.
-fn nested_in_first_parts(order: Order) -> Vec<Node> {
-    let cuts = order.cuts().into_iter().map(|(kind, side)| (kind, side - 1));
-    cuts.chain(std::iter::repeat_n((0, 0), 1999)).collect()
+fn nested_in_first_parts(order: Order, kerf: u16) -> Vec<Node> {
+    let cuts = order.cuts(kerf).into_iter().map(|(kind, side)| (kind, side - kerf - 1));
+    let leaves = std::iter::repeat_n((0, 0), cuts.len() + 1);
+    cuts.chain(leaves).collect()
 }
 
 /// The last leaf, a strip of the whole width, cut into 50: 4,095 nodes.
@@ -60,32 +64,43 @@ fn lengthened(mut nodes: Vec<Node>) -> Vec<Node> {
     nodes
 }
 
-fn deep_plans() -> Vec<Vec<Node>> {
+fn deep_plans(kerf: u16) -> Vec<Vec<Node>> {
     let mut plans = Vec::new();
     for order in [Order::LengthsThenWidths, Order::Alternating] {
-        plans.extend([nested_in_second_parts(order), nested_in_first_parts(order)]);
+        plans.extend([nested_in_second_parts(order, kerf), nested_in_first_parts(order, kerf)]);
     }
-    plans.push(lengthened(nested_in_first_parts(Order::LengthsThenWidths)));
     plans
 }
 
 #[test]
 fn deepest_plans_are_checked_and_certified() {
-    let job = job_block(1000, 1000, &[(40, 30, 7, 1)]);
-    let turning = (TURNING, 32 * 25 + 33, 98 * 98);
-    for (choices, copies, table) in [(0, 33 * 25, 26 * 34), turning] {
-        let (bound, sizes) = (copies * 7, Sizes { table, ..LARGE });
-        for nodes in deep_plans() {
-            assert!([3997, 4095].contains(&nodes.len()));
-            let input = input(job.clone(), &[0], &nodes).with(choices);
-            for call in [Call::CheckPlan, Call::CheckPlanBlock] {
-                let (code, lent) = agrees(call, &input, sizes);
-                assert_eq!((code, lent.answer.words()[2]), (0, 1_000_000));
-            }
-            let (code, lent) = on_small_stack(Call::Certify, &input, sizes);
-            assert_eq!((code, &lent.answer.words()[..3]), (0, &[bound, bound, 0][..]));
+    let longest = lengthened(nested_in_first_parts(Order::LengthsThenWidths, 0));
+    assert_eq!(longest.len(), 4095);
+    for (choices, copies, table) in [(0, 33 * 25, 26 * 34), (TURNING, 32 * 25 + 33, 98 * 98)] {
+        for nodes in deep_plans(0).iter().chain([&longest]) {
+            deep_plan((0, choices), nodes, copies, table);
         }
     }
+    for (kerf, copies, table) in [(1, 24 * 32, 25 * 33), (20, 17 * 20, 18 * 21)] {
+        for nodes in deep_plans(kerf) {
+            deep_plan((kerf, 0), &nodes, copies, table);
+        }
+    }
+}
+
+/// A plan of waste alone, on a plate that holds so many copies of one kind.
+fn deep_plan((kerf, choices): (u16, u32), nodes: &[Node], copies: u64, table: usize) {
+    assert!([4 * (999 / (usize::from(kerf) + 1)) + 1, 4095].contains(&nodes.len()));
+    let (bound, sizes) = (copies * 7, Sizes { table, ..LARGE });
+    let job = kerf_block(1000, 1000, kerf, &[(40, 30, 7, 1)]);
+    let input = input(job, &[0], nodes).with(choices);
+    for call in [Call::CheckPlan, Call::CheckPlanBlock] {
+        let (code, lent) = agrees(call, &input, sizes);
+        assert_eq!((code, lent.answer.words()[68] > 0), (0, kerf > 0));
+        areas_make_up_the_plate(&input.job, lent.answer.words());
+    }
+    let (code, lent) = on_small_stack(Call::Certify, &input, sizes);
+    assert_eq!((code, &lent.answer.words()[..3]), (0, &[bound, bound, 0][..]));
 }
 
 /// The most rectangles wait when a plan ends after its last nested cut, or goes wrong there.
@@ -102,7 +117,7 @@ fn deepest_plans_are_refused() {
     ];
     let job = job_block(1000, 1000, &[(40, 30, 7, 1)]);
     for order in [Order::LengthsThenWidths, Order::Alternating] {
-        let cuts = &nested_in_first_parts(order)[..1998];
+        let cuts = &nested_in_first_parts(order, 0)[..1998];
         for (choices, last, number) in ends {
             let nodes: Vec<Node> = cuts.iter().copied().chain(last).collect();
             let input = input(job.clone(), &[0], &nodes).with(choices);
@@ -114,11 +129,13 @@ fn deepest_plans_are_refused() {
     }
 }
 
-/// The 64 by 32 plate in units, and the 64 by 64 plate in pieces of 2 by 1 that are all turned.
+/// 64 by 32 units, without a kerf and with one; and the 64 by 64 plate in pieces of 2 by 1 that are
+/// all turned.
 #[test]
 fn longest_plans_are_written_checked_and_certified() {
     let [unit, long] = [1, 2].map(|length| vec![(length, 1, 1_000_000, 32); 64]);
     longest_plan(input(job_block(64, 32, &unit), &[0; 64], &[]), 65 * 33, 1);
+    longest_plan(input(kerf_block(127, 63, 1, &unit), &[0; 64], &[]), 65 * 33, 1);
     longest_plan(input(job_block(64, 64, &long), &[0; 64], &[]).with(TURNING), 65 * 65, 4);
 }
 
@@ -144,75 +161,126 @@ fn longest_plan(blank: Input, table: usize, piece: u8) {
     }
 }
 
+/// A square plate that just holds so many units in a row, cut apart with the kerf.
+#[derive(Clone, Copy)]
+struct Square {
+    units: u16,
+    kerf: u16,
+}
+
+impl Square {
+    const LARGEST: Square = Square { units: 1000, kerf: 0 };
+    const SAWN: Square = Square { units: 500, kerf: 1 };
+
+    fn side(self) -> u16 {
+        self.units * (1 + self.kerf) - self.kerf
+    }
+
+    fn block(self, kinds: &[Kind]) -> Vec<u8> {
+        kerf_block(self.side(), self.side(), self.kerf, kinds)
+    }
+
+    /// The cells of a table in which every number of units is normal.
+    fn cells(self) -> usize {
+        (usize::from(self.units) + 1).pow(2)
+    }
+
+    /// Expects the table, from lengths and widths in units.
+    fn table_is<const SHARES: usize>(
+        self,
+        lent: &Lent,
+        figures: impl Fn(u64, u64) -> [u64; SHARES],
+    ) {
+        let units = u64::from(self.units);
+        let cells = (0..=units).flat_map(|l| (0..=units).map(move |w| (l, w)));
+        assert!(lent.table.words().chunks(SHARES).eq(cells.map(|(l, w)| figures(l, w))));
+    }
+}
+
 #[test]
 fn deepest_plan_is_written() {
-    deepest_plan((1, 1000), 0, 1);
+    deepest_plan(Square::LARGEST, 0);
 }
 
 #[test]
 fn deepest_plan_is_written_with_turned_strips() {
-    deepest_plan((1000, 1), TURNING, 4);
+    deepest_plan(Square::LARGEST, TURNING);
 }
 
-/// Whole strips, of these sides and this kind of node, have no weight, and one unit of weight 1 is
-/// dear: the last strip is cut into units, and the dear one comes last.
-fn deepest_plan((length, width): (u16, u16), choices: u32, piece: u8) {
+#[test]
+fn deepest_plan_is_written_with_a_kerf() {
+    deepest_plan(Square::SAWN, 0);
+    deepest_plan(Square::SAWN, TURNING);
+}
+
+/// Whole strips, which lie turned where they may, have no weight, and one unit of weight 1 is dear:
+/// the last strip is cut into units, and the dear one comes last.
+fn deepest_plan(plate: Square, choices: u32) {
+    let (length, width, piece) = match choices {
+        TURNING => (plate.side(), 1, 4),
+        _ => (1, plate.side(), 1),
+    };
     let kinds = [(length, width, 2000, 1), (1, 1, 1, 1), (1, 1, 100_000, 1)];
-    let input = input(job_block(1000, 1000, &kinds), &[0, 0, 1], &[]).with(choices);
-    let sizes = Sizes { table: 2 * 1001 * 1001, kinds: 3997, operands: 3997, ..LARGE };
+    let input = input(plate.block(&kinds), &[0, 0, 1], &[]).with(choices);
+    let cuts = usize::from(plate.units) - 1;
+    let nodes = 4 * cuts + 1;
+    let sizes = Sizes { table: 2 * plate.cells(), kinds: nodes, operands: nodes, ..LARGE };
     let (code, lent) = on_small_stack(Call::WritePlan, &input, sizes);
     assert_eq!(code, 0);
-    assert_eq!(lent.answer.words()[..5], [999 * 2000 + 999 + 100_000, 1, 1001, 1001, 3997]);
-    let strips = |cut, piece| std::iter::repeat_n([cut, piece], 999).flatten();
+    let bound = cuts * 2000 + cuts + 100_000;
+    let answer = [bound, 1, cuts + 2, cuts + 2, nodes].map(|word| word as u64);
+    assert_eq!(lent.answer.words()[..5], answer);
+    let strips = |cut, piece| std::iter::repeat_n([cut, piece], cuts).flatten();
     assert!(lent.kinds.words().iter().copied().eq(strips(2, piece).chain(strips(3, 1)).chain([1])));
-    let operands = |piece| std::iter::repeat_n([1, piece], 999).flatten();
+    let operands = |piece| std::iter::repeat_n([1, piece], cuts).flatten();
     assert!(lent.operands.words().iter().copied().eq(operands(0).chain(operands(1)).chain([2])));
+    let whole = u64::from(plate.units);
     let strip = |l: u64, w: u64| match (l, w) {
-        (_, 1000) => 2000 * l,
-        (1000, _) if choices == TURNING => 2000 * w,
+        (_, w) if w == whole => 2000 * l,
+        (l, _) if l == whole && choices == TURNING => 2000 * w,
         _ => l * w,
     };
-    let rest = |l, w| if w == 1000 { strip(l - 1, w) + w - 1 } else { strip(l, w - 1) + l - 1 };
-    table_is(&lent, |l, w| [strip(l, w), if l * w == 0 { 0 } else { rest(l, w) + 100_000 }]);
+    let rest = |l, w| if w == whole { strip(l - 1, w) + w - 1 } else { strip(l, w - 1) + l - 1 };
+    plate.table_is(&lent, |l, w| [strip(l, w), if l * w == 0 { 0 } else { rest(l, w) + 100_000 }]);
 }
 
-/// The greatest figure and the longest plan: 1,999,999 nodes, which are counted and not written.
+/// The greatest figure and the longest plan: up to 1,999,999 nodes, which are counted and not written.
 #[test]
 fn a_million_pieces_are_counted() {
-    let sizes = Sizes { table: 1001 * 1001, ..LARGE };
-    let fresh = Lent::new(sizes);
-    for choices in [0, TURNING] {
-        let input = input(job_block(1000, 1000, &[(1, 1, 1_000_000, 1)]), &[0], &[]).with(choices);
+    for (plate, choices) in [(Square::LARGEST, 0), (Square::LARGEST, TURNING), (Square::SAWN, 0)] {
+        let sizes = Sizes { table: plate.cells(), ..LARGE };
+        let fresh = Lent::new(sizes);
+        let input = input(plate.block(&[(1, 1, 1_000_000, 1)]), &[0], &[]).with(choices);
         let (code, lent) = on_small_stack(Call::WritePlan, &input, sizes);
-        assert_eq!((code, lent.answer.words()[0]), (21, 1_999_999));
-        table_is(&lent, |l, w| [l * w * 1_000_000]);
+        let pieces = u64::from(plate.units).pow(2);
+        assert_eq!((code, lent.answer.words()[0]), (21, 2 * pieces - 1));
+        plate.table_is(&lent, |l, w| [l * w * 1_000_000]);
         assert!(lent.kinds == fresh.kinds && lent.operands == fresh.operands);
     }
-}
-
-/// Expects the table of a plate whose every unit is normal.
-fn table_is<const SHARES: usize>(lent: &Lent, figures: impl Fn(u64, u64) -> [u64; SHARES]) {
-    let cells = (0..=1000).flat_map(|l| (0..=1000).map(move |w| (l, w)));
-    assert!(lent.table.words().chunks(SHARES).eq(cells.map(|(l, w)| figures(l, w))));
 }
 
 /// 64 kinds on the largest plate, and the greatest capacity on a small one. What is expected comes
 /// from a baseline, for the reference is too slow here.
 #[test]
 fn largest_tables_are_filled() {
-    let free = input(job_block(1000, 1000, &many_kinds(60)), &[0; 64], &[(0, 0)]);
+    let free = |kerf| input(kerf_block(1000, 1000, kerf, &many_kinds(60)), &[0; 64], &[(0, 0)]);
     let mut weights = [64; 64];
     weights[0] = 63;
-    let weighed = input(job_block(12, 9, &many_kinds(9)), &weights, &[(0, 0)]);
+    let weighed = |kerf| input(kerf_block(12, 9, kerf, &many_kinds(9)), &weights, &[(0, 0)]);
     for choices in [0, TURNING] {
-        is_filled(&free.clone().with(choices), 1001, 1001, 0);
+        assert_eq!(is_filled(&free(0).with(choices), 0), (1001, 1001));
     }
+    is_filled(&free(20), 0);
     for choices in ALL_CHOICES {
-        is_filled(&weighed.clone().with(choices), 13, 10, 4095);
+        assert_eq!(is_filled(&weighed(0).with(choices), 4095), (13, 10));
+        is_filled(&weighed(2).with(choices), 4095);
     }
 }
 
-fn is_filled(input: &Input, p: usize, r: usize, capacity: usize) {
+/// Gives p and r.
+fn is_filled(input: &Input, capacity: usize) -> (usize, usize) {
+    let (lengths, widths) = normal_positions(&Job::read(&input.job, input.choices).expect("a job"));
+    let (p, r) = (lengths.len(), widths.len());
     let sizes = Sizes { table: p * r * (capacity + 1), ..LARGE };
     let mut filled = Lent::new(sizes);
     let (storage, plan, _) = filled.split();
@@ -227,6 +295,7 @@ fn is_filled(input: &Input, p: usize, r: usize, capacity: usize) {
         assert_eq!((code, &lent.answer.words()[..answer.len()]), (0, answer));
         assert!(lent.table == filled.table && lent.lengths == filled.lengths);
     }
+    (p, r)
 }
 
 /// 64 kinds of sides from 1 up, the larger ones dearer by the unit.

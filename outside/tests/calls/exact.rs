@@ -1,4 +1,5 @@
-// The most that a guillotine tree within the demands earns, by trying every tree: for tiny jobs.
+// The most that a guillotine tree within the demands earns, by trying every tree: for tiny jobs. Each
+// cut loses the kerf.
 // The copies that remain of every kind are one number of mixed radix, kind 0 lowest.
 use outside::blocks::job_s;
 use outside::reference::Job;
@@ -16,11 +17,11 @@ pub fn optimum(job: &Job) -> u64 {
     for length in 1..=job.length {
         for width in 1..=job.width {
             let mut best = single_pieces(job, &copies, length, width);
-            for cut in 1..length {
-                raise(&mut best, &most[cut][width], &most[length - cut][width], &splits);
+            for (first, second) in job.parts(length) {
+                raise(&mut best, &most[first][width], &most[second][width], &splits);
             }
-            for cut in 1..width {
-                raise(&mut best, &most[length][cut], &most[length][width - cut], &splits);
+            for (first, second) in job.parts(width) {
+                raise(&mut best, &most[length][first], &most[length][second], &splits);
             }
             most[length][width] = best;
         }

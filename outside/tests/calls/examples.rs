@@ -1,14 +1,13 @@
-// The marked examples of the paper, on the reference and on the proved calls.
+// The marked examples of the paper, on the reference and on the proved calls, with the new block and,
+// where the kerf is 0, with the old one too.
 // Each says what a call answers; refusals are a number and a place.
-use crate::lent::{Lent, Sizes};
+use crate::lent::{Lent, Sizes, AMPLE};
 use crate::run::{Call, Input, IMPLEMENTATIONS};
+use outside::answers::REPORT_WORDS;
 use outside::blocks::{job_block, job_s, plan_block};
 
 /// A node: kind and operand.
 pub type Node = (u8, u16);
-
-const AMPLE: Sizes =
-    Sizes { lengths: 1001, widths: 1001, table: 1 << 15, kinds: 4095, operands: 4095, answer: 68 };
 
 /// An input without a choice.
 pub fn input(job: Vec<u8>, weights: &[u8], nodes: &[Node]) -> Input {
@@ -20,19 +19,21 @@ pub fn input(job: Vec<u8>, weights: &[u8], nodes: &[Node]) -> Input {
 
 /// Expects each implementation to answer these words.
 pub fn answers(call: Call, input: &Input, words: &[u64]) {
-    for_each(call, input, 0, words);
+    begins(call, input, 0, words);
 }
 
 /// Expects each implementation to refuse.
 pub fn refuses(call: Call, input: &Input, number: u32, place: u64) {
-    for_each(call, input, number, &[place]);
+    begins(call, input, number, &[place]);
 }
 
-/// Expects a plan check, of arrays and block, to report profit, areas and copies.
-pub fn reports(input: &Input, profit: u64, areas: [u64; 3], copies: &[u64]) {
+/// Expects a plan check, of arrays and block, to report profit, copies and the areas of pieces,
+/// waste, trim and sawdust.
+pub fn reports(input: &Input, profit: u64, areas: [u64; 4], copies: &[u64]) {
     let mut words = vec![profit, areas[0], areas[1], areas[2]];
     words.extend(copies);
-    words.resize(68, 0);
+    words.resize(REPORT_WORDS, 0);
+    words[68] = areas[3];
     answers(Call::CheckPlan, input, &words);
     answers(Call::CheckPlanBlock, input, &words);
 }
@@ -47,14 +48,12 @@ pub fn plan_refused(input: &Input, number: u32, place: u64) {
 /// Expects a written plan, that of the input, and the bound.
 pub fn writes(expected: &Input, bound: u64) {
     let nodes = expected.kinds.len();
-    for calls in IMPLEMENTATIONS {
-        let mut lent = Lent::new(AMPLE);
-        assert_eq!(Call::WritePlan.run(&calls, expected, &mut lent), 0, "{}", calls.name);
+    for_each(Call::WritePlan, expected, 0, |lent, name| {
         let answer = lent.answer.words();
-        assert_eq!((answer[0], answer[4]), (bound, nodes as u64), "{}", calls.name);
-        assert_eq!(lent.kinds.words()[..nodes], expected.kinds, "{}", calls.name);
-        assert_eq!(lent.operands.words()[..nodes], expected.operands, "{}", calls.name);
-    }
+        assert_eq!((answer[0], answer[4]), (bound, nodes as u64), "{name}");
+        assert_eq!(lent.kinds.words()[..nodes], expected.kinds, "{name}");
+        assert_eq!(lent.operands.words()[..nodes], expected.operands, "{name}");
+    });
 }
 
 /// Expects two inputs to leave the same memory, the second's written nodes being renumbered.
@@ -76,21 +75,31 @@ pub fn writes_alike(inputs: &[Input; 2], renumber: impl Fn(Node) -> Node) {
 
 /// Expects the lists that a bound leaves.
 pub fn lists(input: &Input, lengths: &[u16], widths: &[u16]) {
-    for calls in IMPLEMENTATIONS {
-        let mut lent = Lent::new(AMPLE);
-        assert_eq!(Call::Bound.run(&calls, input, &mut lent), 0, "{}", calls.name);
-        assert_eq!(lent.lengths.words()[..lengths.len()], *lengths, "{}", calls.name);
-        assert_eq!(lent.widths.words()[..widths.len()], *widths, "{}", calls.name);
+    for_each(Call::Bound, input, 0, |lent, name| {
+        assert_eq!(lent.lengths.words()[..lengths.len()], *lengths, "{name}");
+        assert_eq!(lent.widths.words()[..widths.len()], *widths, "{name}");
         let counts = [lengths.len() as u64, widths.len() as u64];
-        assert_eq!(lent.answer.words()[2..4], counts, "{}", calls.name);
-    }
+        assert_eq!(lent.answer.words()[2..4], counts, "{name}");
+    });
 }
 
-fn for_each(call: Call, input: &Input, code: u32, words: &[u64]) {
+/// Expects each implementation to give a code and these first words.
+fn begins(call: Call, input: &Input, code: u32, words: &[u64]) {
+    for_each(call, input, code, |lent, name| {
+        assert_eq!(lent.answer.words()[..words.len()], *words, "{name} {call:?}");
+    });
+}
+
+/// Expects a code of each implementation in each form of the block, and hands on the memory and the
+/// implementation's name.
+fn for_each(call: Call, input: &Input, code: u32, expect: impl Fn(&Lent, &str)) {
     for calls in IMPLEMENTATIONS {
-        let mut lent = Lent::new(AMPLE);
-        assert_eq!(call.run(&calls, input, &mut lent), code, "{} {call:?}", calls.name);
-        assert_eq!(lent.answer.words()[..words.len()], *words, "{} {call:?}", calls.name);
+        for form in input.block_forms() {
+            let mut lent = Lent::new(AMPLE);
+            let given = call.run(&calls, &form, &mut lent);
+            assert_eq!(given, code, "{} {call:?} {form:?}", calls.name);
+            expect(&lent, calls.name);
+        }
     }
 }
 
@@ -126,7 +135,7 @@ fn table_words_of_s() {
 #[test]
 fn best_plan_of_s() {
     let best = input(job_s(), &[0, 1, 0], &BEST_OF_S);
-    reports(&best, 16, [13, 0, 2], &[1, 1, 1]);
+    reports(&best, 16, [13, 0, 2, 0], &[1, 1, 1]);
     answers(Call::Certify, &best, &[0, 16, 16]);
     answers(Call::Certify, &input(job_s(), &[0, 0, 0], &BEST_OF_S), &[3, 19, 16]);
 }
@@ -138,8 +147,8 @@ fn written_plan_of_s() {
 
 #[test]
 fn single_nodes_of_s() {
-    reports(&input(job_s(), &[0, 0, 0], &[(0, 0)]), 0, [0, 15, 0], &[]);
-    reports(&input(job_s(), &[0, 0, 0], &[(1, 0)]), 7, [6, 0, 9], &[1]);
+    reports(&input(job_s(), &[0, 0, 0], &[(0, 0)]), 0, [0, 15, 0, 0], &[]);
+    reports(&input(job_s(), &[0, 0, 0], &[(1, 0)]), 7, [6, 0, 9, 0], &[1]);
 }
 
 #[test]
@@ -151,7 +160,7 @@ fn third_copy_passes_its_demand() {
 #[test]
 fn cut_positions_of_s() {
     plan_refused(&input(job_s(), &[0, 0, 0], &[(2, 5), (0, 0), (0, 0)]), 14, 0);
-    reports(&input(job_s(), &[0, 0, 0], &[(2, 4), (0, 0), (0, 0)]), 0, [0, 15, 0], &[]);
+    reports(&input(job_s(), &[0, 0, 0], &[(2, 4), (0, 0), (0, 0)]), 0, [0, 15, 0, 0], &[]);
 }
 
 #[test]

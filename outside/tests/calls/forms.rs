@@ -1,18 +1,18 @@
 // The default form against full demand on generated jobs: bounds, tables and refusals; and both
 // against every tree within the demands, and the plans among them.
-use crate::capacity::{copies, done, forms, without_table, words, ROOM};
+use crate::capacity::{done, forms, without_table, words, ROOM};
 use crate::exact::optimum;
-use crate::inputs::{draw, Scale};
+use crate::inputs::{self, draw, Scale};
 use crate::lent::{Lent, Sizes};
 use crate::run::{compare, Call, Input, ALL_CALLS};
 use outside::answers::TURNING;
+use outside::blocks::{kerf_block, Kind};
 use outside::random::Random;
 use outside::reference::Job;
 
 /// Generated demands are often above what the plate holds.
-const SMALL: Scale =
-    Scale { plate: 7, side: 5, kinds: 4, price: 9, demand: 9, weight: 4, work: usize::MAX };
-const SMALL_ROOM: Sizes = Sizes { lengths: 8, widths: 8, table: 1 << 14, ..ROOM };
+const SMALL: Scale = Scale { demand: 9, weight: 4, ..inputs::SMALL };
+const SMALL_ROOM: Sizes = Sizes { lengths: 28, widths: 28, table: 1 << 14, ..ROOM };
 
 /// Generated inputs without and with turning.
 fn generated(seed: u64, count: usize, scale: Scale) -> impl Iterator<Item = Input> {
@@ -77,15 +77,18 @@ fn the_default_form_accepts_what_the_full_demand_does() {
 /// The same input with no demand above what the plate is said to hold of that kind alone.
 fn lessened(input: &Input) -> Input {
     let job = Job::read(&input.job, input.choices).expect("a job");
-    let plate = (job.length as u16, job.width as u16);
-    let mut lessened = input.clone();
-    let pairs = &mut lessened.job[6 + 4 * job.kinds.len()..];
-    for (pair, kind) in pairs.chunks_exact_mut(6).zip(&job.kinds) {
-        let alone = copies(255, (kind.length as u16, kind.width as u16), plate);
-        let held = words(Call::Bound, &alone.with(input.choices), SMALL_ROOM)[1];
-        pair[4] = held.min(kind.demand) as u8;
-    }
-    lessened
+    let block = |kinds: &[Kind]| {
+        let [length, width, kerf] = [job.length, job.width, job.kerf].map(|field| field as u16);
+        kerf_block(length, width, kerf, kinds)
+    };
+    let lesser = job.kinds.iter().map(|kind| {
+        let (length, width) = (kind.length as u16, kind.width as u16);
+        let alone =
+            Input { job: block(&[(length, width, 1, 255)]), weights: vec![1], ..input.clone() };
+        let held = words(Call::Bound, &alone, SMALL_ROOM)[1];
+        (length, width, kind.price as u32, held.min(kind.demand) as u16)
+    });
+    Input { job: block(&lesser.collect::<Vec<Kind>>()), ..input.clone() }
 }
 
 /// The default form is the full demand of the lessened job, in every answer and word of lent
@@ -110,7 +113,7 @@ fn demands_that_the_plate_holds_answer_alike_in_both_forms() {
 fn no_tree_within_the_demands_earns_more_than_either_bound() {
     let tiny = Scale { plate: 5, side: 4, kinds: 3, demand: 4, ..SMALL };
     let mut tight = [0; 2];
-    for input in generated(44, 1000, tiny) {
+    for input in generated(44, 2000, tiny) {
         let most = optimum(&Job::read(&input.job, input.choices).expect("a job"));
         for (tight, form) in tight.iter_mut().zip(forms(&input)) {
             let bound = words(Call::Bound, &form, SMALL_ROOM)[0];
@@ -118,7 +121,7 @@ fn no_tree_within_the_demands_earns_more_than_either_bound() {
             *tight += usize::from(most == bound);
         }
     }
-    println!("{} default and {} full-demand bounds of 1000 are earned", tight[0], tight[1]);
+    println!("{} default and {} full-demand bounds of 2000 are earned", tight[0], tight[1]);
     assert!(tight[1] >= 100 && tight[0] >= tight[1] + 20);
 }
 

@@ -2,14 +2,16 @@
 // Sides are small against the plate, prices few, so that ties and full plates are common.
 use crate::examples::{input, Node};
 use crate::run::Input;
-use outside::answers::TURNING;
-use outside::blocks::{job_block, Kind};
+use outside::answers::{OLD_BLOCK, TURNING};
+use outside::blocks::{kerf_block, old_block, Kind};
 use outside::random::Random;
 
 /// The greatest values that are drawn.
 #[derive(Clone, Copy)]
 pub struct Scale {
     pub plate: usize,
+    /// For most inputs; one in eight has any kerf that is accepted.
+    pub kerf: usize,
     pub side: usize,
     pub kinds: usize,
     pub price: usize,
@@ -19,14 +21,51 @@ pub struct Scale {
     pub work: usize,
 }
 
+/// Small jobs, whatever they cost the reference.
+pub const SMALL: Scale = Scale {
+    plate: 7,
+    kerf: 2,
+    side: 5,
+    kinds: 4,
+    price: 9,
+    demand: 3,
+    weight: 2,
+    work: usize::MAX,
+};
+
+/// A rectangle and the kerf of the blade that cuts it.
+#[derive(Clone, Copy)]
+struct Rectangle {
+    length: usize,
+    width: usize,
+    kerf: usize,
+}
+
+/// An input in the block that the choices name.
 pub fn draw(random: &mut Random, scale: Scale, choices: u32) -> Input {
     let (length, width) = (random.from(1, scale.plate), random.from(1, scale.plate));
+    let old = choices & OLD_BLOCK != 0;
+    let plate = Rectangle { length, width, kerf: if old { 0 } else { draw_kerf(random, scale) } };
     let n = random.from(1, scale.kinds);
     let kinds: Vec<Kind> = (0..n).map(|_| draw_kind(random, scale)).collect();
     let heaviest = if random.one_in(4) { 0 } else { scale.weight };
     let weights: Vec<u8> = (0..n).map(|_| random.from(0, heaviest) as u8).collect();
-    let nodes = draw_plan(random, (length, width), &kinds, choices);
-    input(job_block(length as u16, width as u16, &kinds), &weights, &nodes).with(choices)
+    let nodes = draw_plan(random, plate, &kinds, choices);
+    let [length, width, kerf] = [length, width, plate.kerf].map(|field| field as u16);
+    let block = if old {
+        old_block(length, width, &kinds)
+    } else {
+        kerf_block(length, width, kerf, &kinds)
+    };
+    input(block, &weights, &nodes).with(choices)
+}
+
+fn draw_kerf(random: &mut Random, scale: Scale) -> usize {
+    match random.from(0, 7) {
+        0..=2 => 0,
+        3 => random.from(0, 20),
+        _ => random.from(0, scale.kerf),
+    }
 }
 
 fn draw_kind(random: &mut Random, scale: Scale) -> Kind {
@@ -40,18 +79,13 @@ fn draw_kind(random: &mut Random, scale: Scale) -> Kind {
 }
 
 /// A plan by random cuts. Now and then a node breaks a rule.
-fn draw_plan(
-    random: &mut Random,
-    plate: (usize, usize),
-    kinds: &[Kind],
-    choices: u32,
-) -> Vec<Node> {
+fn draw_plan(random: &mut Random, plate: Rectangle, kinds: &[Kind], choices: u32) -> Vec<Node> {
     let mut left: Vec<u16> = kinds.iter().map(|kind| kind.3).collect();
     let mut waiting = vec![plate];
     let mut nodes = Vec::new();
     while let Some(rectangle) = waiting.pop() {
         let node = if random.one_in(40) {
-            (random.from(0, 5) as u8, random.from(0, plate.0 + 1) as u16)
+            (random.from(0, 5) as u8, random.from(0, plate.length + 1) as u16)
         } else {
             draw_node(random, rectangle, kinds, choices, &mut left)
         };
@@ -63,7 +97,7 @@ fn draw_plan(
 
 fn draw_node(
     random: &mut Random,
-    (length, width): (usize, usize),
+    Rectangle { length, width, kerf }: Rectangle,
     kinds: &[Kind],
     choices: u32,
     left: &mut [u16],
@@ -77,18 +111,21 @@ fn draw_node(
             left[i] -= 1;
             (node, i as u16)
         }
-        0 | 1 | 3 if length > 1 => (2, random.from(1, length - 1) as u16),
-        2 | 4 if width > 1 => (3, random.from(1, width - 1) as u16),
+        0 | 1 | 3 if length > kerf + 1 => (2, random.from(1, length - kerf - 1) as u16),
+        2 | 4 if width > kerf + 1 => (3, random.from(1, width - kerf - 1) as u16),
         _ => (0, 0),
     }
 }
 
 /// The rectangles that a node leaves waiting, the first part last; none where the cut is not one.
-fn parts((kind, operand): Node, (length, width): (usize, usize)) -> Vec<(usize, usize)> {
+fn parts((kind, operand): Node, whole: Rectangle) -> Vec<Rectangle> {
     let cut = usize::from(operand);
+    let taken = cut + whole.kerf;
+    let length = |length| Rectangle { length, ..whole };
+    let width = |width| Rectangle { width, ..whole };
     match kind {
-        2 if cut > 0 && cut < length => vec![(length - cut, width), (cut, width)],
-        3 if cut > 0 && cut < width => vec![(length, width - cut), (length, cut)],
+        2 if cut > 0 && taken < whole.length => vec![length(whole.length - taken), length(cut)],
+        3 if cut > 0 && taken < whole.width => vec![width(whole.width - taken), width(cut)],
         _ => vec![],
     }
 }

@@ -1,6 +1,6 @@
 // Lent memory, filled with a pattern and fenced on both sides, so that every changed word is seen.
 // Two calls did the same where their whole memory is equal afterwards.
-use outside::answers::{PlanArrays, Storage};
+use outside::answers::{PlanArrays, Storage, REPORT_WORDS};
 
 const FENCE: usize = 8;
 
@@ -14,6 +14,16 @@ pub struct Sizes {
     pub operands: usize,
     pub answer: usize,
 }
+
+/// Lists, plan arrays and answer for every input, and a table for most.
+pub const AMPLE: Sizes = Sizes {
+    lengths: 1021,
+    widths: 1021,
+    table: 1 << 15,
+    kinds: 4095,
+    operands: 4095,
+    answer: REPORT_WORDS,
+};
 
 #[derive(PartialEq)]
 pub struct Fenced<T>(Vec<T>);

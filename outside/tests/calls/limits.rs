@@ -1,13 +1,12 @@
 // The greatest and the first refused values: sides, kinds, demands, nodes, words of the table.
 // Also how the answer slice itself and the word of choices are treated.
 use crate::examples::{answers, input, plan_refused, refuses, reports, Node};
-use crate::lent::{Lent, Sizes};
+use crate::lent::{Lent, Sizes, AMPLE};
 use crate::run::{compare, Call, Input, ALL_CALLS, ALL_CHOICES};
 use outside::answers::{ANSWER_TOO_SHORT, UNKNOWN_CHOICE};
 use outside::blocks::{job_block, job_s, Kind};
 
-const ROOM: Sizes =
-    Sizes { lengths: 1001, widths: 1001, table: 1 << 17, kinds: 4095, operands: 4095, answer: 68 };
+const ROOM: Sizes = Sizes { table: 1 << 17, ..AMPLE };
 
 #[test]
 fn sides_up_to_1000() {
@@ -49,7 +48,7 @@ fn words_needed_are_counted_in_64_bits() {
 #[test]
 fn prices_and_demands() {
     let job = |price, demand| input(job_block(1, 1, &[(1, 1, price, demand)]), &[0], &[(1, 0)]);
-    reports(&job(1_000_000, 255), 1_000_000, [1, 0, 0], &[1]);
+    reports(&job(1_000_000, 255), 1_000_000, [1, 0, 0, 0], &[1]);
     plan_refused(&job(1_000_001, 255), 6, 0);
     plan_refused(&job(1_000_000, 256), 7, 0);
     plan_refused(&job(1_000_000, 0), 16, 0);
@@ -74,7 +73,7 @@ fn plans_of_4095_nodes_pass() {
     let nodes = grid(|i| (1, (i / 32) as u16));
     assert_eq!(nodes.len(), 4095);
     let full = input(job_block(64, 32, &kinds), &[0; 64], &nodes);
-    reports(&full, 2_048_000_000, [2048, 0, 0], &[32; 64]);
+    reports(&full, 2_048_000_000, [2048, 0, 0, 0], &[32; 64]);
     answers(Call::Certify, &full, &[0, 2_048_000_000, 2_048_000_000]);
 }
 
@@ -90,14 +89,14 @@ fn one_demand_is_passed_late_in_a_long_plan() {
 fn plans_of_4096_nodes_are_refused() {
     let mut nodes = grid(|_| (0, 0));
     let job = job_block(64, 32, &[(1, 1, 1, 1)]);
-    reports(&input(job.clone(), &[0], &nodes), 0, [0, 2048, 0], &[]);
+    reports(&input(job.clone(), &[0], &nodes), 0, [0, 2048, 0, 0], &[]);
     nodes.push((0, 0));
     plan_refused(&input(job.clone(), &[0], &nodes), 11, 0);
     plan_refused(&input(job, &[0], &vec![(0, 0); 65_535]), 11, 0);
 }
 
 /// Words of choices with a bit that has no meaning, alone and beside the others.
-const UNKNOWN_CHOICES: [u32; 8] = [4, 5, 6, 7, 8, 1 << 31, 1 << 31 | 3, u32::MAX];
+const UNKNOWN_CHOICES: [u32; 8] = [8, 9, 10, 12, 15, 16, 1 << 31 | 7, u32::MAX];
 
 /// A code that comes before all others, with no change of memory.
 fn nothing_is_changed(call: Call, input: &Input, answer: usize, code: u32) {

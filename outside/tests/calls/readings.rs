@@ -1,13 +1,13 @@
 // Points that the paper leaves to a close reading, one case each.
 // Every case tells two possible readings apart.
 use crate::examples::{answers, input, lists, plan_refused, refuses, reports, writes};
-use crate::lent::{Lent, Sizes};
+use crate::lent::{Lent, Sizes, AMPLE};
 use crate::run::{compare, Call, Input, ALL_CALLS, ALL_CHOICES, WEIGHING_CALLS};
-use outside::answers::FULL_DEMAND;
+use outside::answers::{FULL_DEMAND, OLD_BLOCK};
 use outside::blocks::{job_block, job_s};
 
 const ROOM: Sizes =
-    Sizes { lengths: 64, widths: 64, table: 4096, kinds: 64, operands: 64, answer: 68 };
+    Sizes { lengths: 64, widths: 64, table: 4096, kinds: 64, operands: 64, ..AMPLE };
 
 fn all_refuse(input: &Input, number: u32, place: u64) {
     for call in ALL_CALLS {
@@ -28,14 +28,27 @@ fn header_is_checked_in_order() {
     let bad = |bytes: &[u8], number| {
         all_refuse(&input(bytes.to_vec(), &[], &[(0, 0)]), number, 0);
     };
+    bad(&[0, 0, 0, 0, 0, 0, 21], 1);
+    bad(&[0, 0, 1, 0, 0, 0, 21, 0], 2);
+    bad(&[1, 0, 1, 0, 0, 0, 21, 0], 3);
+    bad(&[1, 0, 1, 0, 65, 0, 21, 0], 3);
+    bad(&[1, 0, 1, 0, 1, 0, 21, 0], 27);
+    bad(&[1, 0, 1, 0, 1, 0, 20, 0], 4);
+    let mut long = job_s();
+    long.push(0);
+    all_refuse(&input(long, &[0, 0, 0], &[(0, 0)]), 4, 0);
+}
+
+#[test]
+fn old_header_is_checked_in_order() {
+    let bad = |bytes: &[u8], number| {
+        all_refuse(&input(bytes.to_vec(), &[], &[(0, 0)]).with(OLD_BLOCK), number, 0);
+    };
     bad(&[0, 0, 0, 0, 0], 1);
     bad(&[0, 0, 1, 0, 0, 0], 2);
     bad(&[1, 0, 1, 0, 0, 0], 3);
     bad(&[1, 0, 1, 0, 65, 0], 3);
     bad(&[1, 0, 1, 0, 1, 0], 4);
-    let mut long = job_s();
-    long.push(0);
-    all_refuse(&input(long, &[0, 0, 0], &[(0, 0)]), 4, 0);
 }
 
 #[test]
@@ -155,7 +168,7 @@ fn shares_rise_from_zero() {
 fn figure_zero_is_waste_and_a_free_piece_is_a_piece() {
     let job = job_block(2, 1, &[(1, 1, 0, 1)]);
     writes(&input(job.clone(), &[0], &[(0, 0)]), 0);
-    reports(&input(job, &[0], &[(2, 1), (1, 0), (0, 0)]), 0, [1, 1, 0], &[1]);
+    reports(&input(job, &[0], &[(2, 1), (1, 0), (0, 0)]), 0, [1, 1, 0, 0], &[1]);
 }
 
 #[test]

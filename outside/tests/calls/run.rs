@@ -1,6 +1,7 @@
-// One call on one input with fresh memory, and the same call on two implementations.
+// One call on one input with fresh memory, and the same call on two implementations, with the new
+// block and the old one.
 use crate::lent::{Lent, Sizes};
-use outside::answers::{FULL_DEMAND, TURNING};
+use outside::answers::{FULL_DEMAND, OLD_BLOCK, REPORT_WORDS, TURNING};
 use outside::blocks::plan_block;
 use outside::calls::Calls;
 use outside::planner;
@@ -21,7 +22,7 @@ pub const ALL_CALLS: [Call; 5] =
 /// The calls that take weights.
 pub const WEIGHING_CALLS: [Call; 3] = [Call::Bound, Call::WritePlan, Call::Certify];
 
-/// Every word of choices that has a meaning.
+/// Every word of choices that has a meaning with the new block.
 pub const ALL_CHOICES: [u32; 4] = [0, TURNING, FULL_DEMAND, TURNING | FULL_DEMAND];
 
 /// What a call reads. The plan stands as arrays and as a block.
@@ -40,6 +41,17 @@ impl Input {
         Input { choices, ..self }
     }
 
+    /// This input; and where it is a new block with kerf 0, the same as an old block.
+    pub fn block_forms(&self) -> Vec<Input> {
+        let mut forms = vec![self.clone()];
+        if self.choices & OLD_BLOCK == 0 && self.job.get(6..8) == Some(&[0, 0]) {
+            let mut old = self.clone().with(self.choices | OLD_BLOCK);
+            old.job.drain(6..8);
+            forms.push(old);
+        }
+        forms
+    }
+
     /// The same input with the plan that a call has written.
     pub fn with_written_plan(&self, lent: &Lent) -> Input {
         let nodes = lent.answer.words()[4] as usize;
@@ -56,7 +68,7 @@ impl Call {
     /// The words of its answer.
     pub fn answer_words(self) -> usize {
         match self {
-            Call::CheckPlan | Call::CheckPlanBlock => 68,
+            Call::CheckPlan | Call::CheckPlanBlock => REPORT_WORDS,
             Call::Bound => 4,
             Call::WritePlan => 5,
             Call::Certify => 3,
@@ -77,18 +89,30 @@ impl Call {
     }
 }
 
-/// Runs a call on both implementations and compares code and memory; gives both back.
+/// Runs a call on both implementations and compares code and memory; gives both back. With kerf 0 the
+/// proved call must do the same on the old block.
 pub fn compare(call: Call, input: &Input, sizes: Sizes) -> (u32, Lent) {
-    let [expected, given] = IMPLEMENTATIONS.map(|calls| {
+    let [reference, proved] = IMPLEMENTATIONS;
+    let mut expected = Lent::new(sizes);
+    let code = call.run(&reference, input, &mut expected);
+    for form in input.block_forms() {
         let mut lent = Lent::new(sizes);
-        (call.run(&calls, input, &mut lent), lent)
-    });
-    let differences = expected.1.differences(&given.1);
-    assert!(
-        expected.0 == given.0 && differences.is_empty(),
-        "{call:?} answers {} and not {}, memory differs in {differences:?}\n{input:?}\n{sizes:?}",
-        given.0,
-        expected.0,
-    );
-    expected
+        let given = call.run(&proved, &form, &mut lent);
+        let differences = expected.differences(&lent);
+        assert!(
+            given == code && differences.is_empty(),
+            "{call:?} answers {given} and not {code}, memory differs in {differences:?}\n\
+             {form:?}\n{sizes:?}",
+        );
+    }
+    if code == 0 && matches!(call, Call::CheckPlan | Call::CheckPlanBlock) {
+        areas_make_up_the_plate(&input.job, expected.answer.words());
+    }
+    (code, expected)
+}
+
+/// Expects pieces, waste, trim and sawdust of a report to sum to the plate.
+pub fn areas_make_up_the_plate(job: &[u8], report: &[u64]) {
+    let side = |at| u64::from(u16::from_le_bytes([job[at], job[at + 1]]));
+    assert_eq!(report[1] + report[2] + report[3] + report[68], side(0) * side(2), "{report:?}");
 }

@@ -3,7 +3,7 @@
 use crate::examples::{answers, input, lists, plan_refused, reports, writes, writes_alike, Node};
 use crate::run::{Call, Input};
 use outside::answers::{FULL_DEMAND, TURNING};
-use outside::blocks::{job_block, job_s, Kind};
+use outside::blocks::{job_block, job_s, kerf_block, Kind};
 use outside::random::Random;
 
 fn turning(length: u16, width: u16, kinds: &[Kind], nodes: &[Node]) -> Input {
@@ -17,13 +17,13 @@ fn turned_pieces_are_of_kind_4() {
     plan_refused(&node(TURNING, (5, 0)), 12, 0);
     plan_refused(&node(TURNING, (4, 1)), 13, 0);
     plan_refused(&node(TURNING, (1, 0)), 15, 0);
-    reports(&node(TURNING, (4, 0)), 7, [15, 0, 0], &[1]);
+    reports(&node(TURNING, (4, 0)), 7, [15, 0, 0, 0], &[1]);
 }
 
 #[test]
 fn a_turned_piece_fits_with_its_sides_exchanged() {
     let piece = |length, width| turning(length, width, &[(2, 3, 7, 1)], &[(4, 0)]);
-    reports(&piece(4, 3), 7, [6, 0, 6], &[1]);
+    reports(&piece(4, 3), 7, [6, 0, 6, 0], &[1]);
     plan_refused(&piece(2, 3), 15, 0);
     plan_refused(&piece(9, 1), 15, 0);
 }
@@ -32,7 +32,7 @@ fn a_turned_piece_fits_with_its_sides_exchanged() {
 fn both_orientations_count_against_one_demand() {
     let nodes = [(2, 2), (1, 0), (3, 2), (4, 0), (2, 2), (0, 0), (0, 0)];
     let plan = |demand| turning(5, 3, &[(2, 3, 7, demand)], &nodes);
-    reports(&plan(2), 14, [12, 3, 0], &[2]);
+    reports(&plan(2), 14, [12, 3, 0, 0], &[2]);
     plan_refused(&plan(1), 16, 3);
     plan_refused(&plan(0), 16, 1);
     let twice = [(3, 1), (4, 0), (3, 1), (4, 0), (4, 0)];
@@ -70,7 +70,7 @@ fn bound_and_certificate_take_both_orientations() {
     answers(Call::Bound, &s(&[]), &[18, 2, 6, 4]);
     writes(&s(&[(2, 1), (4, 1), (2, 2), (1, 0), (1, 0)]), 18);
     let plan = [(2, 2), (1, 0), (2, 1), (4, 1), (3, 2), (1, 2), (0, 0)];
-    reports(&s(&plan), 16, [13, 2, 0], &[1, 1, 1]);
+    reports(&s(&plan), 16, [13, 2, 0, 0], &[1, 1, 1]);
     answers(Call::Certify, &s(&plan), &[2, 18, 16]);
     answers(Call::Certify, &turning(5, 3, &[(3, 5, 7, 1)], &[(4, 0)]), &[0, 7, 7]);
 }
@@ -87,10 +87,11 @@ fn draw_both(random: &mut Random) -> [Input; 2] {
         weights.push(random.from(0, 2) as u8);
     }
     let (length, width) = (random.from(1, 8) as u16, random.from(1, 8) as u16);
+    let kerf = random.from(0, 2) as u16;
     let both: Vec<u8> = weights.iter().flat_map(|&weight| [weight, weight]).collect();
     [
-        input(job_block(length, width, &once), &weights, &[]).with(TURNING | FULL_DEMAND),
-        input(job_block(length, width, &twice), &both, &[]).with(FULL_DEMAND),
+        input(kerf_block(length, width, kerf, &once), &weights, &[]).with(TURNING | FULL_DEMAND),
+        input(kerf_block(length, width, kerf, &twice), &both, &[]).with(FULL_DEMAND),
     ]
 }
 

@@ -2,7 +2,7 @@
 // The calls below it are compared word by word elsewhere.
 use crate::lent::{Lent, Sizes};
 use outside::answers::{Bound, Certificate, Refusal, Written};
-use outside::blocks::{job_s, plan_block};
+use outside::blocks::{job_s, kerf_block, plan_block};
 use outside::planner;
 
 const WEIGHTS: [u8; 3] = [0, 1, 0];
@@ -22,6 +22,14 @@ fn plans_are_reported() {
     assert_eq!(planner::check_plan_block(&job_s(), 0, &block), Ok(report));
     let early = planner::check_plan(&job_s(), 0, &kinds[..2], &operands[..2]);
     assert_eq!(early, Err(Refusal { number: 17, place: 2 }));
+}
+
+#[test]
+fn sawdust_is_reported() {
+    let job = kerf_block(10, 3, 1, &[(3, 3, 5, 2)]);
+    let report = planner::check_plan(&job, 0, &[2, 1, 1], &[3, 0, 0]).expect("two pieces");
+    assert_eq!((report.profit, report.copies[0]), (10, 2));
+    assert_eq!((report.pieces, report.waste, report.trim, report.sawdust), (18, 0, 9, 3));
 }
 
 #[test]
