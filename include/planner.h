@@ -172,8 +172,7 @@ uint32_t planner_write_plan(
 
 /* Certifies a plan (refusals 1 to 20, 27) and fills the storage. The gap is 0 exactly if the checked
  * profit equals the bound, and then no guillotine tree on the plate that keeps every demand earns
- * more; in any case none earns more than profit and gap together. Both hold as well of trees that are
- * cut at m-ths of a unit, for every whole m of at least 1.
+ * more; in any case none earns more than profit and gap together.
  * answer[0] gap, bound less profit; answer[1] bound, answer[2] profit. */
 uint32_t planner_certify(
     const uint8_t *job, size_t job_len,

@@ -12,7 +12,7 @@ use Rattle.refusal.proofs.Numbers.{number-some}
 use Rattle.refusal.specs.declared.Checked.{Checked}
 use Rattle.refusal.specs.declared.Checked.the-variants.{Passed, Refused}
 use Rattle.plan.specs.declared.PlanAnswer.{PlanAnswer}
-use Rattle.plan.specs.Trees.{ChecksPlan}
+use Rattle.plan.specs.Trees.{ChecksPlan, Reports}
 use Rattle.job.specs.declared.Choices.{Choices}
 use Rattle.job.specs.Weights.{block-job, weight-in}
 use Rattle.bound.specs.declared.BoundAnswer.{BoundAnswer}
@@ -61,7 +61,7 @@ module _ (Before : Type 0) (s : List ℕ) (choices : ℕ) (kinds operands : List
   -- a checked plan: 0 is returned exactly where the verdict is that it passes
   tree-given : {n : ℕ} {new : List ℕ} (a : PlanAnswer) → ChecksPlan Before (job-with s choices) kinds operands a → Gives (plan-outcome a) n old new → TreeChecked Before s choices kinds operands old new n
   tree-given {n} a checks g = record {
-    tree = λ e. (let p = passed (a .verdict) refl e in let t = checks .tree p in (t .0, t .1, g .1 ∙ ap (λ v. over (outcome-by v (plan-values (a .report)) .1) old) p ∙ ap (λ r. over (plan-values r) old) (t .2 .own)));
+    tree = λ e. (let p = passed (a .verdict) refl e in let t = checks .tree p in (t .0, t .1, g .1 ∙ ap (λ v. over (outcome-by v (plan-values (a .report)) .1) old) p ∙ ap (λ r. over (plan-values r) old) (t .2 .own), subst (λ r. Reports (job-with s choices) (t .0) r) (t .2 .own) (t .2)));
     passes = λ h u b t k. g .0 ∙ ap (λ v. outcome-by v (plan-values (a .report)) .0) (checks .passes b t k);
   }
     where

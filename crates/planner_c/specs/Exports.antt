@@ -16,7 +16,7 @@ use Rattle.refusal.specs.Refusals.{Outcome}
 use Rattle.job.specs.declared.Choices.{Choices}
 use Rattle.job.specs.Weights.{block-job, weight-in}
 use Rattle.plan.specs.Calls.{plan-values}
-use Rattle.plan.specs.Trees.{PlanOf, tree-report}
+use Rattle.plan.specs.Trees.{PlanOf, tree-report, Reports}
 use Rattle.bound.specs.Bound.{Memory, Leaves, BoundHolds, wide-job, block-capacity}
 use Rattle.writer.specs.Write.{array-after, block-plan}
 use Rattle.certificate.specs.Certificate.{plan-verdict}
@@ -100,10 +100,10 @@ abbrev pub answer-word : List ℕ → ℕ → ℕ
 answer-word answer i = getD answer i 0
 
 -- a plan's check returns 0 only for the preorder of a guillotine tree on the plate that keeps every demand, and its words are then that
--- tree's own report; where the answer has words enough, the choices are known and what stands before the plan's checks holds, it returns
+-- tree's own report, whose four areas sum to the plate's; where the answer has words enough, the choices are known and what stands before the plan's checks holds, it returns
 -- 0 for every such plan
 pub record TreeChecked (Before : Type 0) (s : List ℕ) (choices : ℕ) (kinds operands old new : List ℕ) (n : ℕ) : Type 0 where
-  pub tree : n ≡ 0 → (t : Tree Piece) × PlanOf (job-with s choices) t kinds operands × (new ≡ over (plan-values (tree-report (job-with s choices) t)) old)
+  pub tree : n ≡ 0 → (t : Tree Piece) × PlanOf (job-with s choices) t kinds operands × (new ≡ over (plan-values (tree-report (job-with s choices) t)) old) × Reports (job-with s choices) t (tree-report (job-with s choices) t)
   pub passes : 69 ≤ length old → unknown choices ≡ false → Before → (t : Tree Piece) → PlanOf (job-with s choices) t kinds operands → n ≡ 0
 
 -- a certificate where 0 is returned: the plan is that of a tree that keeps every demand and earns the profit, profit and gap sum to the
