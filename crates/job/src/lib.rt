@@ -1,4 +1,4 @@
-// A job and its weights: the job block is read into a record, the weights give the capacity. Refusals 1 to 9.
+// A job and its weights: the job block is read into a record, the weights give the capacity. Refusals 1 to 9 and 27.
 // Fields are two or four bytes, lowest byte first; specs/Block says where each stands and when a block is refused.
 use cutting::Sides;
 use cutting::fits;

@@ -1,4 +1,4 @@
--- The public calls: a plan's arrays, or a plan block, for a job block. The job's checks 1 to 7 come first. Each answer has a number and
+-- The public calls: a plan's arrays, or a plan block, for a job block. The job's own checks come first. Each answer has a number and
 -- values too.
 use mathlib.Core.Path.{_≡_}
 use mathlib.Core.Bool.{_||_, not}

@@ -221,7 +221,7 @@ pub fn check_nodes(job: JobRecord, kinds: &[u8], operands: &[u16]) -> PlanAnswer
     walk_nodes(job, kinds, operands)
 }
 
-// A plan's arrays checked for a job block: refusals 1 to 7, then 10 to 18.
+// A plan's arrays checked for a job block: refusals 1 to 7 and 27, then 10 to 18.
 pub fn check_plan(block: &[u8], choices: Choices, kinds: &[u8], operands: &[u16]) -> PlanAnswer
     ensures answer { λ r. ⌜ r ≡ arrays-answer (now (block .entry)) choices (now (kinds .entry)) (now (operands .entry)) ⌝ }
     ensures outcome { λ r. ⌜ plan-outcome r ≡ arrays-said (now (block .entry)) choices (now (kinds .entry)) (now (operands .entry)) ⌝ }
@@ -268,7 +268,7 @@ fn check_block(job: JobRecord, plan: &[u8]) -> PlanAnswer
     check_nodes(job, &plan[2..end], &operands[..count])
 }
 
-// A plan block checked for a job block: refusals 1 to 7, then 10 to 18.
+// A plan block checked for a job block: refusals 1 to 7 and 27, then 10 to 18.
 pub fn check_plan_block(block: &[u8], choices: Choices, plan: &[u8]) -> PlanAnswer
     ensures answer { λ r. ⌜ r ≡ block-answer (now (block .entry)) choices (now (plan .entry)) ⌝ }
     ensures outcome { λ r. ⌜ plan-outcome r ≡ block-said (now (block .entry)) choices (now (plan .entry)) ⌝ }
