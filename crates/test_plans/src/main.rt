@@ -1,8 +1,8 @@
 // Runs the calls on plans by a script (its standard input): the check of plans, the writing of plans, certificates.
 // `job`, `weights`, `kinds`, `operands` and `plan` set the bytes of the job block, the weights, the plan's two arrays and the plan block;
 // `lend` sets how many entries of the two lists and words of the table a certificate is lent; `turning` sets whether pieces may be turned
-// from here on, 1 or 0, `full` whether the calls of the full demands are made, and `before` whether job blocks are old ones, from before
-// the kerf. Then a call runs on what is set:
+// from here on, 1 or 0, `full` whether the capacity is that of the full demands (a plan is then written by the call of that name), and
+// `before` whether job blocks are old ones, from before the kerf. Then a call runs on what is set:
 // `Arrays` checks the two arrays, `Block` the plan block, `Jobs` and `Plans` every truncation of the job block and of the plan block;
 // `Write` writes a plan into the arrays and prints arrays of seven entries as kind.operand; `Certify` certifies the arrays and prints how
 // many entries of the lists and words of the table it changed. An answer is printed as its values, a refusal as number and place.

@@ -8,12 +8,6 @@ use borrow.Author.Needs.{needs}
 use Rattle.bound.proofs.bound.Statement.{statement}
 use Rattle.bound.proofs.bound.Tie as tie
 
-accept-requires : tie.Need-accept-requires
-accept-requires c κs = search needs
-
-enum-known-verdict : tie.Need-enum-known-verdict
-enum-known-verdict c = search needs
-
 returns : tie.Need-returns
 returns c =
     let e = c .before .before .before .before .before .before .before .before .before .args in
@@ -34,23 +28,11 @@ list-pieces-requires c κs =
     let t = taken (now (e .block)) (e .choices) (now (e .weights)) (c .before .before .before .before .accept .ensures .0) (c .before .before .enum-told .given .1) in
     listable (now (e .block)) (e .choices) (now (e .weights)) t
 
-slice-aggregate-bound-of-pieces : tie.Need-slice-aggregate-bound-of-pieces
-slice-aggregate-bound-of-pieces c = search needs
-
 bound-of-pieces-requires : tie.Need-bound-of-pieces-requires
 bound-of-pieces-requires c κs =
     let e = c .before .before .before .before .before .before .before .before .before .before .before .before .before .before .before .before .before .args in
     let t = taken (now (e .block)) (e .choices) (now (e .weights)) (c .before .before .before .before .before .before .before .before .before .before .before .accept .ensures .0) (c .before .before .before .before .before .before .before .before .before .enum-told .given .1) in
     boundable (now (e .block)) (e .choices) (now (e .weights)) t (c .before .before .before .before .before .before .before .plate-of .ensures) (c .before .before .before .before .before .before .list-pieces .ensures) refl
-
-same-length : tie.Need-same-length
-same-length c = search needs
-
-same-length-2 : tie.Need-same-length-2
-same-length-2 c = search needs
-
-same-length-3 : tie.Need-same-length-3
-same-length-3 c = search needs
 
 returns-2 : tie.Need-returns-2
 returns-2 c =
@@ -63,15 +45,5 @@ pub bound-spec : {M : Type 1} → statement M
 bound-spec =
     tie.close
     (tie.spec
-    accept-requires
-    enum-known-verdict
-    returns
-    enum-told
-    plate-of-requires
-    list-pieces-requires
-    slice-aggregate-bound-of-pieces
-    bound-of-pieces-requires
-    same-length
-    same-length-2
-    same-length-3
-    returns-2)
+    (λ c κs. search needs) (λ c. search needs) returns enum-told plate-of-requires list-pieces-requires (λ c. search needs)
+    bound-of-pieces-requires (λ c. search needs) (λ c. search needs) (λ c. search needs) returns-2)

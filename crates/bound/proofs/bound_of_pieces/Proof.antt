@@ -35,9 +35,6 @@ widths-hold k = widths-listed (rect-of (start k .args .plate)) (start k .args .c
 counted : (w : tie.After-words) → w .words .result ≡ words-needed (J (w .before)) (start (w .before) .args .q)
 counted w = words-are (J (w .before)) (w .words .ensures) (lengths-hold (w .before) .number) (widths-hold (w .before) .number) refl
 
-lists-short-requires : tie.Need-lists-short-requires
-lists-short-requires c κs = search needs
-
 returns : tie.Need-returns
 returns c = lists-short _ _ _ _ (sym (c .before .lists-short .ensures) ∙ c .if1 .taken)
 
@@ -58,12 +55,6 @@ words-requires c κs =
     let e = start c in
     let given = e .pre in
     (omega (arith, lengths-hold c .number, count-most (J c) (given .in-range) Length), omega (arith, widths-hold c .number, count-most (J c) (given .in-range) Width), omega (arith, given .most))
-
-same-length : tie.Need-same-length
-same-length c = search needs
-
-same-length-2 : tie.Need-same-length-2
-same-length-2 c = search needs
 
 returns-2 : tie.Need-returns-2
 returns-2 c =
@@ -95,18 +86,6 @@ slice-read-t24 c =
     let w = c .before .before .before .before .before .before .before .before .before .before .before .before .before .before .before in
     omega (arith, c .before .before .before .fill-table .ensures .1 .0, c .before .before .before .before .before .before .before .before .before .before .before .before .before .before .if2 .left, counted w, words-some (J (w .before)) (start (w .before) .args .q))
 
-same-length-3 : tie.Need-same-length-3
-same-length-3 c = search needs
-
-same-length-4 : tie.Need-same-length-4
-same-length-4 c = search needs
-
-same-length-5 : tie.Need-same-length-5
-same-length-5 c = search needs
-
-same-length-6 : tie.Need-same-length-6
-same-length-6 c = search needs
-
 returns-3 : tie.Need-returns-3
 returns-3 c =
     let w = c .before .before .before .before .before .before .before .before .before .before .before .before .before .before .before in
@@ -123,21 +102,6 @@ pub bound-of-pieces-spec : {M : Type 1} → statement M
 bound-of-pieces-spec =
     tie.close
     (tie.spec
-    lists-short-requires
-    returns
-    normal-positions-requires
-    normal-positions-requires-2
-    words-requires
-    same-length
-    same-length-2
-    returns-2
-    map-sides-requires
-    fill-table-requires
-    sub-last
-    mul-t17
-    slice-read-t24
-    same-length-3
-    same-length-4
-    same-length-5
-    same-length-6
-    returns-3)
+    (λ c κs. search needs) returns normal-positions-requires normal-positions-requires-2 words-requires (λ c. search needs) (λ c. search needs)
+    returns-2 map-sides-requires fill-table-requires sub-last mul-t17 slice-read-t24 (λ c. search needs) (λ c. search needs) (λ c. search needs)
+    (λ c. search needs) returns-3)

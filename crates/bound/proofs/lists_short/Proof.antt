@@ -4,17 +4,11 @@ use borrow.Author.Needs.{needs}
 use Rattle.bound.proofs.lists_short.Statement.{statement}
 use Rattle.bound.proofs.lists_short.Tie as tie
 
-add-if1 : tie.Need-add-if1
-add-if1 c = search needs
-
 returns : tie.Need-returns
 returns c = simp (lt-ltb _ _ (c .if1 .taken))
-
-add-result : tie.Need-add-result
-add-result c = search needs
 
 returns-2 : tie.Need-returns-2
 returns-2 c = simp (le-ltb _ _ (c .if1 .left))
 
 pub lists-short-spec : {M : Type 1} → statement M
-lists-short-spec = tie.close (tie.spec add-if1 returns add-result returns-2)
+lists-short-spec = tie.close (tie.spec (λ c. search needs) returns (λ c. search needs) returns-2)

@@ -7,9 +7,6 @@ use borrow.Author.Needs.{needs}
 use Rattle.bound.proofs.map_sides.Statement.{statement}
 use Rattle.bound.proofs.map_sides.Tie as tie
 
-slice-relend-prefix-map-floors : tie.Need-slice-relend-prefix-map-floors
-slice-relend-prefix-map-floors c = search needs
-
 slice-aggregate-map-floors : tie.Need-slice-aggregate-map-floors
 slice-aggregate-map-floors c = let e = c .before .before .before .before in sym (first-part (now (e .args .floors)) (e .pre .2))
 
@@ -19,15 +16,6 @@ map-floors-requires c κs =
     let given = e .pre .0 in
     record { some = given .some; listed = given .listed; rising = given .rising; most = given .most; room-there = omega (arith, given .room-there, first-part (now (e .args .floors)) (e .pre .2)) }
 
-sub-map-floors : tie.Need-sub-map-floors
-sub-map-floors c = search needs
-
-part-map-floors-start : tie.Need-part-map-floors-start
-part-map-floors-start c = search needs
-
-part-map-floors-end : tie.Need-part-map-floors-end
-part-map-floors-end c = search needs
-
 map-floors-requires-2 : tie.Need-map-floors-requires-2
 map-floors-requires-2 c κs =
     let e = c .before .before .before .before .before .before .before .before in
@@ -36,9 +24,6 @@ map-floors-requires-2 c κs =
     let first = c .before .before .before .map-floors in
     let n = half-length old (first .last .1 .1 .1 .0) (e .pre .2) (first .ensures .0) in
     record { some = given .some; listed = given .listed; rising = given .rising; most = given .most; room-there = omega (arith, given .room-there, second-part (half-written old (first .last .1 .1 .1 .0)) n) }
-
-same-length : tie.Need-same-length
-same-length c = search needs
 
 returns : tie.Need-returns
 returns c =
@@ -53,12 +38,5 @@ pub map-sides-spec : {M : Type 1} → statement M
 map-sides-spec =
     tie.close
     (tie.spec
-    slice-relend-prefix-map-floors
-    slice-aggregate-map-floors
-    map-floors-requires
-    sub-map-floors
-    part-map-floors-start
-    part-map-floors-end
-    map-floors-requires-2
-    same-length
-    returns)
+    (λ c. search needs) slice-aggregate-map-floors map-floors-requires (λ c. search needs) (λ c. search needs) (λ c. search needs)
+    map-floors-requires-2 (λ c. search needs) returns)

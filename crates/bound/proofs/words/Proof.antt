@@ -9,16 +9,10 @@ use Rattle.bound.proofs.words.Tie as tie
 mul-result : tie.Need-mul-result
 mul-result c = record { fits = omega (arith, mul-le-mul (c .pre .0) (c .pre .1)) }
 
-add-result : tie.Need-add-result
-add-result c = search needs
-
 mul-result-2 : tie.Need-mul-result-2
 mul-result-2 c =
     let h : c .args .q + 1 ≤ 4096 = omega arith in
     record { fits = omega (arith, mul-le-mul (mul-le-mul (c .pre .0) (c .pre .1)) h) }
 
-returns : tie.Need-returns
-returns c = search needs
-
 pub words-spec : {M : Type 1} → statement M
-words-spec = tie.close (tie.spec mul-result add-result mul-result-2 returns)
+words-spec = tie.close (tie.spec mul-result (λ c. search needs) mul-result-2 (λ c. search needs))

@@ -22,17 +22,8 @@ start k = k .before .before .before .before .before .before .before .before .bef
 took : (k : tie.After-accepted) → Taken (now (start k .args .block)) (start k .args .choices) (now (start k .args .weights)) (k .before .before .before .before .before .before .read-job .result .job) (k .accepted .given .0 .0)
 took k = taken-apart _ _ _ _ (k .before .before .before .before .before .before .read-job .ensures .0) (k .before .before .before .before .enum-told .given .1) (k .before .before .check-weights .ensures .0) (k .accepted .given .1)
 
-read-job-requires : tie.Need-read-job-requires
-read-job-requires c κs = search needs
-
 enum-told : tie.Need-enum-told
 enum-told c = search needs
-
-enum-told-2 : tie.Need-enum-told-2
-enum-told-2 c = search needs
-
-conclude-requires : tie.Need-conclude-requires
-conclude-requires c κs = search needs
 
 returns : tie.Need-returns
 returns c =
@@ -45,18 +36,6 @@ check-weights-requires c κs =
     let a = answered (now (e .args .block)) (e .args .choices) (c .before .before .before .read-job .ensures .0) (c .before .enum-told .given .1) in
     rw (a .1) (read-in-range (now (e .args .block)) (e .args .choices) (a .0))
 
-enum-known-accepted : tie.Need-enum-known-accepted
-enum-known-accepted c = search needs
-
-enum-told-3 : tie.Need-enum-told-3
-enum-told-3 c = search needs
-
-weights-verdict-requires : tie.Need-weights-verdict-requires
-weights-verdict-requires c κs = search needs
-
-conclude-requires-2 : tie.Need-conclude-requires-2
-conclude-requires-2 c κs = search needs
-
 returns-2 : tie.Need-returns-2
 returns-2 c =
     let e = c .before .before .before .before .before .before .before .before .before .before .before .before .before .before .before .before in
@@ -67,15 +46,6 @@ check-nodes-requires : tie.Need-check-nodes-requires
 check-nodes-requires c κs =
     let k = c .before in
     range-taken (now (start k .args .block)) (start k .args .choices) (now (start k .args .weights)) (took k)
-
-enum-told-4 : tie.Need-enum-told-4
-enum-told-4 c = search needs
-
-enum-told-5 : tie.Need-enum-told-5
-enum-told-5 c = search needs
-
-conclude-requires-3 : tie.Need-conclude-requires-3
-conclude-requires-3 c κs = search needs
 
 returns-3 : tie.Need-returns-3
 returns-3 c =
@@ -93,34 +63,10 @@ plate-of-requires c κs =
     let k = c .before .before .before .before .before .before .before in
     range-taken (now (start k .args .block)) (start k .args .choices) (now (start k .args .weights)) (took k)
 
-slice-aggregate-bound-of-pieces : tie.Need-slice-aggregate-bound-of-pieces
-slice-aggregate-bound-of-pieces c = search needs
-
 bound-of-pieces-requires : tie.Need-bound-of-pieces-requires
 bound-of-pieces-requires c κs =
     let k = c .before .before .before .before .before .before .before .before .before .before .before .before .before in
     boundable (now (start k .args .block)) (start k .args .choices) (now (start k .args .weights)) (took k) (c .before .before .before .before .before .plate-of .ensures) (c .before .before .before .before .before .before .before .list-pieces .ensures) refl
-
-enum-known-found : tie.Need-enum-known-found
-enum-known-found c = search needs
-
-enum-told-6 : tie.Need-enum-told-6
-enum-told-6 c = search needs
-
-storage-verdict-requires : tie.Need-storage-verdict-requires
-storage-verdict-requires c κs = search needs
-
-conclude-requires-4 : tie.Need-conclude-requires-4
-conclude-requires-4 c κs = search needs
-
-same-length : tie.Need-same-length
-same-length c = search needs
-
-same-length-2 : tie.Need-same-length-2
-same-length-2 c = search needs
-
-same-length-3 : tie.Need-same-length-3
-same-length-3 c = search needs
 
 returns-4 : tie.Need-returns-4
 returns-4 c =
@@ -136,15 +82,6 @@ conclude-requires-5 c κs =
     λ p. profit-most (now (e .args .block)) (e .args .choices) (now (e .args .weights)) (now (e .args .kinds)) (now (e .args .operands)) (memory e) (took k) (c .before .before .before .before .before .before .before .before .before .before .before .before .before .before .before .before .before .before .before .before .before .before .check-nodes .ensures) (c .before .before .before .before .before .before .before .before .before .before .before .before .before .before .before .before .before .before .before .before .enum-told4 .given .1)
     (job-bounded (now (e .args .block)) (e .args .choices) (now (e .args .weights)) (took k) (c .before .before .before .before .before .before .before .before .before .before .before .before .before .before .before .before .plate-of .ensures) (c .before .before .before .before .before .before .before .before .before .before .before .before .before .before .before .before .before .before .list-pieces .ensures) (c .before .before .before .before .before .before .before .before .before .before .bound-of-pieces .ensures)) _ (c .before .found .given .1)
 
-same-length-4 : tie.Need-same-length-4
-same-length-4 c = search needs
-
-same-length-5 : tie.Need-same-length-5
-same-length-5 c = search needs
-
-same-length-6 : tie.Need-same-length-6
-same-length-6 c = search needs
-
 returns-5 : tie.Need-returns-5
 returns-5 c =
     let k = c .before .before .before .before .before .before .before .before .before .before .before .before .before .before .before .before .before .before .before .before .before .before .before .before .before in
@@ -156,36 +93,8 @@ pub certify-spec : {M : Type 1} → statement M
 certify-spec =
     tie.close
     (tie.spec
-    read-job-requires
-    enum-told
-    enum-told-2
-    conclude-requires
-    returns
-    check-weights-requires
-    enum-known-accepted
-    enum-told-3
-    weights-verdict-requires
-    conclude-requires-2
-    returns-2
-    check-nodes-requires
-    enum-told-4
-    enum-told-5
-    conclude-requires-3
-    returns-3
-    list-pieces-requires
-    plate-of-requires
-    slice-aggregate-bound-of-pieces
-    bound-of-pieces-requires
-    enum-known-found
-    enum-told-6
-    storage-verdict-requires
-    conclude-requires-4
-    same-length
-    same-length-2
-    same-length-3
-    returns-4
-    conclude-requires-5
-    same-length-4
-    same-length-5
-    same-length-6
-    returns-5)
+    (λ c κs. search needs) enum-told (λ c. search needs) (λ c κs. search needs) returns check-weights-requires (λ c. search needs)
+    (λ c. search needs) (λ c κs. search needs) (λ c κs. search needs) returns-2 check-nodes-requires (λ c. search needs) (λ c. search needs)
+    (λ c κs. search needs) returns-3 list-pieces-requires plate-of-requires (λ c. search needs) bound-of-pieces-requires (λ c. search needs)
+    (λ c. search needs) (λ c κs. search needs) (λ c κs. search needs) (λ c. search needs) (λ c. search needs) (λ c. search needs) returns-4
+    conclude-requires-5 (λ c. search needs) (λ c. search needs) (λ c. search needs) returns-5)

@@ -7,11 +7,8 @@ use Rattle.certificate.proofs.compare.Tie as tie
 returns : tie.Need-returns
 returns c = simp (eq-eqb _ _ (c .if1 .taken))
 
-sub-t4 : tie.Need-sub-t4
-sub-t4 c = search needs
-
 returns-2 : tie.Need-returns-2
 returns-2 c = simp (ne-eqb _ _ (c .if1 .left))
 
 pub compare-spec : {M : Type 1} → statement M
-compare-spec = tie.close (tie.spec returns sub-t4 returns-2)
+compare-spec = tie.close (tie.spec returns (λ c. search needs) returns-2)

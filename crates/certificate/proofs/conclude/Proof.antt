@@ -3,9 +3,6 @@ use borrow.Author.Needs.{needs}
 use Rattle.certificate.proofs.conclude.Statement.{statement}
 use Rattle.certificate.proofs.conclude.Tie as tie
 
-enum-known-verdict : tie.Need-enum-known-verdict
-enum-known-verdict c = search needs
-
 enum-told : tie.Need-enum-told
 enum-told c = search needs
 
@@ -19,5 +16,4 @@ returns-2 : tie.Need-returns-2
 returns-2 c = rw (c .before .enum-told .given .1) (c .compare .ensures)
 
 pub conclude-spec : {M : Type 1} → statement M
-conclude-spec =
-    tie.close (tie.spec enum-known-verdict enum-told compare-requires returns returns-2)
+conclude-spec = tie.close (tie.spec (λ c. search needs) enum-told compare-requires returns returns-2)

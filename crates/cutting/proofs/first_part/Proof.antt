@@ -6,9 +6,6 @@ use Rattle.cutting.proofs.first_part.Tie as tie
 enum-told : tie.Need-enum-told
 enum-told c = search needs
 
-enum-told-2 : tie.Need-enum-told-2
-enum-told-2 c = search needs
-
 returns : tie.Need-returns
 returns c = rw (c .enum-told .given .1)
 
@@ -16,4 +13,4 @@ returns-2 : tie.Need-returns-2
 returns-2 c = rw (c .enum-told2 .given .1)
 
 pub first-part-spec : {M : Type 1} → statement M
-first-part-spec = tie.close (tie.spec enum-told enum-told-2 returns returns-2)
+first-part-spec = tie.close (tie.spec enum-told (λ c. search needs) returns returns-2)

@@ -7,17 +7,8 @@ use Rattle.job.proofs.Taken.{job-refused, weights-refused, both-taken}
 use Rattle.job.proofs.accept.Statement.{statement}
 use Rattle.job.proofs.accept.Tie as tie
 
-check-job-requires : tie.Need-check-job-requires
-check-job-requires c κs = search needs
-
 enum-told : tie.Need-enum-told
 enum-told c = search needs
-
-enum-told-2 : tie.Need-enum-told-2
-enum-told-2 c = search needs
-
-unaccepted-requires : tie.Need-unaccepted-requires
-unaccepted-requires c κs = search needs
 
 returns : tie.Need-returns
 returns c =
@@ -34,15 +25,6 @@ check-weights-requires c κs =
     let e = c .before .before .before .before .before .before .args in
     let h = read-in-range (now (e .block)) (e .choices) (sym (c .before .before .before .check-job .ensures) ∙ c .before .enum-told .given .1) in
     rw (c .read-record .ensures) h
-
-enum-known-weighed : tie.Need-enum-known-weighed
-enum-known-weighed c = search needs
-
-unaccepted-requires-2 : tie.Need-unaccepted-requires-2
-unaccepted-requires-2 c κs = search needs
-
-enum-known-weighed-2 : tie.Need-enum-known-weighed-2
-enum-known-weighed-2 c = search needs
 
 returns-2 : tie.Need-returns-2
 returns-2 c =
@@ -62,15 +44,5 @@ pub accept-spec : {M : Type 1} → statement M
 accept-spec =
     tie.close
     (tie.spec
-    check-job-requires
-    enum-told
-    enum-told-2
-    unaccepted-requires
-    returns
-    read-record-requires
-    check-weights-requires
-    enum-known-weighed
-    unaccepted-requires-2
-    enum-known-weighed-2
-    returns-2
-    returns-3)
+    (λ c κs. search needs) enum-told (λ c. search needs) (λ c κs. search needs) returns read-record-requires check-weights-requires
+    (λ c. search needs) (λ c κs. search needs) (λ c. search needs) returns-2 returns-3)

@@ -56,6 +56,5 @@ pub check-header-spec : {M : Type 1} → statement M
 check-header-spec =
     tie.close
     (tie.spec
-    (search needs) (search needs) (search needs) (search needs) returns
-    check-numbers-requires (search needs) (search needs) returns-2
+    (search needs) (search needs) (search needs) (search needs) returns check-numbers-requires (search needs) (search needs) returns-2
     read-u16-requires (search needs) (search needs) (search needs) (search needs) returns-3)

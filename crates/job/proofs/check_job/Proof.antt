@@ -38,4 +38,7 @@ returns-2 c =
     ∙ sym (first-append (header-checks (e .choices .«old_block») (now (e .block))) _)
 
 pub check-job-spec : {M : Type 1} → statement M
-check-job-spec = tie.close (tie.spec (search needs) (search needs) (search needs) returns (search needs) read-u16-requires check-arrays-requires returns-2)
+check-job-spec =
+    tie.close
+    (tie.spec
+    (search needs) (search needs) (search needs) returns (search needs) read-u16-requires check-arrays-requires returns-2)

@@ -38,6 +38,5 @@ pub check-numbers-spec : {M : Type 1} → statement M
 check-numbers-spec =
     tie.close
     (tie.spec
-    side-outside-requires (search needs) (search needs) (search needs) returns
-    read-u16-requires (search needs) (search needs) (search needs) (search needs) returns-2
-    (search needs) (search needs) returns-3)
+    side-outside-requires (search needs) (search needs) (search needs) returns read-u16-requires (search needs) (search needs) (search needs)
+    (search needs) returns-2 (search needs) (search needs) returns-3)

@@ -12,29 +12,8 @@ use Rattle.job.proofs.Checks.{check-stops, check-passes, check-last}
 use Rattle.job.proofs.check_pair.Statement.{statement}
 use Rattle.job.proofs.check_pair.Tie as tie
 
-mul-pairs : tie.Need-mul-pairs
-mul-pairs c = search needs
-
-add-pairs : tie.Need-add-pairs
-add-pairs c = search needs
-
-mul-at : tie.Need-mul-at
-mul-at c = search needs
-
-add-at : tie.Need-add-at
-add-at c = search needs
-
-read-u32-requires : tie.Need-read-u32-requires
-read-u32-requires c κs = search needs
-
-refuse-if-requires : tie.Need-refuse-if-requires
-refuse-if-requires c κs = search needs
-
 enum-told : tie.Need-enum-told
 enum-told c = search needs
-
-enum-told-2 : tie.Need-enum-told-2
-enum-told-2 c = search needs
 
 returns : tie.Need-returns
 returns c =
@@ -44,15 +23,6 @@ returns c =
     let h = start .args .h in
     let e : c .before .before .before .read-u32 .result ≡ price-at h s i = c .before .before .before .read-u32 .ensures ∙ ap (λ n. u32-at s (h + 4 * n + 6 * i)) (start .pre .0 .0) in
     check-stops _ _ _ (c .before .before .refuse-if .ensures ∙ ap (λ p. refuse-when (ltb 1000000 p) (Price i)) e) (c .enum-told2 .given .1)
-
-add-read-u16 : tie.Need-add-read-u16
-add-read-u16 c = search needs
-
-read-u16-requires : tie.Need-read-u16-requires
-read-u16-requires c κs = search needs
-
-refuse-if-requires-2 : tie.Need-refuse-if-requires-2
-refuse-if-requires-2 c κs = search needs
 
 returns-2 : tie.Need-returns-2
 returns-2 c =
@@ -70,16 +40,5 @@ pub check-pair-spec : {M : Type 1} → statement M
 check-pair-spec =
     tie.close
     (tie.spec
-    mul-pairs
-    add-pairs
-    mul-at
-    add-at
-    read-u32-requires
-    refuse-if-requires
-    enum-told
-    enum-told-2
-    returns
-    add-read-u16
-    read-u16-requires
-    refuse-if-requires-2
-    returns-2)
+    (λ c. search needs) (λ c. search needs) (λ c. search needs) (λ c. search needs) (λ c κs. search needs) (λ c κs. search needs) enum-told
+    (λ c. search needs) returns (λ c. search needs) (λ c κs. search needs) (λ c κs. search needs) returns-2)

@@ -12,18 +12,6 @@ use Rattle.job.proofs.Checks.{check-last}
 use Rattle.job.proofs.check_size.Statement.{statement}
 use Rattle.job.proofs.check_size.Tie as tie
 
-mul-side-outside : tie.Need-mul-side-outside
-mul-side-outside c = search needs
-
-add-side-outside : tie.Need-add-side-outside
-add-side-outside c = search needs
-
-side-outside-requires : tie.Need-side-outside-requires
-side-outside-requires c κs = search needs
-
-refuse-if-requires : tie.Need-refuse-if-requires
-refuse-if-requires c κs = search needs
-
 returns : tie.Need-returns
 returns c =
     let start = c .before .before .before in
@@ -34,6 +22,4 @@ returns c =
     check-last _ _ (c .refuse-if .ensures ∙ ap (λ t. refuse-when t (KindSide i)) (c .before .side-outside .ensures ∙ ap (λ k. outside 1 1000 (u16-at s (h + 4 * i)) || outside 1 1000 (u16-at s k)) e))
 
 pub check-size-spec : {M : Type 1} → statement M
-check-size-spec =
-    tie.close
-    (tie.spec mul-side-outside add-side-outside side-outside-requires refuse-if-requires returns)
+check-size-spec = tie.close (tie.spec (λ c. search needs) (λ c. search needs) (λ c κs. search needs) (λ c κs. search needs) returns)

@@ -19,9 +19,6 @@ abbrev μ-loop : tie.MeasureT-loop
 loop-holds : tie.Need-loop-holds Inv-loop μ-loop
 loop-holds c = (search needs, entries-none (λ k. u16-at (now (c .before .args .block)) (c .before .args .from + c .before .args .step * k)))
 
-cast-k : tie.Need-cast-k Inv-loop μ-loop
-cast-k c = search needs
-
 mul-read-u16 : tie.Need-mul-read-u16 Inv-loop μ-loop
 mul-read-u16 c = omega (arith, c .before .before .before .pre .1 (c .before .loop .i) (c .loop-test .taken))
 
@@ -31,19 +28,10 @@ add-read-u16 c = omega (arith, c .before .before .before .pre .1 (c .before .loo
 read-u16-requires : tie.Need-read-u16-requires Inv-loop μ-loop
 read-u16-requires c κs = c .before .before .before .pre .1 (c .before .loop .i) (c .loop-test .taken)
 
-mul-fields : tie.Need-mul-fields Inv-loop μ-loop
-mul-fields c = search needs
-
 array-write-fields : tie.Need-array-write-fields Inv-loop μ-loop
 array-write-fields c =
     let start = c .before .before .before .before in
     omega (arith, ap length (c .before .before .loop .inv .1), entries-length (λ k. u16-at (now (start .args .block)) (start .args .from + start .args .step * k)) (c .before .before .loop .i))
-
-add-i : tie.Need-add-i Inv-loop μ-loop
-add-i c = search needs
-
-loop-less : tie.Need-loop-less Inv-loop μ-loop
-loop-less c = search needs
 
 loop-again : tie.Need-loop-again Inv-loop μ-loop
 loop-again c =
@@ -59,16 +47,5 @@ pub read-fields-spec : {M : Type 1} → statement M
 read-fields-spec =
     tie.close
     (tie.spec
-    Inv-loop
-    μ-loop
-    loop-holds
-    cast-k
-    mul-read-u16
-    add-read-u16
-    read-u16-requires
-    mul-fields
-    array-write-fields
-    add-i
-    loop-less
-    loop-again
-    returns)
+    Inv-loop μ-loop loop-holds (λ c. search needs) mul-read-u16 add-read-u16 read-u16-requires (λ c. search needs) array-write-fields
+    (λ c. search needs) (λ c. search needs) loop-again returns)

@@ -7,17 +7,8 @@ use Rattle.job.proofs.Read.{job-passed, header-holds, read-said, read-p
 use Rattle.job.proofs.read_job.Statement.{statement}
 use Rattle.job.proofs.read_job.Tie as tie
 
-check-job-requires : tie.Need-check-job-requires
-check-job-requires c κs = search needs
-
 enum-told : tie.Need-enum-told
 enum-told c = search needs
-
-enum-told-2 : tie.Need-enum-told-2
-enum-told-2 c = search needs
-
-empty-record-requires : tie.Need-empty-record-requires
-empty-record-requires c κs = search needs
 
 returns : tie.Need-returns
 returns c =
@@ -35,13 +26,4 @@ returns-2 c =
     read-said (now (start .args .block)) (start .args .choices) (ap (λ j. record { verdict = Passed; job = j }) (c .read-record .ensures) ∙ sym (read-passed (now (start .args .block)) (start .args .choices) (sym (c .before .before .before .check-job .ensures) ∙ c .before .enum-told .given .1)))
 
 pub read-job-spec : {M : Type 1} → statement M
-read-job-spec =
-    tie.close
-    (tie.spec
-    check-job-requires
-    enum-told
-    enum-told-2
-    empty-record-requires
-    returns
-    read-record-requires
-    returns-2)
+read-job-spec = tie.close (tie.spec (λ c κs. search needs) enum-told (λ c. search needs) (λ c κs. search needs) returns read-record-requires returns-2)

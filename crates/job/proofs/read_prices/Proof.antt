@@ -16,38 +16,11 @@ Inv-loop block h n prices₀ pairs i₀ prices i = (i ≤ n) × (prices ≡ entr
 abbrev μ-loop : tie.MeasureT-loop
 μ-loop block h n prices₀ pairs i₀ prices i = n - i
 
-mul-pairs : tie.Need-mul-pairs Inv-loop μ-loop
-mul-pairs c = search needs
-
-add-pairs : tie.Need-add-pairs Inv-loop μ-loop
-add-pairs c = search needs
-
 loop-holds : tie.Need-loop-holds Inv-loop μ-loop
 loop-holds c = (search needs, entries-none (price-at (c .before .args .h) (now (c .before .args .block))))
 
-cast-k : tie.Need-cast-k Inv-loop μ-loop
-cast-k c = search needs
-
-mul-read-u32 : tie.Need-mul-read-u32 Inv-loop μ-loop
-mul-read-u32 c = search needs
-
-add-read-u32 : tie.Need-add-read-u32 Inv-loop μ-loop
-add-read-u32 c = search needs
-
-read-u32-requires : tie.Need-read-u32-requires Inv-loop μ-loop
-read-u32-requires c κs = search needs
-
-mul-prices : tie.Need-mul-prices Inv-loop μ-loop
-mul-prices c = search needs
-
 array-write-prices : tie.Need-array-write-prices Inv-loop μ-loop
 array-write-prices c = omega (arith, ap length (c .before .before .loop .inv .1), entries-length (price-at (c .before .before .before .before .args .h) (now (c .before .before .before .before .args .block))) (c .before .before .loop .i))
-
-add-i : tie.Need-add-i Inv-loop μ-loop
-add-i c = search needs
-
-loop-less : tie.Need-loop-less Inv-loop μ-loop
-loop-less c = search needs
 
 loop-again : tie.Need-loop-again Inv-loop μ-loop
 loop-again c =
@@ -63,18 +36,5 @@ pub read-prices-spec : {M : Type 1} → statement M
 read-prices-spec =
     tie.close
     (tie.spec
-    Inv-loop
-    μ-loop
-    mul-pairs
-    add-pairs
-    loop-holds
-    cast-k
-    mul-read-u32
-    add-read-u32
-    read-u32-requires
-    mul-prices
-    array-write-prices
-    add-i
-    loop-less
-    loop-again
-    returns)
+    Inv-loop μ-loop (λ c. search needs) (λ c. search needs) loop-holds (λ c. search needs) (λ c. search needs) (λ c. search needs)
+    (λ c κs. search needs) (λ c. search needs) array-write-prices (λ c. search needs) (λ c. search needs) loop-again returns)

@@ -84,6 +84,6 @@ pub sum-capacity-spec : {M : Type 1} → statement M
 sum-capacity-spec =
     tie.close
     (tie.spec
-    Inv-loop μ-loop widen-requires loop-holds (λ c. search needs) (λ c. search needs) element-copy-out-t23 (λ c. search needs) element-copy-out-counted-copies
-    widen-requires-2 (λ c. search needs) element-copy-out-counted-copies-2 counted-copies-requires shared-slice-read-weigh weigh-requires
-    add-q (λ c. search needs) (λ c. search needs) loop-again returns)
+    Inv-loop μ-loop widen-requires loop-holds (λ c. search needs) (λ c. search needs) element-copy-out-t23 (λ c. search needs)
+    element-copy-out-counted-copies widen-requires-2 (λ c. search needs) element-copy-out-counted-copies-2 counted-copies-requires
+    shared-slice-read-weigh weigh-requires add-q (λ c. search needs) (λ c. search needs) loop-again returns)

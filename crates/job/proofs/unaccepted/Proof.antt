@@ -4,11 +4,8 @@ use borrow.Author.Needs.{needs}
 use Rattle.job.proofs.unaccepted.Statement.{statement}
 use Rattle.job.proofs.unaccepted.Tie as tie
 
-empty-record-requires : tie.Need-empty-record-requires
-empty-record-requires c κs = search needs
-
 returns : tie.Need-returns
 returns c = ap (λ j. record { verdict = c .before .args .verdict; job = j; capacity = 0 }) (c .empty-record .ensures)
 
 pub unaccepted-spec : {M : Type 1} → statement M
-unaccepted-spec = tie.close (tie.spec empty-record-requires returns)
+unaccepted-spec = tie.close (tie.spec (λ c κs. search needs) returns)

@@ -7,9 +7,6 @@ use Rattle.job.proofs.Weights.{weighed}
 use Rattle.job.proofs.weigh.Statement.{statement}
 use Rattle.job.proofs.weigh.Tie as tie
 
-wider-requires : tie.Need-wider-requires
-wider-requires c κs = search needs
-
 mul-result : tie.Need-mul-result
 mul-result c = omega (arith, weighed (c .before .args .copies) (c .wider .result) (c .before .pre) (c .wider .ensures .1))
 
@@ -17,4 +14,4 @@ returns : tie.Need-returns
 returns c = (ap (λ w. c .before .args .copies * w) (c .wider .ensures .0), weighed (c .before .args .copies) (c .wider .result) (c .before .pre) (c .wider .ensures .1))
 
 pub weigh-spec : {M : Type 1} → statement M
-weigh-spec = tie.close (tie.spec wider-requires mul-result returns)
+weigh-spec = tie.close (tie.spec (λ c κs. search needs) mul-result returns)

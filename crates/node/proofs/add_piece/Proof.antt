@@ -19,4 +19,6 @@ returns c =
 
 pub add-piece-spec : {M : Type 1} → statement M
 add-piece-spec =
-    tie.close (tie.spec (λ c. search needs) (λ c. search needs) sub-left (λ c. search needs) (λ c. search needs) (λ c. search needs) returns)
+    tie.close
+    (tie.spec
+    (λ c. search needs) (λ c. search needs) sub-left (λ c. search needs) (λ c. search needs) (λ c. search needs) returns)

@@ -78,6 +78,6 @@ pub list-pieces-spec : {M : Type 1} → statement M
 list-pieces-spec =
     tie.close
     (tie.spec
-    Inv-loop μ-loop loop-holds (λ c. search needs) (λ c. search needs) element-copy-out-widen (λ c. search needs) element-copy-out-put-kind widen-requires
-    (λ c. search needs) element-copy-out-t23 (λ c. search needs) (λ c. search needs) mul-t27 (λ c. search needs) element-copy-out-put-kind-2
-    put-kind-requires (λ c. search needs) (λ c. search needs) loop-again cast-t31 returns)
+    Inv-loop μ-loop loop-holds (λ c. search needs) (λ c. search needs) element-copy-out-widen (λ c. search needs) element-copy-out-put-kind
+    widen-requires (λ c. search needs) element-copy-out-t23 (λ c. search needs) (λ c. search needs) mul-t27 (λ c. search needs)
+    element-copy-out-put-kind-2 put-kind-requires (λ c. search needs) (λ c. search needs) loop-again cast-t31 returns)

@@ -15,31 +15,16 @@ returns c J weight ps i w e =
     let start = c .before .args in
     listed-as (when-cancelled (ways (start .turning)) ps i (start .demand) (c .if1 .taken)) w
 
-put-piece-requires : tie.Need-put-piece-requires
-put-piece-requires c κs = search needs
-
-add-put-piece : tie.Need-add-put-piece
-add-put-piece c = search needs
-
-turned-requires : tie.Need-turned-requires
-turned-requires c κs = search needs
-
 put-piece-requires-2 : tie.Need-put-piece-requires-2
 put-piece-requires-2 c κs =
     let start = c .before .before .before .before .before .before in
     (omega (arith, start .pre .0), ap length (c .before .before .before .put-piece .ensures) ∙ put-length (now (start .args .pieces)) (start .args .n) (start .args .piece) ∙ start .pre .1)
-
-add-result : tie.Need-add-result
-add-result c = search needs
 
 returns-2 : tie.Need-returns-2
 returns-2 c J weight ps i w e =
     let start = c .before .before .before .before .before .before .before in
     let more = listed-twice J weight ps i (start .args .n) (now (start .args .pieces)) _ _ (start .args .piece) _ (omega (arith, start .pre .0)) w e (c .before .before .before .before .put-piece .ensures) (c .before .turned .ensures) (c .put-piece2 .ensures) in
     rw (c .before .before .before .if2 .taken) (listed-as (when-ordered (ways true) ps i (start .args .demand) (omega (arith, c .before .before .before .before .before .before .if1 .left))) more)
-
-add-result-2 : tie.Need-add-result-2
-add-result-2 c = search needs
 
 returns-3 : tie.Need-returns-3
 returns-3 c J weight ps i w e =
@@ -51,12 +36,5 @@ pub put-kind-spec : {M : Type 1} → statement M
 put-kind-spec =
     tie.close
     (tie.spec
-    returns
-    put-piece-requires
-    add-put-piece
-    turned-requires
-    put-piece-requires-2
-    add-result
-    returns-2
-    add-result-2
-    returns-3)
+    returns (λ c κs. search needs) (λ c. search needs) (λ c κs. search needs) put-piece-requires-2 (λ c. search needs) returns-2
+    (λ c. search needs) returns-3)

@@ -44,13 +44,5 @@ pub planner-bound-spec : {M : Type 1} → statement M
 planner-bound-spec =
     tie.close
     (tie.spec
-    (search needs)
-    returns
-    (search needs)
-    (search needs)
-    put-bound-requires
-    (search needs)
-    (search needs)
-    (search needs)
-    (search needs)
+    (search needs) returns (search needs) (search needs) put-bound-requires (search needs) (search needs) (search needs) (search needs)
     returns-2)

@@ -52,13 +52,5 @@ pub planner-certify-spec : {M : Type 1} → statement M
 planner-certify-spec =
     tie.close
     (tie.spec
-    (search needs)
-    returns
-    (search needs)
-    (search needs)
-    put-certificate-requires
-    (search needs)
-    (search needs)
-    (search needs)
-    (search needs)
+    (search needs) returns (search needs) (search needs) put-certificate-requires (search needs) (search needs) (search needs) (search needs)
     returns-2)

@@ -56,15 +56,5 @@ pub planner-write-plan-spec : {M : Type 1} → statement M
 planner-write-plan-spec =
     tie.close
     (tie.spec
-    (search needs)
-    returns
-    (search needs)
-    (search needs)
-    put-write-requires
-    (search needs)
-    (search needs)
-    (search needs)
-    (search needs)
-    (search needs)
-    (search needs)
-    returns-2)
+    (search needs) returns (search needs) (search needs) put-write-requires (search needs) (search needs) (search needs) (search needs)
+    (search needs) (search needs) returns-2)

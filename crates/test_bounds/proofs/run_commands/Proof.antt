@@ -8,11 +8,4 @@ pub run-commands-spec : {M : Type 1} → statement M
 run-commands-spec =
     tie.close
     (tie.spec
-    (λ t₀ n i₀ t i. i ≤ n)
-    (λ t₀ n i₀ t i. n - i)
-    (search needs)
-    (search needs)
-    (search needs)
-    (search needs)
-    (search needs)
-    (search needs))
+    (λ t₀ n i₀ t i. i ≤ n) (λ t₀ n i₀ t i. n - i) (search needs) (search needs) (search needs) (search needs) (search needs) (search needs))

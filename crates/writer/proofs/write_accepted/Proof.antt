@@ -12,23 +12,8 @@ plate-of-requires c κs = c .before .before .before .before .before .before .pre
 list-pieces-requires : tie.Need-list-pieces-requires
 list-pieces-requires c κs = let given = c .before .before .before .before .before .before .before .pre in (given .in-range, given .weights)
 
-slice-aggregate-bound-of-pieces : tie.Need-slice-aggregate-bound-of-pieces
-slice-aggregate-bound-of-pieces c = search needs
-
 bound-of-pieces-requires : tie.Need-bound-of-pieces-requires
 bound-of-pieces-requires c κs = boundable (c .before .before .before .before .before .before .before .before .before .before .before .before .before .before .pre) (c .before .before .before .before .before .before .before .plate-of .ensures) (c .before .before .before .before .before .before .list-pieces .ensures) refl
-
-enum-known-bounded : tie.Need-enum-known-bounded
-enum-known-bounded c = search needs
-
-enum-known-bounded-2 : tie.Need-enum-known-bounded-2
-enum-known-bounded-2 c = search needs
-
-table-of-requires : tie.Need-table-of-requires
-table-of-requires c κs = search needs
-
-slice-aggregate-plan-of-pieces : tie.Need-slice-aggregate-plan-of-pieces
-slice-aggregate-plan-of-pieces c = search needs
 
 plan-of-pieces-requires : tie.Need-plan-of-pieces-requires
 plan-of-pieces-requires c κs =
@@ -41,35 +26,11 @@ plan-of-pieces-requires c κs =
     let thick = plan-thick given (pieces .before .plate-of .ensures) (pieces .list-pieces .ensures) (found .bound-of-pieces .ensures) (answered .bounded2 .given .1) in
     rw (table .table-of .ensures) (ready, thick)
 
-same-length : tie.Need-same-length
-same-length c = search needs
-
-same-length-2 : tie.Need-same-length-2
-same-length-2 c = search needs
-
-same-length-3 : tie.Need-same-length-3
-same-length-3 c = search needs
-
 returns : tie.Need-returns
 returns c =
     let e = c .before .before .before .before .before .before .before .before .before .before .before .before .before .before .before .before .before .before .before .before .before .before .before .before .before .args in
     let left = c .before .before .before .before .before .before .before .before .before .before .bound-of-pieces .ensures in
     (memory-left (c .before .before .before .before .before .before .before .before .before .before .before .before .before .before .before .before .before .before .before .before .before .before .before .before .before .pre) (c .before .before .before .before .before .before .before .before .before .before .before .before .before .before .before .before .before .before .plate-of .ensures) (c .before .before .before .before .before .before .before .before .before .before .before .before .before .before .before .before .before .list-pieces .ensures) left, bound-refused (c .before .before .before .before .before .before .before .before .before .before .before .before .before .before .before .before .before .before .before .before .before .before .before .before .before .pre) (c .before .before .before .before .before .before .before .before .before .before .before .before .before .before .before .before .before .before .plate-of .ensures) (c .before .before .before .before .before .before .before .before .before .before .before .before .before .before .before .before .before .list-pieces .ensures) left (now (e .kinds)) (now (e .operands)) (c .before .bounded .given .1))
-
-same-length-4 : tie.Need-same-length-4
-same-length-4 c = search needs
-
-same-length-5 : tie.Need-same-length-5
-same-length-5 c = search needs
-
-same-length-6 : tie.Need-same-length-6
-same-length-6 c = search needs
-
-same-length-7 : tie.Need-same-length-7
-same-length-7 c = search needs
-
-same-length-8 : tie.Need-same-length-8
-same-length-8 c = search needs
 
 returns-2 : tie.Need-returns-2
 returns-2 c =
@@ -82,22 +43,6 @@ pub write-accepted-spec : {M : Type 1} → statement M
 write-accepted-spec =
     tie.close
     (tie.spec
-    plate-of-requires
-    list-pieces-requires
-    slice-aggregate-bound-of-pieces
-    bound-of-pieces-requires
-    enum-known-bounded
-    enum-known-bounded-2
-    table-of-requires
-    slice-aggregate-plan-of-pieces
-    plan-of-pieces-requires
-    same-length
-    same-length-2
-    same-length-3
-    returns
-    same-length-4
-    same-length-5
-    same-length-6
-    same-length-7
-    same-length-8
-    returns-2)
+    plate-of-requires list-pieces-requires (λ c. search needs) bound-of-pieces-requires (λ c. search needs) (λ c. search needs)
+    (λ c κs. search needs) (λ c. search needs) plan-of-pieces-requires (λ c. search needs) (λ c. search needs) (λ c. search needs) returns
+    (λ c. search needs) (λ c. search needs) (λ c. search needs) (λ c. search needs) (λ c. search needs) returns-2)

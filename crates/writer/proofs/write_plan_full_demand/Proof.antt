@@ -10,4 +10,6 @@ returns c =
 
 pub write-plan-full-demand-spec : {M : Type 1} → statement M
 write-plan-full-demand-spec =
-    tie.close (tie.spec (search needs) (search needs) (search needs) (search needs) (search needs) (search needs) (search needs) returns)
+    tie.close
+    (tie.spec
+    (search needs) (search needs) (search needs) (search needs) (search needs) (search needs) (search needs) returns)

@@ -8,13 +8,5 @@ pub best-kind-spec : {M : Type 1} → statement M
 best-kind-spec =
     tie.close
     (tie.spec
-    (λ t l w c best₀ i₀ i-end best i. i ≤ i-end)
-    (λ t l w c best₀ i₀ i-end best i. i-end - i)
-    (search needs)
-    (search needs)
-    (search needs)
-    (search needs)
-    (search needs)
-    (search needs)
-    (search needs)
-    (search needs))
+    (λ t l w c best₀ i₀ i-end best i. i ≤ i-end) (λ t l w c best₀ i₀ i-end best i. i-end - i) (search needs) (search needs) (search needs)
+    (search needs) (search needs) (search needs) (search needs) (search needs))

@@ -8,13 +8,5 @@ pub fill-figures-spec : {M : Type 1} → statement M
 fill-figures-spec =
     tie.close
     (tie.spec
-    (λ t₀ k₀ k-end t k. k ≤ k-end)
-    (λ t₀ k₀ k-end t k. k-end - k)
-    (search needs)
-    (search needs)
-    (search needs)
-    (search needs)
-    (search needs)
-    (search needs)
-    (search needs)
-    (search needs))
+    (λ t₀ k₀ k-end t k. k ≤ k-end) (λ t₀ k₀ k-end t k. k-end - k) (search needs) (search needs) (search needs) (search needs) (search needs)
+    (search needs) (search needs) (search needs))

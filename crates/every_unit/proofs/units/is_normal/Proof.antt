@@ -8,13 +8,5 @@ pub is-normal-spec : {M : Type 1} → statement M
 is-normal-spec =
     tie.close
     (tie.spec
-    (λ t side x i₀ i-end i. i ≤ i-end)
-    (λ t side x i₀ i-end i. i-end - i)
-    (search needs)
-    (search needs)
-    (search needs)
-    (search needs)
-    (search needs)
-    (search needs)
-    (search needs)
-    (search needs))
+    (λ t side x i₀ i-end i. i ≤ i-end) (λ t side x i₀ i-end i. i-end - i) (search needs) (search needs) (search needs) (search needs)
+    (search needs) (search needs) (search needs) (search needs))

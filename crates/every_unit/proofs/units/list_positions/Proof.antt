@@ -8,14 +8,5 @@ pub list-positions-spec : {M : Type 1} → statement M
 list-positions-spec =
     tie.close
     (tie.spec
-    (λ t₀ side n₀ x₀ x-end t n x. x ≤ x-end)
-    (λ t₀ side n₀ x₀ x-end t n x. x-end - x)
-    (search needs)
-    (search needs)
-    (search needs)
-    (search needs)
-    (search needs)
-    (search needs)
-    (search needs)
-    (search needs)
-    (search needs))
+    (λ t₀ side n₀ x₀ x-end t n x. x ≤ x-end) (λ t₀ side n₀ x₀ x-end t n x. x-end - x) (search needs) (search needs) (search needs)
+    (search needs) (search needs) (search needs) (search needs) (search needs) (search needs))

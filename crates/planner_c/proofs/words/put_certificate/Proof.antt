@@ -30,16 +30,5 @@ pub put-certificate-spec : {M : Type 1} → statement M
 put-certificate-spec =
     tie.close
     (tie.spec
-    (search needs)
-    (search needs)
-    (search needs)
-    (search needs)
-    (search needs)
-    add-put-three
-    (search needs)
-    (search needs)
-    returns
-    (search needs)
-    returns-2
-    (search needs)
-    returns-3)
+    (search needs) (search needs) (search needs) (search needs) (search needs) add-put-three (search needs) (search needs) returns
+    (search needs) returns-2 (search needs) returns-3)

@@ -9,6 +9,4 @@ returns : tie.Need-returns
 returns c = refusal-given (c .before .before .before .args .r) (now (c .before .before .before .args .answer)) (c .before .before .before .pre) (c .number .ensures) (c .before .place .ensures)
 
 pub refuse-spec : {M : Type 1} → statement M
-refuse-spec =
-    tie.close
-    (tie.spec (search needs) (search needs) (search needs) (search needs) (search needs) returns)
+refuse-spec = tie.close (tie.spec (search needs) (search needs) (search needs) (search needs) (search needs) returns)

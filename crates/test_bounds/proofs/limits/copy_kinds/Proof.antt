@@ -8,13 +8,5 @@ pub copy-kinds-spec : {M : Type 1} → statement M
 copy-kinds-spec =
     tie.close
     (tie.spec
-    (λ t₀ i₀ t i. i ≤ 350)
-    (λ t₀ i₀ t i. 350 - i)
-    (search needs)
-    (search needs)
-    (search needs)
-    (search needs)
-    (search needs)
-    (search needs)
-    (search needs)
-    (search needs))
+    (λ t₀ i₀ t i. i ≤ 350) (λ t₀ i₀ t i. 350 - i) (search needs) (search needs) (search needs) (search needs) (search needs) (search needs)
+    (search needs) (search needs))

@@ -8,14 +8,5 @@ pub run-truncations-spec : {M : Type 1} → statement M
 run-truncations-spec =
     tie.close
     (tie.spec
-    (λ t₀ at n₀ n-end t n. n ≤ n-end)
-    (λ t₀ at n₀ n-end t n. n-end - n)
-    (search needs)
-    (search needs)
-    (search needs)
-    (search needs)
-    (search needs)
-    (search needs)
-    (search needs)
-    (search needs)
-    (search needs))
+    (λ t₀ at n₀ n-end t n. n ≤ n-end) (λ t₀ at n₀ n-end t n. n-end - n) (search needs) (search needs) (search needs) (search needs)
+    (search needs) (search needs) (search needs) (search needs) (search needs))

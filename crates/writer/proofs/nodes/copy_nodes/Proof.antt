@@ -56,6 +56,6 @@ returns c =
 pub copy-nodes-spec : {M : Type 1} → statement M
 copy-nodes-spec =
     tie.close
-    (tie.spec Inv-loop μ-loop loop-holds shared-slice-read-kinds slice-write-kinds (λ c. search needs)
-    shared-slice-read-operands (λ c. search needs) slice-write-operands (λ c. search needs) (λ c. search needs)
-    loop-again same-length same-length-2 returns)
+    (tie.spec
+    Inv-loop μ-loop loop-holds shared-slice-read-kinds slice-write-kinds (λ c. search needs) shared-slice-read-operands (λ c. search needs)
+    slice-write-operands (λ c. search needs) (λ c. search needs) loop-again same-length same-length-2 returns)

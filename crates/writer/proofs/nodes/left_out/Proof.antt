@@ -21,4 +21,7 @@ returns-2 c =
     ap (λ s. leb s (cut .0 .1 .0 + e .kerf)) (c .cut-side .ensures) ∙ sym (ap (λ m. left-out (e .kerf) m (rect-of (e .cell .sides))) (cut .1))
 
 pub left-out-spec : {M : Type 1} → statement M
-left-out-spec = tie.close (tie.spec (λ c. search needs) returns (λ c κs. search needs) (λ c. search needs) (λ c. search needs) (λ c. search needs) returns-2)
+left-out-spec =
+    tie.close
+    (tie.spec
+    (λ c. search needs) returns (λ c κs. search needs) (λ c. search needs) (λ c. search needs) (λ c. search needs) returns-2)

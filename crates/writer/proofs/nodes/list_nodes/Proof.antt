@@ -83,5 +83,6 @@ returns c =
 pub list-nodes-spec : {M : Type 1} → statement M
 list-nodes-spec =
     tie.close
-    (tie.spec Inv-loop μ-loop (λ c. search needs) put-cell-requires loop-holds next-node-requires
-    (λ c. search needs) (λ c. search needs) add-nodes loop-less loop-again same-length same-length-2 returns)
+    (tie.spec
+    Inv-loop μ-loop (λ c. search needs) put-cell-requires loop-holds next-node-requires (λ c. search needs) (λ c. search needs) add-nodes
+    loop-less loop-again same-length same-length-2 returns)

@@ -79,5 +79,6 @@ returns-2 c =
 pub next-node-spec : {M : Type 1} → statement M
 next-node-spec =
     tie.close
-    (tie.spec (λ c. search needs) waiting-cell-requires settle-requires (λ c. search needs) returns (λ c κs. search needs) sub-rest (λ c κs. search needs)
+    (tie.spec
+    (λ c. search needs) waiting-cell-requires settle-requires (λ c. search needs) returns (λ c κs. search needs) sub-rest (λ c κs. search needs)
     sub-t21 put-cell-requires (λ c κs. search needs) put-cell-requires-2 sub-t21-2 add-t27 returns-2)

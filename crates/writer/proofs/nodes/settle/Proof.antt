@@ -54,4 +54,7 @@ returns c =
     record { same = turn .inv .0; choice = turn .inv .1; inside = turn .inv .2; smaller = turn .inv .3; remains = sym (c .before .left-out .ensures) ∙ c .if1 .left }
 
 pub settle-spec : {M : Type 1} → statement M
-settle-spec = tie.close (tie.spec Inv-loop μ-loop choose-requires loop-holds (λ c κs. search needs) (λ c κs. search needs) choose-requires-2 loop-less loop-again returns)
+settle-spec =
+    tie.close
+    (tie.spec
+    Inv-loop μ-loop choose-requires loop-holds (λ c κs. search needs) (λ c κs. search needs) choose-requires-2 loop-less loop-again returns)
