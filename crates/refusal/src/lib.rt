@@ -26,6 +26,7 @@ pub enum Refusal {
     ListShort,
     TableShort(u64),
     PlanLong(u64),
+    IdleCut(u16),
     Kerf,
 }
 
@@ -61,6 +62,7 @@ pub fn number(r: Refusal) -> u16
         Refusal::ListShort => 19,
         Refusal::TableShort(_) => 20,
         Refusal::PlanLong(_) => 21,
+        Refusal::IdleCut(_) => 26,
         Refusal::Kerf => 27,
     }
 }
@@ -91,6 +93,7 @@ pub fn place(r: Refusal) -> u64
         Refusal::ListShort => 0,
         Refusal::TableShort(n) => n,
         Refusal::PlanLong(n) => n,
+        Refusal::IdleCut(k) => k as u64,
         Refusal::Kerf => 0,
     }
 }
