@@ -4,6 +4,7 @@ pub mod Greatest
 pub mod Search
 pub mod Recursion
 pub mod Choice
+pub mod Idle
 pub mod Exact
 pub mod Floor
 pub mod Saws

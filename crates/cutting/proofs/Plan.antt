@@ -9,7 +9,7 @@ use lib.Dec.{T, leb, eqb}
 use Rattle.cutting.specs.declared.Direction.{Direction}
 use Rattle.cutting.specs.declared.Direction.the-variants.{Length, Width}
 use Rattle.cutting.specs.Lists.{first}
-use Rattle.cutting.specs.Tree.{Rect, side, part, Tree, waste, piece, cut, Saw, Proper, total, Guillotine}
+use Rattle.cutting.specs.Tree.{Rect, side, part, Tree, waste, piece, cut, Saw, Proper, total, IdleFree, Guillotine}
 use Rattle.cutting.specs.Figure.{figure}
 use Rattle.cutting.specs.Pieces.{Piece, kind, _⊑_, fits-in, sized}
 use Rattle.cutting.specs.Saws.{saw, saw-written}
@@ -18,11 +18,12 @@ use Rattle.cutting.specs.Choice.{Choice, as-waste, as-piece, as-cut, or-
 use Rattle.cutting.specs.Job.{Job, laid, GuillotineTree, OnPlate, profit, weight-of, widened, capacity, ordered, members, pieces, by-kind, figure-of, bound-of, normal-side, lossless-plan, plan-of, bound-plan, pair-earns, first-pair, plan-choice, plan-after, SolidKinds}
 use Rattle.cutting.proofs.Lists.{first-cong, mem-pairs}
 use Rattle.cutting.proofs.Choice.{Earns, written-earns, written-eq}
+use Rattle.cutting.proofs.Idle.{written-idle}
 use Rattle.cutting.proofs.Saws.{saw-cut}
 use Rattle.cutting.proofs.Transfer.{recut}
 use Rattle.cutting.proofs.Weights.{within-weight}
 use Rattle.cutting.proofs.Reduction.{CutsAt, saw-written-cuts, cuts-proper}
-use Rattle.cutting.proofs.Sawn.{sawn-total, sawn-tree}
+use Rattle.cutting.proofs.Sawn.{sawn-total, sawn-idle, sawn-tree}
 use Rattle.cutting.proofs.Members.{members-solid, laid-widened, widened-above, widened-solid}
 use Rattle.cutting.proofs.Job.{guillotine-plain}
 use Rattle.cutting.proofs.Table.{sides-suffice, positions-above, figure-saw}
@@ -50,7 +51,12 @@ module _ (J : Job) where
     unfolding lossless-plan
     lossless-earns = written-earns (pieces J) (plan-saw J) (by-kind weight) plan-proper r c
 
-    -- so it is a guillotine tree of a job cut without loss
+    -- it has no idle cut
+    lossless-idle : IdleFree (lossless-plan J weight r c)
+    unfolding lossless-plan
+    lossless-idle = written-idle (pieces J) (plan-saw J) (by-kind weight) plan-proper r c
+
+    -- it is a guillotine tree of a job cut without loss
     pub lossless-tree : J .kerf ≡ 0 → GuillotineTree J (r .0) (r .1) (lossless-plan J weight r c)
     unfolding saw saw-written
     lossless-tree e =
@@ -112,6 +118,11 @@ module _ (J : Job) (solid : SolidKinds J) (t : Tree Piece) (r : Rect) (g : Guill
   unfolding pieces members ordered
   sawn-same f = sawn-total (members J) (λ p. J .price (kind p)) (laid J) (laid (widened J)) (members-solid J solid) (J .kerf) (laid-widened J) (normal-side (widened J)) above f t r g
 
+  -- and no idle cut where the plan has none
+  sawn-free : IdleFree t → IdleFree (sawn (J .kerf) r t)
+  unfolding pieces members ordered
+  sawn-free = sawn-idle (members J) (λ p. J .price (kind p)) (laid J) (laid (widened J)) (members-solid J solid) (J .kerf) (laid-widened J) (normal-side (widened J)) above t r g
+
 module _ (J : Job) (weight : ℕ → ℕ) (solid : SolidKinds J) where
   -- the widened job
   abbrev wide : Job
@@ -142,6 +153,11 @@ module _ (J : Job) (weight : ℕ → ℕ) (solid : SolidKinds J) where
     pub plan-recursion : plan-of J weight l w c ≡ plan-after J weight l w (plan-choice wide weight l w c)
     unfolding plan-of
     plan-recursion = ap (sawn (J .kerf) (l, w)) (lossless-recursion wide weight (widened-solid J solid) (l, w) c (on-length, on-width)) ∙ sawn-after (plan-choice wide weight l w c)
+
+  -- no plan has an idle cut
+  pub plan-idle : (l w c : ℕ) → IdleFree (plan-of J weight l w c)
+  unfolding plan-of
+  plan-idle l w c = sawn-free J solid (lossless-plan wide weight (l, w) c) (l, w) (lossless-earns wide weight (l, w) c .0) (lossless-idle wide weight (l, w) c)
 
   -- the plan behind the bound is a guillotine tree on the plate, weighs at most the capacity and earns the bound
   pub plan-bound : OnPlate J (bound-plan J weight) × (weight-of weight (bound-plan J weight) ≤ capacity J weight) × (profit J (bound-plan J weight) ≡ bound-of J weight)

@@ -9,7 +9,7 @@ use borrow.Author.Tests.{ltb-true, ltb-false}
 use lib.Dec.{T}
 use Rattle.cutting.specs.declared.Direction.{Direction}
 use Rattle.cutting.specs.declared.Direction.the-variants.{Length, Width}
-use Rattle.cutting.specs.Tree.{Rect, side, part, Tree, waste, piece, cut, total, Proper, Guillotine}
+use Rattle.cutting.specs.Tree.{Rect, side, part, Tree, waste, piece, cut, total, IdleFree, Proper, Guillotine}
 use Rattle.cutting.specs.Pieces.{wider, _⊑_, sized, Solid}
 use Rattle.cutting.specs.Saws.{saw, saw-written}
 use Rattle.cutting.specs.Choice.{cut-remains, or-first, sawn}
@@ -69,6 +69,23 @@ module _ {P : Type 0} (ps : List P) (price : P → ℕ) (size wide : P → Rect)
       go false e u v =
           let l : side d (part d (side d r - x) r) ≤ k = rw (side-part d (side d r - x) r) (left-out k (side d r - x) e) in
           omega (arith, u, no-piece f d b (part d (side d r - x) r) l (g .2))
+
+  -- and no idle cut where the plan has none
+  pub sawn-idle : (t : Tree P) (r : Rect) → Guillotine (sized ps price wide) (saw-written N) r t → IdleFree t → IdleFree (sawn k r t)
+  unfolding sawn saw-written
+  sawn-idle waste r g f = tt
+  sawn-idle (piece p) r g f = tt
+  sawn-idle (cut d x a b) r g f = go (cut-remains k (side d r - x)) (sawn-idle a (part d x r) (g .1) (f .1)) (sawn-idle b (part d (side d r - x) r) (g .2) (f .2))
+    where
+      A : Tree P
+      A = sawn k (part d x r) a
+
+      B : Tree P
+      B = sawn k (part d (side d r - x) r) b
+
+      go : (c : Bool) → IdleFree A → IdleFree B → IdleFree (or-first c d (x - k) A B)
+      go true u v = (omega (arith, f .0, sawn-total (λ p. 1) a (part d x r) (g .1), sawn-total (λ p. 1) b (part d (side d r - x) r) (g .2)), u, v)
+      go false u v = u
 
   -- both sides less the blade's width
   abbrev pub narrowed : Rect → Rect
