@@ -23,8 +23,8 @@ use Rattle.job.proofs.Read as read
 use Rattle.plan.specs.declared.PlanAnswer.{PlanAnswer}
 use Rattle.plan.specs.Plan.{plan-answer, unreported, refused, proceed}
 use Rattle.plan.specs.Trees.{ChecksPlan}
-use Rattle.plan.specs.Calls.{arrays-answer, plan-count, plan-kinds, plan-operands, block-checks, plan-block-answer, block-answer, JobPasses, BlockPasses, plan-outcome, said-after, arrays-said, block-said}
-use Rattle.plan.proofs.Whole.{many-refused}
+use Rattle.plan.specs.Calls.{arrays-answer, arrays-before-idle, plan-count, plan-kinds, plan-operands, block-checks, plan-block-answer, block-answer, block-before-idle, JobPasses, BlockPasses, plan-outcome, said-after, arrays-said, block-said}
+use Rattle.plan.proofs.Whole.{many-refused, walk-stops}
 use Rattle.plan.proofs.Plans.{plans-checked, checked-after}
 
 -- a job that was read is in range
@@ -62,13 +62,14 @@ module _ (J : Job) (p : List ℕ) where
     operands-length = length-map (range 0 (plan-count p)) (λ i. u16-at p (2 + plan-count p + 2 * i)) ∙ range-length 0 (plan-count p)
 
     pub block-many : 4095 < plan-count p → plan-block-answer J p ≡ refused NodeCount
-    block-many m = block-on ∙ many-refused J (plan-kinds p) (plan-operands p) (kinds-length ∙ sym operands-length) (omega (arith, kinds-length, m)) (omega (arith, kinds-length, m))
+    block-many m = block-on ∙ walk-stops J (plan-kinds p) (plan-operands p)
+        (ap (λ (a : PlanAnswer). a .verdict) (many-refused J (plan-kinds p) (plan-operands p) (kinds-length ∙ sym operands-length) (omega (arith, kinds-length, m)) (omega (arith, kinds-length, m))))
 
 -- both calls pass exactly for the plans of trees
-arrays-checked : (s : List ℕ) (choices : Choices) (kinds operands : List ℕ) → ChecksPlan (JobPasses s choices) (block-job s choices) kinds operands (arrays-answer s choices kinds operands)
+arrays-checked : (s : List ℕ) (choices : Choices) (kinds operands : List ℕ) → ChecksPlan (JobPasses s choices) (block-job s choices) kinds operands (arrays-before-idle s choices kinds operands) (arrays-answer s choices kinds operands)
 arrays-checked s choices kinds operands = checked-after (first-refusal (job-checks s choices)) (λ p. plans-checked (block-job s choices) (read.read-in-range s choices p .kinds .1) kinds operands) (λ a. (a, tt)) (λ v b. v)
 
-block-checked : (s : List ℕ) (choices : Choices) (p : List ℕ) → ChecksPlan (JobPasses s choices × BlockPasses p) (block-job s choices) (plan-kinds p) (plan-operands p) (block-answer s choices p)
+block-checked : (s : List ℕ) (choices : Choices) (p : List ℕ) → ChecksPlan (JobPasses s choices × BlockPasses p) (block-job s choices) (plan-kinds p) (plan-operands p) (block-before-idle s choices p) (block-answer s choices p)
 unfolding plan-block-answer
 block-checked s choices p = checked-after (first-refusal (job-checks s choices))
     (λ v. checked-after (first-refusal (block-checks p)) (λ w. plans-checked (block-job s choices) (read.read-in-range s choices v .kinds .1) (plan-kinds p) (plan-operands p)) (λ a. (a, tt)) (λ v b. v))
@@ -81,21 +82,21 @@ outcome-after (Refused r) a = refl
 
 -- so an answer that equals the definition meets the whole contract
 pub arrays-met : (s : List ℕ) (choices : Choices) (kinds operands : List ℕ) {r : PlanAnswer} → r ≡ arrays-answer s choices kinds operands
-    → (r ≡ arrays-answer s choices kinds operands) × ((plan-outcome r ≡ arrays-said s choices kinds operands) × ChecksPlan (JobPasses s choices) (block-job s choices) kinds operands r)
+    → (r ≡ arrays-answer s choices kinds operands) × ((plan-outcome r ≡ arrays-said s choices kinds operands) × ChecksPlan (JobPasses s choices) (block-job s choices) kinds operands (arrays-before-idle s choices kinds operands) r)
 arrays-met s choices kinds operands e = (
   e,
   (
     ap (λ a. plan-outcome a) e ∙ outcome-after (first-refusal (job-checks s choices)) (plan-answer (block-job s choices) kinds operands),
-    subst (λ (a : PlanAnswer). ChecksPlan (JobPasses s choices) (block-job s choices) kinds operands a) (sym e) (arrays-checked s choices kinds operands),
+    subst (λ (a : PlanAnswer). ChecksPlan (JobPasses s choices) (block-job s choices) kinds operands (arrays-before-idle s choices kinds operands) a) (sym e) (arrays-checked s choices kinds operands),
   ),
 )
 
 pub block-met : (s : List ℕ) (choices : Choices) (p : List ℕ) {r : PlanAnswer} → r ≡ block-answer s choices p
-    → (r ≡ block-answer s choices p) × ((plan-outcome r ≡ block-said s choices p) × ChecksPlan (JobPasses s choices × BlockPasses p) (block-job s choices) (plan-kinds p) (plan-operands p) r)
+    → (r ≡ block-answer s choices p) × ((plan-outcome r ≡ block-said s choices p) × ChecksPlan (JobPasses s choices × BlockPasses p) (block-job s choices) (plan-kinds p) (plan-operands p) (block-before-idle s choices p) r)
 block-met s choices p e = (
   e,
   (
     ap (λ a. plan-outcome a) e ∙ outcome-after (first-refusal (job-checks s choices)) (plan-block-answer (block-job s choices) p),
-    subst (λ (a : PlanAnswer). ChecksPlan (JobPasses s choices × BlockPasses p) (block-job s choices) (plan-kinds p) (plan-operands p) a) (sym e) (block-checked s choices p),
+    subst (λ (a : PlanAnswer). ChecksPlan (JobPasses s choices × BlockPasses p) (block-job s choices) (plan-kinds p) (plan-operands p) (block-before-idle s choices p) a) (sym e) (block-checked s choices p),
   ),
 )

@@ -1,6 +1,6 @@
--- A plan passes exactly when its arrays are the preorder of a guillotine tree on the plate that keeps every demand and has at most
--- 4,095 nodes; it then reports that tree's own profit, copies and areas, and else zeros.
-use mathlib.Core.Path.{_≡_, _∙_, refl, sym, ap, ap₂}
+-- A plan passes exactly when its arrays are the preorder of a guillotine tree on the plate that keeps every demand, has at most 4,095 nodes
+-- and no idle cut; it then reports that tree's own profit, copies and areas, and else zeros.
+use mathlib.Core.Path.{_≡_, _∙_, refl, sym, ap, ap₂, subst}
 use mathlib.Core.List.{List, [], _∷_, _++_, append-nil}
 use Prim.Native.Nat.{ℕ, _+_, _-_, _≤_, _<_}
 use native.Mathlib.Nat.{zero-add}
@@ -11,26 +11,28 @@ use lib.Dec.{eqb}
 use lib.ListN.{length, getD, length-replicate, getD-replicate}
 use lib.Seq.{ext-getD}
 use Rattle.cutting.specs.declared.Direction.the-variants.{Length, Width}
-use Rattle.cutting.specs.Tree.{Rect, Tree, waste, piece, cut, total}
+use Rattle.cutting.specs.Tree.{Rect, Tree, waste, piece, cut, total, IdleFree}
 use Rattle.cutting.specs.Pieces as laid
 use Rattle.cutting.specs.Preorder.{preorder, node-count}
 use Rattle.cutting.specs.Job.{Job, GuillotineTree, OnPlate, copies-of}
 use Rattle.cutting.proofs.Members.{lie-kind}
 use Rattle.cutting.proofs.Job.{areas-sum}
-use Rattle.refusal.specs.Refusals.{first-refusal}
+use Rattle.refusal.specs.Refusals.{next, first-refusal}
 use Rattle.refusal.specs.declared.Refusal.{Refusal}
 use Rattle.refusal.specs.declared.Checked.{Checked}
 use Rattle.refusal.specs.declared.Checked.the-variants.{Passed, Refused}
 use Rattle.job.specs.Block.{entries}
-use Rattle.job.proofs.Checks.{cons-passed}
+use Rattle.job.proofs.Checks.{cons-passed, passed-both}
 use Rattle.node.proofs.Nodes.{inside-range}
 use Rattle.job.proofs.Entries.{entries-length, entries-in, entries-past}
+use Rattle.idle.specs.Idle.{idle-checks, tree-checks}
+use Rattle.idle.proofs.Idle.{idle-tree, passed-free, free-passed}
 use Rattle.plan.specs.declared.Report.{Report}
 use Rattle.plan.specs.declared.PlanAnswer.{PlanAnswer}
-use Rattle.plan.specs.Plan.{plan-checks, plan-answer, walk, node-of, node-checks, parts, counted, nodes-in, passed, proceed, empty-report}
-use Rattle.plan.specs.Trees.{PlanOf, tree-report, ChecksPlan}
+use Rattle.plan.specs.Plan.{plan-checks, walk-answer, plan-answer, walk, node-of, node-checks, parts, counted, nodes-in, passed, proceed, empty-report}
+use Rattle.plan.specs.Trees.{DrawnAs, PlanOf, tree-report, Reports, ChecksPlan}
 use Rattle.plan.proofs.Walk.{nodes-length}
-use Rattle.plan.proofs.Whole.{walks-on}
+use Rattle.plan.proofs.Whole.{walks-on, verdict-is, idle-decides}
 use Rattle.plan.proofs.Counts.{added, added-profit, added-pieces, added-waste, added-trim, added-sawdust, added-length, added-copies}
 use Rattle.plan.proofs.Preorder.{written, count-written, arrays-written, kinds-length, operands-length, written-kinds, written-operands}
 use Rattle.plan.proofs.Trees.{tree-walks}
@@ -110,8 +112,8 @@ module _ (J : Job) (few : J .count ≤ 64) where
           (λ i h. (let k : i < 64 = omega (arith, size, h) in whole-copies t i k ∙ at i k (decLt i (J .count))))
 
   module _ (kinds operands : List ℕ) where
-    -- a plan's tree passes
-    passes : (t : Tree laid.Piece) → PlanOf J t kinds operands → plan-answer J kinds operands ≡ passed (whole t)
+    -- a tree's arrays pass the walk
+    passes : (t : Tree laid.Piece) → DrawnAs J t kinds operands → walk-answer J kinds operands ≡ passed (whole t)
     unfolding walk
     passes t h =
         let a = ap length (h .kinds-are) ∙ kinds-length t in
@@ -121,8 +123,8 @@ module _ (J : Job) (few : J .count ≤ 64) where
         ∙ ap (λ ns. walk J 0 ns (J .plate ∷ []) empty-report) (ap₂ nodes-in (h .kinds-are) (h .operands-are) ∙ arrays-written t ∙ sym (append-nil (written t)))
         ∙ tree-walks J few t 0 [] (J .plate) [] empty-report (h .on-plate) (empty-length, λ i l. omega (arith, empty-copies i (omega (arith, l, few)), h .demands i l))
 
-    -- a plan that passes is a tree's
-    parsed : length kinds ≡ length operands → 1 ≤ length kinds → length kinds ≤ 4095 → plan-answer J kinds operands .verdict ≡ Passed → (t : Tree laid.Piece) × PlanOf J t kinds operands × (plan-answer J kinds operands ≡ passed (whole t))
+    -- arrays that pass it are a tree's
+    parsed : length kinds ≡ length operands → 1 ≤ length kinds → length kinds ≤ 4095 → walk-answer J kinds operands .verdict ≡ Passed → (t : Tree laid.Piece) × DrawnAs J t kinds operands × (walk-answer J kinds operands ≡ passed (whole t))
     parsed same some most p =
         let w = walks-on J kinds operands same some most in
         let kept : Kept J few empty-report = (empty-length, λ i l. omega (arith, empty-copies i (omega (arith, l, few)))) in
@@ -140,26 +142,81 @@ module _ (J : Job) (few : J .count ≤ 64) where
           w ∙ u .goes ∙ z .1,
         )
 
--- the whole check passes exactly for the plans of trees, and reports the tree
-pub plans-checked : (J : Job) → J .count ≤ 64 → (kinds operands : List ℕ) → ChecksPlan Unit J kinds operands (plan-answer J kinds operands)
-unfolding plan-answer
-plans-checked J few kinds operands =
-    record {
-      before = λ p. tt;
-      passes = λ u t h. ap (λ (a : PlanAnswer). a .verdict) (passes J few kinds operands t h);
-      tree = λ p. (let f = cons-passed _ _ _ (proceed-passed (first-refusal (plan-checks kinds operands)) (walk J 0 (nodes-in kinds operands) (J .plate ∷ []) empty-report) p) in
-          let g = inside-range 4096 0 (length kinds) (cons-passed _ _ _ (f .1) .0) in
-          let t = parsed J few kinds operands (eqb-true (length kinds) (length operands) (not-false (eqb (length kinds) (length operands)) (f .0))) (g .0) (omega (arith, g .1)) p in
-          let e = whole-own J few (t .0) (t .1 .on-plate) in
-          let r = ap (λ (a : PlanAnswer). a .report) (t .2) ∙ e in
-          (t .0, t .1, record { own = r; areas = ap (λ (s : Report). s .pieces + s .waste + s .trim + s .sawdust) r ∙ areas-sum J (t .0) (J .plate .0) (J .plate .1) (t .1 .on-plate) }));
-      zeros = proceed-zeros (first-refusal (plan-checks kinds operands)) _ (walk-zeros J 0 (nodes-in kinds operands) (J .plate ∷ []) empty-report);
-    }
+-- arrays that pass the walk have one length, from 1 to 4,095
+pub walked-counts : (J : Job) (kinds operands : List ℕ) → walk-answer J kinds operands .verdict ≡ Passed → (length kinds ≡ length operands) × (1 ≤ length kinds) × (length kinds ≤ 4095)
+unfolding walk-answer
+walked-counts J kinds operands p =
+    let f = cons-passed _ _ _ (proceed-passed (first-refusal (plan-checks kinds operands)) (walk J 0 (nodes-in kinds operands) (J .plate ∷ []) empty-report) p) in
+    let g = inside-range 4096 0 (length kinds) (cons-passed _ _ _ (f .1) .0) in
+    (eqb-true (length kinds) (length operands) (not-false (eqb (length kinds) (length operands)) (f .0)), g .0, omega (arith, g .1))
+
+-- they are drawn as a tree, and report it
+drawn : (J : Job) → J .count ≤ 64 → (kinds operands : List ℕ) → walk-answer J kinds operands .verdict ≡ Passed → (t : Tree laid.Piece) × DrawnAs J t kinds operands × Reports J t (walk-answer J kinds operands .report)
+drawn J few kinds operands p =
+    let g = walked-counts J kinds operands p in
+    let t = parsed J few kinds operands (g .0) (g .1) (g .2) p in
+    let r = ap (λ (a : PlanAnswer). a .report) (t .2) ∙ whole-own J few (t .0) (t .1 .on-plate) in
+    (t .0, t .1, record { own = r; areas = ap (λ (s : Report). s .pieces + s .waste + s .trim + s .sawdust) r ∙ areas-sum J (t .0) (J .plate .0) (J .plate .1) (t .1 .on-plate) })
+
+-- an answer by its parts
+answer-of : {a : PlanAnswer} {v : Checked} {s : Report} → a .verdict ≡ v → a .report ≡ s → a ≡ record { verdict = v; report = s }
+answer-of e f = λ i. record { verdict = e i; report = f i }
+
+module _ (J : Job) (few : J .count ≤ 64) (kinds operands : List ℕ) where
+  abbrev walked : PlanAnswer
+  walked = walk-answer J kinds operands
+
+  -- the verdict of check 26
+  abbrev idleness : Checked
+  idleness = first-refusal (idle-checks 0 kinds)
+
+  walked-zeros : Zeroed walked
+  unfolding walk-answer
+  walked-zeros = proceed-zeros (first-refusal (plan-checks kinds operands)) _ (walk-zeros J 0 (nodes-in kinds operands) (J .plate ∷ []) empty-report)
+
+  -- is that of the tree
+  idle-drawn : (t : Tree laid.Piece) → DrawnAs J t kinds operands → idleness ≡ first-refusal (tree-checks 0 t)
+  idle-drawn t d = ap first-refusal (ap (idle-checks 0) (d .kinds-are) ∙ idle-tree t 0)
+
+  -- and decides for every tree
+  judged : (t : Tree laid.Piece) → DrawnAs J t kinds operands → plan-answer J kinds operands .verdict ≡ first-refusal (tree-checks 0 t)
+  judged t d = verdict-is J kinds operands ∙ ap (λ (a : PlanAnswer). next (a .verdict) idleness) (passes J few kinds operands t d) ∙ idle-drawn t d
+
+  -- where both pass, the answer is the walk's
+  both-pass : next (walked .verdict) idleness ≡ Passed → plan-answer J kinds operands ≡ walked
+  unfolding plan-answer
+  both-pass p = ap (λ v. proceed v walked) p
+
+  -- so it is where no tree that the arrays draw has an idle cut
+  unidle : ((t : Tree laid.Piece) → DrawnAs J t kinds operands → IdleFree t) → plan-answer J kinds operands ≡ walked
+  unfolding plan-answer
+  unidle free = go (walked .verdict) refl
+    where
+      go : (v : Checked) → walked .verdict ≡ v → plan-answer J kinds operands ≡ walked
+      go Passed e = let t = drawn J few kinds operands e in both-pass (ap₂ next e (idle-drawn (t .0) (t .1) ∙ free-passed (t .0) 0 (free (t .0) (t .1))))
+      go (Refused r) e = ap (λ v. proceed (next v idleness) walked) e ∙ sym (answer-of e (walked-zeros r e))
+
+  -- the whole check passes exactly for the plans of trees, and reports the tree
+  pub plans-checked : ChecksPlan Unit J kinds operands walked (plan-answer J kinds operands)
+  unfolding plan-answer
+  plans-checked =
+      record {
+        before = λ p. tt;
+        passes = λ u t h. judged t (h .drawn) ∙ free-passed t 0 (h .idle-free);
+        tree = λ p. (let both = proceed-passed (next (walked .verdict) idleness) walked p in
+            let v = passed-both (walked .verdict) idleness both in
+            let t = drawn J few kinds operands (v .0) in
+            (t .0, record { drawn = t .1; idle-free = passed-free (t .0) 0 (sym (idle-drawn (t .0) (t .1)) ∙ v .1) }, subst (λ (a : PlanAnswer). Reports J (t .0) (a .report)) (sym (both-pass both)) (t .2)));
+        zeros = proceed-zeros (next (walked .verdict) idleness) walked walked-zeros;
+        idle = λ u t d. judged t d;
+        old-table = unidle;
+      }
 
 -- a check before the others
-pub checked-after : {J : Job} {kinds operands : List ℕ} {a : PlanAnswer} {Before All : Type 0} (v : Checked) → (v ≡ Passed → ChecksPlan Before J kinds operands a)
-    → (All → (v ≡ Passed) × Before) → (v ≡ Passed → Before → All) → ChecksPlan All J kinds operands (proceed v a)
+pub checked-after : {J : Job} {kinds operands : List ℕ} {old a : PlanAnswer} {Before All : Type 0} (v : Checked) → (v ≡ Passed → ChecksPlan Before J kinds operands old a)
+    → (All → (v ≡ Passed) × Before) → (v ≡ Passed → Before → All) → ChecksPlan All J kinds operands (proceed v old) (proceed v a)
 checked-after Passed f apart both =
     let c = f refl in
-    record { passes = λ b. c .passes (apart b .1); before = λ p. both refl (c .before p); tree = c .tree; zeros = c .zeros }
-checked-after (Refused r) f apart both = record { passes = λ b t h. no-pass (apart b .0); before = λ p. no-pass p; tree = λ p. no-pass p; zeros = λ x e. refl }
+    record { passes = λ b. c .passes (apart b .1); before = λ p. both refl (c .before p); tree = c .tree; zeros = c .zeros; idle = λ b. c .idle (apart b .1); old-table = c .old-table }
+checked-after (Refused r) f apart both =
+    record { passes = λ b t h. no-pass (apart b .0); before = λ p. no-pass p; tree = λ p. no-pass p; zeros = λ x e. refl; idle = λ b t d. no-pass (apart b .0); old-table = λ h. refl }

@@ -17,11 +17,15 @@ use Rattle.job.specs.Block.{u16-at, job-checks}
 use Rattle.job.specs.Weights.{block-job}
 use Rattle.plan.specs.declared.Report.{Report}
 use Rattle.plan.specs.declared.PlanAnswer.{PlanAnswer}
-use Rattle.plan.specs.Plan.{proceed, plan-answer}
+use Rattle.plan.specs.Plan.{proceed, walk-answer, plan-answer}
 
 -- what a plan's arrays answer for a job block
 abbrev pub arrays-answer : List ℕ → Choices → List ℕ → List ℕ → PlanAnswer
 arrays-answer s choices kinds operands = proceed (first-refusal (job-checks s choices)) (plan-answer (block-job s choices) kinds operands)
+
+-- and what they answer without 26
+abbrev pub arrays-before-idle : List ℕ → Choices → List ℕ → List ℕ → PlanAnswer
+arrays-before-idle s choices kinds operands = proceed (first-refusal (job-checks s choices)) (walk-answer (block-job s choices) kinds operands)
 
 -- a plan block: the node count, that many kinds, that many operands
 abbrev pub plan-count : List ℕ → ℕ
@@ -44,6 +48,11 @@ plan-block-answer J p = proceed (first-refusal (block-checks p)) (plan-answer J 
 -- what a plan block answers for a job block
 abbrev pub block-answer : List ℕ → Choices → List ℕ → PlanAnswer
 block-answer s choices p = proceed (first-refusal (job-checks s choices)) (plan-block-answer (block-job s choices) p)
+
+-- and what it answers without 26
+abbrev pub block-before-idle : List ℕ → Choices → List ℕ → PlanAnswer
+block-before-idle s choices p =
+    proceed (first-refusal (job-checks s choices)) (proceed (first-refusal (block-checks p)) (walk-answer (block-job s choices) (plan-kinds p) (plan-operands p)))
 
 -- no check of a job block, read by the choices of a call, refuses it
 abbrev pub JobPasses : List ℕ → Choices → Type 0

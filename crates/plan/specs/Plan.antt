@@ -1,4 +1,4 @@
--- A plan's check in the scope's words: the walk over the nodes in preorder, and what the whole plan answers.
+-- A plan's check in the scope's words: the walk over the nodes in preorder, then the idle cuts, and what the whole plan answers.
 use mathlib.Core.Bool.{not}
 use mathlib.Core.List.{List, [], _∷_, _++_}
 use Prim.Native.Nat.{ℕ, _+_}
@@ -12,11 +12,12 @@ use Rattle.refusal.specs.declared.Refusal.{Refusal}
 use Rattle.refusal.specs.declared.Refusal.the-variants.{PlanLength, NodeCount, NodeMissing, NodeLeft}
 use Rattle.refusal.specs.declared.Checked.{Checked}
 use Rattle.refusal.specs.declared.Checked.the-variants.{Passed, Refused}
-use Rattle.refusal.specs.Refusals.{Check, first-refusal}
+use Rattle.refusal.specs.Refusals.{Check, next, first-refusal}
 use Rattle.job.specs.Block.{outside}
 use Rattle.node.specs.declared.Tally.{Tally}
 use Rattle.node.specs.Nodes.{tallied, copied}
 pub use Rattle.node.specs.Nodes.{node-of, node-checks, parts}
+use Rattle.idle.specs.Idle.{idle-checks}
 use Rattle.plan.specs.declared.Report.{Report}
 use Rattle.plan.specs.declared.PlanAnswer.{PlanAnswer}
 
@@ -72,6 +73,10 @@ nodes-in (k ∷ ks) (o ∷ os) = (k, o) ∷ nodes-in ks os
 abbrev pub plan-checks : List ℕ → List ℕ → List Check
 plan-checks kinds operands = (not (eqb (length kinds) (length operands)), PlanLength) ∷ (outside 1 most-nodes (length kinds), NodeCount) ∷ []
 
--- what a plan's arrays answer: checks 10 and 11, then the walk from the plate
+-- what 10 to 18 answer for a plan's arrays: checks 10 and 11, then the walk from the plate
+unfoldable pub walk-answer : Job → List ℕ → List ℕ → PlanAnswer
+walk-answer J kinds operands = proceed (first-refusal (plan-checks kinds operands)) (walk J 0 (nodes-in kinds operands) (J .plate ∷ []) empty-report)
+
+-- what a plan's arrays answer: 10 to 18, then 26
 unfoldable pub plan-answer : Job → List ℕ → List ℕ → PlanAnswer
-plan-answer J kinds operands = proceed (first-refusal (plan-checks kinds operands)) (walk J 0 (nodes-in kinds operands) (J .plate ∷ []) empty-report)
+plan-answer J kinds operands = proceed (next (walk-answer J kinds operands .verdict) (first-refusal (idle-checks 0 kinds))) (walk-answer J kinds operands)

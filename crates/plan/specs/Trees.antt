@@ -3,24 +3,31 @@ use mathlib.Core.Path.{_≡_}
 use mathlib.Core.List.{List}
 use Prim.Native.Nat.{ℕ, _+_, _*_, _≤_}
 use Rattle.cutting.specs.Limits.{most-nodes}
-use Rattle.cutting.specs.Tree.{Tree}
+use Rattle.cutting.specs.Tree.{Tree, IdleFree}
 use Rattle.cutting.specs.Pieces.{Piece}
 use Rattle.cutting.specs.Preorder.{node-count, kinds-of, operands-of}
 use Rattle.cutting.specs.Job.{Job, OnPlate, profit, copies-of, KeepsDemands, pieces-area-of, waste-area-of, trim-area-of, sawdust-area-of}
+use Rattle.refusal.specs.Refusals.{first-refusal}
 use Rattle.refusal.specs.declared.Refusal.{Refusal}
 use Rattle.refusal.specs.declared.Checked.the-variants.{Passed, Refused}
 use Rattle.job.specs.Block.{entries}
+use Rattle.idle.specs.Idle.{tree-checks}
 use Rattle.plan.specs.declared.Report.{Report}
 use Rattle.plan.specs.declared.PlanAnswer.{PlanAnswer}
 use Rattle.plan.specs.Plan.{empty-report}
 
 -- the arrays are the preorder of a guillotine tree on the plate that keeps every demand and has at most 4,095 nodes
-pub record PlanOf (J : Job) (t : Tree Piece) (kinds operands : List ℕ) : Type 0 where
+pub record DrawnAs (J : Job) (t : Tree Piece) (kinds operands : List ℕ) : Type 0 where
   pub on-plate : OnPlate J t
   pub demands : KeepsDemands J t
   pub nodes : node-count t ≤ most-nodes
   pub kinds-are : kinds ≡ kinds-of t
   pub operands-are : operands ≡ operands-of t
+
+-- and no cut of that tree is idle
+pub record PlanOf (J : Job) (t : Tree Piece) (kinds operands : List ℕ) : Type 0 where
+  pub drawn : DrawnAs J t kinds operands
+  pub idle-free : IdleFree t
 
 -- a tree's own profit, copies of each kind (0 for numbers past the job's), and areas on the plate
 abbrev pub tree-report : Job → Tree Piece → Report
@@ -39,9 +46,12 @@ pub record Reports (J : Job) (t : Tree Piece) (r : Report) : Type 0 where
   pub areas : r .pieces + r .waste + r .trim + r .sawdust ≡ J .plate .0 * J .plate .1
 
 -- where what stands before the plan's checks holds, an answer passes exactly for the plan of a tree; it then reports that tree, and a
--- refusal reports zeros
-pub record ChecksPlan (Before : Type 0) (J : Job) (kinds operands : List ℕ) (a : PlanAnswer) : Type 0 where
+-- refusal reports zeros. Arrays drawn as a tree are refused for its first idle cut in preorder alone; without one, `old` is the answer,
+-- which is that of the checks before 26
+pub record ChecksPlan (Before : Type 0) (J : Job) (kinds operands : List ℕ) (old a : PlanAnswer) : Type 0 where
   pub passes : Before → (t : Tree Piece) → PlanOf J t kinds operands → a .verdict ≡ Passed
   pub before : a .verdict ≡ Passed → Before
   pub tree : a .verdict ≡ Passed → (t : Tree Piece) × PlanOf J t kinds operands × Reports J t (a .report)
   pub zeros : (r : Refusal) → a .verdict ≡ Refused r → a .report ≡ empty-report
+  pub idle : Before → (t : Tree Piece) → DrawnAs J t kinds operands → a .verdict ≡ first-refusal (tree-checks 0 t)
+  pub old-table : ((t : Tree Piece) → DrawnAs J t kinds operands → IdleFree t) → a ≡ old

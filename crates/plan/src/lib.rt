@@ -1,9 +1,10 @@
-// The check of a plan drawn by anybody: refusals 10 to 18, and what a passed plan reports. The nodes are read once, in their order, with
-// a list of the rectangles that wait to be filled, so that no plan needs more stack than another.
+// The check of a plan drawn by anybody: refusals 10 to 18 and 26, and what a passed plan reports. The nodes are read once, in their order,
+// with a list of the rectangles that wait to be filled, so that no plan needs more stack than another; then once more for idle cuts.
 use cutting::Node;
 use cutting::Sides;
 use cutting::first_part;
 use cutting::second_part;
+use idle::idle_cut;
 use job::Choices;
 use job::JobRecord;
 use job::read_job;
@@ -24,10 +25,10 @@ ghost use Rattle.cutting.specs.Sides.{rect-of, sides-of};
 ghost use Rattle.cutting.specs.Job.{Job, InRange};
 ghost use Rattle.job.specs.Block.{job-of};
 ghost use Rattle.job.specs.Weights.{block-job};
-ghost use Rattle.plan.specs.Plan.{parts, plan-report, empty-report, unreported, nodes-in, walk, plan-answer};
+ghost use Rattle.plan.specs.Plan.{parts, plan-report, empty-report, unreported, nodes-in, walk, walk-answer, plan-answer};
 ghost use Rattle.plan.specs.Walk.{waiting, no-sums, rules-of, entry-at, Held, Opens, Walkable};
 ghost use Rattle.plan.specs.Trees.{ChecksPlan};
-ghost use Rattle.plan.specs.Calls.{arrays-answer, plan-count, plan-kinds, plan-operands, plan-block-answer, block-answer, JobPasses, BlockPasses, plan-outcome, arrays-said, block-said};
+ghost use Rattle.plan.specs.Calls.{arrays-answer, arrays-before-idle, plan-count, plan-kinds, plan-operands, plan-block-answer, block-answer, block-before-idle, JobPasses, BlockPasses, plan-outcome, arrays-said, block-said};
 
 // What a passed plan reports: profit, copies of each of 64 kinds, and the areas of pieces, waste nodes, trim and sawdust.
 pub struct Report {
@@ -204,9 +205,9 @@ fn walk_nodes(job: JobRecord, kinds: &[u8], operands: &[u16]) -> PlanAnswer
 }
 
 // A plan's arrays checked for a job that was read: refusals 10 to 18.
-pub fn check_nodes(job: JobRecord, kinds: &[u8], operands: &[u16]) -> PlanAnswer
+fn check_walk(job: JobRecord, kinds: &[u8], operands: &[u16]) -> PlanAnswer
     requires { ⌜ InRange (job-of job) ⌝ }
-    ensures { λ r. ⌜ r ≡ plan-answer (job-of job) (now (kinds .entry)) (now (operands .entry)) ⌝ }
+    ensures { λ r. ⌜ r ≡ walk-answer (job-of job) (now (kinds .entry)) (now (operands .entry)) ⌝ }
 {
     let count = kinds.len();
     if count != operands.len() {
@@ -221,11 +222,28 @@ pub fn check_nodes(job: JobRecord, kinds: &[u8], operands: &[u16]) -> PlanAnswer
     walk_nodes(job, kinds, operands)
 }
 
-// A plan's arrays checked for a job block: refusals 1 to 7 and 27, then 10 to 18.
+// A plan's arrays checked for a job that was read: refusals 10 to 18, then 26.
+pub fn check_nodes(job: JobRecord, kinds: &[u8], operands: &[u16]) -> PlanAnswer
+    requires { ⌜ InRange (job-of job) ⌝ }
+    ensures { λ r. ⌜ r ≡ plan-answer (job-of job) (now (kinds .entry)) (now (operands .entry)) ⌝ }
+{
+    let answer = check_walk(job, kinds, operands);
+    let walked = answer.verdict;
+    let Checked::Passed = walked else {
+        return without_report(walked);
+    };
+    let idle = idle_cut(kinds);
+    let Checked::Passed = idle else {
+        return without_report(idle);
+    };
+    answer
+}
+
+// A plan's arrays checked for a job block: refusals 1 to 7 and 27, then 10 to 18 and 26.
 pub fn check_plan(block: &[u8], choices: Choices, kinds: &[u8], operands: &[u16]) -> PlanAnswer
     ensures answer { λ r. ⌜ r ≡ arrays-answer (now (block .entry)) choices (now (kinds .entry)) (now (operands .entry)) ⌝ }
     ensures outcome { λ r. ⌜ plan-outcome r ≡ arrays-said (now (block .entry)) choices (now (kinds .entry)) (now (operands .entry)) ⌝ }
-    ensures trees { λ r. ⌜ ChecksPlan (JobPasses (now (block .entry)) choices) (block-job (now (block .entry)) choices) (now (kinds .entry)) (now (operands .entry)) r ⌝ }
+    ensures trees { λ r. ⌜ ChecksPlan (JobPasses (now (block .entry)) choices) (block-job (now (block .entry)) choices) (now (kinds .entry)) (now (operands .entry)) (arrays-before-idle (now (block .entry)) choices (now (kinds .entry)) (now (operands .entry))) r ⌝ }
 {
     let read = read_job(block, choices);
     let verdict = read.verdict;
@@ -248,7 +266,7 @@ fn read_operands(plan: &[u8], count: usize) -> [u16; 4095]
     operands
 }
 
-// A plan block checked for a job that was read: refusals 10 to 18.
+// A plan block checked for a job that was read: refusals 10 to 18 and 26.
 fn check_block(job: JobRecord, plan: &[u8]) -> PlanAnswer
     requires { ⌜ InRange (job-of job) ⌝ }
     ensures { λ r. ⌜ r ≡ plan-block-answer (job-of job) (now (plan .entry)) ⌝ }
@@ -268,11 +286,11 @@ fn check_block(job: JobRecord, plan: &[u8]) -> PlanAnswer
     check_nodes(job, &plan[2..end], &operands[..count])
 }
 
-// A plan block checked for a job block: refusals 1 to 7 and 27, then 10 to 18.
+// A plan block checked for a job block: refusals 1 to 7 and 27, then 10 to 18 and 26.
 pub fn check_plan_block(block: &[u8], choices: Choices, plan: &[u8]) -> PlanAnswer
     ensures answer { λ r. ⌜ r ≡ block-answer (now (block .entry)) choices (now (plan .entry)) ⌝ }
     ensures outcome { λ r. ⌜ plan-outcome r ≡ block-said (now (block .entry)) choices (now (plan .entry)) ⌝ }
-    ensures trees { λ r. ⌜ ChecksPlan (JobPasses (now (block .entry)) choices × BlockPasses (now (plan .entry))) (block-job (now (block .entry)) choices) (plan-kinds (now (plan .entry))) (plan-operands (now (plan .entry))) r ⌝ }
+    ensures trees { λ r. ⌜ ChecksPlan (JobPasses (now (block .entry)) choices × BlockPasses (now (plan .entry))) (block-job (now (block .entry)) choices) (plan-kinds (now (plan .entry))) (plan-operands (now (plan .entry))) (block-before-idle (now (block .entry)) choices (now (plan .entry))) r ⌝ }
 {
     let read = read_job(block, choices);
     let verdict = read.verdict;

@@ -1,26 +1,43 @@
--- `plan::check_nodes` meets its contract: checks 10 and 11 come first; the rest is the walk.
-use mathlib.Core.Path.{_∙_, sym}
+-- `plan::check_nodes` meets its contract: the walk comes first, then check 26.
+use mathlib.Core.Path.{_∙_, sym, ap}
+use native.Mathlib.Omega.{arith}
 use denote.Ref.{now}
 use borrow.Author.Needs.{needs}
 use Rattle.job.specs.Block.{job-of}
-use Rattle.plan.proofs.Whole.{length-refused, none-refused, many-refused, walks-on}
+use Rattle.plan.specs.declared.PlanAnswer.{PlanAnswer}
+use Rattle.plan.specs.Plan.{unreported}
+use Rattle.plan.proofs.Whole.{walk-stops, idle-decides}
+use Rattle.plan.proofs.Plans.{walked-counts}
 use Rattle.plan.proofs.check_nodes.Statement.{statement}
 use Rattle.plan.proofs.check_nodes.Tie as tie
 
 returns : tie.Need-returns
-returns c = let a = c .before .before .before .before .args in c .without-report .ensures ∙ sym (length-refused (job-of (a .job)) (now (a .kinds)) (now (a .operands)) (c .before .if1 .taken))
+returns c =
+    let a = c .before .before .before .before .before .before .args in
+    let w = c .before .before .before .check-walk .ensures in
+    c .without-report .ensures ∙ ap unreported (c .before .enum-told2 .given .1) ∙ sym (walk-stops (job-of (a .job)) (now (a .kinds)) (now (a .operands)) (ap (λ (p : PlanAnswer). p .verdict) (sym w) ∙ c .before .enum-told2 .given .1))
+
+idle-cut-requires : tie.Need-idle-cut-requires
+idle-cut-requires c κs =
+    let a = c .before .before .before .before .before .args in
+    let w = c .before .before .check-walk .ensures in
+    walked-counts (job-of (a .job)) (now (a .kinds)) (now (a .operands)) (ap (λ (p : PlanAnswer). p .verdict) (sym w) ∙ c .enum-told .given .1) .2
 
 returns-2 : tie.Need-returns-2
-returns-2 c = let a = c .before .before .before .before .before .args in c .without-report2 .ensures ∙ sym (none-refused (job-of (a .job)) (now (a .kinds)) (now (a .operands)) (c .before .before .if1 .left) (c .before .if2 .taken))
+returns-2 c =
+    let a = c .before .before .before .before .before .before .before .before .before .args in
+    let w = c .before .before .before .before .before .before .check-walk .ensures in
+    let p = ap (λ (p : PlanAnswer). p .verdict) (sym w) ∙ c .before .before .before .before .enum-told .given .1 in
+    c .without-report2 .ensures ∙ ap unreported (c .before .enum-told4 .given .1) ∙ sym (idle-decides (job-of (a .job)) (now (a .kinds)) (now (a .operands)) p (sym (c .before .enum-told4 .given .1) ∙ c .before .before .before .idle-cut .ensures))
 
 returns-3 : tie.Need-returns-3
-returns-3 c = let a = c .before .before .before .before .before .before .args in c .without-report3 .ensures ∙ sym (many-refused (job-of (a .job)) (now (a .kinds)) (now (a .operands)) (c .before .before .before .if1 .left) (c .before .before .if2 .left) (c .before .if3 .taken))
-
-returns-4 : tie.Need-returns-4
-returns-4 c = let a = c .before .before .before .before .before .before .args in c .walk-nodes .ensures ∙ sym (walks-on (job-of (a .job)) (now (a .kinds)) (now (a .operands)) (c .before .before .before .if1 .left) (c .before .before .if2 .left) (c .before .if3 .left))
+returns-3 c =
+    let a = c .before .before .before .before .before .before .before .before .args in
+    let w = c .before .before .before .before .before .check-walk .ensures in
+    let p = ap (λ (p : PlanAnswer). p .verdict) (sym w) ∙ c .before .before .before .enum-told .given .1 in
+    w ∙ sym (idle-decides (job-of (a .job)) (now (a .kinds)) (now (a .operands)) p (sym (c .enum-told3 .given .1) ∙ c .before .before .idle-cut .ensures))
 
 pub check-nodes-spec : {M : Type 1} → statement M
 check-nodes-spec =
     tie.close
-    (tie.spec (λ c. search needs) returns (λ c. search needs) returns-2 (λ c. search needs) returns-3
-    (λ c. search needs) returns-4)
+    (tie.spec (λ c κs. search needs) (λ c. search needs) (λ c. search needs) (λ c κs. search needs) returns idle-cut-requires (λ c. search needs) (λ c. search needs) (λ c κs. search needs) returns-2 returns-3)

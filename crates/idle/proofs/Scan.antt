@@ -1,0 +1,62 @@
+-- The steps of the scan: what it knows after the last node, at one node more in front, and at the first.
+use mathlib.Core.Path.{_≡_, refl, sym, _∙_, ap}
+use mathlib.Core.List.{List, [], _∷_}
+use Prim.Native.Nat.{ℕ, _+_, _-_, _≤_, _<_}
+use native.Mathlib.Numerals.{add-one}
+use native.Mathlib.Omega.{arith}
+use lib.ListN.{length, drop, getD, length-drop}
+use lib.Seq.{drop-length, drop-cons}
+use Rattle.cutting.specs.declared.Node.{Node}
+use Rattle.cutting.specs.declared.Node.the-variants.{Waste, Piece, Turned, Cut}
+use Rattle.refusal.specs.Refusals.{next, refuse-when, first-refusal}
+use Rattle.refusal.specs.declared.Refusal.the-variants.{IdleCut}
+use Rattle.refusal.specs.declared.Checked.{Checked}
+use Rattle.refusal.specs.declared.Checked.the-variants.{Passed}
+use Rattle.node.specs.Nodes.{node-of}
+use Rattle.idle.specs.Idle.{trees-from, pieceless, is-idle, idle-checks}
+
+from-most : (n : Node) (after most : ℕ) → after ≤ most → trees-from n after ≤ most + 1
+from-most Waste after most h = omega arith
+from-most (Piece i) after most h = omega arith
+from-most (Turned i) after most h = omega arith
+from-most (Cut d x) after most h = omega arith
+
+-- no more trees than nodes
+pieceless-most : (ks : List ℕ) → pieceless ks ≤ length ks
+unfolding pieceless
+pieceless-most [] = omega arith
+pieceless-most (k ∷ ks) = let h = from-most (node-of k 0) (pieceless ks) (length ks) (pieceless-most ks) in omega (arith, h)
+
+-- what the scan knows before it reads node k - 1: the verdict of the nodes from k on, and the trees that they begin
+pub record Scanned (kinds : List ℕ) (verdict : Checked) (trees k : ℕ) : Type 0 where
+  pub inside : k ≤ length kinds
+  pub decided : verdict ≡ first-refusal (idle-checks k (drop k kinds))
+  pub counted : trees ≡ pieceless (drop k kinds)
+
+pub begins : (kinds : List ℕ) → Scanned kinds Passed 0 (length kinds)
+unfolding idle-checks pieceless first-refusal
+begins kinds = record { inside = omega arith; decided = rw drop-length refl; counted = rw drop-length refl }
+
+module _ {kinds : List ℕ} {verdict : Checked} {trees k : ℕ} (s : Scanned kinds verdict trees k) where
+  -- no more trees than nodes of the plan
+  pub few : trees ≤ length kinds
+  few = let m = pieceless-most (drop k kinds) in let l = length-drop k kinds in omega (arith, s .counted, m, l)
+
+  -- at the first node all have been read
+  pub ends : k ≤ 0 → verdict ≡ first-refusal (idle-checks 0 kinds)
+  ends h = let e : k ≡ 0 = omega arith in s .decided ∙ ap (λ n. first-refusal (idle-checks n (drop n kinds))) e
+
+  -- one node more
+  module _ (some : 0 < k) {n : Node} (read : n ≡ node-of (getD kinds (k - 1) 0) 0) where
+    here : drop (k - 1) kinds ≡ getD kinds (k - 1) 0 ∷ drop k kinds
+    here = let e : k - 1 + 1 ≡ k = omega arith in let l : k - 1 < length kinds = omega (arith, s .inside) in
+        drop-cons kinds (k - 1) 0 l ∙ ap (λ m. getD kinds (k - 1) 0 ∷ drop m kinds) (sym (add-one (k - 1)) ∙ e)
+
+    pub goes-on : {v : Checked} {m : ℕ} → v ≡ next (refuse-when (is-idle n trees) (IdleCut (k - 1))) verdict → m ≡ trees-from n trees → Scanned kinds v m (k - 1)
+    unfolding idle-checks pieceless first-refusal
+    goes-on {v} {m} d t = let e : k - 1 + 1 ≡ k = omega arith in
+        record {
+          inside = omega (arith, s .inside);
+          decided = d ∙ (λ i. next (refuse-when (is-idle (read i) (s .counted i)) (IdleCut (k - 1))) ((s .decided ∙ ap (λ j. first-refusal (idle-checks j (drop k kinds))) (sym e)) i)) ∙ sym (ap (λ l. first-refusal (idle-checks (k - 1) l)) here);
+          counted = t ∙ (λ i. trees-from (read i) (s .counted i)) ∙ sym (ap pieceless here);
+        }

@@ -1,0 +1,44 @@
+-- Check 26: an idle cut, neither of whose parts holds a piece, over the kinds of a plan and over the nodes of a tree.
+use mathlib.Core.Bool.{Bool, false}
+use mathlib.Core.List.{List, [], _∷_, _++_}
+use Prim.Native.Nat.{ℕ, _+_, _-_}
+use lib.Dec.{ltb, eqb}
+use Rattle.cutting.specs.declared.Node.{Node}
+use Rattle.cutting.specs.declared.Node.the-variants.{Waste, Piece, Turned, Cut}
+use Rattle.cutting.specs.Tree.{Tree, waste, piece, cut, piece-count}
+use Rattle.cutting.specs.Pieces as laid
+use Rattle.cutting.specs.Preorder.{node-count}
+use Rattle.refusal.specs.declared.Refusal.the-variants.{IdleCut}
+use Rattle.refusal.specs.Refusals.{Check}
+use Rattle.node.specs.Nodes.{node-of}
+
+-- the trees without a piece that begin at a node, from those that begin after it: waste is one more, a cut makes one tree of two, and a
+-- piece ends them
+abbrev pub trees-from : Node → ℕ → ℕ
+trees-from Waste after = after + 1
+trees-from (Piece i) after = 0
+trees-from (Turned i) after = 0
+trees-from (Cut d x) after = after - 1
+
+-- how many of the trees that a list of kinds begins hold no piece, before the first that holds one
+unfoldable pub pieceless : List ℕ → ℕ
+pieceless [] = 0
+pieceless (k ∷ ks) = trees-from (node-of k 0) (pieceless ks)
+
+-- whether a node is an idle cut: the two trees after it, its parts, hold no piece
+abbrev pub is-idle : Node → ℕ → Bool
+is-idle Waste after = false
+is-idle (Piece i) after = false
+is-idle (Turned i) after = false
+is-idle (Cut d x) after = ltb 1 after
+
+-- check 26 of the nodes from node k on
+unfoldable pub idle-checks : ℕ → List ℕ → List Check
+idle-checks k [] = []
+idle-checks k (n ∷ ns) = (is-idle (node-of n 0) (pieceless ns), IdleCut k) ∷ idle-checks (k + 1) ns
+
+-- check 26 of a tree's nodes in preorder, its own numbered k: a cut is idle where its parts hold no piece
+unfoldable pub tree-checks : ℕ → Tree laid.Piece → List Check
+tree-checks k waste = (false, IdleCut k) ∷ []
+tree-checks k (piece p) = (false, IdleCut k) ∷ []
+tree-checks k (cut d x a b) = (eqb (piece-count a + piece-count b) 0, IdleCut k) ∷ (tree-checks (k + 1) a ++ tree-checks (k + 1 + node-count a) b)

@@ -1,0 +1,71 @@
+// Check 26: the first idle cut of a plan, neither of whose parts holds a piece. One scan of the kinds from the last node to the first
+// counts the trees that begin at each node, hold no piece and stand before the first that holds one; it needs no memory but the count.
+use cutting::Node;
+use node::decode;
+use refusal::Checked;
+use refusal::Refusal;
+ghost use mathlib.Core.Path.{_≡_};
+ghost use Prim.Native.Nat.{_≤_};
+ghost use lib.ListN.{length};
+ghost use Rattle.cutting.specs.Limits.{most-nodes};
+ghost use Rattle.refusal.specs.declared.Refusal.the-variants.{IdleCut};
+ghost use Rattle.refusal.specs.Refusals.{next, refuse-when, first-refusal};
+ghost use Rattle.idle.specs.Idle.{trees-from, is-idle, idle-checks};
+
+// The trees without a piece that begin at a node, from those that begin after it.
+fn trees_from(node: Node, after: u16) -> u16
+    requires { ⌜ after ≤ most-nodes ⌝ }
+    ensures { λ r. ⌜ r ≡ trees-from node after ⌝ }
+{
+    match node {
+        Node::Waste => after + 1,
+        Node::Piece(_) => 0,
+        Node::Turned(_) => 0,
+        Node::Cut(_, _) => {
+            if 0 < after {
+                return after - 1;
+            }
+            0
+        }
+    }
+}
+
+// Whether a node is an idle cut: the two trees after it, its parts, hold no piece.
+fn is_idle(node: Node, after: u16) -> bool
+    ensures { λ r. ⌜ r ≡ is-idle node after ⌝ }
+{
+    match node {
+        Node::Waste => false,
+        Node::Piece(_) => false,
+        Node::Turned(_) => false,
+        Node::Cut(_, _) => 1 < after,
+    }
+}
+
+// Node k decides where it is idle, and else the nodes after it.
+fn decide(idle: bool, k: u16, after: Checked) -> Checked
+    ensures { λ r. ⌜ r ≡ next (refuse-when idle (IdleCut k)) after ⌝ }
+{
+    if idle {
+        return Checked::Refused(Refusal::IdleCut(k));
+    }
+    after
+}
+
+// The first idle cut in preorder.
+pub fn idle_cut(kinds: &[u8]) -> Checked
+    requires { ⌜ length (now kinds) ≤ most-nodes ⌝ }
+    ensures { λ r. ⌜ r ≡ first-refusal (idle-checks 0 (now (kinds .entry))) ⌝ }
+{
+    let mut verdict = Checked::Passed;
+    let mut trees: u16 = 0;
+    let mut k = kinds.len();
+    while 0 < k {
+        k -= 1;
+        let node = decode(kinds[k], 0);
+        let idle = is_idle(node, trees);
+        verdict = decide(idle, k as u16, verdict);
+        trees = trees_from(node, trees);
+    }
+    verdict
+}
