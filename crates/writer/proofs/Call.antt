@@ -6,7 +6,7 @@ use native.Mathlib.Omega.{arith}
 use lib.ListN.{length}
 use Rattle.cutting.specs.Preorder.{kinds-of, operands-of, node-count}
 use Rattle.cutting.proofs.Members.{range-solid}
-use Rattle.cutting.proofs.Plan.{plan-bound}
+use Rattle.cutting.proofs.Plan.{plan-bound, plan-idle}
 use Rattle.cutting.proofs.Promises.{plan-follows}
 use Rattle.refusal.specs.Refusals.{next, first-refusal, outcome-by}
 use Rattle.refusal.specs.declared.Refusal.{Refusal}
@@ -46,7 +46,10 @@ written-by (Refused x) b e = absurd (let z : _≡_ {A = ℕ} 0 1 = cc in omega a
 
 -- the plan of an accepted job and weights
 plan-chosen : (s : List ℕ) (choices : Choices) (ws : List ℕ) → PlanChosen s choices ws
-plan-chosen s choices ws h = let r = accepted-in-range s choices ws h in (plan-follows (block-job s choices) (weight-in ws) r, plan-bound (block-job s choices) (weight-in ws) (range-solid (block-job s choices) r))
+plan-chosen s choices ws h =
+    let J = block-job s choices in
+    let r = accepted-in-range s choices ws h in
+    (plan-follows J (weight-in ws) r, plan-bound J (weight-in ws) (range-solid J r), plan-idle J (weight-in ws) (range-solid J r) _ _ _)
 
 module _ (s : List ℕ) (choices : Choices) (ws : List ℕ) (old : bound.Memory) (kinds operands : List ℕ) where
   -- what the call's verdict makes of the answer and of the arrays gives the rest
@@ -63,6 +66,7 @@ module _ (s : List ℕ) (choices : Choices) (ws : List ℕ) (old : bound.Memory)
     plan-kept : PlanWritten s choices ws kinds operands new-kinds new-operands r
     plan-kept b w = record {
       earns = rw (reported w .1) (plan-chosen s choices ws (accepted-by w) .1);
+      idle-free = plan-chosen s choices ws (accepted-by w) .2;
       kinds-hold = p .kinds-left ∙ ap (λ u. bound.list-after u (kinds-of (block-plan s choices ws)) kinds) (reported w .0);
       operands-hold = p .operands-left ∙ ap (λ u. bound.list-after u (operands-of (block-plan s choices ws)) operands) (reported w .0);
       counted = ap (λ u. u .nodes) (reported w .1);

@@ -7,7 +7,7 @@ use Prim.Native.Nat.{ℕ}
 use lib.Dec.{ltb}
 use lib.ListN.{length}
 use Rattle.cutting.specs.Limits.{most-nodes}
-use Rattle.cutting.specs.Tree.{Tree}
+use Rattle.cutting.specs.Tree.{Tree, IdleFree}
 use Rattle.cutting.specs.Pieces.{Piece}
 use Rattle.cutting.specs.Preorder.{kinds-of, operands-of, node-count}
 use Rattle.cutting.specs.Lists.{over}
@@ -73,15 +73,18 @@ write-said s choices ws m kinds operands = outcome-by (write-verdict s choices w
 abbrev pub array-after : List ℕ → Choices → List ℕ → Memory → List ℕ → List ℕ → List ℕ → List ℕ → List ℕ
 array-after s choices ws m kinds operands xs old = list-after (write-verdict s choices ws m kinds operands) xs old
 
--- for every accepted job and weights, whatever storage is lent: the plan follows the order of choice, and earns the bound within Q
+-- for every accepted job and weights, whatever storage is lent: the plan follows the order of choice, earns the bound within Q and has no
+-- idle cut
 abbrev pub PlanChosen : List ℕ → Choices → List ℕ → Type 0
 PlanChosen s choices ws = Accepted s choices ws → PlanFollows (block-job s choices) (weight-in ws)
     × EarnsWithin (block-job s choices) (weight-in ws) (block-capacity s choices ws) (bound-of (block-job s choices) (weight-in ws)) (block-plan s choices ws)
+    × IdleFree (block-plan s choices ws)
 
--- a tree that was written and reported: it earns the answered bound within the answered capacity, the arrays hold its preorder over
--- their old contents, and it has the answered number of nodes
+-- a tree that was written and reported: it earns the answered bound within the answered capacity, no cut of it is idle, the arrays hold
+-- its preorder over their old contents, and it has the answered number of nodes
 pub record TreeWritten (J : Job) (weight : ℕ → ℕ) (t : Tree Piece) (kinds operands new-kinds new-operands : List ℕ) (b : WriteReport) : Type 0 where
   pub earns : EarnsWithin J weight (b .capacity) (b .bound) t
+  pub idle-free : IdleFree t
   pub kinds-hold : new-kinds ≡ over (kinds-of t) kinds
   pub operands-hold : new-operands ≡ over (operands-of t) operands
   pub counted : b .nodes ≡ node-count t
@@ -96,7 +99,7 @@ abbrev pub BoundWritten : List ℕ → Choices → List ℕ → WriteAnswer → 
 BoundWritten s choices ws r = (b : WriteReport) → r ≡ answer.Written b → BoundHolds (block-job s choices) (weight-in ws) (b .capacity) (b .bound)
 
 -- what the writing call promises of its answer and of all that it is lent: answer, lists, table and plan arrays are the definitions',
--- number and values too; the plan follows the order of choice; an answer reports the plan as it was written, and its bound holds
+-- number and values too; the plan follows the order of choice and has no idle cut; an answer reports the plan as it was written, and its bound holds
 pub record WritePromises (s : List ℕ) (choices : Choices) (ws : List ℕ) (old new : Memory) (kinds operands new-kinds new-operands : List ℕ) (r : WriteAnswer) : Type 0 where
   pub answers : r ≡ write-answer s choices ws old kinds operands
   pub outcome : write-outcome r ≡ write-said s choices ws old kinds operands
