@@ -35,7 +35,7 @@ module _ (s : List ℕ) (choices : Choices) (ws kinds operands : List ℕ) (good
       (t .0, t .1, sym (ap (λ (r : Report). r .profit) (t .2 .own)))
 
   pub drawn-most : plan-answer J kinds operands .report .profit ≤ bound-of J (weight-in ws)
-  drawn-most = let t = drawn in omega (arith, t .2, trees.none-above J (weight-in ws) (read-in-range s choices good) (t .0) (t .1 .on-plate) (t .1 .demands))
+  drawn-most = let t = drawn in omega (arith, t .2, trees.none-above J (weight-in ws) (read-in-range s choices good) (t .0) (t .1 .drawn .on-plate) (t .1 .drawn .demands))
 
 module _ (s : List ℕ) (choices : Choices) (ws kinds operands : List ℕ) (m : Memory) (passed : certify-verdict s choices ws kinds operands m ≡ Passed) where
   -- what stands behind a certificate

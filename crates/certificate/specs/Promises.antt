@@ -44,7 +44,7 @@ MemoryKept = (before : Checked) (J : Job) (weight : ℕ → ℕ) (q : ℕ) (old 
     × (new .table ≡ old .table)
 
 -- demand 2, the plan: for every good job block a plan passes exactly when its arrays are those of a guillotine tree on the plate that
--- keeps every demand and has at most 4,095 nodes, and what it then reports is that tree's own
+-- keeps every demand and has at most 4,095 nodes and no idle cut, and what it then reports is that tree's own
 abbrev pub PlansJudged : Type 0
 PlansJudged = (s : List ℕ) (choices : Choices) (kinds operands : List ℕ) → first-refusal (job-checks s choices) ≡ Passed
     → (plan-answer (block-job s choices) kinds operands .verdict ≡ Passed
@@ -62,7 +62,7 @@ PlansEarn = (s : List ℕ) (choices : Choices) (ws : List ℕ) → Accepted s ch
     → PlanFollows (block-job s choices) (weight-in ws)
     × EarnsWithin (block-job s choices) (weight-in ws) (block-capacity s choices ws) (bound-of (block-job s choices) (weight-in ws)) (bound-plan (block-job s choices) (weight-in ws))
 
--- the arrays are those of a guillotine tree on the plate that keeps every demand, and it earns n
+-- the arrays are those of a guillotine tree on the plate that keeps every demand and has no idle cut, and it earns n
 abbrev pub Earns : Job → List ℕ → List ℕ → ℕ → Type 0
 Earns J kinds operands n = (t : Tree Piece) × PlanOf J t kinds operands × (profit J t ≡ n)
 
