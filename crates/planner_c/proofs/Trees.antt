@@ -1,5 +1,6 @@
 -- What an answer's words say of trees: from the proved call's promise about its answer and the words that the answer gives.
 use mathlib.Core.Path.{_≡_, refl, sym, _∙_, ap, ap₂, subst}
+use mathlib.Core.Bool.{false}
 use mathlib.Core.List.{List, []}
 use Prim.Native.Nat.{ℕ, _≤_, _<_}
 use native.Mathlib.Omega.{arith}
@@ -26,7 +27,7 @@ use Rattle.certificate.specs.declared.Certificate.the-variants as certificate
 use Rattle.certificate.specs.Certificate.{certificate-outcome}
 use Rattle.certificate.specs.Promises.{BestSaid, GapSaid}
 use Rattle.plan.specs.Calls.{plan-values, plan-outcome}
-use Rattle.planner_c.specs.Exports.{Gives, answer-word, PlanGiven, BoundGiven, TreeChecked, Certified, CertificateGiven, job-with, returned-by, returned, early, answered}
+use Rattle.planner_c.specs.Exports.{Gives, answer-word, PlanGiven, BoundGiven, TreeChecked, Certified, CertificateGiven, unknown, job-with, returned-by, returned, early, answered}
 use Rattle.planner_c.proofs.Exports.{stops, enough}
 
 -- a bound
@@ -42,7 +43,7 @@ pub plan-given : (s : List ℕ) (choices : Choices) (ws : List ℕ) {n : ℕ} (k
 plan-given s choices ws kinds operands new-kinds new-operands old (write.Written b) plan bound g e =
     let p = plan b refl in
     subst (λ w. PlanGiven (block-job s choices) (weight-in ws) (kinds, operands) (new-kinds, new-operands) w) (sym (g .1))
-    (record { bound = bound b refl; tree = (block-plan s choices ws, p .earns, p .kinds-hold, p .operands-hold, p .counted) })
+    (record { bound = bound b refl; tree = (block-plan s choices ws, p .earns, p .idle-free, p .kinds-hold, p .operands-hold, p .counted) })
 plan-given s choices ws kinds operands new-kinds new-operands old (write.Refused r) plan bound g e = absurd (omega (arith, number-some r, g .0, e))
 
 module _ (J : Job) (kinds operands : List ℕ) {n : ℕ} (old : List ℕ) {new : List ℕ} where
@@ -59,10 +60,11 @@ module _ (J : Job) (kinds operands : List ℕ) {n : ℕ} (old : List ℕ) {new :
 
 module _ (Before : Type 0) (s : List ℕ) (choices : ℕ) (kinds operands : List ℕ) (old : List ℕ) where
   -- a checked plan: 0 is returned exactly where the verdict is that it passes
-  tree-given : {n : ℕ} {new : List ℕ} (a : PlanAnswer) → ChecksPlan Before (job-with s choices) kinds operands a → Gives (plan-outcome a) n old new → TreeChecked Before s choices kinds operands old new n
+  tree-given : {n : ℕ} {new : List ℕ} {before : PlanAnswer} (a : PlanAnswer) → ChecksPlan Before (job-with s choices) kinds operands before a → Gives (plan-outcome a) n old new → TreeChecked Before s choices kinds operands old new n
   tree-given {n} a checks g = record {
     tree = λ e. (let p = passed (a .verdict) refl e in let t = checks .tree p in (t .0, t .1, g .1 ∙ ap (λ v. over (outcome-by v (plan-values (a .report)) .1) old) p ∙ ap (λ r. over (plan-values r) old) (t .2 .own), subst (λ r. Reports (job-with s choices) (t .0) r) (t .2 .own) (t .2)));
     passes = λ h u b t k. g .0 ∙ ap (λ v. outcome-by v (plan-values (a .report)) .0) (checks .passes b t k);
+    idle = λ h u b t d k e. (let v = checks .idle b t d ∙ e in (g .0 ∙ ap (λ v. outcome-by v (plan-values (a .report)) .0) v, g .1 ∙ ap (λ v. over (outcome-by v (plan-values (a .report)) .1) old) v));
   }
     where
       passed : (v : Checked) → a .verdict ≡ v → n ≡ 0 → a .verdict ≡ Passed
@@ -82,12 +84,17 @@ module _ (Before : Type 0) (s : List ℕ) (choices : ℕ) (kinds operands : List
             a .1,
             record {
               tree = λ z. absurd (omega (arith, z, h));
-              passes = λ k u b t p. e ∙ ap₂ (λ x y. returned-by x y (0, [])) (le-ltb (length old) 69 k) u;
+              passes = λ k u b t p. none k u;
+              idle = λ k u b t d i p. absurd (omega (arith, h, none k u));
             },
           ),
         )
+      where
+        -- a call with words enough and known choices is not stopped
+        none : 69 ≤ length old → unknown choices ≡ false → before ≡ 0
+        none k u = e ∙ ap₂ (λ x y. returned-by x y (0, [])) (le-ltb (length old) 69 k) u
 
-    pub check-called : {n : ℕ} {new : List ℕ} {r : PlanAnswer} → before ≤ 0 → plan-outcome r ≡ said → ChecksPlan Before (job-with s choices) kinds operands r → Gives (plan-outcome r) n old new → ChecksAnswer n new
+    pub check-called : {n : ℕ} {new : List ℕ} {old-answer r : PlanAnswer} → before ≤ 0 → plan-outcome r ≡ said → ChecksPlan Before (job-with s choices) kinds operands old-answer r → Gives (plan-outcome r) n old new → ChecksAnswer n new
     check-called {r = r} h o checks g =
         let a = enough 69 choices old e said h o g in
         (a .0, (a .1, tree-given r checks g))

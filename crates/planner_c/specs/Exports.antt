@@ -1,22 +1,25 @@
 -- The C interface: a call's number is returned, its values or its place stand in the answer words, and the rest of them is as it was.
 use mathlib.Core.Path.{_≡_}
 use mathlib.Core.Bool.{Bool, true, false, _||_}
-use mathlib.Core.List.{List, []}
+use mathlib.Core.List.{List, [], _∷_}
 use Prim.Native.Nat.{ℕ, _+_, _/_, _%_, _≤_}
 use lib.Dec.{ltb, eqb}
 use lib.ListN.{length, getD}
 use Rattle.cutting.specs.Limits.{most-figure}
 use Rattle.cutting.specs.Lists.{over}
-use Rattle.cutting.specs.Tree.{Tree}
+use Rattle.cutting.specs.Tree.{Tree, IdleFree}
 use Rattle.cutting.specs.Pieces.{Piece}
 use Rattle.cutting.specs.Job.{Job, bound-of}
 use Rattle.cutting.specs.Promises.{NoneAbove, EarnsWithin}
 use Rattle.cutting.specs.Preorder.{kinds-of, operands-of, node-count}
-use Rattle.refusal.specs.Refusals.{Outcome}
+use Rattle.refusal.specs.Refusals.{Outcome, first-refusal}
+use Rattle.refusal.specs.declared.Refusal.the-variants.{IdleCut}
+use Rattle.refusal.specs.declared.Checked.the-variants.{Refused}
 use Rattle.job.specs.declared.Choices.{Choices}
 use Rattle.job.specs.Weights.{block-job, weight-in}
+use Rattle.idle.specs.Idle.{tree-checks}
 use Rattle.plan.specs.Calls.{plan-values}
-use Rattle.plan.specs.Trees.{PlanOf, tree-report, Reports}
+use Rattle.plan.specs.Trees.{DrawnAs, PlanOf, tree-report, Reports}
 use Rattle.bound.specs.Bound.{Memory, Leaves, BoundHolds, wide-job, block-capacity}
 use Rattle.writer.specs.Write.{array-after, block-plan}
 use Rattle.certificate.specs.Certificate.{plan-verdict}
@@ -99,12 +102,14 @@ GapWithin r = (profit gap : ℕ) → r ≡ Gap profit gap → profit + gap ≤ m
 abbrev pub answer-word : List ℕ → ℕ → ℕ
 answer-word answer i = getD answer i 0
 
--- a plan's check returns 0 only for the preorder of a guillotine tree on the plate that keeps every demand, and its words are then that
--- tree's own report, whose four areas sum to the plate's; where the answer has words enough, the choices are known and what stands before the plan's checks holds, it returns
--- 0 for every such plan
+-- a plan's check returns 0 only for the preorder of a guillotine tree on the plate that keeps every demand and has no idle cut, and its
+-- words are then that tree's own report, whose four areas sum to the plate's; where the answer has words enough, the choices are known and
+-- what stands before the plan's checks holds, it returns 0 for every such plan, and for one with idle cuts 26 with the first of them
 pub record TreeChecked (Before : Type 0) (s : List ℕ) (choices : ℕ) (kinds operands old new : List ℕ) (n : ℕ) : Type 0 where
   pub tree : n ≡ 0 → (t : Tree Piece) × PlanOf (job-with s choices) t kinds operands × (new ≡ over (plan-values (tree-report (job-with s choices) t)) old) × Reports (job-with s choices) t (tree-report (job-with s choices) t)
   pub passes : 69 ≤ length old → unknown choices ≡ false → Before → (t : Tree Piece) → PlanOf (job-with s choices) t kinds operands → n ≡ 0
+  pub idle : 69 ≤ length old → unknown choices ≡ false → Before → (t : Tree Piece) → DrawnAs (job-with s choices) t kinds operands
+      → (k : ℕ) → first-refusal (tree-checks 0 t) ≡ Refused (IdleCut k) → (n ≡ 26) × (new ≡ over (k ∷ []) old)
 
 -- a certificate where 0 is returned: the plan is that of a tree that keeps every demand and earns the profit, profit and gap sum to the
 -- bound, and no tree that keeps every demand earns more than it; so a gap of 0 says that none earns more than the plan
@@ -123,8 +128,8 @@ abbrev pub BoundGiven : Job → (ℕ → ℕ) → (answer : List ℕ) → ℕ �
 BoundGiven J weight answer n = n ≡ 0 → BoundHolds J weight (answer-word answer 1) (answer-word answer 0)
 
 -- a written plan where 0 is returned: its bound, word 0, holds at its capacity, word 1; the arrays hold the preorder, over their old
--- contents, of a tree that earns the bound within the capacity, with the nodes of word 4
+-- contents, of a tree without an idle cut that earns the bound within the capacity, with the nodes of word 4
 pub record PlanGiven (J : Job) (weight : ℕ → ℕ) (old new : List ℕ × List ℕ) (answer : List ℕ) : Type 0 where
   pub bound : BoundHolds J weight (answer-word answer 1) (answer-word answer 0)
-  pub tree : (t : Tree Piece) × EarnsWithin J weight (answer-word answer 1) (answer-word answer 0) t
+  pub tree : (t : Tree Piece) × EarnsWithin J weight (answer-word answer 1) (answer-word answer 0) t × IdleFree t
       × (new .0 ≡ over (kinds-of t) (old .0)) × (new .1 ≡ over (operands-of t) (old .1)) × (answer-word answer 4 ≡ node-count t)

@@ -2,7 +2,7 @@
 use mathlib.Core.Path.{_∙_, ap}
 use denote.Ref.{now}
 use Rattle.job.specs.Weights.{block-job}
-use Rattle.plan.specs.Calls.{arrays-said, JobPasses}
+use Rattle.plan.specs.Calls.{arrays-said, arrays-before-idle, JobPasses}
 use Rattle.plan.specs.Trees.{ChecksPlan}
 use Rattle.planner_c.specs.Exports.{choices-of}
 use Rattle.planner_c.proofs.Exports.{of-word, words-enough}
@@ -26,7 +26,7 @@ returns-2 c =
     let k = c .before .before .before .before .before .choices-of .ensures in
     check-called _ (now (a .block)) (a .choices) (now (a .kinds)) (now (a .operands)) (now (a .answer)) (arrays-said (now (a .block)) (choices-of (a .choices)) (now (a .kinds)) (now (a .operands))) (c .before .before .before .before .before .before .before .early .ensures) (c .before .before .before .before .before .before .if1 .left)
     (e .1 .0 ∙ ap (λ x. arrays-said (now (a .block)) x (now (a .kinds)) (now (a .operands))) k)
-    (of-word (λ x r. ChecksPlan (JobPasses (now (a .block)) x) (block-job (now (a .block)) x) (now (a .kinds)) (now (a .operands)) r) k (e .1 .1)) (c .before .before .put-plan .ensures)
+    (of-word (λ x r. ChecksPlan (JobPasses (now (a .block)) x) (block-job (now (a .block)) x) (now (a .kinds)) (now (a .operands)) (arrays-before-idle (now (a .block)) x (now (a .kinds)) (now (a .operands))) r) k (e .1 .1)) (c .before .before .put-plan .ensures)
 
 pub planner-check-plan-spec : {M : Type 1} → statement M
 planner-check-plan-spec = tie.close (tie.spec (search needs) returns (search needs) (search needs) put-plan-requires (search needs) returns-2)
