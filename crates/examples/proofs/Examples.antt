@@ -20,7 +20,8 @@ use Rattle.refusal.specs.Refusals.{first-refusal}
 use Rattle.refusal.specs.declared.Checked.the-variants.{Passed}
 use Rattle.job.specs.Block.{price-at, demand-at, each-kind, job-checks, entries, record-of}
 use Rattle.job.specs.Weights.{block-job, Accepted}
-use Rattle.plan.specs.Plan.{walk, plan-answer}
+use Rattle.idle.specs.Idle.{pieceless, idle-checks}
+use Rattle.plan.specs.Plan.{walk, walk-answer, plan-answer}
 use Rattle.plan.specs.Calls.{JobPasses}
 use Rattle.writer.specs.Write.{block-plan}
 use Rattle.examples.specs.Examples as line
@@ -91,7 +92,7 @@ module _ (a b c d e f weight : ℕ) where
 module _ (pair ws : List ℕ) (good : Accepted (misfit-job pair) old-block ws) where
   -- the table's computations, line by line
   computed : AllComputed (marked pair ws)
-  unfolding marked range sum filter each any greatest leaf best step after figure sized floor saw-normal saw-written by-weight summed normal? sides choice plan-within written sawn lossless-plan preorder kinds-of operands-of node-count ordered members pieces normal-positions plan-of first-refusal each-kind job-checks entries record-of walk plan-answer
+  unfolding marked range sum filter each any greatest leaf best step after figure sized floor saw-normal saw-written by-weight summed normal? sides choice plan-within written sawn lossless-plan preorder kinds-of operands-of node-count ordered members pieces normal-positions plan-of first-refusal each-kind job-checks entries record-of walk walk-answer pieceless idle-checks plan-answer
   computed =
       refl
       and refl
@@ -105,6 +106,9 @@ module _ (pair ws : List ℕ) (good : Accepted (misfit-job pair) old-block ws) w
       and refl
       and (refl, refl)
       and (refl, tt)
+      and refl
+      and refl
+      and refl
       and refl
       and refl
       and (good, misfit.words pair ws, misfit.values pair ws)

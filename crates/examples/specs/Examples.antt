@@ -10,7 +10,7 @@ use Rattle.cutting.specs.declared.Direction.the-variants.{Length, Width}
 use Rattle.cutting.specs.Limits.{most-kinds, most-nodes}
 use Rattle.cutting.specs.Job.{normal-positions}
 use Rattle.cutting.specs.Preorder.{kinds-of, operands-of}
-use Rattle.refusal.specs.Refusals.{place-of, refused-as}
+use Rattle.refusal.specs.Refusals.{number-of, place-of, refused-as}
 use Rattle.refusal.specs.declared.Checked.{Checked}
 use Rattle.refusal.specs.declared.Checked.the-variants.{Passed, Refused}
 use Rattle.job.specs.declared.Choices.{Choices}
@@ -69,10 +69,10 @@ abbrev pub RefusedAs : ℕ → ℕ → Checked → Type 0
 RefusedAs number place Passed = ⊥
 RefusedAs number place (Refused r) = refused-as r ≡ (number, place ∷ [])
 
--- a verdict that refuses no node up to node k
+-- a verdict that refuses no node up to node k, unless for an idle cut
 abbrev pub PassedTo : ℕ → Checked → Type 0
 PassedTo k Passed = Unit {0}
-PassedTo k (Refused r) = k < place-of r
+PassedTo k (Refused r) = (number-of r ≡ 26 → ⊥) → k < place-of r
 
 -- the verdict of every plan with this first node, as many kinds as operands and at most 4,095 nodes, has a property
 abbrev pub Beginning : List ℕ → ℕ → ℕ → (Checked → Type 0) → Type 0
@@ -160,6 +160,11 @@ marked pair ws =
     ∷ refused job-s (2 ∷ 1 ∷ []) (2 ∷ 0 ∷ []) 17 2
     -- Kinds 0 0, operands 0 0: 18 at 1.
     ∷ refused job-s (0 ∷ 0 ∷ []) (0 ∷ 0 ∷ []) 18 1
+    -- Kinds 2 0 0, operands 2 0 0: 26 at node 0. Kinds 2 1 3 0 0, operands 2 0 1 0 0: 26 at node 2.
+    ∷ refused job-s (2 ∷ 0 ∷ 0 ∷ []) (2 ∷ 0 ∷ 0 ∷ []) 26 0
+    ∷ refused job-s (2 ∷ 1 ∷ 3 ∷ 0 ∷ 0 ∷ []) (2 ∷ 0 ∷ 1 ∷ 0 ∷ 0 ∷ []) 26 2
+    -- Kinds 2 1 0, operands 2 0 0: profit 7, areas 6, 9, 0.
+    ∷ passes old-block job-s (2 ∷ 1 ∷ 0 ∷ []) (2 ∷ 0 ∷ 0 ∷ []) 7 (1 ∷ 0 ∷ 0 ∷ []) 6 9 0 0
     -- Plate 1 by 1, one kind 2 by 2: bound 0, only position 0 on each side, plan one waste node.
     ∷ bounds old-block (misfit-job pair) ws 1 0 0 1 1
     ∷ positions (misfit-job pair) Length (0 ∷ [])
