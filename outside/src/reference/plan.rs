@@ -1,4 +1,4 @@
-// The plan check: refusals 10 to 18, and the report, whose four areas make up the plate.
+// The plan check: refusals 10 to 18 and 26, and the report, whose four areas make up the plate.
 // Rectangles that wait for their node are kept in a list, the next one last.
 use super::job::{Job, Piece};
 use super::refuse_if;
@@ -40,7 +40,28 @@ pub fn check(job: &Job, kinds: &[u8], operands: &[u16]) -> Result<Report, Refusa
         next += 1;
     }
     refuse_if(next < kinds.len(), 18, next)?;
+    for at in 0..kinds.len() {
+        refuse_if(is_cut(kinds[at]) && !tree(&kinds[at..]).iter().any(is_piece), 26, at)?;
+    }
     Ok(walk.report)
+}
+
+fn is_cut(kind: u8) -> bool {
+    kind == CUT_LENGTH || kind == CUT_WIDTH
+}
+
+fn is_piece(kind: &u8) -> bool {
+    *kind == PIECE || *kind == TURNED_PIECE
+}
+
+/// The nodes of the tree that begins with the first one.
+fn tree(kinds: &[u8]) -> &[u8] {
+    let (mut parts, mut end) = (1, 0);
+    while parts > 0 {
+        parts = if is_cut(kinds[end]) { parts + 1 } else { parts - 1 };
+        end += 1;
+    }
+    &kinds[..end]
 }
 
 struct Walk<'a> {

@@ -43,24 +43,27 @@ impl Order {
     }
 }
 
+/// The last part, where every plan has its only piece: no cut is idle.
+const UNIT: Node = (1, 0);
+
 /// Each cut inside the second part of the one before.
 fn nested_in_second_parts(order: Order, kerf: u16) -> Vec<Node> {
     let slices = order.cuts(kerf).into_iter().flat_map(|(kind, _)| [(kind, 1), (0, 0)]);
-    slices.chain([(0, 0)]).collect()
+    slices.chain([UNIT]).collect()
 }
 
 /// Each cut inside the first part of the one before, so that all second parts wait together.
 fn nested_in_first_parts(order: Order, kerf: u16) -> Vec<Node> {
     let cuts = order.cuts(kerf).into_iter().map(|(kind, side)| (kind, side - kerf - 1));
-    let leaves = std::iter::repeat_n((0, 0), cuts.len() + 1);
-    cuts.chain(leaves).collect()
+    let leaves = std::iter::repeat_n((0, 0), cuts.len());
+    cuts.chain([UNIT]).chain(leaves).collect()
 }
 
-/// The last leaf, a strip of the whole width, cut into 50: 4,095 nodes.
+/// The last leaf, a strip of the whole width, cut into 50 with a second piece: 4,095 nodes.
 fn lengthened(mut nodes: Vec<Node>) -> Vec<Node> {
     nodes.pop();
     nodes.extend(std::iter::repeat_n([(3, 1), (0, 0)], 49).flatten());
-    nodes.push((0, 0));
+    nodes.push(UNIT);
     nodes
 }
 
@@ -76,23 +79,25 @@ fn deep_plans(kerf: u16) -> Vec<Vec<Node>> {
 fn deepest_plans_are_checked_and_certified() {
     let longest = lengthened(nested_in_first_parts(Order::LengthsThenWidths, 0));
     assert_eq!(longest.len(), 4095);
-    for (choices, copies, table) in [(0, 33 * 25, 26 * 34), (TURNING, 32 * 25 + 33, 98 * 98)] {
+    for choices in [0, TURNING] {
         for nodes in deep_plans(0).iter().chain([&longest]) {
-            deep_plan((0, choices), nodes, copies, table);
+            deep_plan((0, choices), nodes, 1000);
         }
     }
-    for (kerf, copies, table) in [(1, 24 * 32, 25 * 33), (20, 17 * 20, 18 * 21)] {
+    for (kerf, units) in [(1, 500), (20, 48)] {
         for nodes in deep_plans(kerf) {
-            deep_plan((kerf, 0), &nodes, copies, table);
+            deep_plan((kerf, 0), &nodes, units);
         }
     }
 }
 
-/// A plan of waste alone, on a plate that holds so many copies of one kind.
-fn deep_plan((kerf, choices): (u16, u32), nodes: &[Node], copies: u64, table: usize) {
+/// A plan of waste and a unit or two, on a plate of so many units each way.
+fn deep_plan((kerf, choices): (u16, u32), nodes: &[Node], units: usize) {
     assert!([4 * (999 / (usize::from(kerf) + 1)) + 1, 4095].contains(&nodes.len()));
-    let (bound, sizes) = (copies * 7, Sizes { table, ..LARGE });
-    let job = kerf_block(1000, 1000, kerf, &[(40, 30, 7, 1)]);
+    let sizes = Sizes { table: (units + 1) * (units + 1), ..LARGE };
+    let bound = 7 * (units * units) as u64;
+    let profit = 7 * nodes.iter().filter(|node| **node == UNIT).count() as u64;
+    let job = kerf_block(1000, 1000, kerf, &[(1, 1, 7, 2)]);
     let input = input(job, &[0], nodes).with(choices);
     for call in [Call::CheckPlan, Call::CheckPlanBlock] {
         let (code, lent) = agrees(call, &input, sizes);
@@ -100,7 +105,7 @@ fn deep_plan((kerf, choices): (u16, u32), nodes: &[Node], copies: u64, table: us
         areas_make_up_the_plate(&input.job, lent.answer.words());
     }
     let (code, lent) = on_small_stack(Call::Certify, &input, sizes);
-    assert_eq!((code, &lent.answer.words()[..3]), (0, &[bound, bound, 0][..]));
+    assert_eq!((code, &lent.answer.words()[..3]), (0, &[bound - profit, bound, profit][..]));
 }
 
 /// The most rectangles wait when a plan ends after its last nested cut, or goes wrong there.

@@ -160,7 +160,8 @@ fn third_copy_passes_its_demand() {
 #[test]
 fn cut_positions_of_s() {
     plan_refused(&input(job_s(), &[0, 0, 0], &[(2, 5), (0, 0), (0, 0)]), 14, 0);
-    reports(&input(job_s(), &[0, 0, 0], &[(2, 4), (0, 0), (0, 0)]), 0, [0, 15, 0, 0], &[]);
+    reports(&input(job_s(), &[0, 0, 0], &[(2, 4), (1, 0), (0, 0)]), 7, [6, 3, 6, 0], &[1]);
+    plan_refused(&input(job_s(), &[0, 0, 0], &[(2, 4), (0, 0), (0, 0)]), 26, 0);
 }
 
 #[test]

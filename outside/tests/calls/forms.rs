@@ -58,7 +58,7 @@ fn the_default_bound_is_never_above_the_full_one() {
 fn the_default_form_accepts_what_the_full_demand_does() {
     let heavy = Scale { plate: 40, side: 12, kinds: 8, demand: 255, weight: 40, ..SMALL };
     let mut seen = [0; 3];
-    for input in generated(42, 2000, heavy) {
+    for input in generated(42, 3000, heavy) {
         let [held, full] = forms(&input).map(|form| without_table(Call::Bound, &form));
         match (held.0, full.0) {
             (20, 20) => {
@@ -70,7 +70,7 @@ fn the_default_form_accepts_what_the_full_demand_does() {
             codes => panic!("{codes:?} for {input:?}"),
         }
     }
-    println!("{seen:?} of 2000 are accepted in both forms, in the default form alone, in neither");
+    println!("{seen:?} of 3000 are accepted in both forms, in the default form alone, in neither");
     assert!(seen.iter().all(|&times| times >= 100));
 }
 
@@ -143,7 +143,7 @@ fn gaps(planned: &Input) -> Option<[u64; 2]> {
 #[test]
 fn plans_are_certified_in_both_forms() {
     let (mut passed, mut best, mut tightened) = (0, 0, 0);
-    for input in generated(45, 1000, SMALL) {
+    for input in generated(45, 2000, SMALL) {
         let written = forms(&input)
             .map(|form| form.with_written_plan(&done(Call::WritePlan, &form, SMALL_ROOM)));
         for [held, full] in written.iter().chain([&input]).filter_map(gaps) {

@@ -90,10 +90,10 @@ fn large_capacities_agree() {
 /// The codes that a call can give.
 fn codes(call: Call) -> Vec<u32> {
     let others: &[u32] = match call {
-        Call::CheckPlan | Call::CheckPlanBlock => &[10, 11, 12, 13, 14, 15, 16, 17, 18],
+        Call::CheckPlan | Call::CheckPlanBlock => &[10, 11, 12, 13, 14, 15, 16, 17, 18, 26],
         Call::Bound => &[8, 9, 19, 20],
         Call::WritePlan => &[8, 9, 19, 20, 21],
-        Call::Certify => &[8, 9, 10, 11, 12, 13, 14, 15, 16, 17, 18, 19, 20],
+        Call::Certify => &[8, 9, 10, 11, 12, 13, 14, 15, 16, 17, 18, 19, 20, 26],
     };
     (0..=7).chain(others.iter().copied()).chain([27, 100, 101]).collect()
 }

@@ -78,7 +78,7 @@ fn draw_kind(random: &mut Random, scale: Scale) -> Kind {
     )
 }
 
-/// A plan by random cuts. Now and then a node breaks a rule.
+/// A plan by random cuts. Now and then a node breaks a rule; one plan in four keeps its idle cuts.
 fn draw_plan(random: &mut Random, plate: Rectangle, kinds: &[Kind], choices: u32) -> Vec<Node> {
     let mut left: Vec<u16> = kinds.iter().map(|kind| kind.3).collect();
     let mut waiting = vec![plate];
@@ -92,7 +92,23 @@ fn draw_plan(random: &mut Random, plate: Rectangle, kinds: &[Kind], choices: u32
         nodes.push(node);
         waiting.extend(parts(node, rectangle));
     }
-    nodes
+    if random.one_in(4) { nodes } else { without_idle_cuts(&nodes).unwrap_or(nodes) }
+}
+
+/// The plan with waste in place of each part that holds no piece; none where it is no whole tree.
+fn without_idle_cuts(nodes: &[Node]) -> Option<Vec<Node>> {
+    let mut trees: Vec<Vec<Node>> = Vec::new();
+    for node in nodes.iter().rev() {
+        let mut tree = vec![*node];
+        if matches!(node.0, 2 | 3) {
+            tree.extend(trees.pop()?);
+            tree.extend(trees.pop()?);
+        }
+        let pieceless = !tree.iter().any(|node| matches!(node.0, 1 | 4));
+        trees.push(if pieceless && tree.len() > 1 { vec![(0, 0)] } else { tree });
+    }
+    let whole = trees.pop();
+    if trees.is_empty() { whole } else { None }
 }
 
 fn draw_node(

@@ -32,17 +32,17 @@ fn the_blade_takes_its_width_between_pieces() {
 
 #[test]
 fn sawdust_lies_along_the_cut() {
-    let plan = [(2, 3), (0, 0), (3, 1), (0, 0), (0, 0)];
-    let areas = [0, 3 * 6 + 5 + 5 * 3, 0, 2 * 6 + 2 * 5];
-    reports(&sawn((10, 6), 2, &[(1, 1, 1, 1)], &plan), 0, areas, &[]);
+    let plan = [(2, 3), (0, 0), (3, 1), (0, 0), (1, 0)];
+    let areas = [1, 3 * 6 + 5, 5 * 3 - 1, 2 * 6 + 2 * 5];
+    reports(&sawn((10, 6), 2, &[(1, 1, 1, 1)], &plan), 1, areas, &[1]);
 }
 
 #[test]
 fn both_parts_of_a_cut_have_a_unit() {
     let job = |nodes: &[Node]| sawn((10, 7), 3, &[(1, 1, 1, 1)], nodes);
-    let cut = |node| job(&[node, (0, 0), (0, 0)]);
-    reports(&cut((2, 6)), 0, [0, 49, 0, 21], &[]);
-    reports(&cut((3, 3)), 0, [0, 40, 0, 30], &[]);
+    let cut = |node| job(&[node, (0, 0), (1, 0)]);
+    reports(&cut((2, 6)), 1, [1, 42, 6, 21], &[1]);
+    reports(&cut((3, 3)), 1, [1, 30, 9, 30], &[1]);
     for position in [0, 7, 9, 10, 65_532, 65_533, 65_535] {
         plan_refused(&cut((2, position)), 14, 0);
     }
@@ -51,7 +51,7 @@ fn both_parts_of_a_cut_have_a_unit() {
     }
     plan_refused(&job(&[(2, 6), (2, 3), (0, 0), (0, 0), (0, 0)]), 14, 1);
     plan_refused(&job(&[(2, 1), (0, 0), (2, 3), (0, 0), (0, 0)]), 14, 2);
-    reports(&job(&[(2, 1), (0, 0), (2, 2), (0, 0), (0, 0)]), 0, [0, 28, 0, 42], &[]);
+    reports(&job(&[(2, 1), (0, 0), (2, 2), (0, 0), (1, 0)]), 1, [1, 21, 6, 42], &[1]);
 }
 
 #[test]

@@ -87,9 +87,9 @@ fn one_demand_is_passed_late_in_a_long_plan() {
 
 #[test]
 fn plans_of_4096_nodes_are_refused() {
-    let mut nodes = grid(|_| (0, 0));
-    let job = job_block(64, 32, &[(1, 1, 1, 1)]);
-    reports(&input(job.clone(), &[0], &nodes), 0, [0, 2048, 0, 0], &[]);
+    let mut nodes = grid(|i| (u8::from(i % 32 == 31), 0));
+    let job = job_block(64, 32, &[(1, 1, 1, 64)]);
+    reports(&input(job.clone(), &[0], &nodes), 64, [64, 1984, 0, 0], &[64]);
     nodes.push((0, 0));
     plan_refused(&input(job.clone(), &[0], &nodes), 11, 0);
     plan_refused(&input(job, &[0], &vec![(0, 0); 65_535]), 11, 0);

@@ -9,6 +9,7 @@ mod exact;
 mod examples;
 mod forms;
 mod generated;
+mod idle;
 mod inputs;
 mod kerf;
 mod lent;

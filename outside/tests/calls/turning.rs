@@ -30,7 +30,7 @@ fn a_turned_piece_fits_with_its_sides_exchanged() {
 
 #[test]
 fn both_orientations_count_against_one_demand() {
-    let nodes = [(2, 2), (1, 0), (3, 2), (4, 0), (2, 2), (0, 0), (0, 0)];
+    let nodes = [(2, 2), (1, 0), (3, 2), (4, 0), (0, 0)];
     let plan = |demand| turning(5, 3, &[(2, 3, 7, demand)], &nodes);
     reports(&plan(2), 14, [12, 3, 0, 0], &[2]);
     plan_refused(&plan(1), 16, 3);
