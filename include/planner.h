@@ -66,10 +66,11 @@ extern "C" {
  * sides are these less k, and 0 where a or b is 0. All later words keep what they held.
  *
  * Return value.
- *   0            done; `answer` holds the words that the function names; its later words are kept
- *   1 to 21, 27  refused, see below; answer[0] is the place; the other words of `answer` are kept
- *   100          `answer` has fewer words than the function names; nothing was changed
- *   101          `choices` has a bit that is no choice, `answer` is long enough; nothing was changed
+ *   0    done; `answer` holds the words that the function names; its later words are kept
+ *   1 to 21, 26, 27
+ *        refused, see below; answer[0] is the place; the other words of `answer` are kept
+ *   100  `answer` has fewer words than the function names; nothing was changed
+ *   101  `choices` has a bit that is no choice, `answer` is long enough; nothing was changed
  *
  * Refusals, in the order of the checks, the first one met, with their places.
  *    1  job of fewer than 8 bytes, an old block of 6           0
@@ -92,11 +93,12 @@ extern "C" {
  *   16  this copy passes its demand                            node
  *   17  a node is wanted and none is left                      node count
  *   18  nodes left over                                        first of them
+ *   26  an idle cut: neither of its parts holds a piece        first of them
  *   19  a list too short                                       0
  *   20  table too short                                        words needed
  *   21  plan needs above 4095 nodes, or more than an array     nodes needed
  *       of the plan holds
- * Numbers 1 to 19 and 27 change no lent memory but answer[0]. On 20 the lists are filled and the
+ * Numbers 1 to 19, 26 and 27 change no lent memory but answer[0]. On 20 the lists are filled and the
  * table is untouched. On 21 lists and table are filled and the plan arrays untouched. */
 
 enum {
@@ -120,9 +122,9 @@ enum {
     PLANNER_CERTIFICATE_WORDS = 3
 };
 
-/* Checks a plan (refusals 1 to 7, 10 to 18, 27). For an accepted job and a long enough answer it
+/* Checks a plan (refusals 1 to 7, 10 to 18, 26, 27). For an accepted job and a long enough answer it
  * returns 0 exactly if the arrays are the preorder of a guillotine tree on the plate that keeps
- * every demand and has at most 4095 nodes; the answer is that tree's own.
+ * every demand and has at most 4095 nodes and no idle cut; the answer is that tree's own.
  * answer[0] profit, the sum of the prices; answer[1] area of the pieces, answer[2] of the waste
  * nodes, answer[3] of the trim; answer[4 + i] copies of kind i, upright and turned, 0 past the job's
  * kinds; answer[68] area of the sawdust. The four areas sum to the plate's. */
@@ -156,8 +158,8 @@ uint32_t planner_bound(
 
 /* Writes the plan behind the bound (refusals 1 to 9, 19 to 21, 27) and fills the storage. The arrays
  * hold the preorder of a guillotine tree on the plate of weight at most the capacity that earns the
- * bound. It may exceed demands. A cut whose second part would be below 1 is left out. Entries of the
- * arrays past the plan keep what they held.
+ * bound, and has no idle cut. It may exceed demands. A cut whose second part would be below 1 is
+ * left out. Entries of the arrays past the plan keep what they held.
  * answer[0] bound, answer[1] capacity, answer[2] p, answer[3] r, answer[4] node count. */
 uint32_t planner_write_plan(
     const uint8_t *job, size_t job_len,
@@ -170,9 +172,9 @@ uint32_t planner_write_plan(
     uint16_t *operands, size_t operands_len,
     uint64_t *answer, size_t answer_len);
 
-/* Certifies a plan (refusals 1 to 20, 27) and fills the storage. The gap is 0 exactly if the checked
- * profit equals the bound, and then no guillotine tree on the plate that keeps every demand earns
- * more; in any case none earns more than profit and gap together.
+/* Certifies a plan (refusals 1 to 20, 26, 27) and fills the storage. The gap is 0 exactly if the
+ * checked profit equals the bound, and then no guillotine tree on the plate that keeps every demand
+ * earns more; in any case none earns more than profit and gap together.
  * answer[0] gap, bound less profit; answer[1] bound, answer[2] profit. */
 uint32_t planner_certify(
     const uint8_t *job, size_t job_len,
