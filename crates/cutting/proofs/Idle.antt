@@ -14,7 +14,7 @@ use Rattle.cutting.proofs.Choice.{written-earns, written-eq}
 
 module _ {P : Type 0} (f : P → ℕ) where
   -- a tree without a piece earns nothing
-  pieceless-total : (t : Tree P) → piece-count t ≤ 0 → total f t ≤ 0
+  pub pieceless-total : (t : Tree P) → piece-count t ≤ 0 → total f t ≤ 0
   unfolding total
   pieceless-total waste h = omega arith
   pieceless-total (piece p) h = absurd (omega (arith, h))

@@ -20,11 +20,13 @@ pub mod Half
 pub mod Normal
 pub mod Positions
 pub mod Areas
+pub mod Preorder
 pub mod Ceiling
 pub mod Blade
 pub mod Sawn
 pub mod Members
 pub mod Job
+pub mod Neat
 pub mod Table
 pub mod Laws
 pub mod Bound

@@ -7,6 +7,7 @@ ghost use Rattle.cutting.specs.Limits.{most-side, most-kerf};
 ghost use Rattle.cutting.specs.Tree.{side, part};
 ghost use Rattle.cutting.specs.Pieces.{quarter, wider, fits-in};
 ghost use Rattle.cutting.specs.Sides.{rect-of, sides-of};
+ghost use Rattle.cutting.specs.Preorder.{kind-of, operand-of};
 
 // What a cut divides: the length or the width.
 pub enum Direction {
@@ -20,6 +21,33 @@ pub enum Node {
     Piece(u16),
     Turned(u16),
     Cut(Direction, u16),
+}
+
+// A node's kind as a number.
+pub fn kind_number(node: Node) -> u8
+    ensures { λ r. ⌜ r ≡ kind-of node ⌝ }
+{
+    match node {
+        Node::Waste => 0,
+        Node::Piece(_) => 1,
+        Node::Turned(_) => 4,
+        Node::Cut(d, _) => match d {
+            Direction::Length => 2,
+            Direction::Width => 3,
+        },
+    }
+}
+
+// A node's operand.
+pub fn operand(node: Node) -> u16
+    ensures { λ r. ⌜ r ≡ operand-of node ⌝ }
+{
+    match node {
+        Node::Waste => 0,
+        Node::Piece(i) => i,
+        Node::Turned(i) => i,
+        Node::Cut(_, x) => x,
+    }
 }
 
 // The sides of a rectangle.

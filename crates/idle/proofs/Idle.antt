@@ -5,7 +5,6 @@ use mathlib.Core.List.{List, [], _∷_, _++_, map, append-assoc, append-nil}
 use Prim.Native.Nat.{ℕ, zero, suc, _+_, _-_, _≤_}
 use native.Mathlib.Omega.{arith}
 use lib.Dec.{ltb, eqb}
-use lib.ListN.{length, length-append}
 use borrow.Author.Tests.{lt-ltb, eqb-false, ne-eqb}
 use Rattle.cutting.specs.declared.Direction.{Direction}
 use Rattle.cutting.specs.declared.Direction.the-variants.{Length, Width}
@@ -14,25 +13,13 @@ use Rattle.cutting.specs.declared.Node.the-variants.{Cut}
 use Rattle.cutting.specs.Tree.{Tree, waste, piece, cut, total, piece-count, IdleFree}
 use Rattle.cutting.specs.Pieces as laid
 use Rattle.cutting.specs.Preorder.{preorder, kind-of, node-count, kinds-of}
+use Rattle.cutting.proofs.Preorder.{kinds-cut, count-cut}
 use Rattle.refusal.specs.Refusals.{Check, first-refusal}
 use Rattle.refusal.specs.declared.Refusal.the-variants.{IdleCut}
 use Rattle.refusal.specs.declared.Checked.the-variants.{Passed}
 use Rattle.job.proofs.Checks.{cons-passed, append-passed, passed-append}
 use Rattle.node.specs.Nodes.{node-of}
 use Rattle.idle.specs.Idle.{trees-from, pieceless, is-idle, idle-checks, tree-checks}
-
-map-append : (xs ys : List Node) → map (λ n. kind-of n) (xs ++ ys) ≡ map (λ n. kind-of n) xs ++ map (λ n. kind-of n) ys
-map-append [] ys = refl
-map-append (x ∷ xs) ys = ap (λ l. kind-of x ∷ l) (map-append xs ys)
-
--- a cut's kinds: its own, then the first part's, then the second's
-kinds-cut : (d : Direction) (x : ℕ) (a b : Tree laid.Piece) (ks : List ℕ) → kinds-of (cut d x a b) ++ ks ≡ kind-of (Cut d x) ∷ (kinds-of a ++ (kinds-of b ++ ks))
-unfolding kinds-of preorder
-kinds-cut d x a b ks = ap (λ l. kind-of (Cut d x) ∷ l) (ap (λ l. l ++ ks) (map-append (preorder a) (preorder b)) ∙ append-assoc (kinds-of a) (kinds-of b) ks)
-
-count-cut : (d : Direction) (x : ℕ) (a b : Tree laid.Piece) → node-count (cut d x a b) ≡ 1 + node-count a + node-count b
-unfolding node-count preorder
-count-cut d x a b = omega (arith, length-append (preorder a) (preorder b))
 
 -- a tree of so many pieces before n trees without one
 abbrev before : ℕ → ℕ → ℕ

@@ -18,6 +18,7 @@ use Rattle.cutting.specs.Preorder.{preorder, node-count}
 use Rattle.cutting.specs.Pieces.{fits-in}
 use Rattle.cutting.specs.Job.{Job, laid, GuillotineTree}
 use Rattle.cutting.proofs.Pieces.{true-fits-in}
+use Rattle.cutting.proofs.Preorder.{count-cut}
 use Rattle.refusal.specs.declared.Refusal.{Refusal}
 use Rattle.refusal.specs.declared.Checked.{Checked}
 use Rattle.refusal.specs.declared.Checked.the-variants.{Passed, Refused}
@@ -26,7 +27,7 @@ use Rattle.plan.specs.declared.Report.{Report}
 use Rattle.plan.specs.declared.PlanAnswer.{PlanAnswer}
 use Rattle.plan.specs.Plan.{node-of, counted, proceed, walk}
 use Rattle.plan.proofs.Counts.{second, added}
-use Rattle.plan.proofs.Preorder.{written, written-cut, count-cut}
+use Rattle.plan.proofs.Preorder.{written, written-cut}
 use Rattle.plan.proofs.Trees.{node-walks}
 
 -- what follows from a refusal that passed

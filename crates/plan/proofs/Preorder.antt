@@ -3,13 +3,14 @@ use mathlib.Core.Path.{_≡_, _∙_, refl, sym, ap}
 use mathlib.Core.List.{List, [], _∷_, _++_, map, map-map, append-assoc}
 use Prim.Native.Nat.{ℕ, _+_}
 use native.Mathlib.Omega.{arith}
-use lib.ListN.{length, length-append, length-map}
+use lib.ListN.{length, length-map}
 use Rattle.cutting.specs.declared.Direction.{Direction}
 use Rattle.cutting.specs.declared.Node.{Node}
 use Rattle.cutting.specs.declared.Node.the-variants.{Cut}
 use Rattle.cutting.specs.Tree.{Tree, cut}
 use Rattle.cutting.specs.Pieces as laid
 use Rattle.cutting.specs.Preorder.{preorder, kind-of, operand-of, node-count, kinds-of, operands-of}
+use Rattle.cutting.proofs.Preorder.{map-append}
 use Rattle.node.proofs.Nodes.{pair-of}
 use Rattle.plan.specs.Plan.{nodes-in}
 
@@ -17,18 +18,10 @@ use Rattle.plan.specs.Plan.{nodes-in}
 abbrev pub written : Tree laid.Piece → List (ℕ × ℕ)
 written t = map (λ n. pair-of n) (preorder t)
 
-map-append : (xs ys : List Node) → map (λ n. pair-of n) (xs ++ ys) ≡ map (λ n. pair-of n) xs ++ map (λ n. pair-of n) ys
-map-append [] ys = refl
-map-append (x ∷ xs) ys = ap (λ l. pair-of x ∷ l) (map-append xs ys)
-
 -- a cut's nodes: its own, then the first part's, then the second's
 pub written-cut : (d : Direction) (x : ℕ) (a b : Tree laid.Piece) (ns : List (ℕ × ℕ)) → written (cut d x a b) ++ ns ≡ pair-of (Cut d x) ∷ (written a ++ (written b ++ ns))
 unfolding preorder
-written-cut d x a b ns = ap (λ l. pair-of (Cut d x) ∷ l) (ap (λ l. l ++ ns) (map-append (preorder a) (preorder b)) ∙ append-assoc (written a) (written b) ns)
-
-pub count-cut : (d : Direction) (x : ℕ) (a b : Tree laid.Piece) → node-count (cut d x a b) ≡ 1 + node-count a + node-count b
-unfolding node-count preorder
-count-cut d x a b = omega (arith, length-append (preorder a) (preorder b))
+written-cut d x a b ns = ap (λ l. pair-of (Cut d x) ∷ l) (ap (λ l. l ++ ns) (map-append (λ n. pair-of n) (preorder a) (preorder b)) ∙ append-assoc (written a) (written b) ns)
 
 pub count-written : (t : Tree laid.Piece) → length (written t) ≡ node-count t
 unfolding node-count

@@ -14,11 +14,12 @@ use Rattle.cutting.specs.Pieces as laid
 use Rattle.cutting.specs.Preorder.{preorder, kind-of, operand-of, node-count}
 use Rattle.cutting.specs.Job.{Job, laid, GuillotineTree, copies-of}
 use Rattle.cutting.proofs.Members.{lie-kind}
+use Rattle.cutting.proofs.Preorder.{count-cut}
 use Rattle.node.proofs.Nodes.{node-back, pair-of, PieceFits, NodeFits, node-passes}
 use Rattle.plan.specs.declared.Report.{Report}
 use Rattle.plan.specs.Plan.{node-of, parts, counted, proceed, walk}
 use Rattle.plan.proofs.Counts.{second, added, added-copies, added-length}
-use Rattle.plan.proofs.Preorder.{written, written-cut, count-cut}
+use Rattle.plan.proofs.Preorder.{written, written-cut}
 
 -- the walk goes on after a node that fits
 pub node-walks : (J : Job) (k : ℕ) (n : Node) (ns : List (ℕ × ℕ)) (r : Rect) (rs : List Rect) (s : Report) → NodeFits J (s .copies) r n

@@ -36,7 +36,8 @@ nodes-length [] os h = refl
 nodes-length (k ∷ ks) [] h = absurd (omega arith)
 nodes-length (k ∷ ks) (o ∷ os) h = ap suc (nodes-length ks os (omega arith))
 
-nodes-suc : (kinds operands : List ℕ) (k : ℕ) → length kinds ≡ length operands → k < length kinds
+-- the node at a place
+pub nodes-suc : (kinds operands : List ℕ) (k : ℕ) → length kinds ≡ length operands → k < length kinds
     → drop k (nodes-in kinds operands) ≡ (getD kinds k 0, getD operands k 0) ∷ drop (suc k) (nodes-in kinds operands)
 nodes-suc [] os k h l = absurd (omega arith)
 nodes-suc (a ∷ ks) [] k h l = absurd (omega arith)
@@ -115,7 +116,7 @@ next-waits lengths widths zero h = absurd (omega arith)
 next-waits lengths widths (suc n) h = let e : suc n - 1 ≡ n = omega arith in rw e
 
 -- stores past the list leave it
-stored-past : (lengths widths : List ℕ) (i x y n : ℕ) → n ≤ i → waiting (set lengths i x) (set widths i y) n ≡ waiting lengths widths n
+pub stored-past : (lengths widths : List ℕ) (i x y n : ℕ) → n ≤ i → waiting (set lengths i x) (set widths i y) n ≡ waiting lengths widths n
 unfolding waiting
 stored-past lengths widths i x y zero h = refl
 stored-past lengths widths i x y (suc n) h =

@@ -101,7 +101,7 @@ fn entry(kinds: &[u8], operands: &[u16], k: usize) -> NodeEntry
 }
 
 // The next rectangle of n that wait, the last one.
-fn next_room(lengths: &[u16; 4096], widths: &[u16; 4096], n: usize) -> Sides
+pub fn next_room(lengths: &[u16; 4096], widths: &[u16; 4096], n: usize) -> Sides
     requires { ⌜ (1 ≤ n) × (n ≤ 4096) ⌝ }
     ensures { λ r. ⌜ r ≡ sides-of (getD (now (lengths .entry)) (n - 1) 0, getD (now (widths .entry)) (n - 1) 0) ⌝ }
 {

@@ -5,7 +5,6 @@ use mathlib.Core.List.{List}
 use Prim.Native.Nat.{ℕ, _+_, _-_, _*_, _≤_, _<_}
 use native.Mathlib.Nat.{mul-le-mul, mul-le-mul-right}
 use native.Mathlib.Omega.{arith}
-use lib.ListN.{length-append}
 use Rattle.cutting.specs.declared.Direction.{Direction}
 use Rattle.cutting.specs.declared.Direction.the-variants.{Length, Width}
 use Rattle.cutting.specs.Tree.{Rect, side, part, Tree, waste, piece, cut}
@@ -13,6 +12,7 @@ use Rattle.cutting.specs.Pieces.{Piece, upright, turned, kind}
 use Rattle.cutting.specs.Choice.{cut-remains, or-first, sawn}
 use Rattle.cutting.specs.Preorder.{preorder, node-count}
 use Rattle.cutting.specs.Job.{Job, GuillotineTree}
+use Rattle.cutting.proofs.Preorder.{count-cut}
 use Rattle.cutting.specs.Listed.{node-in, numbered-piece, laid-tree}
 
 count-waste : node-count waste ≡ 1
@@ -23,10 +23,6 @@ count-piece : (p : Piece) → node-count (piece p) ≡ 1
 unfolding node-count preorder
 count-piece (upright i) = refl
 count-piece (turned i) = refl
-
-count-cut : (d : Direction) (x : ℕ) (a b : Tree Piece) → node-count (cut d x a b) ≡ 1 + node-count a + node-count b
-unfolding node-count preorder
-count-cut d x a b = omega (arith, length-append (preorder a) (preorder b))
 
 -- two parts that are no more than the whole have no more area
 two-parts : (x y l w : ℕ) → x + y ≤ l → x * w + y * w ≤ l * w

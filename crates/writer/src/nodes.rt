@@ -6,11 +6,12 @@
 use choice::Cell;
 use choice::Chosen;
 use choice::choose;
-use cutting::Direction;
 use cutting::Node;
 use cutting::Sides;
 use cutting::cut_side;
 use cutting::first_part;
+use cutting::kind_number;
+use cutting::operand;
 use table::TableSize;
 ghost use mathlib.Core.Path.{_≡_};
 ghost use Prim.Native.Nat.{_<_};
@@ -44,33 +45,6 @@ fn plate_cell(size: TableSize) -> Cell
             width: size.width,
         },
         share: size.capacity,
-    }
-}
-
-// A node's kind as a number.
-fn kind_number(node: Node) -> u8
-    ensures { λ r. ⌜ r ≡ kind-of node ⌝ }
-{
-    match node {
-        Node::Waste => 0,
-        Node::Piece(_) => 1,
-        Node::Turned(_) => 4,
-        Node::Cut(d, _) => match d {
-            Direction::Length => 2,
-            Direction::Width => 3,
-        },
-    }
-}
-
-// A node's operand.
-fn operand(node: Node) -> u16
-    ensures { λ r. ⌜ r ≡ operand-of node ⌝ }
-{
-    match node {
-        Node::Waste => 0,
-        Node::Piece(i) => i,
-        Node::Turned(i) => i,
-        Node::Cut(_, x) => x,
     }
 }
 
