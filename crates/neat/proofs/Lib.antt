@@ -1,0 +1,4 @@
+pub mod Steps
+pub mod Trees
+pub mod Scan
+pub mod Plans

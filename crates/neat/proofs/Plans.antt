@@ -1,0 +1,242 @@
+-- The neat plan of a plan that passes: what holds of it, what the scan writes, and the answers of the call one by one.
+use mathlib.Core.Path.{_≡_, refl, sym, _∙_, ap, ap₂, subst}
+use mathlib.Core.Bool.{_||_}
+use mathlib.Core.List.{List, [], _∷_, _++_, map, append-nil}
+use Prim.Native.Nat.{ℕ, zero, suc, _+_, _-_, _*_, _≤_, _<_}
+use native.Mathlib.Omega.{arith}
+use lib.Dec.{ltb}
+use lib.ListN.{length, set, length-map}
+use borrow.Author.Tests.{lt-ltb, le-ltb}
+use Rattle.cutting.specs.Lists.{over}
+use Rattle.cutting.specs.Tree.{Tree, waste, total, piece-count}
+use Rattle.cutting.specs.Pieces as laid
+use Rattle.cutting.specs.Preorder.{preorder, kind-of, operand-of, node-count, kinds-of, operands-of}
+use Rattle.cutting.specs.Job.{Job, laid, copies-of, InRange}
+use Rattle.cutting.specs.Neat.{neat, neat-of}
+use Rattle.cutting.proofs.Members.{range-solid}
+use Rattle.cutting.proofs.Neat.{neat-total, neat-waste, neat-stages, neat-idle, neat-again, neat-nodes, neat-count, neat-on}
+use Rattle.refusal.specs.Refusals.{next, first-refusal, refuse-when, by-check, outcome-by}
+use Rattle.refusal.specs.declared.Refusal.{Refusal}
+use Rattle.refusal.specs.declared.Refusal.the-variants.{PlanLong}
+use Rattle.refusal.specs.declared.Checked.{Checked}
+use Rattle.refusal.specs.declared.Checked.the-variants.{Passed, Refused}
+use Rattle.job.specs.declared.Choices.{Choices}
+use Rattle.job.specs.declared.JobRecord.{JobRecord}
+use Rattle.job.specs.declared.JobAnswer.{JobAnswer}
+use Rattle.job.specs.Block.{job-checks, read-of, job-of}
+use Rattle.job.specs.Weights.{block-job}
+use Rattle.job.proofs.Checks.{passed-both}
+use Rattle.job.proofs.Read as read
+use Rattle.plan.specs.Plan.{nodes-in, plan-answer}
+use Rattle.plan.specs.Walk.{Walkable}
+use Rattle.plan.specs.Trees.{DrawnAs, PlanOf}
+use Rattle.plan.proofs.Preorder.{written, arrays-written, kinds-length, operands-length}
+use Rattle.plan.proofs.Plans.{plans-checked}
+use Rattle.neat.specs.declared.NeatAnswer.{NeatAnswer}
+use Rattle.neat.specs.declared.NeatAnswer.the-variants as answer
+use Rattle.neat.specs.Neat.{trees-in, first-tree, tree-in, neat-tree, room-check, neat-checked, neat-verdict, block-neat, neat-answer-by, neat-outcome, NeatLeaves, NeatPlan, NeatPromises}
+use Rattle.neat.specs.Scan.{unless-none, neat-nodes as nodes-written, pieces-in, nodes-for, AllFit, Scannable, Neatened}
+use Rattle.neat.proofs.Trees.{trees-tree, pieces-tree, tree-fits}
+
+-- the number of nodes by the number of pieces
+module _ (J : Job) (t : Tree laid.Piece) where
+  some-pieces : (n : ℕ) → piece-count t ≡ suc n → nodes-for (piece-count t) ≡ node-count (neat-of J t)
+  some-pieces n e = let c = neat-count J t (omega (arith, e)) in ap nodes-for e ∙ omega (arith, c, e)
+
+  no-piece : piece-count t ≡ 0 → nodes-for (piece-count t) ≡ node-count (neat-of J t)
+  unfolding node-count preorder
+  no-piece e = ap nodes-for e ∙ sym (ap node-count (neat-waste (J .kerf) (laid J) t e))
+
+  by-pieces : nodes-for (piece-count t) ≡ node-count (neat-of J t)
+  by-pieces = go (piece-count t) refl
+    where
+      go : (n : ℕ) → piece-count t ≡ n → nodes-for (piece-count t) ≡ node-count (neat-of J t)
+      go zero e = no-piece e
+      go (suc n) e = some-pieces n e
+
+module _ (J : Job) (range : InRange J) (kinds operands : List ℕ) where
+  -- the arrays of a tree draw it
+  module _ (t : Tree laid.Piece) (drawn : DrawnAs J t kinds operands) where
+    nodes-are : nodes-in kinds operands ≡ written t ++ []
+    nodes-are = ap₂ nodes-in (drawn .kinds-are) (drawn .operands-are) ∙ arrays-written t ∙ sym (append-nil (written t))
+
+    trees-are : trees-in (nodes-in kinds operands) ≡ t ∷ []
+    unfolding trees-in
+    trees-are = ap trees-in nodes-are ∙ trees-tree t []
+
+    drawn-is : t ≡ tree-in kinds operands
+    drawn-is = sym (ap first-tree trees-are)
+
+    pieces-are : pieces-in kinds ≡ piece-count t
+    unfolding pieces-in
+    pieces-are = ap pieces-in (drawn .kinds-are ∙ sym (append-nil (kinds-of t))) ∙ pieces-tree t [] ∙ omega arith
+
+    walkable : Walkable kinds operands
+    walkable = (ap length (drawn .kinds-are) ∙ kinds-length t ∙ sym (operands-length t) ∙ sym (ap length (drawn .operands-are)), omega (arith, ap length (drawn .kinds-are), kinds-length t, drawn .nodes))
+
+    all-fit : AllFit J (nodes-in kinds operands)
+    all-fit = subst (AllFit J) (sym nodes-are) (tree-fits J range t [] (J .plate, omega arith, drawn .on-plate) tt)
+
+    -- what is written, where the tree holds a piece
+    written-are : (n : ℕ) → piece-count t ≡ suc n → nodes-written J (trees-in (nodes-in kinds operands)) ≡ preorder (neat-of J t)
+    unfolding nodes-written
+    written-are n e = ap (nodes-written J) trees-are ∙ ap (λ m. unless-none m (preorder (neat-of J t)) ++ []) e ∙ append-nil (preorder (neat-of J t))
+
+  module _ (p : plan-answer J kinds operands .verdict ≡ Passed) where
+    t₀ : Tree laid.Piece
+    t₀ = plans-checked J (range .kinds .1) kinds operands .tree p .0
+
+    plan₀ : PlanOf J t₀ kinds operands
+    unfolding t₀
+    plan₀ = plans-checked J (range .kinds .1) kinds operands .tree p .1
+
+    abbrev t : Tree laid.Piece
+    t = tree-in kinds operands
+
+    -- the arrays draw the tree of the plan
+    pub plan-is : PlanOf J t kinds operands
+    plan-is = subst (λ u. PlanOf J u kinds operands) (drawn-is t₀ (plan₀ .drawn)) plan₀
+
+    same-copies : (i : ℕ) → copies-of i (neat-of J t) ≡ copies-of i t
+    same-copies i = neat-total (J .kerf) (laid J) _ t
+
+    -- the neat plan of a plan that passes
+    pub neat-plan : NeatPlan J t kinds operands
+    neat-plan =
+        record {
+          drawn = plan-is;
+          only = λ u d. drawn-is u d;
+          passes = record {
+            drawn = record {
+              on-plate = neat-on J (range-solid J range) t (J .plate .0) (J .plate .1) (plan-is .drawn .on-plate);
+              demands = λ i h. omega (arith, same-copies i, plan-is .drawn .demands i h);
+              nodes = omega (arith, neat-nodes J t, plan-is .drawn .nodes);
+              kinds-are = refl;
+              operands-are = refl;
+            };
+            idle-free = neat-idle (J .kerf) (laid J) t;
+          };
+          earns = neat-total (J .kerf) (laid J) _ t;
+          copies = same-copies;
+          no-more-nodes = neat-nodes J t;
+          no-more-stages = neat-stages (J .kerf) (laid J) t;
+          again = neat-again (J .kerf) (laid J) t;
+        }
+
+    pub plan-most : length kinds ≤ 4095
+    plan-most = walkable t (plan-is .drawn) .1
+
+    -- the nodes needed
+    pub needed : {m n : ℕ} → m ≡ pieces-in kinds → n ≡ nodes-for m → n ≡ node-count (neat-of J t)
+    needed e f = f ∙ ap nodes-for (e ∙ pieces-are t (plan-is .drawn)) ∙ by-pieces J t
+
+    -- where there is no piece, the neat plan is waste
+    none-waste : {m : ℕ} → m ≡ pieces-in kinds → m ≡ 0 → neat-of J t ≡ waste
+    none-waste e z = neat-waste (J .kerf) (laid J) t (sym (e ∙ pieces-are t (plan-is .drawn)) ∙ z)
+
+    pub waste-one : {m : ℕ} → m ≡ pieces-in kinds → m ≡ 0 → 1 ≡ node-count (neat-of J t)
+    unfolding node-count preorder
+    waste-one e z = sym (ap node-count (none-waste e z))
+
+    pub waste-kinds : {m : ℕ} → m ≡ pieces-in kinds → m ≡ 0 → 0 ∷ [] ≡ kinds-of (neat-of J t)
+    unfolding kinds-of preorder
+    waste-kinds e z = sym (ap kinds-of (none-waste e z))
+
+    pub waste-operands : {m : ℕ} → m ≡ pieces-in kinds → m ≡ 0 → 0 ∷ [] ≡ operands-of (neat-of J t)
+    unfolding operands-of preorder
+    waste-operands e z = sym (ap operands-of (none-waste e z))
+
+    -- where there is one, the scan writes it
+    module _ {m n : ℕ} (e : m ≡ pieces-in kinds) (z : m ≡ 0 → ⊥) (f : n ≡ nodes-for m) where
+      all-written : nodes-written J (trees-in (nodes-in kinds operands)) ≡ preorder (neat-of J t)
+      all-written = go (piece-count t) refl
+        where
+          go : (i : ℕ) → piece-count t ≡ i → nodes-written J (trees-in (nodes-in kinds operands)) ≡ preorder (neat-of J t)
+          go zero q = absurd (z (e ∙ pieces-are t (plan-is .drawn) ∙ q))
+          go (suc i) q = written-are t (plan-is .drawn) i q
+
+      pub scannable : {old-kinds old-operands : List ℕ} → n ≤ length old-kinds → n ≤ length old-operands → Scannable J kinds operands old-kinds old-operands n
+      unfolding node-count
+      scannable h i = record { range = range; walkable = walkable t (plan-is .drawn); fits = all-fit t (plan-is .drawn); counts = needed e f ∙ sym (ap length all-written); kinds-room = h; operands-room = i }
+
+      pub kinds-written : map (λ x. kind-of x) (nodes-written J (trees-in (nodes-in kinds operands))) ≡ kinds-of (neat-of J t)
+      unfolding kinds-of
+      kinds-written = ap (map (λ x. kind-of x)) all-written
+
+      pub operands-written : map (λ x. operand-of x) (nodes-written J (trees-in (nodes-in kinds operands))) ≡ operands-of (neat-of J t)
+      unfolding operands-of
+      operands-written = ap (map (λ x. operand-of x)) all-written
+
+  -- the answers for a job that was read
+  module _ (old-kinds old-operands : List ℕ) where
+    abbrev v : Checked
+    v = neat-checked J kinds operands old-kinds old-operands
+
+    abbrev Says : List ℕ → List ℕ → NeatAnswer → Type 0
+    Says new-kinds new-operands r = Neatened v (neat-tree J kinds operands) old-kinds old-operands new-kinds new-operands r
+
+    says : {w : Checked} {new-kinds new-operands : List ℕ} {r : NeatAnswer} → v ≡ w → Neatened w (neat-tree J kinds operands) old-kinds old-operands new-kinds new-operands r → Says new-kinds new-operands r
+    says {w} {new-kinds} {new-operands} {r} e h = subst (λ x. Neatened x (neat-tree J kinds operands) old-kinds old-operands new-kinds new-operands r) (sym e) h
+
+    pub is-refused : {x : Refusal} → plan-answer J kinds operands .verdict ≡ Refused x → Says old-kinds old-operands (answer.Refused x)
+    is-refused {x} e = says {w = Refused x} (ap (λ y. next y (first-refusal (room-check (neat-tree J kinds operands) (length old-kinds) (length old-operands) ∷ []))) e) (record { answers = refl; memory = record { kinds = refl; operands = refl } })
+
+    module _ (p : plan-answer J kinds operands .verdict ≡ Passed) where
+      on-to : v ≡ first-refusal (room-check (neat-tree J kinds operands) (length old-kinds) (length old-operands) ∷ [])
+      on-to = ap (λ y. next y (first-refusal (room-check (neat-tree J kinds operands) (length old-kinds) (length old-operands) ∷ []))) p
+
+      short : {n : ℕ} → n ≡ node-count (neat-tree J kinds operands) → v ≡ Refused (PlanLong (node-count (neat-tree J kinds operands))) → Says old-kinds old-operands (answer.Refused (PlanLong n))
+      short e h = says h (record { answers = ap (λ i. answer.Refused (PlanLong i)) e; memory = record { kinds = refl; operands = refl } })
+
+      pub kinds-short : {n : ℕ} → n ≡ node-count (neat-tree J kinds operands) → length old-kinds < n → Says old-kinds old-operands (answer.Refused (PlanLong n))
+      unfolding first-refusal
+      kinds-short e h = short e (on-to ∙ simp (lt-ltb (length old-kinds) (node-count (neat-tree J kinds operands)) (omega (arith, e, h))))
+
+      pub operands-short : {n : ℕ} → n ≡ node-count (neat-tree J kinds operands) → n ≤ length old-kinds → length old-operands < n → Says old-kinds old-operands (answer.Refused (PlanLong n))
+      unfolding first-refusal
+      operands-short e l h = short e (on-to ∙ simp (le-ltb (length old-kinds) (node-count (neat-tree J kinds operands)) (omega (arith, e, l)), lt-ltb (length old-operands) (node-count (neat-tree J kinds operands)) (omega (arith, e, h))))
+
+      pub is-written : {n : ℕ} → n ≡ node-count (neat-tree J kinds operands) → n ≤ length old-kinds → n ≤ length old-operands → {new-kinds new-operands : List ℕ}
+          → new-kinds ≡ over (kinds-of (neat-tree J kinds operands)) old-kinds → new-operands ≡ over (operands-of (neat-tree J kinds operands)) old-operands → Says new-kinds new-operands (answer.Written n)
+      unfolding first-refusal
+      is-written e l h a b = says {w = Passed} (on-to ∙ simp (le-ltb (length old-kinds) (node-count (neat-tree J kinds operands)) (omega (arith, e, l)), le-ltb (length old-operands) (node-count (neat-tree J kinds operands)) (omega (arith, e, h))))
+          (record { answers = ap (λ i. answer.Written i) e; memory = record { kinds = a; operands = b } })
+
+-- one entry stored at the start
+pub first-stored : (old : List ℕ) (v : ℕ) → 1 ≤ length old → set old 0 v ≡ over (v ∷ []) old
+first-stored [] v h = absurd (omega arith)
+first-stored (x ∷ old) v h = refl
+
+-- the call: a job that is refused, and one that was read
+module _ (s : List ℕ) (choices : Choices) (kinds operands old-kinds old-operands new-kinds new-operands : List ℕ) where
+  abbrev verdict : Checked
+  verdict = neat-verdict s choices kinds operands old-kinds old-operands
+
+  outcome-by-answer : (v : Checked) (n : ℕ) → neat-outcome (neat-answer-by v n) ≡ outcome-by v (n ∷ [])
+  outcome-by-answer Passed n = refl
+  outcome-by-answer (Refused x) n = refl
+
+  promises : {r : NeatAnswer} → Neatened verdict (block-neat s choices kinds operands) old-kinds old-operands new-kinds new-operands r → NeatPromises s choices kinds operands old-kinds old-operands new-kinds new-operands r
+  promises h =
+      record {
+        answers = h .answers;
+        outcome = ap (λ a. neat-outcome a) (h .answers) ∙ outcome-by-answer verdict (node-count (block-neat s choices kinds operands));
+        memory = h .memory;
+        plan = λ p. (let q = passed-both (first-refusal (job-checks s choices)) _ p in neat-plan (block-job s choices) (read.read-in-range s choices (q .0)) kinds operands (q .1));
+      }
+
+  pub read-on : {a : JobAnswer} {r : NeatAnswer} → a ≡ read-of s choices → a .verdict ≡ Passed
+      → Neatened (neat-checked (job-of (a .job)) kinds operands old-kinds old-operands) (neat-tree (job-of (a .job)) kinds operands) old-kinds old-operands new-kinds new-operands r
+      → NeatPromises s choices kinds operands old-kinds old-operands new-kinds new-operands r
+  read-on {a} {r} e p h =
+      let q = read.answered s choices e p in
+      promises (subst (λ x. Neatened x (block-neat s choices kinds operands) old-kinds old-operands new-kinds new-operands r)
+      (sym (ap (λ y. next y (neat-checked (block-job s choices) kinds operands old-kinds old-operands)) (q .0)))
+      (subst (λ (j : JobRecord). Neatened (neat-checked (job-of j) kinds operands old-kinds old-operands) (neat-tree (job-of j) kinds operands) old-kinds old-operands new-kinds new-operands r) (q .1) h))
+
+  pub read-stops : {a : JobAnswer} {x : Refusal} → a ≡ read-of s choices → a .verdict ≡ Refused x → new-kinds ≡ old-kinds → new-operands ≡ old-operands
+      → NeatPromises s choices kinds operands old-kinds old-operands new-kinds new-operands (answer.Refused x)
+  read-stops {a} {x} e p k o =
+      promises (subst (λ y. Neatened y (block-neat s choices kinds operands) old-kinds old-operands new-kinds new-operands (answer.Refused x))
+      (sym (ap (λ y. next y (neat-checked (block-job s choices) kinds operands old-kinds old-operands)) (read.refused s choices e p)))
+      (record { answers = refl; memory = record { kinds = k; operands = o } }))
