@@ -53,6 +53,12 @@ pub struct Written {
     pub nodes: u64,
 }
 
+/// The number of nodes of a neat plan.
+#[derive(Clone, Copy, Debug, PartialEq, Eq)]
+pub struct Neat {
+    pub nodes: u64,
+}
+
 /// Bound less profit (0: the plan is best), with both.
 #[derive(Clone, Copy, Debug, PartialEq, Eq)]
 pub struct Certificate {
@@ -113,6 +119,16 @@ impl Words<5> for Written {
 
     fn from_words([bound, capacity, lengths, widths, nodes]: [u64; 5]) -> Written {
         Written { bound: Bound { bound, capacity, lengths, widths }, nodes }
+    }
+}
+
+impl Words<1> for Neat {
+    fn to_words(&self) -> [u64; 1] {
+        [self.nodes]
+    }
+
+    fn from_words([nodes]: [u64; 1]) -> Neat {
+        Neat { nodes }
     }
 }
 

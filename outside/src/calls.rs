@@ -1,4 +1,4 @@
-// The five calls of planner.h as one value, so that tests run the same cases on several
+// The six calls of planner.h as one value, so that tests run the same cases on several
 // implementations.
 use crate::answers::{PlanArrays, Storage};
 
@@ -8,5 +8,6 @@ pub struct Calls {
     pub check_plan_block: fn(&[u8], u32, &[u8], &mut [u64]) -> u32,
     pub bound: fn(&[u8], u32, &[u8], Storage<'_>, &mut [u64]) -> u32,
     pub write_plan: fn(&[u8], u32, &[u8], Storage<'_>, PlanArrays<'_>, &mut [u64]) -> u32,
+    pub neat_plan: fn(&[u8], u32, &[u8], &[u16], PlanArrays<'_>, &mut [u64]) -> u32,
     pub certify: fn(&[u8], u32, &[u8], &[u8], &[u16], Storage<'_>, &mut [u64]) -> u32,
 }

@@ -5,7 +5,7 @@ use crate::answers::{PlanArrays, Storage};
 use crate::calls::Calls;
 
 pub const CALLS: Calls =
-    Calls { name: "proved", check_plan, check_plan_block, bound, write_plan, certify };
+    Calls { name: "proved", check_plan, check_plan_block, bound, write_plan, neat_plan, certify };
 
 pub fn check_plan(
     job: &[u8],
@@ -72,6 +72,27 @@ pub fn write_plan(
             storage.lengths.as_mut_ptr(), storage.lengths.len(),
             storage.widths.as_mut_ptr(), storage.widths.len(),
             storage.table.as_mut_ptr(), storage.table.len(),
+            plan.kinds.as_mut_ptr(), plan.kinds.len(),
+            plan.operands.as_mut_ptr(), plan.operands.len(),
+            answer.as_mut_ptr(), answer.len(),
+        )
+    }
+}
+
+pub fn neat_plan(
+    job: &[u8],
+    choices: u32,
+    kinds: &[u8],
+    operands: &[u16],
+    plan: PlanArrays,
+    answer: &mut [u64],
+) -> u32 {
+    unsafe {
+        foreign::planner_neat_plan(
+            job.as_ptr(), job.len(),
+            choices,
+            kinds.as_ptr(), kinds.len(),
+            operands.as_ptr(), operands.len(),
             plan.kinds.as_mut_ptr(), plan.kinds.len(),
             plan.operands.as_mut_ptr(), plan.operands.len(),
             answer.as_mut_ptr(), answer.len(),

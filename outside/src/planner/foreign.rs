@@ -38,6 +38,16 @@ extern "C" {
         answer: *mut u64, answer_len: usize,
     ) -> u32;
 
+    pub fn planner_neat_plan(
+        job: *const u8, job_len: usize,
+        choices: u32,
+        kinds: *const u8, kinds_len: usize,
+        operands: *const u16, operands_len: usize,
+        neat_kinds: *mut u8, neat_kinds_len: usize,
+        neat_operands: *mut u16, neat_operands_len: usize,
+        answer: *mut u64, answer_len: usize,
+    ) -> u32;
+
     pub fn planner_certify(
         job: *const u8, job_len: usize,
         choices: u32,

@@ -3,7 +3,7 @@
 pub mod calls;
 mod foreign;
 
-use crate::answers::{Bound, Certificate, PlanArrays, Refusal, Report, Storage, Words, Written};
+use crate::answers::{Bound, Certificate, Neat, PlanArrays, Refusal, Report, Storage, Words, Written};
 
 /// Checks a plan given as two arrays.
 pub fn check_plan(
@@ -39,6 +39,17 @@ pub fn write_plan(
     plan: PlanArrays,
 ) -> Result<Written, Refusal> {
     typed(|answer| calls::write_plan(job, choices, weights, storage, plan, answer))
+}
+
+/// Writes the neat plan of a plan.
+pub fn neat_plan(
+    job: &[u8],
+    choices: u32,
+    kinds: &[u8],
+    operands: &[u16],
+    plan: PlanArrays,
+) -> Result<Neat, Refusal> {
+    typed(|answer| calls::neat_plan(job, choices, kinds, operands, plan, answer))
 }
 
 /// Certifies a plan and fills the storage.

@@ -7,7 +7,7 @@ use crate::answers::{
 use crate::calls::Calls;
 
 pub const CALLS: Calls =
-    Calls { name: "reference", check_plan, check_plan_block, bound, write_plan, certify };
+    Calls { name: "reference", check_plan, check_plan_block, bound, write_plan, neat_plan, certify };
 
 pub fn check_plan(
     job: &[u8],
@@ -42,6 +42,17 @@ pub fn write_plan(
     answer: &mut [u64],
 ) -> u32 {
     coded(choices, answer, || super::write_plan(job, choices, weights, storage, plan))
+}
+
+pub fn neat_plan(
+    job: &[u8],
+    choices: u32,
+    kinds: &[u8],
+    operands: &[u16],
+    plan: PlanArrays,
+    answer: &mut [u64],
+) -> u32 {
+    coded(choices, answer, || super::neat_plan(job, choices, kinds, operands, plan))
 }
 
 pub fn certify(

@@ -104,6 +104,8 @@ fn deep_plan((kerf, choices): (u16, u32), nodes: &[Node], units: usize) {
         assert_eq!((code, lent.answer.words()[68] > 0), (0, kerf > 0));
         areas_make_up_the_plate(&input.job, lent.answer.words());
     }
+    let (code, lent) = agrees(Call::NeatPlan, &input, sizes);
+    assert_eq!((code, lent.answer.words()[0]), (0, 2 * profit / 7 - 1));
     let (code, lent) = on_small_stack(Call::Certify, &input, sizes);
     assert_eq!((code, &lent.answer.words()[..3]), (0, &[bound - profit, bound, profit][..]));
 }

@@ -56,6 +56,17 @@ pub fn writes(expected: &Input, bound: u64) {
     });
 }
 
+/// Expects these nodes as the neat plan.
+pub fn tidies(input: &Input, nodes: &[Node]) {
+    let kinds: Vec<u8> = nodes.iter().map(|node| node.0).collect();
+    let operands: Vec<u16> = nodes.iter().map(|node| node.1).collect();
+    for_each(Call::NeatPlan, input, 0, |lent, name| {
+        assert_eq!(lent.answer.words()[0], nodes.len() as u64, "{name}");
+        assert_eq!(lent.kinds.words()[..nodes.len()], kinds, "{name}");
+        assert_eq!(lent.operands.words()[..nodes.len()], operands, "{name}");
+    });
+}
+
 /// Expects two inputs to leave the same memory, the second's written nodes being renumbered.
 pub fn writes_alike(inputs: &[Input; 2], renumber: impl Fn(Node) -> Node) {
     for calls in IMPLEMENTATIONS {

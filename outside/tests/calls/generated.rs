@@ -93,6 +93,7 @@ fn codes(call: Call) -> Vec<u32> {
         Call::CheckPlan | Call::CheckPlanBlock => &[10, 11, 12, 13, 14, 15, 16, 17, 18, 26],
         Call::Bound => &[8, 9, 19, 20],
         Call::WritePlan => &[8, 9, 19, 20, 21],
+        Call::NeatPlan => &[10, 11, 12, 13, 14, 15, 16, 17, 18, 21, 26],
         Call::Certify => &[8, 9, 10, 11, 12, 13, 14, 15, 16, 17, 18, 19, 20, 26],
     };
     (0..=7).chain(others.iter().copied()).chain([27, 100, 101]).collect()
@@ -116,12 +117,23 @@ fn agree_with(random: &mut Random, inputs: usize, scale: Scale, choices: u32) ->
             if (call, code) == (Call::WritePlan, 0) {
                 written_plan_agrees(random, &input.with_written_plan(&lent), sizes, &mut tally);
             }
+            if (call, code) == (Call::NeatPlan, 0) {
+                neat_plan_agrees(random, &input.with_neat_plan(&lent), sizes, &mut tally);
+            }
         }
     }
     let (all, done) = tally.compared();
     println!("choices {choices}: {inputs} inputs, {all} calls compared, {done} of them done");
-    assert!(all >= 5 * inputs && 3 * done >= all);
+    assert!(all >= 6 * inputs && 3 * done >= all);
     tally
+}
+
+/// The neat plan again, into arrays that just hold it or do not.
+fn neat_plan_agrees(random: &mut Random, neat: &Input, sizes: Sizes, tally: &mut Tally) {
+    let nodes = neat.kinds.len();
+    let short = random.pick(&[(0, 0), (1, 0), (0, 1)]);
+    let tight = Sizes { kinds: nodes - short.0, operands: nodes - short.1, ..sizes };
+    tally.compare(Call::NeatPlan, neat, tight);
 }
 
 /// The written plan again, into arrays that just hold it or do not; and as input of the checks.

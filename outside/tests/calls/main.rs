@@ -14,6 +14,7 @@ mod inputs;
 mod kerf;
 mod lent;
 mod limits;
+mod neat;
 mod readings;
 mod run;
 mod stack;

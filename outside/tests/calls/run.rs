@@ -13,11 +13,18 @@ pub enum Call {
     CheckPlanBlock,
     Bound,
     WritePlan,
+    NeatPlan,
     Certify,
 }
 
-pub const ALL_CALLS: [Call; 5] =
-    [Call::CheckPlan, Call::CheckPlanBlock, Call::Bound, Call::WritePlan, Call::Certify];
+pub const ALL_CALLS: [Call; 6] = [
+    Call::CheckPlan,
+    Call::CheckPlanBlock,
+    Call::Bound,
+    Call::WritePlan,
+    Call::NeatPlan,
+    Call::Certify,
+];
 
 /// The calls that take weights.
 pub const WEIGHING_CALLS: [Call; 3] = [Call::Bound, Call::WritePlan, Call::Certify];
@@ -54,7 +61,16 @@ impl Input {
 
     /// The same input with the plan that a call has written.
     pub fn with_written_plan(&self, lent: &Lent) -> Input {
-        let nodes = lent.answer.words()[4] as usize;
+        self.with_nodes(lent.answer.words()[4], lent)
+    }
+
+    /// The same input with the neat plan that a call has written.
+    pub fn with_neat_plan(&self, lent: &Lent) -> Input {
+        self.with_nodes(lent.answer.words()[0], lent)
+    }
+
+    fn with_nodes(&self, nodes: u64, lent: &Lent) -> Input {
+        let nodes = nodes as usize;
         let kinds = lent.kinds.words()[..nodes].to_vec();
         let operands = lent.operands.words()[..nodes].to_vec();
         Input { plan: plan_block(&kinds, &operands), kinds, operands, ..self.clone() }
@@ -71,6 +87,7 @@ impl Call {
             Call::CheckPlan | Call::CheckPlanBlock => REPORT_WORDS,
             Call::Bound => 4,
             Call::WritePlan => 5,
+            Call::NeatPlan => 1,
             Call::Certify => 3,
         }
     }
@@ -84,6 +101,7 @@ impl Call {
             Call::CheckPlanBlock => (calls.check_plan_block)(job, c, block, answer),
             Call::Bound => (calls.bound)(job, c, weights, storage, answer),
             Call::WritePlan => (calls.write_plan)(job, c, weights, storage, plan, answer),
+            Call::NeatPlan => (calls.neat_plan)(job, c, kinds, operands, plan, answer),
             Call::Certify => (calls.certify)(job, c, weights, kinds, operands, storage, answer),
         }
     }
