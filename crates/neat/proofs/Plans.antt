@@ -1,21 +1,19 @@
 -- The neat plan of a plan that passes: what holds of it, what the scan writes, and the answers of the call one by one.
 use mathlib.Core.Path.{_≡_, refl, sym, _∙_, ap, ap₂, subst}
-use mathlib.Core.Bool.{_||_}
 use mathlib.Core.List.{List, [], _∷_, _++_, map, append-nil}
-use Prim.Native.Nat.{ℕ, zero, suc, _+_, _-_, _*_, _≤_, _<_}
+use Prim.Native.Nat.{ℕ, zero, suc, _+_, _-_, _≤_, _<_}
 use native.Mathlib.Omega.{arith}
-use lib.Dec.{ltb}
-use lib.ListN.{length, set, length-map}
+use lib.ListN.{length, set}
 use borrow.Author.Tests.{lt-ltb, le-ltb}
 use Rattle.cutting.specs.Lists.{over}
-use Rattle.cutting.specs.Tree.{Tree, waste, total, piece-count}
+use Rattle.cutting.specs.Tree.{Tree, waste, piece-count}
 use Rattle.cutting.specs.Pieces as laid
 use Rattle.cutting.specs.Preorder.{preorder, kind-of, operand-of, node-count, kinds-of, operands-of}
 use Rattle.cutting.specs.Job.{Job, laid, copies-of, InRange}
-use Rattle.cutting.specs.Neat.{neat, neat-of}
+use Rattle.cutting.specs.Neat.{neat-of}
 use Rattle.cutting.proofs.Members.{range-solid}
 use Rattle.cutting.proofs.Neat.{neat-total, neat-waste, neat-stages, neat-idle, neat-again, neat-nodes, neat-count, neat-on}
-use Rattle.refusal.specs.Refusals.{next, first-refusal, refuse-when, by-check, outcome-by}
+use Rattle.refusal.specs.Refusals.{next, first-refusal, outcome-by}
 use Rattle.refusal.specs.declared.Refusal.{Refusal}
 use Rattle.refusal.specs.declared.Refusal.the-variants.{PlanLong}
 use Rattle.refusal.specs.declared.Checked.{Checked}
@@ -34,7 +32,7 @@ use Rattle.plan.proofs.Preorder.{written, arrays-written, kinds-length, operand
 use Rattle.plan.proofs.Plans.{plans-checked}
 use Rattle.neat.specs.declared.NeatAnswer.{NeatAnswer}
 use Rattle.neat.specs.declared.NeatAnswer.the-variants as answer
-use Rattle.neat.specs.Neat.{trees-in, first-tree, tree-in, neat-tree, room-check, neat-checked, neat-verdict, block-neat, neat-answer-by, neat-outcome, NeatLeaves, NeatPlan, NeatPromises}
+use Rattle.neat.specs.Neat.{trees-in, first-tree, tree-in, neat-tree, room-check, neat-checked, neat-verdict, block-neat, neat-answer-by, neat-outcome, NeatPlan, NeatPromises}
 use Rattle.neat.specs.Scan.{unless-none, neat-nodes as nodes-written, pieces-in, nodes-for, AllFit, Scannable, Neatened}
 use Rattle.neat.proofs.Trees.{trees-tree, pieces-tree, tree-fits}
 

@@ -1,13 +1,13 @@
 -- One node of the scan: a cut by whether its parts hold a piece, the two used sizes on top, and what the node becomes over them.
 use mathlib.Core.Path.{_≡_, refl, sym, _∙_, ap, subst}
-use mathlib.Core.List.{List, [], _∷_}
+use mathlib.Core.List.{List, _∷_}
 use Prim.Native.Nat.{ℕ, zero, suc, _+_, _-_, _*_, _≤_, max}
 use native.Mathlib.Omega.{arith}
 use lib.ListN.{getD}
 use Rattle.cutting.specs.declared.Direction.{Direction}
 use Rattle.cutting.specs.declared.Direction.the-variants.{Length, Width}
 use Rattle.cutting.specs.declared.Node.{Node}
-use Rattle.cutting.specs.declared.Node.the-variants.{Waste, Piece, Turned, Cut}
+use Rattle.cutting.specs.declared.Node.the-variants.{Waste, Piece, Cut}
 use Rattle.cutting.specs.declared.Sides.{Sides}
 use Rattle.cutting.specs.Tree.{Rect, side}
 use Rattle.cutting.specs.Pieces as laid

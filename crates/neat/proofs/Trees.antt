@@ -1,7 +1,7 @@
 -- The trees that a plan's nodes draw: one step of the scan is one node in front of them, and a tree's own nodes draw the tree.
 use mathlib.Core.Path.{_≡_, refl, sym, _∙_, ap, ap₂, subst}
 use mathlib.Core.List.{List, [], _∷_, _++_, map, append-assoc}
-use Prim.Native.Nat.{ℕ, zero, suc, _+_, _-_, _≤_, _<_}
+use Prim.Native.Nat.{ℕ, zero, suc, _+_, _-_, _<_}
 use native.Mathlib.Omega.{arith}
 use Rattle.cutting.specs.declared.Direction.{Direction}
 use Rattle.cutting.specs.declared.Direction.the-variants.{Length, Width}
@@ -12,7 +12,7 @@ use Rattle.cutting.specs.Tree.{Rect, side, Tree, waste, piece, cut, total, piec
 use Rattle.cutting.specs.Pieces as laid
 use Rattle.cutting.specs.Pieces.{_⊑_}
 use Rattle.cutting.specs.Preorder.{preorder, kind-of, operand-of, kinds-of}
-use Rattle.cutting.specs.Job.{Job, laid, GuillotineTree, InRange}
+use Rattle.cutting.specs.Job.{Job, laid, InRange}
 use Rattle.cutting.specs.Neat.{joined, remaining, used, neat, used-of, neat-of}
 use Rattle.cutting.proofs.Members.{range-solid}
 use Rattle.cutting.proofs.Preorder.{kinds-cut}

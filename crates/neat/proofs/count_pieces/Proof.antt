@@ -1,5 +1,4 @@
 -- `neat::count_pieces` meets its contract: before node k - 1 is read, the pieces are those of the nodes from k on.
-use mathlib.Core.Path.{_∙_, ap}
 use native.Mathlib.Omega.{arith}
 use denote.Ref.{now}
 use borrow.Author.Needs.{needs}

@@ -1,6 +1,5 @@
 -- `neat::join` meets its contract: a part that holds no piece counts for nothing.
-use mathlib.Core.Path.{_≡_, _∙_, sym, ap}
-use Prim.Native.Nat.{_+_, _≤_}
+use mathlib.Core.Path.{sym, ap}
 use native.Mathlib.Omega.{arith}
 use borrow.Author.Needs.{needs}
 use Rattle.cutting.specs.Sides.{rect-of, sides-of}

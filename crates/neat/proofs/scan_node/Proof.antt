@@ -1,5 +1,5 @@
 -- `neat::scan_node` meets its contract: a cut takes the two used sizes on top, any other node adds one.
-use mathlib.Core.Path.{refl, sym, _∙_, ap}
+use mathlib.Core.Path.{refl}
 use native.Mathlib.Omega.{arith}
 use denote.Ref.{now}
 use borrow.Author.Needs.{needs}

@@ -1,7 +1,6 @@
 -- `neat::write_nodes` meets its contract: before node k - 1 is read, the used sizes are those of the trees that the nodes from k on draw, and
 -- the arrays hold what is written of them.
 use native.Mathlib.Omega.{arith}
-use denote.Ref.{now}
 use borrow.Author.Needs.{needs}
 use lib.ListN.{length-replicate}
 use Prim.Native.Nat.{ℕ}
