@@ -119,7 +119,8 @@ enum {
     PLANNER_REPORT_WORDS = 69,
     PLANNER_BOUND_WORDS = 4,
     PLANNER_PLAN_WORDS = 5,
-    PLANNER_CERTIFICATE_WORDS = 3
+    PLANNER_CERTIFICATE_WORDS = 3,
+    PLANNER_NEAT_WORDS = 1
 };
 
 /* Checks a plan (refusals 1 to 7, 10 to 18, 26, 27). For an accepted job and a long enough answer it
@@ -170,6 +171,24 @@ uint32_t planner_write_plan(
     uint64_t *table, size_t table_len,
     uint8_t *kinds, size_t kinds_len,
     uint16_t *operands, size_t operands_len,
+    uint64_t *answer, size_t answer_len);
+
+/* Writes the neat plan of a plan, which is checked first (refusals 1 to 7, 10 to 18, 26, 27); 21, with
+ * the nodes needed, if an output array is shorter. Used size is nothing for waste and the piece's own
+ * size, as it lies, for a piece. A cut with a pieceless part is replaced by its other part and has its
+ * used size; for any other cut it is the sum along it and k, and the greater across it. Every cut that
+ * remains moves to the first part's used size. A plan without a piece becomes one waste node. The neat
+ * plan passes the check, earns the same, has the same copies, no more nodes and no more stages (the
+ * most changes of direction on a path down through the cuts, plus one), and is its own neat plan.
+ * Entries of the output arrays past it keep what they held, and all do where the call is refused.
+ * answer[0] node count. */
+uint32_t planner_neat_plan(
+    const uint8_t *job, size_t job_len,
+    uint32_t choices,
+    const uint8_t *kinds, size_t kinds_len,
+    const uint16_t *operands, size_t operands_len,
+    uint8_t *neat_kinds, size_t neat_kinds_len,
+    uint16_t *neat_operands, size_t neat_operands_len,
     uint64_t *answer, size_t answer_len);
 
 /* Certifies a plan (refusals 1 to 20, 26, 27) and fills the storage. The gap is 0 exactly if the

@@ -1,21 +1,27 @@
 -- What an answer's words say of trees: from the proved call's promise about its answer and the words that the answer gives.
 use mathlib.Core.Path.{_≡_, refl, sym, _∙_, ap, ap₂, subst}
 use mathlib.Core.Bool.{false}
-use mathlib.Core.List.{List, []}
+use mathlib.Core.List.{List, [], _∷_}
 use Prim.Native.Nat.{ℕ, _≤_, _<_}
 use native.Mathlib.Omega.{arith}
 use lib.ListN.{length}
 use borrow.Author.Tests.{le-ltb}
 use Rattle.cutting.specs.Lists.{over}
 use Rattle.cutting.specs.Job.{Job}
-use Rattle.refusal.specs.Refusals.{Outcome, outcome-by}
+use Rattle.cutting.specs.Preorder.{node-count, kinds-of, operands-of}
+use Rattle.refusal.specs.Refusals.{Outcome, next, first-refusal, outcome-by}
 use Rattle.refusal.proofs.Numbers.{number-some}
 use Rattle.refusal.specs.declared.Checked.{Checked}
 use Rattle.refusal.specs.declared.Checked.the-variants.{Passed, Refused}
 use Rattle.plan.specs.declared.PlanAnswer.{PlanAnswer}
 use Rattle.plan.specs.Trees.{ChecksPlan, Reports}
 use Rattle.job.specs.declared.Choices.{Choices}
+use Rattle.job.specs.Block.{job-checks}
 use Rattle.job.specs.Weights.{block-job, weight-in}
+use Rattle.job.proofs.Checks.{passed-both}
+use Rattle.plan.specs.Plan.{plan-answer}
+use Rattle.neat.specs.declared.NeatAnswer.{NeatAnswer}
+use Rattle.neat.specs.Neat.{neat-verdict, block-neat, neat-outcome, written-by, NeatPromises}
 use Rattle.bound.specs.declared.BoundAnswer.{BoundAnswer}
 use Rattle.bound.specs.declared.BoundAnswer.the-variants as bound
 use Rattle.bound.specs.Bound.{bound-outcome, BoundHolds, BoundSaid}
@@ -27,7 +33,7 @@ use Rattle.certificate.specs.declared.Certificate.the-variants as certificate
 use Rattle.certificate.specs.Certificate.{certificate-outcome}
 use Rattle.certificate.specs.Promises.{BestSaid, GapSaid}
 use Rattle.plan.specs.Calls.{plan-values, plan-outcome}
-use Rattle.planner_c.specs.Exports.{Gives, answer-word, PlanGiven, BoundGiven, TreeChecked, Certified, CertificateGiven, unknown, job-with, returned-by, returned, early, answered}
+use Rattle.planner_c.specs.Exports.{Gives, answer-word, PlanGiven, NeatGiven, BoundGiven, TreeChecked, Certified, CertificateGiven, unknown, job-with, returned-by, returned, early, answered}
 use Rattle.planner_c.proofs.Exports.{stops, enough}
 
 -- a bound
@@ -45,6 +51,27 @@ plan-given s choices ws kinds operands new-kinds new-operands old (write.Written
     subst (λ w. PlanGiven (block-job s choices) (weight-in ws) (kinds, operands) (new-kinds, new-operands) w) (sym (g .1))
     (record { bound = bound b refl; tree = (block-plan s choices ws, p .earns, p .idle-free, p .kinds-hold, p .operands-hold, p .counted) })
 plan-given s choices ws kinds operands new-kinds new-operands old (write.Refused r) plan bound g e = absurd (omega (arith, number-some r, g .0, e))
+
+-- a neat plan
+pub neat-given : (s : List ℕ) (choices : Choices) (kinds operands old-kinds old-operands new-kinds new-operands : List ℕ) {n : ℕ} (old : List ℕ) {new : List ℕ} (a : NeatAnswer)
+    → NeatPromises s choices kinds operands old-kinds old-operands new-kinds new-operands a → Gives (neat-outcome a) n old new
+    → n ≡ 0 → NeatGiven (block-job s choices) kinds operands (old-kinds, old-operands) (new-kinds, new-operands) new
+neat-given s choices kinds operands old-kinds old-operands new-kinds new-operands {n} old {new} a p g z = go (neat-verdict s choices kinds operands old-kinds old-operands) refl
+  where
+    said : (v : Checked) → neat-verdict s choices kinds operands old-kinds old-operands ≡ v → neat-outcome a ≡ outcome-by v (node-count (block-neat s choices kinds operands) ∷ [])
+    said v e = p .outcome ∙ ap (λ v. outcome-by v (node-count (block-neat s choices kinds operands) ∷ [])) e
+
+    go : (v : Checked) → neat-verdict s choices kinds operands old-kinds old-operands ≡ v → NeatGiven (block-job s choices) kinds operands (old-kinds, old-operands) (new-kinds, new-operands) new
+    go Passed e =
+        let b = passed-both (first-refusal (job-checks s choices)) _ e in
+        let c = passed-both (plan-answer (block-job s choices) kinds operands .verdict) _ (b .1) in
+        record {
+          plan = p .plan (ap₂ next (b .0) (c .0));
+          kinds-hold = p .memory .kinds ∙ ap (λ v. written-by v (kinds-of (block-neat s choices kinds operands)) old-kinds) e;
+          operands-hold = p .memory .operands ∙ ap (λ v. written-by v (operands-of (block-neat s choices kinds operands)) old-operands) e;
+          counted = ap (λ w. answer-word w 0) (g .1 ∙ ap (λ (o : Outcome). over (o .1) old) (said Passed e));
+        }
+    go (Refused r) e = absurd (omega (arith, number-some r, g .0 ∙ ap (λ (o : Outcome). o .0) (said (Refused r) e), z))
 
 module _ (J : Job) (kinds operands : List ℕ) {n : ℕ} (old : List ℕ) {new : List ℕ} where
   -- a certificate

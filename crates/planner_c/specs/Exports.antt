@@ -21,6 +21,7 @@ use Rattle.idle.specs.Idle.{tree-checks}
 use Rattle.plan.specs.Calls.{plan-values}
 use Rattle.plan.specs.Trees.{DrawnAs, PlanOf, tree-report, Reports}
 use Rattle.bound.specs.Bound.{Memory, Leaves, BoundHolds, wide-job, block-capacity}
+use Rattle.neat.specs.Neat.{tree-in, neat-tree, neat-verdict, block-neat, NeatLeaves, NeatPlan}
 use Rattle.writer.specs.Write.{array-after, block-plan}
 use Rattle.certificate.specs.Certificate.{plan-verdict}
 use Rattle.certificate.specs.Promises.{Earns}
@@ -90,6 +91,11 @@ PlanLeft s choices ws m old new =
     (new .0 ≡ array-after s choices ws m (old .0) (old .1) (kinds-of (block-plan s choices ws)) (old .0))
     × (new .1 ≡ array-after s choices ws m (old .0) (old .1) (operands-of (block-plan s choices ws)) (old .1))
 
+-- what the neat call leaves in the two output arrays, kinds and operands: the neat plan over their old contents where all checks pass
+abbrev pub NeatLeft : List ℕ → Choices → (kinds operands : List ℕ) → List ℕ × List ℕ → List ℕ × List ℕ → Type 0
+NeatLeft s choices kinds operands old new =
+    NeatLeaves (neat-verdict s choices kinds operands (old .0) (old .1)) (block-neat s choices kinds operands) (old .0) (old .1) (new .0) (new .1)
+
 -- what certify leaves in lent memory
 abbrev pub CertificateLeaves : List ℕ → Choices → (ws kinds operands : List ℕ) → Memory → Memory → Type 0
 CertificateLeaves s choices ws kinds operands old new = Leaves (plan-verdict s choices ws kinds operands) (wide-job s choices) (weight-in ws) (block-capacity s choices ws) old new
@@ -133,3 +139,11 @@ pub record PlanGiven (J : Job) (weight : ℕ → ℕ) (old new : List ℕ × Lis
   pub bound : BoundHolds J weight (answer-word answer 1) (answer-word answer 0)
   pub tree : (t : Tree Piece) × EarnsWithin J weight (answer-word answer 1) (answer-word answer 0) t × IdleFree t
       × (new .0 ≡ over (kinds-of t) (old .0)) × (new .1 ≡ over (operands-of t) (old .1)) × (answer-word answer 4 ≡ node-count t)
+
+-- a neat plan where 0 is returned: what holds of the neat plan of the tree that the arrays draw; the output arrays hold its preorder over
+-- their old contents, with the nodes of word 0
+pub record NeatGiven (J : Job) (kinds operands : List ℕ) (old new : List ℕ × List ℕ) (answer : List ℕ) : Type 0 where
+  pub plan : NeatPlan J (tree-in kinds operands) kinds operands
+  pub kinds-hold : new .0 ≡ over (kinds-of (neat-tree J kinds operands)) (old .0)
+  pub operands-hold : new .1 ≡ over (operands-of (neat-tree J kinds operands)) (old .1)
+  pub counted : answer-word answer 0 ≡ node-count (neat-tree J kinds operands)

@@ -8,9 +8,10 @@ ghost use mathlib.Core.Path.{_≡_};
 ghost use Rattle.job.specs.Weights.{weight-in};
 ghost use Rattle.plan.specs.Calls.{arrays-said, block-said, plan-kinds, plan-operands, JobPasses, BlockPasses};
 ghost use Rattle.bound.specs.Bound.{lent, BoundLeaves, bound-said};
+ghost use Rattle.neat.specs.Neat.{neat-said};
 ghost use Rattle.writer.specs.Write.{write-said};
 ghost use Rattle.certificate.specs.Certificate.{certificate-said};
-ghost use Rattle.planner_c.specs.Exports.{choices-of, job-with, returned, answered, Left, CertificateLeaves, PlanLeft, PlanGiven, TreeChecked, BoundGiven, CertificateGiven};
+ghost use Rattle.planner_c.specs.Exports.{choices-of, job-with, returned, answered, Left, CertificateLeaves, PlanLeft, NeatLeft, PlanGiven, NeatGiven, TreeChecked, BoundGiven, CertificateGiven};
 
 // The check of a plan's arrays for a job block. The answer has 69 words: profit, the areas of pieces, waste nodes and trim, the copies of
 // 64 kinds, and the area of the sawdust.
@@ -126,6 +127,39 @@ pub extern "C" fn planner_write_plan(
         operands,
     );
     words::put_write(a, answer)
+}
+
+// The neat plan of a plan's arrays for a job block, in the two output arrays. The answer has 1 word: the node count.
+#[no_mangle]
+pub extern "C" fn planner_neat_plan(
+    block: &[u8],
+    choices: u32,
+    kinds: &[u8],
+    operands: &[u16],
+    neat_kinds: &mut [u8],
+    neat_operands: &mut [u16],
+    answer: &mut [u64],
+) -> u32
+    ensures number { λ n. ⌜ n ≡ returned 1 (now (answer .entry)) choices (neat-said (now (block .entry)) (choices-of choices) (now (kinds .entry)) (now (operands .entry)) (now («neat_kinds» .entry)) (now («neat_operands» .entry))) ⌝ }
+    ensures words { λ _. ⌜ now (answer .exit) ≡ answered 1 (now (answer .entry)) choices (neat-said (now (block .entry)) (choices-of choices) (now (kinds .entry)) (now (operands .entry)) (now («neat_kinds» .entry)) (now («neat_operands» .entry))) ⌝ }
+    ensures plan { λ _. ⌜ Left 1 (now (answer .entry)) choices
+        (NeatLeft (now (block .entry)) (choices-of choices) (now (kinds .entry)) (now (operands .entry)))
+        (now («neat_kinds» .entry), now («neat_operands» .entry)) (now («neat_kinds» .exit), now («neat_operands» .exit)) ⌝ }
+    ensures trees { λ n. ⌜ (n ≡ 0 → NeatGiven (job-with (now (block .entry)) choices) (now (kinds .entry)) (now (operands .entry)) (now («neat_kinds» .entry), now («neat_operands» .entry)) (now («neat_kinds» .exit), now («neat_operands» .exit)) (now (answer .exit))) ⌝ }
+{
+    let stop = choices::early(answer.len(), 1, choices);
+    if 0 < stop {
+        return stop;
+    }
+    let a = neat::neat_plan(
+        block,
+        choices::choices_of(choices),
+        kinds,
+        operands,
+        neat_kinds,
+        neat_operands,
+    );
+    words::put_neat(a, answer)
 }
 
 // The certificate of a plan for a job block and weights. The answer has 3 words: the gap, which is 0 for a best plan, the bound and the

@@ -2,6 +2,7 @@
 // function asks for the words that it fills; the exported functions compare their number first.
 use bound::BoundAnswer;
 use certificate::Certificate;
+use neat::NeatAnswer;
 use plan::PlanAnswer;
 use plan::Report;
 use refusal::Checked;
@@ -18,6 +19,7 @@ ghost use Rattle.cutting.specs.Lists.{over};
 ghost use Rattle.refusal.specs.Refusals.{refused-as};
 ghost use Rattle.plan.specs.Calls.{plan-values, plan-outcome};
 ghost use Rattle.bound.specs.Bound.{bound-outcome};
+ghost use Rattle.neat.specs.Neat.{neat-outcome};
 ghost use Rattle.certificate.specs.Certificate.{certificate-outcome};
 ghost use Rattle.writer.specs.Write.{write-values, write-outcome};
 ghost use Rattle.planner_c.specs.Exports.{Gives, GapWithin};
@@ -96,6 +98,20 @@ pub fn put_write(a: WriteAnswer, answer: &mut [u64]) -> u32
         WriteAnswer::Refused(r) => refuse(r, answer),
         WriteAnswer::Written(b) => {
             put_written(b, answer);
+            0
+        }
+    }
+}
+
+// What the neat call answers: the node count.
+pub fn put_neat(a: NeatAnswer, answer: &mut [u64]) -> u32
+    requires { ⌜ 1 ≤ length (now answer) ⌝ }
+    ensures { λ n. ⌜ Gives (neat-outcome a) n (now (answer .entry)) (now (answer .exit)) ⌝ }
+{
+    match a {
+        NeatAnswer::Refused(r) => refuse(r, answer),
+        NeatAnswer::Written(nodes) => {
+            answer[0] = nodes;
             0
         }
     }
