@@ -28,6 +28,13 @@ pub const FULL_DEMAND: usize = 12600;
 // Whether the job block is the old one: 1, or 0.
 pub const OLD_BLOCK: usize = 12700;
 
+// Entries of the two output arrays that a neat plan is lent.
+pub const OUTPUT: usize = 12800;
+
+pub const OUTPUT_KINDS: usize = 12801;
+
+pub const OUTPUT_OPERANDS: usize = 12802;
+
 pub const REMARK: usize = 13000;
 
 pub const KINDS: usize = 20000;

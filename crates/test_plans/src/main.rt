@@ -1,14 +1,17 @@
-// Runs the calls on plans by a script (its standard input): the check of plans, the writing of plans, certificates.
+// Runs the calls on plans by a script (its standard input): the check of plans, the writing of plans, neat plans, certificates.
 // `job`, `weights`, `kinds`, `operands` and `plan` set the bytes of the job block, the weights, the plan's two arrays and the plan block;
-// `lend` sets how many entries of the two lists and words of the table a certificate is lent; `turning` sets whether pieces may be turned
+// `lend` sets how many entries of the two lists and words of the table a certificate is lent, `neat` how many entries of the two output
+// arrays a neat plan is lent; `turning` sets whether pieces may be turned
 // from here on, 1 or 0, `full` whether the capacity is that of the full demands (a plan is then written by the call of that name), and
 // `before` whether job blocks are old ones, from before the kerf. Then a call runs on what is set:
 // `Arrays` checks the two arrays, `Block` the plan block, `Jobs` and `Plans` every truncation of the job block and of the plan block;
-// `Write` writes a plan into the arrays and prints arrays of seven entries as kind.operand; `Certify` certifies the arrays and prints how
+// `Write` writes a plan into the arrays and prints arrays of seven entries as kind.operand; `Neat` writes the neat plan of the arrays into
+// the output arrays and prints seven entries of them; `Certify` certifies the arrays and prints how
 // many entries of the lists and words of the table it changed. An answer is printed as its values, a refusal as number and place.
 mod certify;
 mod check;
 mod lent;
+mod tidy;
 mod write;
 
 use certify::run_certify;
@@ -21,6 +24,7 @@ use lent::KINDS;
 use lent::LENT;
 use lent::OLD_BLOCK;
 use lent::OPERANDS;
+use lent::OUTPUT;
 use lent::PLAN;
 use lent::REMARK;
 use lent::TURNING;
@@ -28,6 +32,7 @@ use lent::WEIGHTS;
 use test_tools::Words;
 use test_tools::next_command;
 use test_tools::row_to;
+use tidy::run_neat;
 use write::run_write;
 
 const COMMANDS: usize = 1000;
@@ -44,6 +49,7 @@ fn place(letter: u8) -> usize {
         b't' => TURNING,
         b'f' => FULL_DEMAND,
         b'b' => OLD_BLOCK,
+        b'n' => OUTPUT,
         _ => REMARK,
     }
 }
@@ -55,6 +61,7 @@ fn run(t: &mut Words, letter: u8) {
         b'J' => run_truncations(t, JOB),
         b'P' => run_truncations(t, PLAN),
         b'W' => run_write(t),
+        b'N' => run_neat(t),
         b'C' => run_certify(t),
         _ => row_to(t, place(letter)),
     }

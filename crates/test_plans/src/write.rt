@@ -56,7 +56,7 @@ fn print_entry_at(kinds: &[u8], operands: &[u16], i: usize) {
 }
 
 // Seven entries of both arrays.
-fn print_entries(kinds: &[u8; 5000], operands: &[u16; 5000]) {
+pub fn print_entries(kinds: &[u8; 5000], operands: &[u16; 5000]) {
     text(b":");
     for i in 0..7 {
         print_entry_at(kinds, operands, i);
