@@ -6,13 +6,13 @@ use Prim.Native.Nat.{ℕ, _+_, _*_, _≤_, _<_}
 use native.Mathlib.Omega.{arith}
 use borrow.Author.Tests.{ltb-false, eqb-true, not-false}
 use lib.Dec.{ltb, eqb}
-use lib.ListN.{length}
+use lib.ListN.{length, getD}
 use Rattle.cutting.specs.Job.{InRange}
-use Rattle.refusal.specs.Refusals.{next, first-refusal, by-check, outcome-by}
+use Rattle.refusal.specs.Refusals.{Check, next, first-refusal, outcome-by}
 use Rattle.refusal.specs.declared.Checked.{Checked}
 use Rattle.refusal.specs.declared.Checked.the-variants.{Passed, Refused}
 use Rattle.refusal.specs.declared.Refusal.{Refusal}
-use Rattle.job.specs.Block.{plate-length-at, plate-width-at, count-at, kerf-at, sizes-end, length-at, width-at, price-at, demand-at, outside, number-checks, header-checks, size-check, pair-checks, each-kind, job-checks, record-of, empty-record, read-of, job-values, job-outcome, job-said, job-of}
+use Rattle.job.specs.Block.{plate-length-at, plate-width-at, count-at, kerf-at, sizes-end, length-at, width-at, price-at, demand-at, outside, number-checks, header-checks, size-check, pair-checks, each-kind, checks-by, job-checks, record-of, priced, empty-record, read-by, read-of, job-values, job-outcome, job-said, job-of}
 use Rattle.job.specs.Contracts.{HoldsKinds}
 use Rattle.job.specs.declared.Choices.{Choices}
 use Rattle.job.specs.declared.JobAnswer.{JobAnswer}
@@ -66,43 +66,50 @@ module _ (old : Bool) (s : List ℕ) where
   pub header-holds : (n : ℕ) → n ≡ count-at s → first-refusal (header-checks old s) ≡ Passed → HoldsKinds (sizes-end old) s n
   header-holds n e p = let h = header-passed p in (e, omega (arith, e, h .kinds .1), sizes-least old .1, omega (arith, e, h .bytes))
 
-module _ (s : List ℕ) (choices : Choices) where
+-- a block's checks, whichever checks a pair has
+module _ (pair : ℕ → List ℕ → ℕ → List Check) (s : List ℕ) (choices : Choices) where
   -- where the sizes of the block end
   abbrev end : ℕ
   end = sizes-end (choices .«old_block»)
 
-  -- a block's checks: the header's, then the sizes', then the pairs'
-  pub job-parts : first-refusal (job-checks s choices)
-      ≡ next (first-refusal (header-checks (choices .«old_block») s)) (next (first-refusal (each-kind (λ i. size-check end s i ∷ []) 0 (count-at s))) (first-refusal (each-kind (pair-checks end s) 0 (count-at s))))
-  unfolding job-checks
-  job-parts = first-append (header-checks (choices .«old_block») s) (each-kind (λ i. size-check end s i ∷ []) 0 (count-at s) ++ each-kind (pair-checks end s) 0 (count-at s))
-      ∙ ap (next (first-refusal (header-checks (choices .«old_block») s))) (first-append (each-kind (λ i. size-check end s i ∷ []) 0 (count-at s)) (each-kind (pair-checks end s) 0 (count-at s)))
+  abbrev header : Checked
+  header = first-refusal (header-checks (choices .«old_block») s)
 
-  module _ (p : first-refusal (job-checks s choices) ≡ Passed) where
-    -- where a block passed, its three parts did
-    pub job-passed : (first-refusal (header-checks (choices .«old_block») s) ≡ Passed) × (first-refusal (each-kind (λ i. size-check end s i ∷ []) 0 (count-at s)) ≡ Passed) × (first-refusal (each-kind (pair-checks end s) 0 (count-at s)) ≡ Passed)
-    job-passed =
-        let a = passed-both _ _ (sym job-parts ∙ p) in
-        let b = passed-both _ _ (a .1) in
-        (a .0, b .0, b .1)
+  abbrev sizes : Checked
+  sizes = first-refusal (each-kind (λ i. size-check end s i ∷ []) 0 (count-at s))
 
+  abbrev pairs : Checked
+  pairs = first-refusal (each-kind (pair end s) 0 (count-at s))
+
+  -- they are the header's, then the sizes', then the pairs'
+  pub block-parts : first-refusal (checks-by pair s choices) ≡ next header (next sizes pairs)
+  block-parts = first-append (header-checks (choices .«old_block») s) (each-kind (λ i. size-check end s i ∷ []) 0 (count-at s) ++ each-kind (pair end s) 0 (count-at s))
+      ∙ ap (next header) (first-append (each-kind (λ i. size-check end s i ∷ []) 0 (count-at s)) (each-kind (pair end s) 0 (count-at s)))
+
+  -- where a block passed, its three parts did
+  pub block-passed : first-refusal (checks-by pair s choices) ≡ Passed → (header ≡ Passed) × (sizes ≡ Passed) × (pairs ≡ Passed)
+  block-passed p =
+      let a = passed-both header (next sizes pairs) (sym block-parts ∙ p) in
+      let b = passed-both sizes pairs (a .1) in
+      (a .0, b .0, b .1)
+
+  module _ (p : first-refusal (checks-by pair s choices) ≡ Passed) where
     -- a kind's sides where the block passed
     sides-passed : (i : ℕ) → i < count-at s → ((1 ≤ length-at end s i) × (length-at end s i ≤ 1000)) × ((1 ≤ width-at end s i) × (width-at end s i ≤ 1000))
     sides-passed i h =
-        let q = each-passed (λ i. size-check end s i ∷ []) 0 (count-at s) i (job-passed .1) (omega arith) (omega (arith, h)) in
+        let q = each-passed (λ i. size-check end s i ∷ []) 0 (count-at s) i (block-passed p .1) (omega arith) (omega (arith, h)) in
         both-inside 1 1000 (length-at end s i) (width-at end s i) (cons-passed _ _ _ q .0)
 
-    -- a kind's price and demand where the block passed
-    pair-passed : (i : ℕ) → i < count-at s → (price-at end s i ≤ 1000000) × (demand-at end s i ≤ 255)
-    pair-passed i h =
-        let q = cons-passed _ _ _ (each-passed (pair-checks end s) 0 (count-at s) i (job-passed .2) (omega arith) (omega (arith, h))) in
-        (ltb-false 1000000 (price-at end s i) (q .0), ltb-false 255 (demand-at end s i) (cons-passed _ _ _ (q .1) .0))
+    -- a kind's own checks where the block passed
+    pub pair-passed : (i : ℕ) → i < count-at s → first-refusal (pair end s i) ≡ Passed
+    pair-passed i h = each-passed (pair end s) 0 (count-at s) i (block-passed p .2) (omega arith) (omega (arith, h))
 
-    -- the job that was read from a block that passed is in the scope's ranges
-    pub read-in-range : InRange (job-of (record-of s choices))
+    -- its job, at whichever prices, is in the scope's ranges where its demands and these prices are
+    pub range-by : ((i : ℕ) → i < count-at s → demand-at end s i ≤ 255) → (prices : List ℕ) → ((i : ℕ) → i < count-at s → getD prices i 0 ≤ 1000000)
+        → InRange (job-of (priced prices (record-of s choices)))
     unfolding record-of
-    read-in-range =
-        let h = header-passed (choices .«old_block») s (job-passed .0) in
+    range-by d prices q =
+        let h = header-passed (choices .«old_block») s (block-passed p .0) in
         record {
           plate-length = h .plate-length;
           plate-width = h .plate-width;
@@ -110,9 +117,24 @@ module _ (s : List ℕ) (choices : Choices) where
           kerfs = h .kerf;
           lengths = λ i l. subst (λ x. (1 ≤ x) × (x ≤ 1000)) (sym (entries-in (length-at end s) (count-at s) i (h .kinds .1) l)) (sides-passed i l .0);
           widths = λ i l. subst (λ x. (1 ≤ x) × (x ≤ 1000)) (sym (entries-in (width-at end s) (count-at s) i (h .kinds .1) l)) (sides-passed i l .1);
-          prices = λ i l. subst (λ x. x ≤ 1000000) (sym (entries-in (price-at end s) (count-at s) i (h .kinds .1) l)) (pair-passed i l .0);
-          demands = λ i l. subst (λ x. x ≤ 255) (sym (entries-in (demand-at end s) (count-at s) i (h .kinds .1) l)) (pair-passed i l .1);
+          prices = q;
+          demands = λ i l. subst (λ x. x ≤ 255) (sym (entries-in (demand-at end s) (count-at s) i (h .kinds .1) l)) (d i l);
         }
+
+module _ (s : List ℕ) (choices : Choices) (p : first-refusal (job-checks s choices) ≡ Passed) where
+  -- where a job block passed, its three parts did
+  pub job-passed : (first-refusal (header-checks (choices .«old_block») s) ≡ Passed) × (first-refusal (each-kind (λ i. size-check (sizes-end (choices .«old_block»)) s i ∷ []) 0 (count-at s)) ≡ Passed) × (first-refusal (each-kind (pair-checks (sizes-end (choices .«old_block»)) s) 0 (count-at s)) ≡ Passed)
+  unfolding job-checks
+  job-passed = block-passed pair-checks s choices p
+
+  -- the job that was read from it is in the scope's ranges
+  pub read-in-range : InRange (job-of (record-of s choices))
+  unfolding job-checks record-of
+  read-in-range =
+      let end = sizes-end (choices .«old_block») in
+      let few = header-passed (choices .«old_block») s (job-passed .0) .kinds .1 in
+      let pair : (i : ℕ) → i < count-at s → (price-at end s i ≤ 1000000) × (demand-at end s i ≤ 255) = λ i l. (let q = cons-passed _ _ _ (pair-passed pair-checks s choices p i l) in (ltb-false 1000000 (price-at end s i) (q .0), ltb-false 255 (demand-at end s i) (cons-passed _ _ _ (q .1) .0))) in
+      range-by pair-checks s choices p (λ i l. pair i l .1) (record-of s choices .prices) (λ i l. subst (λ x. x ≤ 1000000) (sym (entries-in (price-at end s) (count-at s) i few l)) (pair i l .0))
 
 -- the fields of a block's record
 pub record-length : (s : List ℕ) (choices : Choices) → record-of s choices .length ≡ plate-length-at s
@@ -132,38 +154,43 @@ pub record-arrays : (s : List ℕ) (choices : Choices) → (length (record-of s 
 unfolding record-of
 record-arrays s choices = (entries-length _ (count-at s), entries-length _ (count-at s), entries-length _ (count-at s), entries-length _ (count-at s))
 
--- the answer of a verdict
-abbrev read-by : List ℕ → Choices → Checked → JobAnswer
-read-by s choices v = by-check v (record { verdict = Passed; job = record-of s choices }) (λ r. record { verdict = Refused r; job = empty-record })
+-- an answer by a verdict, whichever the checks and the record
+module _ (v : Checked) (j : JobRecord) where
+  pub verdict-by : read-by v j .verdict ≡ v
+  verdict-by = go v
+    where
+      go : (v : Checked) → read-by v j .verdict ≡ v
+      go Passed = refl
+      go (Refused r) = refl
 
--- the answer's verdict is the first refusal
-pub read-verdict : (s : List ℕ) (choices : Choices) → read-of s choices .verdict ≡ first-refusal (job-checks s choices)
-read-verdict s choices = go (first-refusal (job-checks s choices))
-  where
-    go : (v : Checked) → read-by s choices v .verdict ≡ v
-    go Passed = refl
-    go (Refused r) = refl
+  -- its number and values are those of the verdict
+  pub said-by : {a : JobAnswer} → a ≡ read-by v j → (a ≡ read-by v j) × (job-outcome a ≡ outcome-by v (job-values j))
+  said-by e = (e, ap (λ a. job-outcome a) e ∙ go v)
+    where
+      go : (v : Checked) → job-outcome (read-by v j) ≡ outcome-by v (job-values j)
+      go Passed = refl
+      go (Refused r) = refl
 
--- an answer's number and values are those of its verdict
-pub read-said : (s : List ℕ) (choices : Choices) {r : JobAnswer} → r ≡ read-of s choices → (r ≡ read-of s choices) × (job-outcome r ≡ job-said s choices)
-read-said s choices e = (e, ap (λ a. job-outcome a) e ∙ go (first-refusal (job-checks s choices)))
-  where
-    go : (v : Checked) → job-outcome (read-by s choices v) ≡ outcome-by v (job-values (record-of s choices))
-    go Passed = refl
-    go (Refused r) = refl
+  -- what a caller knows from an answer that the block passed
+  pub answered-by : {a : JobAnswer} → a ≡ read-by v j → a .verdict ≡ Passed → (v ≡ Passed) × (a .job ≡ j)
+  answered-by e p = let q = sym verdict-by ∙ sym (ap (λ a. a .verdict) e) ∙ p in (q, ap (λ a. a .job) (e ∙ ap (λ v. read-by v j) q))
 
--- the answer where the block passed
-pub read-passed : (s : List ℕ) (choices : Choices) → first-refusal (job-checks s choices) ≡ Passed → read-of s choices ≡ record { verdict = Passed; job = record-of s choices }
-read-passed s choices p = ap (read-by s choices) p
+  -- and from an answer that it was refused
+  pub refused-by : {a : JobAnswer} {x : Refusal} → a ≡ read-by v j → a .verdict ≡ Refused x → v ≡ Refused x
+  refused-by e p = sym verdict-by ∙ sym (ap (λ a. a .verdict) e) ∙ p
 
--- what a caller knows from an answer that the block passed
-pub answered : (s : List ℕ) (choices : Choices) {r : JobAnswer} → r ≡ read-of s choices → r .verdict ≡ Passed → (first-refusal (job-checks s choices) ≡ Passed) × (r .job ≡ record-of s choices)
-answered s choices e p = let q = sym (read-verdict s choices) ∙ sym (ap (λ a. a .verdict) e) ∙ p in (q, ap (λ a. a .job) (e ∙ read-passed s choices q))
+  -- the answer where the block passed
+  pub passing : v ≡ Passed → {i : JobRecord} → i ≡ j → _≡_ {A = JobAnswer} (record { verdict = Passed; job = i }) (read-by v j)
+  passing p e = ap (λ i. record { verdict = Passed; job = i }) e ∙ sym (ap (λ v. read-by v j) p)
 
--- and from an answer that it was refused
-pub refused : (s : List ℕ) (choices : Choices) {r : JobAnswer} {x : Refusal} → r ≡ read-of s choices → r .verdict ≡ Refused x → first-refusal (job-checks s choices) ≡ Refused x
-refused s choices e p = sym (read-verdict s choices) ∙ sym (ap (λ a. a .verdict) e) ∙ p
+  -- the answer where it was refused
+  pub refusing : {u : Checked} {x : Refusal} {i : JobRecord} → u ≡ v → u ≡ Refused x → i ≡ empty-record → _≡_ {A = JobAnswer} (record { verdict = u; job = i }) (read-by v j)
+  refusing e p q = ap₂ (λ u i. record { verdict = u; job = i }) p q ∙ sym (ap (λ v. read-by v j) (sym e ∙ p))
 
--- the answer where the block was refused
-pub read-refused : (s : List ℕ) (choices : Choices) {a : Checked} {r : Refusal} {j : JobRecord} → a ≡ first-refusal (job-checks s choices) → a ≡ Refused r → j ≡ empty-record → _≡_ {A = JobAnswer} (record { verdict = a; job = j }) (read-of s choices)
-read-refused s choices e p q = ap₂ (λ a j. record { verdict = a; job = j }) p q ∙ sym (ap (read-by s choices) (sym e ∙ p))
+-- the same for a job block
+module _ (s : List ℕ) (choices : Choices) {a : JobAnswer} (e : a ≡ read-of s choices) where
+  pub answered : a .verdict ≡ Passed → (first-refusal (job-checks s choices) ≡ Passed) × (a .job ≡ record-of s choices)
+  answered = answered-by (first-refusal (job-checks s choices)) (record-of s choices) e
+
+  pub refused : {x : Refusal} → a .verdict ≡ Refused x → first-refusal (job-checks s choices) ≡ Refused x
+  refused = refused-by (first-refusal (job-checks s choices)) (record-of s choices) e

@@ -9,6 +9,7 @@ use Rattle.cutting.specs.Limits.{most-side, most-kinds, most-kerf, most-price, 
 use Rattle.cutting.specs.Lists.{range, only}
 use Rattle.cutting.specs.Job.{Job}
 use Rattle.refusal.specs.Refusals.{Check, Outcome, first-refusal, by-check, outcome-by}
+use Rattle.refusal.specs.declared.Checked.{Checked}
 use Rattle.refusal.specs.declared.Checked.the-variants.{Passed, Refused}
 use Rattle.refusal.specs.declared.Refusal.the-variants.{ShortHeader, PlateSide, KindCount, Kerf, BlockLength, KindSide, Price, Demand}
 use Rattle.job.specs.declared.Choices.{Choices}
@@ -86,22 +87,30 @@ header-checks old s =
 abbrev pub size-check : ℕ → List ℕ → ℕ → Check
 size-check h s i = (outside 1 most-side (length-at h s i) || outside 1 most-side (width-at h s i), KindSide i)
 
+-- check 7, of one kind
+abbrev pub demand-check : ℕ → List ℕ → ℕ → Check
+demand-check h s i = (ltb most-demand (demand-at h s i), Demand i)
+
 -- checks 6 and 7, of one kind, price first
 abbrev pub pair-checks : ℕ → List ℕ → ℕ → List Check
-pair-checks h s i = (ltb most-price (price-at h s i), Price i) ∷ (ltb most-demand (demand-at h s i), Demand i) ∷ []
+pair-checks h s i = (ltb most-price (price-at h s i), Price i) ∷ demand-check h s i ∷ []
 
 -- the checks of the kinds from i on, n of them, kind after kind
 unfoldable pub each-kind : (ℕ → List Check) → ℕ → ℕ → List Check
 each-kind f i zero = []
 each-kind f i (suc n) = f i ++ each-kind f (suc i) n
 
--- the checks of the two arrays, from byte h on: the sizes, then the pairs
-abbrev pub array-checks : ℕ → List ℕ → List Check
-array-checks h s = each-kind (λ i. size-check h s i ∷ []) 0 (count-at s) ++ each-kind (pair-checks h s) 0 (count-at s)
+-- the checks of the two arrays, from byte h on: the sizes, then the pairs, each by the checks given
+abbrev pub array-checks : (ℕ → List Check) → ℕ → List ℕ → List Check
+array-checks pair h s = each-kind (λ i. size-check h s i ∷ []) 0 (count-at s) ++ each-kind pair 0 (count-at s)
 
--- the checks of a job block, in the table's order: the header, the first array, the second array
+-- the checks of a block, in the table's order: the header, the first array, the second array, its pairs by the checks given
+abbrev pub checks-by : (ℕ → List ℕ → ℕ → List Check) → List ℕ → Choices → List Check
+checks-by pair s choices = header-checks (choices .«old_block») s ++ array-checks (pair (sizes-end (choices .«old_block»)) s) (sizes-end (choices .«old_block»)) s
+
+-- the checks of a job block: each pair by its price and its demand
 unfoldable pub job-checks : List ℕ → Choices → List Check
-job-checks s choices = header-checks (choices .«old_block») s ++ array-checks (sizes-end (choices .«old_block»)) s
+job-checks s choices = checks-by pair-checks s choices
 
 -- an array of 64 entries: f at the first n, and 0 past them
 unfoldable pub entries : (ℕ → ℕ) → ℕ → List ℕ
@@ -122,13 +131,36 @@ record-of s choices = record {
   demands = entries (demand-at (sizes-end (choices .«old_block»)) s) (count-at s);
 }
 
+-- the same record with other prices
+abbrev pub priced : List ℕ → JobRecord → JobRecord
+priced prices j = record {
+  length = j .length;
+  width = j .width;
+  count = j .count;
+  kerf = j .kerf;
+  turning = j .turning;
+  «full_demand» = j .«full_demand»;
+  lengths = j .lengths;
+  widths = j .widths;
+  prices = prices;
+  demands = j .demands;
+}
+
+-- the same record with every price 0
+abbrev pub unpriced : JobRecord → JobRecord
+unpriced j = priced (entries (λ i. 0) 0) j
+
 -- the record where a block is refused
 abbrev pub empty-record : JobRecord
 empty-record = record { length = 0; width = 0; count = 0; kerf = 0; turning = false; «full_demand» = false; lengths = entries (λ i. 0) 0; widths = entries (λ i. 0) 0; prices = entries (λ i. 0) 0; demands = entries (λ i. 0) 0 }
 
+-- what reading answers by a verdict: a record, or a refusal
+abbrev pub read-by : Checked → JobRecord → JobAnswer
+read-by v j = by-check v (record { verdict = Passed; job = j }) (λ r. record { verdict = Refused r; job = empty-record })
+
 -- what reading a block answers: its record, or the first refusal of its checks
 abbrev pub read-of : List ℕ → Choices → JobAnswer
-read-of s choices = by-check (first-refusal (job-checks s choices)) (record { verdict = Passed; job = record-of s choices }) (λ r. record { verdict = Refused r; job = empty-record })
+read-of s choices = read-by (first-refusal (job-checks s choices)) (record-of s choices)
 
 -- a record's values: the plate's sides, the number of kinds, the kerf, the choices of turning and of full demand (1 or 0), then the
 -- lengths, widths, prices and demands of 64 kinds

@@ -17,7 +17,7 @@ ghost use Rattle.cutting.specs.Areas as measured;
 ghost use Rattle.cutting.specs.Pieces.{fits-either};
 ghost use Rattle.cutting.specs.Sides.{rect-of};
 ghost use Rattle.cutting.specs.Job.{InRange, capacity, copies-on, counted-of};
-ghost use Rattle.job.specs.Block.{with-full-demand, with-old-block, u16-at, u32-at, count-at, kerf-at, sizes-end, price-at, outside, number-checks, header-checks, size-check, pair-checks, each-kind, array-checks, job-checks, entries, record-of, empty-record, read-of, job-outcome, job-said, job-of};
+ghost use Rattle.job.specs.Block.{with-full-demand, with-old-block, u16-at, u32-at, count-at, kerf-at, sizes-end, price-at, outside, number-checks, header-checks, size-check, demand-check, pair-checks, each-kind, array-checks, job-checks, entries, record-of, unpriced, empty-record, read-of, job-outcome, job-said, job-of};
 ghost use Rattle.job.specs.Weights.{weight-in, weights-answer, weights-outcome, weights-said, acceptance-of, acceptance-outcome, acceptance-said};
 ghost use Rattle.job.specs.Contracts.{HoldsKinds};
 
@@ -143,7 +143,7 @@ fn side_outside(block: &[u8], at: usize) -> bool
 }
 
 // The bytes of the sizes, in the old block and in the new.
-fn sizes_end(old: bool) -> usize
+pub fn sizes_end(old: bool) -> usize
     ensures { λ r. ⌜ (r ≡ sizes-end old) × (6 ≤ r) × (r ≤ 8) ⌝ }
 {
     if old { 6 } else { 8 }
@@ -177,7 +177,7 @@ fn check_numbers(block: &[u8], old: bool) -> Checked
 }
 
 // Refusals 1, those of the numbers, and 4: the header.
-fn check_header(block: &[u8], old: bool) -> Checked
+pub fn check_header(block: &[u8], old: bool) -> Checked
     ensures { λ r. ⌜ r ≡ first-refusal (header-checks old (now (block .entry))) ⌝ }
 {
     let end = sizes_end(old);
@@ -205,7 +205,7 @@ fn check_size(block: &[u8], h: usize, i: u16) -> Checked
 }
 
 // The first array: the sizes in the order of the kinds.
-fn check_sizes(block: &[u8], h: usize, n: u16) -> Checked
+pub fn check_sizes(block: &[u8], h: usize, n: u16) -> Checked
     requires { ⌜ HoldsKinds h (now block) n ⌝ }
     ensures { λ r. ⌜ r ≡ first-refusal (each-kind (λ i. size-check h (now (block .entry)) i ∷ []) 0 n) ⌝ }
 {
@@ -216,6 +216,16 @@ fn check_sizes(block: &[u8], h: usize, n: u16) -> Checked
         };
     }
     Checked::Passed
+}
+
+// Refusal 7, of one kind.
+pub fn check_demand(block: &[u8], h: usize, n: u16, i: u16) -> Checked
+    requires { ⌜ HoldsKinds h (now block) n × (i < n) ⌝ }
+    ensures { λ r. ⌜ r ≡ first-refusal (demand-check h (now (block .entry)) i ∷ []) ⌝ }
+{
+    let pairs = h + 4 * (n as usize);
+    let at = pairs + 6 * (i as usize);
+    refuse_if(255 < read_u16(block, at + 4), Refusal::Demand(i))
 }
 
 // Refusals 6 and 7, of one kind.
@@ -229,7 +239,7 @@ fn check_pair(block: &[u8], h: usize, n: u16, i: u16) -> Checked
     let Checked::Passed = price else {
         return price;
     };
-    refuse_if(255 < read_u16(block, at + 4), Refusal::Demand(i))
+    check_demand(block, h, n, i)
 }
 
 // The second array: the pairs of price and demand in the order of the kinds.
@@ -249,7 +259,7 @@ fn check_pairs(block: &[u8], h: usize, n: u16) -> Checked
 // Refusals 5 to 7: the two arrays of n kinds.
 fn check_arrays(block: &[u8], h: usize, n: u16) -> Checked
     requires { ⌜ HoldsKinds h (now block) n ⌝ }
-    ensures { λ r. ⌜ r ≡ first-refusal (array-checks h (now (block .entry))) ⌝ }
+    ensures { λ r. ⌜ r ≡ first-refusal (array-checks (pair-checks h (now (block .entry))) h (now (block .entry))) ⌝ }
 {
     let sizes = check_sizes(block, h, n);
     let Checked::Passed = sizes else {
@@ -297,10 +307,10 @@ fn read_prices(block: &[u8], h: usize, n: u16) -> [u32; 64]
     prices
 }
 
-// The record of a block that passed its checks.
-fn read_record(block: &[u8], choices: Choices) -> JobRecord
+// The record of a block that has the bytes of its kinds, its prices not read: each is 0.
+pub fn read_unpriced(block: &[u8], choices: Choices) -> JobRecord
     requires { ⌜ HoldsKinds (sizes-end (choices .«old_block»)) (now block) (count-at (now block)) ⌝ }
-    ensures { λ r. ⌜ r ≡ record-of (now (block .entry)) choices ⌝ }
+    ensures { λ r. ⌜ r ≡ unpriced (record-of (now (block .entry)) choices) ⌝ }
 {
     let h = sizes_end(choices.old_block);
     let length = read_u16(block, 0);
@@ -309,7 +319,6 @@ fn read_record(block: &[u8], choices: Choices) -> JobRecord
     let kerf = read_kerf(block, choices.old_block);
     let lengths = read_fields(block, h, 4, n);
     let widths = read_fields(block, h + 2, 4, n);
-    let prices = read_prices(block, h, n);
     let demands = read_fields(block, h + 4 + 4 * (n as usize), 6, n);
     JobRecord {
         length: length,
@@ -320,13 +329,26 @@ fn read_record(block: &[u8], choices: Choices) -> JobRecord
         full_demand: choices.full_demand,
         lengths: lengths,
         widths: widths,
-        prices: prices,
+        prices: [0u32; 64],
         demands: demands,
     }
 }
 
+// The record of a block that has the bytes of its kinds.
+fn read_record(block: &[u8], choices: Choices) -> JobRecord
+    requires { ⌜ HoldsKinds (sizes-end (choices .«old_block»)) (now block) (count-at (now block)) ⌝ }
+    ensures { λ r. ⌜ r ≡ record-of (now (block .entry)) choices ⌝ }
+{
+    let h = sizes_end(choices.old_block);
+    let n = read_u16(block, 4);
+    let mut job = read_unpriced(block, choices);
+    let prices = read_prices(block, h, n);
+    job.prices = prices;
+    job
+}
+
 // The record where a block is refused.
-fn empty_record() -> JobRecord
+pub fn empty_record() -> JobRecord
     ensures { λ r. ⌜ r ≡ empty-record ⌝ }
 {
     JobRecord {

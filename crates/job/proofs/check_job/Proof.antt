@@ -4,7 +4,7 @@ use native.Mathlib.Omega.{arith}
 use borrow.Author.Needs.{needs}
 use denote.Ref.{now}
 use Rattle.refusal.specs.Refusals.{first-refusal}
-use Rattle.job.specs.Block.{header-checks, array-checks, job-checks}
+use Rattle.job.specs.Block.{header-checks, pair-checks, array-checks, job-checks}
 use Rattle.job.proofs.Checks.{next-stops, next-passes, first-append}
 use Rattle.job.proofs.Read.{sizes-least, header-passed, header-holds}
 use Rattle.job.proofs.check_job.Statement.{statement}
@@ -33,7 +33,7 @@ returns-2 : tie.Need-returns-2
 unfolding job-checks
 returns-2 c =
     let e = c .before .before .before .before .before .before .before .args in
-    c .check-arrays .ensures ∙ ap (λ h. first-refusal (array-checks h (now (e .block)))) (c .before .before .sizes-end .ensures .0)
+    c .check-arrays .ensures ∙ ap (λ h. first-refusal (array-checks (pair-checks h (now (e .block))) h (now (e .block)))) (c .before .before .sizes-end .ensures .0)
     ∙ next-passes _ (sym (c .before .before .before .before .before .check-header .ensures) ∙ c .before .before .before .enum-told .given .1)
     ∙ sym (first-append (header-checks (e .choices .«old_block») (now (e .block))) _)
 

@@ -2,8 +2,9 @@
 use mathlib.Core.Path.{refl, sym, _∙_, ap}
 use borrow.Author.Needs.{needs}
 use denote.Ref.{now}
-use Rattle.refusal.specs.declared.Checked.the-variants.{Passed}
-use Rattle.job.proofs.Read.{job-passed, header-holds, read-said, read-passed, read-refused}
+use Rattle.refusal.specs.Refusals.{first-refusal}
+use Rattle.job.specs.Block.{job-checks, record-of}
+use Rattle.job.proofs.Read.{job-passed, header-holds, said-by, passing, refusing}
 use Rattle.job.proofs.read_job.Statement.{statement}
 use Rattle.job.proofs.read_job.Tie as tie
 
@@ -12,8 +13,10 @@ enum-told c = search needs
 
 returns : tie.Need-returns
 returns c =
-    let start = c .before .before .before .before .before in
-    read-said (now (start .args .block)) (start .args .choices) (read-refused (now (start .args .block)) (start .args .choices) (c .before .before .before .check-job .ensures) (c .before .enum-told2 .given .1) (c .empty-record .ensures))
+    let a = c .before .before .before .before .before .args in
+    let v = first-refusal (job-checks (now (a .block)) (a .choices)) in
+    let j = record-of (now (a .block)) (a .choices) in
+    said-by v j (refusing v j (c .before .before .before .check-job .ensures) (c .before .enum-told2 .given .1) (c .empty-record .ensures))
 
 read-record-requires : tie.Need-read-record-requires
 read-record-requires c κs =
@@ -22,8 +25,10 @@ read-record-requires c κs =
 
 returns-2 : tie.Need-returns-2
 returns-2 c =
-    let start = c .before .before .before .before .before in
-    read-said (now (start .args .block)) (start .args .choices) (ap (λ j. record { verdict = Passed; job = j }) (c .read-record .ensures) ∙ sym (read-passed (now (start .args .block)) (start .args .choices) (sym (c .before .before .before .check-job .ensures) ∙ c .before .enum-told .given .1)))
+    let a = c .before .before .before .before .before .args in
+    let v = first-refusal (job-checks (now (a .block)) (a .choices)) in
+    let j = record-of (now (a .block)) (a .choices) in
+    said-by v j (passing v j (sym (c .before .before .before .check-job .ensures) ∙ c .before .enum-told .given .1) (c .read-record .ensures))
 
 pub read-job-spec : {M : Type 1} → statement M
 read-job-spec = tie.close (tie.spec (λ c κs. search needs) enum-told (λ c. search needs) (λ c κs. search needs) returns read-record-requires returns-2)

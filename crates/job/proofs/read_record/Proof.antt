@@ -1,20 +1,12 @@
--- `job::read_record` meets its contract.
-use mathlib.Core.Path.{_∙_, ap}
+-- `job::read_record` meets its contract: the record without prices, then the prices.
 use borrow.Author.Needs.{needs}
-use native.Mathlib.Omega.{arith}
 use Rattle.job.specs.Block.{record-of}
-use Rattle.job.proofs.Read.{sizes-least}
 use Rattle.job.proofs.read_record.Statement.{statement}
 use Rattle.job.proofs.read_record.Tie as tie
 
 returns : tie.Need-returns
 unfolding record-of
-returns c = simp (c .read-fields3 .ensures, c .before .read-prices .ensures, c .before .before .read-fields2 .ensures, c .before .before .before .read-fields .ensures, c .before .before .before .before .read-kerf .ensures, c .before .before .before .before .before .read-u163 .ensures, c .before .before .before .before .before .before .read-u162 .ensures, c .before .before .before .before .before .before .before .read-u16 .ensures, c .before .before .before .before .before .before .before .before .sizes-end .ensures .0)
+returns c = simp (c .read-prices .ensures, c .before .read-unpriced .ensures, c .before .before .read-u16 .ensures, c .before .before .before .sizes-end .ensures .0)
 
 pub read-record-spec : {M : Type 1} → statement M
-read-record-spec =
-    tie.close
-    (tie.spec
-    (λ c κs. search needs) (λ c κs. search needs) (λ c κs. search needs) (λ c κs. search needs) (λ c κs. search needs) (λ c κs. search needs)
-    (λ c. search needs) (λ c κs. search needs) (λ c κs. search needs) (λ c. search needs) (λ c. search needs) (λ c. search needs)
-    (λ c. search needs) (λ c κs. search needs) returns)
+read-record-spec = tie.close (tie.spec (λ c κs. search needs) (λ c κs. search needs) (λ c κs. search needs) (λ c κs. search needs) returns)
