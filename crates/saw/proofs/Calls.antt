@@ -1,0 +1,104 @@
+-- What is known of a block that the saw reads, and that an answer which equals its definition meets the whole contract.
+use mathlib.Core.Path.{_≡_, refl, sym, _∙_, ap, subst}
+use mathlib.Core.List.{List}
+use Prim.Native.Nat.{ℕ, _<_}
+use native.Mathlib.Omega.{arith}
+use lib.Dec.{ltb}
+use borrow.Author.Tests.{ltb-false}
+use Rattle.cutting.specs.Job.{InRange}
+use Rattle.refusal.specs.declared.Refusal.{Refusal}
+use Rattle.refusal.specs.declared.Checked.{Checked}
+use Rattle.refusal.specs.declared.Checked.the-variants.{Passed, Refused}
+use Rattle.refusal.specs.Refusals.{next, first-refusal, outcome-by}
+use Rattle.job.specs.declared.Choices.{Choices}
+use Rattle.job.specs.declared.JobRecord.{JobRecord}
+use Rattle.job.specs.declared.JobAnswer.{JobAnswer}
+use Rattle.job.specs.Block.{count-at, sizes-end, demand-at, header-checks, entries, job-outcome, job-of}
+use Rattle.job.specs.Contracts.{HoldsKinds}
+use Rattle.job.proofs.Checks.{cons-passed}
+use Rattle.job.proofs.Entries.{entries-past}
+use Rattle.job.proofs.Read.{header-holds, block-passed, pair-passed, range-by, said-by, answered-by, refused-by}
+use Rattle.plan.specs.declared.PlanAnswer.{PlanAnswer}
+use Rattle.plan.specs.Plan.{empty-report, proceed, walk-answer, plan-answer}
+use Rattle.plan.specs.Trees.{ChecksPlan}
+use Rattle.plan.proofs.Plans.{plans-checked, checked-after}
+use Rattle.saw.specs.declared.SawAnswer.{SawAnswer}
+use Rattle.saw.specs.Saw.{demand-checks, saw-checks, SawPasses, saw-record, saw-job, saw-read, saw-read-said, without-profit, saw-of, saw-values, saw-answer, saw-outcome, saw-said, SawChecks}
+use Rattle.saw.specs.Prices.{AtAnyPrices, BesideOffice}
+use Rattle.saw.proofs.Prices.{same-read, same-answer}
+use Rattle.saw.proofs.Office.{beside}
+
+module _ (s : List ℕ) (choices : Choices) where
+  -- a block that passed has the bytes of its kinds
+  pub saw-holds : SawPasses s choices → HoldsKinds (sizes-end (choices .«old_block»)) s (count-at s)
+  unfolding saw-checks
+  saw-holds p = header-holds (choices .«old_block») s (count-at s) refl (block-passed demand-checks s choices p .0)
+
+  -- and its job, every price 0, is in the scope's ranges
+  pub saw-range : SawPasses s choices → InRange (saw-job s choices)
+  unfolding saw-checks
+  saw-range p =
+      let end = sizes-end (choices .«old_block») in
+      range-by demand-checks s choices p (λ i l. ltb-false 255 (demand-at end s i) (cons-passed _ _ _ (pair-passed demand-checks s choices p i l) .0)) (entries (λ i. 0) 0) (λ i l. (let e = entries-past (λ i. 0) 0 i (omega arith) in omega (arith, e)))
+
+  -- and so is the job that was read
+  pub read-range : {a : JobAnswer} → a ≡ saw-read s choices → a .verdict ≡ Passed → InRange (job-of (a .job))
+  read-range e p =
+      let r = answered-by (first-refusal (saw-checks s choices)) (saw-record s choices) e p in
+      subst (λ (j : JobRecord). InRange (job-of j)) (sym (r .1)) (saw-range (r .0))
+
+  -- both clauses of the reader, and that no price matters to it
+  pub read-met : {r : JobAnswer} → r ≡ saw-read s choices → (r ≡ saw-read s choices) × ((job-outcome r ≡ saw-read-said s choices) × AtAnyPrices choices s (λ z. r ≡ saw-read z choices))
+  read-met e =
+      let a = said-by (first-refusal (saw-checks s choices)) (saw-record s choices) e in
+      (e, (a .1, λ z o. e ∙ same-read choices s z o))
+
+  module _ (kinds operands : List ℕ) where
+    -- a block that is read: the check of its nodes is the answer
+    module _ {a : JobAnswer} (e : a ≡ saw-read s choices) where
+      pub read-on : {b : PlanAnswer} → a .verdict ≡ Passed → b ≡ plan-answer (job-of (a .job)) kinds operands → saw-of b ≡ saw-answer s choices kinds operands
+      read-on p f =
+          let r = answered-by (first-refusal (saw-checks s choices)) (saw-record s choices) e p in
+          ap (λ b. saw-of b) (f ∙ ap (λ (j : JobRecord). plan-answer (job-of j) kinds operands) (r .1)) ∙ sym (ap (λ v. saw-of (proceed v (plan-answer (saw-job s choices) kinds operands))) (r .0))
+
+      -- and one that is refused
+      pub read-stops : {x : Refusal} → a .verdict ≡ Refused x → _≡_ {A = SawAnswer} (record { verdict = a .verdict; report = without-profit empty-report }) (saw-answer s choices kinds operands)
+      read-stops p =
+          ap (λ v. record { verdict = v; report = without-profit empty-report }) p
+          ∙ sym (ap (λ v. saw-of (proceed v (plan-answer (saw-job s choices) kinds operands))) (refused-by (first-refusal (saw-checks s choices)) (saw-record s choices) e p))
+
+    abbrev Before-idle : PlanAnswer
+    Before-idle = proceed (first-refusal (saw-checks s choices)) (walk-answer (saw-job s choices) kinds operands)
+
+    -- the plan check's theorem, of the report without its profit
+    checked : (a : PlanAnswer) → ChecksPlan (SawPasses s choices) (saw-job s choices) kinds operands Before-idle a → SawChecks s choices kinds operands (saw-of a)
+    checked a c = record {
+      passes = c .passes;
+      before = c .before;
+      tree = λ p. (let t = c .tree p in (t .0, t .1, record { own = ap (λ r. without-profit r) (t .2 .own); areas = t .2 .areas }));
+      zeros = λ r p. ap (λ r. without-profit r) (c .zeros r p);
+      idle = c .idle;
+    }
+
+    -- the number and values of an answer that follows a check
+    said-after : (v : Checked) (a : PlanAnswer) → saw-outcome (saw-of (proceed v a)) ≡ outcome-by (next v (a .verdict)) (saw-values (without-profit (a .report)))
+    said-after Passed a = refl
+    said-after (Refused r) a = refl
+
+    -- every clause of the saw's check
+    abbrev pub Met : SawAnswer → Type 0
+    Met r = (r ≡ saw-answer s choices kinds operands) × ((saw-outcome r ≡ saw-said s choices kinds operands) × (SawChecks s choices kinds operands r
+        × (AtAnyPrices choices s (λ z. r ≡ saw-answer z choices kinds operands) × BesideOffice s choices kinds operands r)))
+
+    pub check-met : {r : SawAnswer} → r ≡ saw-answer s choices kinds operands → Met r
+    check-met e =
+        let c = checked-after (first-refusal (saw-checks s choices)) (λ p. plans-checked (saw-job s choices) (saw-range p .kinds .1) kinds operands) (λ a. (a, tt)) (λ v b. v) in (
+          e,
+          (
+            ap (λ a. saw-outcome a) e ∙ said-after (first-refusal (saw-checks s choices)) (plan-answer (saw-job s choices) kinds operands),
+            (
+              subst (λ (a : SawAnswer). SawChecks s choices kinds operands a) (sym e) (checked _ c),
+              (λ z o. e ∙ same-answer choices s z o kinds operands, beside s choices kinds operands e),
+            ),
+          ),
+        )

@@ -1,0 +1,4 @@
+pub mod Prices
+pub mod Office
+pub mod Calls
+pub mod Parts

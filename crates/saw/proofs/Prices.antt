@@ -1,0 +1,122 @@
+-- Between blocks that differ only in prices the saw's checks and its record are equal, and so is everything that it answers.
+use mathlib.Core.Path.{_≡_, refl, _∙_, ap, ap₂}
+use mathlib.Core.Bool.{Bool, true, false, _||_, not}
+use mathlib.Core.List.{List, [], _∷_, _++_, map}
+use Prim.Native.Nat.{ℕ, zero, suc, _+_, _*_, _<_}
+use native.Mathlib.Omega.{arith}
+use lib.Dec.{ltb, eqb}
+use lib.ListN.{length, getD}
+use borrow.Author.Tests.{ltb-true}
+use Rattle.cutting.specs.Lists.{range, only}
+use Rattle.refusal.specs.declared.Refusal.the-variants.{ShortHeader, PlateSide, KindCount, Kerf, BlockLength, KindSide, Demand}
+use Rattle.refusal.specs.Refusals.{Check, first-refusal}
+use Rattle.job.specs.declared.Choices.{Choices}
+use Rattle.job.specs.declared.JobRecord.{JobRecord}
+use Rattle.job.specs.Block.{u16-at, plate-length-at, plate-width-at, count-at, kerf-at, sizes-end, length-at, width-at, demand-at, outside, header-checks, size-check, each-kind, entries, record-of, read-by, job-of}
+use Rattle.job.proofs.Read.{sizes-least}
+use Rattle.plan.specs.Plan.{proceed, plan-answer}
+use Rattle.saw.specs.Saw.{demand-checks, saw-checks, saw-record, saw-read, saw-of, saw-answer}
+use Rattle.saw.specs.Prices.{OnlyPrices}
+
+-- checks of the kinds, and entries of an array, that agree kind by kind
+each-same : (f g : ℕ → List Check) (i n : ℕ) → ((k : ℕ) → k < i + n → f k ≡ g k) → each-kind f i n ≡ each-kind g i n
+unfolding each-kind
+each-same f g i zero h = refl
+each-same f g i (suc n) h = ap₂ _++_ (h i (omega arith)) (each-same f g (suc i) n (λ k l. h k (omega arith)))
+
+only-same : (b : Bool) (x y : ℕ) → (b ≡ true → x ≡ y) → only b x ≡ only b y
+only-same true x y h = h refl
+only-same false x y h = refl
+
+map-same : (f g : ℕ → ℕ) (xs : List ℕ) → ((k : ℕ) → f k ≡ g k) → map f xs ≡ map g xs
+map-same f g [] h = refl
+map-same f g (x ∷ xs) h = ap₂ _∷_ (h x) (map-same f g xs h)
+
+entries-same : (f g : ℕ → ℕ) (n : ℕ) → ((k : ℕ) → k < n → f k ≡ g k) → entries f n ≡ entries g n
+unfolding entries
+entries-same f g n h = map-same _ _ (range 0 64) (λ k. only-same (ltb k n) (f k) (g k) (λ e. h k (ltb-true k n e)))
+
+module _ (choices : Choices) (s z : List ℕ) (same : OnlyPrices choices s z) where
+  abbrev old : Bool
+  old = choices .«old_block»
+
+  abbrev end : ℕ
+  end = sizes-end old
+
+  -- a field before the prices
+  early : (k : ℕ) → k < end + 4 * count-at s → getD s k 0 ≡ getD z k 0
+  early k l = same .same-bytes k (λ p. omega (arith, p .2, l))
+
+  field : (k : ℕ) → k + 1 < end + 4 * count-at s → u16-at s k ≡ u16-at z k
+  field k l = ap₂ (λ a b. a + 256 * b) (early k (omega arith)) (early (k + 1) l)
+
+  same-length-at : plate-length-at s ≡ plate-length-at z
+  same-length-at = field 0 (omega (arith, sizes-least old .0))
+
+  same-width-at : plate-width-at s ≡ plate-width-at z
+  same-width-at = field 2 (omega (arith, sizes-least old .0))
+
+  same-count : count-at s ≡ count-at z
+  same-count = field 4 (omega (arith, sizes-least old .0))
+
+  same-kerf : kerf-at old s ≡ kerf-at old z
+  same-kerf = go old early
+    where
+      go : (b : Bool) → ((k : ℕ) → k < sizes-end b + 4 * count-at s → getD s k 0 ≡ getD z k 0) → kerf-at b s ≡ kerf-at b z
+      go true e = refl
+      go false e = ap₂ (λ a b. a + 256 * b) (e 6 (omega arith)) (e 7 (omega arith))
+
+  same-length-of : (i : ℕ) → i < count-at s → length-at end s i ≡ length-at end z i
+  same-length-of i l = field (end + 4 * i) (omega (arith, l))
+
+  same-width-of : (i : ℕ) → i < count-at s → width-at end s i ≡ width-at end z i
+  same-width-of i l = field (end + 2 + 4 * i) (omega (arith, l))
+
+  -- a demand, between two prices
+  same-demand : (i : ℕ) → demand-at end s i ≡ demand-at end z i
+  same-demand i = ap₂ (λ a b. a + 256 * b) (same .same-bytes (end + 4 + 4 * count-at s + 6 * i) (λ p. omega (arith, p .2, p .3))) (same .same-bytes (end + 4 + 4 * count-at s + 6 * i + 1) (λ p. omega (arith, p .2, p .3)))
+      ∙ ap (λ n. u16-at z (end + 4 + 4 * n + 6 * i)) same-count
+
+  same-header : header-checks old s ≡ header-checks old z
+  same-header = λ i. (ltb (same .same-length i) end, ShortHeader)
+      ∷ (outside 1 1000 (same-length-at i) || outside 1 1000 (same-width-at i), PlateSide)
+      ∷ (outside 1 64 (same-count i), KindCount)
+      ∷ (ltb 20 (same-kerf i), Kerf)
+      ∷ (not (eqb (same .same-length i) (end + 10 * same-count i)), BlockLength)
+      ∷ []
+
+  -- no check reads a price
+  same-checks : saw-checks s choices ≡ saw-checks z choices
+  unfolding saw-checks
+  same-checks =
+      let sizes = each-same (λ i. size-check end s i ∷ []) (λ i. size-check end z i ∷ []) 0 (count-at s) (λ k l. (λ i. (outside 1 1000 (same-length-of k (omega arith) i) || outside 1 1000 (same-width-of k (omega arith) i), KindSide k) ∷ []))
+      ∙ ap (each-kind (λ i. size-check end z i ∷ []) 0) same-count in
+      let demands = each-same (demand-checks end s) (demand-checks end z) 0 (count-at s) (λ k l. (λ i. (ltb 255 (same-demand k i), Demand k) ∷ []))
+      ∙ ap (each-kind (demand-checks end z) 0) same-count in
+      λ i. same-header i ++ (sizes i ++ demands i)
+
+  -- nor does the record
+  same-record : saw-record s choices ≡ saw-record z choices
+  unfolding record-of
+  same-record =
+      let lengths = entries-same (length-at end s) (length-at end z) (count-at s) same-length-of ∙ ap (entries (length-at end z)) same-count in
+      let widths = entries-same (width-at end s) (width-at end z) (count-at s) same-width-of ∙ ap (entries (width-at end z)) same-count in
+      let demands = entries-same (demand-at end s) (demand-at end z) (count-at s) (λ k l. same-demand k) ∙ ap (entries (demand-at end z)) same-count in
+      λ i. record {
+        length = same-length-at i;
+        width = same-width-at i;
+        count = same-count i;
+        kerf = same-kerf i;
+        turning = choices .turning;
+        «full_demand» = choices .«full_demand»;
+        lengths = lengths i;
+        widths = widths i;
+        prices = entries (λ k. 0) 0;
+        demands = demands i;
+      }
+
+  pub same-read : saw-read s choices ≡ saw-read z choices
+  same-read = λ i. read-by (first-refusal (same-checks i)) (same-record i)
+
+  pub same-answer : (kinds operands : List ℕ) → saw-answer s choices kinds operands ≡ saw-answer z choices kinds operands
+  same-answer kinds operands = λ i. saw-of (proceed (first-refusal (same-checks i)) (plan-answer (job-of (same-record i)) kinds operands))

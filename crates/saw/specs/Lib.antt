@@ -1,0 +1,3 @@
+pub mod Saw
+pub mod Prices
+pub mod Parts

@@ -1,0 +1,87 @@
+-- What the saw answers for a job block and a plan: the block read without its prices, the plan's check, and of its report the copies and
+-- the areas. Each answer has a number and values too.
+use mathlib.Core.Path.{_≡_}
+use mathlib.Core.List.{List, [], _∷_, _++_}
+use Prim.Native.Nat.{ℕ, _+_, _*_}
+use Rattle.cutting.specs.Tree.{Tree}
+use Rattle.cutting.specs.Pieces.{Piece}
+use Rattle.cutting.specs.Job.{Job}
+use Rattle.refusal.specs.declared.Refusal.{Refusal}
+use Rattle.refusal.specs.declared.Checked.the-variants.{Passed, Refused}
+use Rattle.refusal.specs.Refusals.{Check, Outcome, next, first-refusal, outcome-by}
+use Rattle.job.specs.declared.Choices.{Choices}
+use Rattle.job.specs.declared.JobRecord.{JobRecord}
+use Rattle.job.specs.declared.JobAnswer.{JobAnswer}
+use Rattle.job.specs.Block.{demand-check, checks-by, record-of, unpriced, read-by, job-values, job-of}
+use Rattle.idle.specs.Idle.{tree-checks}
+use Rattle.plan.specs.declared.Report.{Report}
+use Rattle.plan.specs.declared.PlanAnswer.{PlanAnswer}
+use Rattle.plan.specs.Plan.{empty-report, proceed, plan-answer}
+use Rattle.plan.specs.Trees.{DrawnAs, PlanOf, tree-report}
+use Rattle.saw.specs.declared.SawReport.{SawReport}
+use Rattle.saw.specs.declared.SawAnswer.{SawAnswer}
+
+-- check 7 alone, of one kind
+abbrev pub demand-checks : ℕ → List ℕ → ℕ → List Check
+demand-checks h s i = demand-check h s i ∷ []
+
+-- the checks of a job block as the saw reads it: of each pair the demand alone, so that none gives 6
+unfoldable pub saw-checks : List ℕ → Choices → List Check
+saw-checks s choices = checks-by demand-checks s choices
+
+-- no check of the saw refuses a job block
+abbrev pub SawPasses : List ℕ → Choices → Type 0
+SawPasses s choices = first-refusal (saw-checks s choices) ≡ Passed
+
+-- the saw's record and its job: every price is 0
+abbrev pub saw-record : List ℕ → Choices → JobRecord
+saw-record s choices = unpriced (record-of s choices)
+
+abbrev pub saw-job : List ℕ → Choices → Job
+saw-job s choices = job-of (saw-record s choices)
+
+-- what the saw's reading of a block answers, and its number and values
+abbrev pub saw-read : List ℕ → Choices → JobAnswer
+saw-read s choices = read-by (first-refusal (saw-checks s choices)) (saw-record s choices)
+
+abbrev pub saw-read-said : List ℕ → Choices → Outcome
+saw-read-said s choices = outcome-by (first-refusal (saw-checks s choices)) (job-values (saw-record s choices))
+
+-- a report without its profit
+abbrev pub without-profit : Report → SawReport
+without-profit r = record { copies = r .copies; pieces = r .pieces; waste = r .waste; trim = r .trim; sawdust = r .sawdust }
+
+-- a plan check's answer without its profit
+abbrev pub saw-of : PlanAnswer → SawAnswer
+saw-of a = record { verdict = a .verdict; report = without-profit (a .report) }
+
+-- what the saw answers for a plan's arrays: the plan check's answer for its own job, without the profit
+abbrev pub saw-answer : List ℕ → Choices → List ℕ → List ℕ → SawAnswer
+saw-answer s choices kinds operands = saw-of (proceed (first-refusal (saw-checks s choices)) (plan-answer (saw-job s choices) kinds operands))
+
+-- a report in words: the areas of pieces, waste nodes and trim, the copies of each kind, and the sawdust's area
+abbrev pub saw-values : SawReport → List ℕ
+saw-values r = r .pieces ∷ r .waste ∷ r .trim ∷ (r .copies ++ (r .sawdust ∷ []))
+
+-- the number and values of an answer
+abbrev pub saw-outcome : SawAnswer → Outcome
+saw-outcome a = outcome-by (a .verdict) (saw-values (a .report))
+
+-- the number and values that the saw answers
+abbrev pub saw-said : List ℕ → Choices → List ℕ → List ℕ → Outcome
+saw-said s choices kinds operands =
+    outcome-by (next (first-refusal (saw-checks s choices)) (plan-answer (saw-job s choices) kinds operands .verdict)) (saw-values (without-profit (plan-answer (saw-job s choices) kinds operands .report)))
+
+-- a report is a tree's own but for the profit, and its four areas sum to the plate's
+pub record SawReports (J : Job) (t : Tree Piece) (r : SawReport) : Type 0 where
+  pub own : r ≡ without-profit (tree-report J t)
+  pub areas : r .pieces + r .waste + r .trim + r .sawdust ≡ J .plate .0 * J .plate .1
+
+-- an answer passes exactly for a block that no check of the saw refuses and the plan of a tree; it then reports that tree, and a refusal
+-- reports zeros. Arrays drawn as a tree are refused for its first idle cut in preorder alone
+pub record SawChecks (s : List ℕ) (choices : Choices) (kinds operands : List ℕ) (a : SawAnswer) : Type 0 where
+  pub passes : SawPasses s choices → (t : Tree Piece) → PlanOf (saw-job s choices) t kinds operands → a .verdict ≡ Passed
+  pub before : a .verdict ≡ Passed → SawPasses s choices
+  pub tree : a .verdict ≡ Passed → (t : Tree Piece) × PlanOf (saw-job s choices) t kinds operands × SawReports (saw-job s choices) t (a .report)
+  pub zeros : (r : Refusal) → a .verdict ≡ Refused r → a .report ≡ without-profit empty-report
+  pub idle : SawPasses s choices → (t : Tree Piece) → DrawnAs (saw-job s choices) t kinds operands → a .verdict ≡ first-refusal (tree-checks 0 t)
