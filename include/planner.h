@@ -120,7 +120,9 @@ enum {
     PLANNER_BOUND_WORDS = 4,
     PLANNER_PLAN_WORDS = 5,
     PLANNER_CERTIFICATE_WORDS = 3,
-    PLANNER_NEAT_WORDS = 1
+    PLANNER_NEAT_WORDS = 1,
+    PLANNER_SAW_WORDS = 68,
+    PLANNER_PART_WORDS = 2
 };
 
 /* Checks a plan (refusals 1 to 7, 10 to 18, 26, 27). For an accepted job and a long enough answer it
@@ -204,6 +206,40 @@ uint32_t planner_certify(
     uint16_t *lengths, size_t lengths_len,
     uint16_t *widths, size_t widths_len,
     uint64_t *table, size_t table_len,
+    uint64_t *answer, size_t answer_len);
+
+/* Checks a plan as the saw does: the price fields of the job are not read, so that they may hold any
+ * bytes, and 6 is never given (refusals 1 to 5, 7, 27, 10 to 18, 26). Jobs that differ only in prices
+ * get equal answers. Unless planner_check_plan gives 6, this returns what it returns, with the same
+ * place, copies and areas.
+ * answer[0] area of the pieces, answer[1] of the waste nodes, answer[2] of the trim; answer[3 + i]
+ * copies of kind i; answer[67] area of the sawdust. */
+uint32_t planner_saw_check(
+    const uint8_t *job, size_t job_len,
+    uint32_t choices,
+    const uint8_t *kinds, size_t kinds_len,
+    const uint16_t *operands, size_t operands_len,
+    uint64_t *answer, size_t answer_len);
+
+/* The part of `kinds` that belongs to a node of a plan which the saw passes, and to all nodes below
+ * it. For a plan that does not pass, or a node past it, the part is empty and stands at the array's
+ * end. Returns 0, 100 or 101; it reads no price either.
+ * answer[0] first entry of the part, answer[1] number of its entries. */
+uint32_t planner_saw_kinds(
+    const uint8_t *job, size_t job_len,
+    uint32_t choices,
+    const uint8_t *kinds, size_t kinds_len,
+    const uint16_t *operands, size_t operands_len,
+    uint64_t node,
+    uint64_t *answer, size_t answer_len);
+
+/* The same part of `operands`. */
+uint32_t planner_saw_operands(
+    const uint8_t *job, size_t job_len,
+    uint32_t choices,
+    const uint8_t *kinds, size_t kinds_len,
+    const uint16_t *operands, size_t operands_len,
+    uint64_t node,
     uint64_t *answer, size_t answer_len);
 
 #ifdef __cplusplus

@@ -2,3 +2,4 @@
 mod Exports
 mod Trees
 mod Calls
+mod Saw

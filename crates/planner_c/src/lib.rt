@@ -11,6 +11,10 @@ ghost use Rattle.bound.specs.Bound.{lent, BoundLeaves, bound-said};
 ghost use Rattle.neat.specs.Neat.{neat-said};
 ghost use Rattle.writer.specs.Write.{write-said};
 ghost use Rattle.certificate.specs.Certificate.{certificate-said};
+ghost use Rattle.cutting.specs.Preorder.{kinds-of, operands-of};
+ghost use Rattle.saw.specs.Saw.{saw-said};
+ghost use Rattle.saw.specs.Parts.{node-part, part-said};
+ghost use Rattle.planner_c.specs.Saw.{SawChecked, PartGiven};
 ghost use Rattle.planner_c.specs.Exports.{choices-of, job-with, returned, answered, Left, CertificateLeaves, PlanLeft, NeatLeft, PlanGiven, NeatGiven, TreeChecked, BoundGiven, CertificateGiven};
 
 // The check of a plan's arrays for a job block. The answer has 69 words: profit, the areas of pieces, waste nodes and trim, the copies of
@@ -198,4 +202,85 @@ pub extern "C" fn planner_certify(
         table,
     );
     words::put_certificate(a, answer)
+}
+
+// The saw's check of a plan's arrays for a job block, whose prices it does not read. The answer has 68 words: the areas of pieces, waste
+// nodes and trim, the copies of 64 kinds, and the area of the sawdust.
+#[no_mangle]
+pub extern "C" fn planner_saw_check(
+    block: &[u8],
+    choices: u32,
+    kinds: &[u8],
+    operands: &[u16],
+    answer: &mut [u64],
+) -> u32
+    ensures number { λ n. ⌜ n ≡ returned 68 (now (answer .entry)) choices (saw-said (now (block .entry)) (choices-of choices) (now (kinds .entry)) (now (operands .entry))) ⌝ }
+    ensures words { λ _. ⌜ now (answer .exit) ≡ answered 68 (now (answer .entry)) choices (saw-said (now (block .entry)) (choices-of choices) (now (kinds .entry)) (now (operands .entry))) ⌝ }
+    ensures trees { λ n. ⌜ SawChecked (now (block .entry)) choices (now (kinds .entry)) (now (operands .entry)) (now (answer .entry)) (now (answer .exit)) n ⌝ }
+{
+    let stop = choices::early(answer.len(), 68, choices);
+    if 0 < stop {
+        return stop;
+    }
+    let a = saw::saw_check(block, choices::choices_of(choices), kinds, operands);
+    words::put_saw(a, answer)
+}
+
+// The part of the kinds that belongs to a node of a plan that the saw passes and all below it; empty, at the array's end, where the plan
+// does not pass or the node is past it. The answer has 2 words: the part's first entry and the number of its entries.
+#[no_mangle]
+pub extern "C" fn planner_saw_kinds(
+    block: &[u8],
+    choices: u32,
+    kinds: &[u8],
+    operands: &[u16],
+    node: u64,
+    answer: &mut [u64],
+) -> u32
+    ensures number { λ n. ⌜ n ≡ returned 2 (now (answer .entry)) choices (part-said (node-part (now (block .entry)) (choices-of choices) (now (kinds .entry)) (now (operands .entry)) (now (kinds .entry)) node)) ⌝ }
+    ensures words { λ _. ⌜ now (answer .exit) ≡ answered 2 (now (answer .entry)) choices (part-said (node-part (now (block .entry)) (choices-of choices) (now (kinds .entry)) (now (operands .entry)) (now (kinds .entry)) node)) ⌝ }
+    ensures part { λ n. ⌜ PartGiven (now (block .entry)) choices (now (kinds .entry)) (now (operands .entry)) (now (kinds .entry)) kinds-of node (now (answer .entry)) (now (answer .exit)) n ⌝ }
+{
+    let stop = choices::early(answer.len(), 2, choices);
+    if 0 < stop {
+        return stop;
+    }
+    let part = saw::node_part(
+        block,
+        choices::choices_of(choices),
+        kinds,
+        operands,
+        kinds.len(),
+        node as usize,
+    );
+    words::put_part(part, answer)
+}
+
+// The part of the operands that belongs to it.
+#[no_mangle]
+pub extern "C" fn planner_saw_operands(
+    block: &[u8],
+    choices: u32,
+    kinds: &[u8],
+    operands: &[u16],
+    node: u64,
+    answer: &mut [u64],
+) -> u32
+    ensures number { λ n. ⌜ n ≡ returned 2 (now (answer .entry)) choices (part-said (node-part (now (block .entry)) (choices-of choices) (now (kinds .entry)) (now (operands .entry)) (now (operands .entry)) node)) ⌝ }
+    ensures words { λ _. ⌜ now (answer .exit) ≡ answered 2 (now (answer .entry)) choices (part-said (node-part (now (block .entry)) (choices-of choices) (now (kinds .entry)) (now (operands .entry)) (now (operands .entry)) node)) ⌝ }
+    ensures part { λ n. ⌜ PartGiven (now (block .entry)) choices (now (kinds .entry)) (now (operands .entry)) (now (operands .entry)) operands-of node (now (answer .entry)) (now (answer .exit)) n ⌝ }
+{
+    let stop = choices::early(answer.len(), 2, choices);
+    if 0 < stop {
+        return stop;
+    }
+    let part = saw::node_part(
+        block,
+        choices::choices_of(choices),
+        kinds,
+        operands,
+        operands.len(),
+        node as usize,
+    );
+    words::put_part(part, answer)
 }

@@ -7,11 +7,14 @@ use plan::PlanAnswer;
 use plan::Report;
 use refusal::Checked;
 use refusal::Refusal;
+use saw::Part;
+use saw::SawAnswer;
+use saw::SawReport;
 use writer::WriteAnswer;
 use writer::WriteReport;
 ghost use mathlib.Core.Path.{_≡_};
 ghost use mathlib.Core.List.{[], _∷_};
-ghost use Prim.Native.Nat.{_≤_, _<_};
+ghost use Prim.Native.Nat.{_+_, _≤_, _<_};
 ghost use lib.ListN.{length, set};
 ghost use lib.Seq.{sets};
 ghost use Rattle.cutting.specs.Limits.{most-kinds};
@@ -22,6 +25,8 @@ ghost use Rattle.bound.specs.Bound.{bound-outcome};
 ghost use Rattle.neat.specs.Neat.{neat-outcome};
 ghost use Rattle.certificate.specs.Certificate.{certificate-outcome};
 ghost use Rattle.writer.specs.Write.{write-values, write-outcome};
+ghost use Rattle.saw.specs.Saw.{saw-values, saw-outcome};
+ghost use Rattle.saw.specs.Parts.{part-said};
 ghost use Rattle.planner_c.specs.Exports.{Gives, GapWithin};
 
 // A refusal: its number is returned, its place put in the first word.
@@ -142,22 +147,22 @@ fn wide(n: u16) -> u64
     n as u64
 }
 
-// The copies of 64 kinds, from word 4 on. That they are 64 is handed on to the proof of the caller.
-fn put_copies(copies: [u16; 64], answer: &mut [u64])
-    requires { ⌜ 68 ≤ length (now answer) ⌝ }
-    ensures { λ _. ⌜ (now (answer .exit) ≡ sets (now (answer .entry)) 4 copies) × (length copies ≡ most-kinds) ⌝ }
+// The copies of 64 kinds, from a word on. That they are 64 is handed on to the proof of the caller.
+fn put_copies(copies: [u16; 64], from: usize, answer: &mut [u64])
+    requires { ⌜ from + 64 ≤ length (now answer) ⌝ }
+    ensures { λ _. ⌜ (now (answer .exit) ≡ sets (now (answer .entry)) from copies) × (length copies ≡ most-kinds) ⌝ }
 {
     for i in 0..64 {
-        answer[4 + i] = wide(copies[i]);
+        answer[from + i] = wide(copies[i]);
     }
 }
 
 // The area of the sawdust, into the word behind the copies.
-fn put_sawdust(sawdust: u64, answer: &mut [u64])
-    requires { ⌜ 69 ≤ length (now answer) ⌝ }
-    ensures { λ _. ⌜ now (answer .exit) ≡ set (now (answer .entry)) 68 sawdust ⌝ }
+fn put_sawdust(sawdust: u64, at: usize, answer: &mut [u64])
+    requires { ⌜ at < length (now answer) ⌝ }
+    ensures { λ _. ⌜ now (answer .exit) ≡ set (now (answer .entry)) at sawdust ⌝ }
 {
-    answer[68] = sawdust;
+    answer[at] = sawdust;
 }
 
 // What a passed plan reports: profit, the areas of pieces, waste nodes and trim, the copies, and the area of the sawdust.
@@ -167,8 +172,8 @@ fn put_report(r: Report, answer: &mut [u64])
 {
     put_four(r.profit, r.pieces, r.waste, r.trim, answer);
     let copies = r.copies;
-    put_copies(copies, answer);
-    put_sawdust(r.sawdust, answer);
+    put_copies(copies, 4, answer);
+    put_sawdust(r.sawdust, 68, answer);
 }
 
 // What the check of a plan answers.
@@ -185,4 +190,42 @@ pub fn put_plan(a: PlanAnswer, answer: &mut [u64]) -> u32
             0
         }
     }
+}
+
+// What the saw reports of a passed plan: the areas of pieces, waste nodes and trim, the copies, and the area of the sawdust.
+fn put_saw_report(r: SawReport, answer: &mut [u64])
+    requires { ⌜ 68 ≤ length (now answer) ⌝ }
+    ensures { λ _. ⌜ now (answer .exit) ≡ over (saw-values r) (now (answer .entry)) ⌝ }
+{
+    put_three(r.pieces, r.waste, r.trim, answer);
+    let copies = r.copies;
+    put_copies(copies, 3, answer);
+    put_sawdust(r.sawdust, 67, answer);
+}
+
+// What the saw's check of a plan answers.
+pub fn put_saw(a: SawAnswer, answer: &mut [u64]) -> u32
+    requires { ⌜ 68 ≤ length (now answer) ⌝ }
+    ensures { λ n. ⌜ Gives (saw-outcome a) n (now (answer .entry)) (now (answer .exit)) ⌝ }
+{
+    let verdict = a.verdict;
+    match verdict {
+        Checked::Refused(r) => refuse(r, answer),
+        Checked::Passed => {
+            let report = a.report;
+            put_saw_report(report, answer);
+            0
+        }
+    }
+}
+
+// A part of an array: its first entry and the number of its entries.
+pub fn put_part(p: Part, answer: &mut [u64]) -> u32
+    requires { ⌜ (2 ≤ length (now answer)) × (p .first ≤ p .past) ⌝ }
+    ensures { λ n. ⌜ Gives (part-said p) n (now (answer .entry)) (now (answer .exit)) ⌝ }
+{
+    let count = p.past - p.first;
+    answer[0] = p.first as u64;
+    answer[1] = count as u64;
+    0
 }

@@ -60,10 +60,10 @@ cut-after Width x left = refl
 
 -- the entries of a tree's nodes, one for each
 module _ (g : Node → ℕ) where
-  abbrev listed : Tree laid.Piece → List ℕ
+  abbrev pub listed : Tree laid.Piece → List ℕ
   listed t = map g (preorder t)
 
-  listed-length : (t : Tree laid.Piece) → length (listed t) ≡ node-count t
+  pub listed-length : (t : Tree laid.Piece) → length (listed t) ≡ node-count t
   unfolding node-count
   listed-length t = length-map (preorder t) g
 
@@ -118,7 +118,7 @@ module _ (g : Node → ℕ) where
           )
 
   -- so many of them are its own
-  own-entries : (t : Tree laid.Piece) (n : ℕ) → n < node-count t → take (node-count (tree-at t n)) (drop n (listed g t)) ≡ listed g (tree-at t n)
+  pub own-entries : (t : Tree laid.Piece) (n : ℕ) → n < node-count t → take (node-count (tree-at t n)) (drop n (listed g t)) ≡ listed g (tree-at t n)
   own-entries t n h =
       let z = stands t n [] h in
       ap (λ l. take (node-count (tree-at t n)) (drop n l)) (sym (append-nil (listed g t))) ∙ ap (take (node-count (tree-at t n))) (z .1) ∙ take-at (listed g (tree-at t n)) (z .0) (node-count (tree-at t n)) (listed-length g (tree-at t n))
@@ -168,22 +168,25 @@ at-end bytes array r p e i =
     let q = subst (λ p. IsPart bytes p array r) e i in
     (q .0 ∙ ap (λ m. take m (drop n (now array))) z, q .1)
 
-module _ (s : List ℕ) (choices : Choices) (kinds operands : List ℕ) (node bytes : ℕ) (array r : RefT (List ℕ)) where
+module _ (s : List ℕ) (choices : Choices) (kinds operands : List ℕ) (node : ℕ) where
   abbrev verdict : Checked
   verdict = saw-answer s choices kinds operands .verdict
 
-  -- a part that is the node's is what the contract promises, in either array
-  module _ (g : Node → ℕ) (drawn : (t : Tree laid.Piece) → PlanOf (saw-job s choices) t kinds operands → now array ≡ listed g t) (i : IsPart bytes (node-part s choices kinds operands (now array) node) array r) where
+  -- the part of a node of a passed plan, in either array, is its tree's
+  pub part-tree : SawPasses s choices → (t : Tree laid.Piece) → PlanOf (saw-job s choices) t kinds operands → node < node-count t → (array : List ℕ) → length array ≡ node-count t
+      → node-part s choices kinds operands array node ≡ between node (node + node-count (tree-at t node))
+  part-tree b t p h array n =
+      sym (part-at verdict kinds (length array) node (check-met s choices kinds operands refl .1 .1 .0 .passes b t p) (omega (arith, n, h)) (sym (end-tree t node h) ∙ sym (ap (λ ks. end-of ks node) (p .drawn .kinds-are))))
+
+  -- a part that is the node's is what the contract promises
+  module _ (bytes : ℕ) (array r : RefT (List ℕ)) (g : Node → ℕ) (drawn : (t : Tree laid.Piece) → PlanOf (saw-job s choices) t kinds operands → now array ≡ listed g t) (i : IsPart bytes (node-part s choices kinds operands (now array) node) array r) where
     pub handed : HandsBack bytes (λ t. listed g t) s choices kinds operands node array r
     handed = record {
       part-is = i;
       blind = λ z o. subst (λ (a : SawAnswer). IsPart bytes (part-by (a .verdict) kinds (length (now array)) node) array r) (same-answer choices s z o kinds operands) i;
       tree = λ b t p h. (
-          let n : length (now array) ≡ node-count t = ap length (drawn t p) ∙ listed-length g t in
-          let v = check-met s choices kinds operands refl .1 .1 .0 .passes b t p in
-          let e = part-at verdict kinds (length (now array)) node v (omega (arith, n, h)) refl in
-          let q = subst (λ p. IsPart bytes p array r) (sym e) i in
-          let l : end-of kinds node - node ≡ node-count (tree-at t node) = (let k = ap (λ ks. end-of ks node) (p .drawn .kinds-are) ∙ end-tree t node h in omega (arith, k)) in
+          let q = subst (λ p. IsPart bytes p array r) (part-tree b t p h (now array) (ap length (drawn t p) ∙ listed-length g t)) i in
+          let l : node + node-count (tree-at t node) - node ≡ node-count (tree-at t node) = omega arith in
           (q .0 ∙ ap₂ (λ m l. take m (drop node l)) l (drawn t p) ∙ own-entries g t node h, q .1)
           );
       refused = λ x e. at-end bytes array r _ (sym (part-refused verdict kinds (length (now array)) node e)) i;
