@@ -21,7 +21,7 @@ use test_tools::plus;
 use test_tools::print_numbers;
 use test_tools::put;
 
-fn print_copies(copies: [u16; 64]) {
+pub fn print_copies(copies: [u16; 64]) {
     print_numbers(
         b" copies # # #",
         &[widen(copies[0]), widen(copies[1]), widen(copies[2])],

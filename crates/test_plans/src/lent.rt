@@ -35,6 +35,9 @@ pub const OUTPUT_KINDS: usize = 12801;
 
 pub const OUTPUT_OPERANDS: usize = 12802;
 
+// The node whose part of the arrays is printed.
+pub const NODE: usize = 12900;
+
 pub const REMARK: usize = 13000;
 
 pub const KINDS: usize = 20000;

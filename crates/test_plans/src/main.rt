@@ -7,10 +7,12 @@
 // `Arrays` checks the two arrays, `Block` the plan block, `Jobs` and `Plans` every truncation of the job block and of the plan block;
 // `Write` writes a plan into the arrays and prints arrays of seven entries as kind.operand; `Neat` writes the neat plan of the arrays into
 // the output arrays and prints seven entries of them; `Certify` certifies the arrays and prints how
-// many entries of the lists and words of the table it changed. An answer is printed as its values, a refusal as number and place.
+// many entries of the lists and words of the table it changed; `Saw` checks the two arrays as the saw does, and `Entries` prints the part of
+// them that belongs to the node which `entry` sets. An answer is printed as its values, a refusal as number and place.
 mod certify;
 mod check;
 mod lent;
+mod saw_calls;
 mod tidy;
 mod write;
 
@@ -22,6 +24,7 @@ use lent::FULL_DEMAND;
 use lent::JOB;
 use lent::KINDS;
 use lent::LENT;
+use lent::NODE;
 use lent::OLD_BLOCK;
 use lent::OPERANDS;
 use lent::OUTPUT;
@@ -29,6 +32,8 @@ use lent::PLAN;
 use lent::REMARK;
 use lent::TURNING;
 use lent::WEIGHTS;
+use saw_calls::run_entries;
+use saw_calls::run_saw;
 use test_tools::Words;
 use test_tools::next_command;
 use test_tools::row_to;
@@ -50,6 +55,7 @@ fn place(letter: u8) -> usize {
         b'f' => FULL_DEMAND,
         b'b' => OLD_BLOCK,
         b'n' => OUTPUT,
+        b'e' => NODE,
         _ => REMARK,
     }
 }
@@ -63,6 +69,8 @@ fn run(t: &mut Words, letter: u8) {
         b'W' => run_write(t),
         b'N' => run_neat(t),
         b'C' => run_certify(t),
+        b'S' => run_saw(t),
+        b'E' => run_entries(t),
         _ => row_to(t, place(letter)),
     }
 }
