@@ -13,6 +13,9 @@ pub const OLD_BLOCK: u32 = 4;
 /// Words of a report.
 pub const REPORT_WORDS: usize = 69;
 
+/// Words of a report of the saw.
+pub const SAW_WORDS: usize = 68;
+
 /// Answer of a call whose `answer` slice is too short.
 pub const ANSWER_TOO_SHORT: u32 = 100;
 
@@ -35,6 +38,23 @@ pub struct Report {
     pub trim: u64,
     pub copies: [u64; 64],
     pub sawdust: u64,
+}
+
+/// What the saw reports of a passed plan: no profit.
+#[derive(Clone, Copy, Debug, PartialEq, Eq)]
+pub struct SawReport {
+    pub pieces: u64,
+    pub waste: u64,
+    pub trim: u64,
+    pub copies: [u64; 64],
+    pub sawdust: u64,
+}
+
+/// A part of an array: its first entry and the number of its entries.
+#[derive(Clone, Copy, Debug, PartialEq, Eq)]
+pub struct Part {
+    pub first: u64,
+    pub entries: u64,
 }
 
 /// The bound, the capacity and the numbers of normal lengths and widths.
@@ -98,6 +118,31 @@ impl Words<REPORT_WORDS> for Report {
     fn from_words(words: [u64; REPORT_WORDS]) -> Report {
         let [profit, pieces, waste, trim, copies @ .., sawdust] = words;
         Report { profit, pieces, waste, trim, copies, sawdust }
+    }
+}
+
+impl Words<SAW_WORDS> for SawReport {
+    fn to_words(&self) -> [u64; SAW_WORDS] {
+        let mut words = [0; SAW_WORDS];
+        words[..3].copy_from_slice(&[self.pieces, self.waste, self.trim]);
+        words[3..67].copy_from_slice(&self.copies);
+        words[67] = self.sawdust;
+        words
+    }
+
+    fn from_words(words: [u64; SAW_WORDS]) -> SawReport {
+        let [pieces, waste, trim, copies @ .., sawdust] = words;
+        SawReport { pieces, waste, trim, copies, sawdust }
+    }
+}
+
+impl Words<2> for Part {
+    fn to_words(&self) -> [u64; 2] {
+        [self.first, self.entries]
+    }
+
+    fn from_words([first, entries]: [u64; 2]) -> Part {
+        Part { first, entries }
     }
 }
 

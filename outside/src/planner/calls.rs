@@ -123,3 +123,61 @@ pub fn certify(
         )
     }
 }
+
+pub fn saw_check(
+    job: &[u8],
+    choices: u32,
+    kinds: &[u8],
+    operands: &[u16],
+    answer: &mut [u64],
+) -> u32 {
+    unsafe {
+        foreign::planner_saw_check(
+            job.as_ptr(), job.len(),
+            choices,
+            kinds.as_ptr(), kinds.len(),
+            operands.as_ptr(), operands.len(),
+            answer.as_mut_ptr(), answer.len(),
+        )
+    }
+}
+
+pub fn saw_kinds(
+    job: &[u8],
+    choices: u32,
+    kinds: &[u8],
+    operands: &[u16],
+    node: u64,
+    answer: &mut [u64],
+) -> u32 {
+    unsafe {
+        foreign::planner_saw_kinds(
+            job.as_ptr(), job.len(),
+            choices,
+            kinds.as_ptr(), kinds.len(),
+            operands.as_ptr(), operands.len(),
+            node,
+            answer.as_mut_ptr(), answer.len(),
+        )
+    }
+}
+
+pub fn saw_operands(
+    job: &[u8],
+    choices: u32,
+    kinds: &[u8],
+    operands: &[u16],
+    node: u64,
+    answer: &mut [u64],
+) -> u32 {
+    unsafe {
+        foreign::planner_saw_operands(
+            job.as_ptr(), job.len(),
+            choices,
+            kinds.as_ptr(), kinds.len(),
+            operands.as_ptr(), operands.len(),
+            node,
+            answer.as_mut_ptr(), answer.len(),
+        )
+    }
+}

@@ -16,6 +16,32 @@ extern "C" {
         answer: *mut u64, answer_len: usize,
     ) -> u32;
 
+    pub fn planner_saw_check(
+        job: *const u8, job_len: usize,
+        choices: u32,
+        kinds: *const u8, kinds_len: usize,
+        operands: *const u16, operands_len: usize,
+        answer: *mut u64, answer_len: usize,
+    ) -> u32;
+
+    pub fn planner_saw_kinds(
+        job: *const u8, job_len: usize,
+        choices: u32,
+        kinds: *const u8, kinds_len: usize,
+        operands: *const u16, operands_len: usize,
+        node: u64,
+        answer: *mut u64, answer_len: usize,
+    ) -> u32;
+
+    pub fn planner_saw_operands(
+        job: *const u8, job_len: usize,
+        choices: u32,
+        kinds: *const u8, kinds_len: usize,
+        operands: *const u16, operands_len: usize,
+        node: u64,
+        answer: *mut u64, answer_len: usize,
+    ) -> u32;
+
     pub fn planner_bound(
         job: *const u8, job_len: usize,
         choices: u32,

@@ -3,7 +3,9 @@
 pub mod calls;
 mod foreign;
 
-use crate::answers::{Bound, Certificate, Neat, PlanArrays, Refusal, Report, Storage, Words, Written};
+use crate::answers::{
+    Bound, Certificate, Neat, Part, PlanArrays, Refusal, Report, SawReport, Storage, Words, Written,
+};
 
 /// Checks a plan given as two arrays.
 pub fn check_plan(
@@ -62,6 +64,44 @@ pub fn certify(
     storage: Storage,
 ) -> Result<Certificate, Refusal> {
     typed(|answer| calls::certify(job, choices, weights, kinds, operands, storage, answer))
+}
+
+/// Checks a plan as the saw does, which reads no price.
+pub fn saw_check(
+    job: &[u8],
+    choices: u32,
+    kinds: &[u8],
+    operands: &[u16],
+) -> Result<SawReport, Refusal> {
+    typed(|answer| calls::saw_check(job, choices, kinds, operands, answer))
+}
+
+/// The part of the kinds that belongs to a node and all below it; none is a refusal but 101.
+pub fn saw_kinds<'a>(
+    job: &[u8],
+    choices: u32,
+    kinds: &'a [u8],
+    operands: &[u16],
+    node: u64,
+) -> Result<&'a [u8], Refusal> {
+    let part = typed(|answer| calls::saw_kinds(job, choices, kinds, operands, node, answer))?;
+    Ok(part_of(kinds, part))
+}
+
+/// The part of the operands that belongs to it.
+pub fn saw_operands<'a>(
+    job: &[u8],
+    choices: u32,
+    kinds: &[u8],
+    operands: &'a [u16],
+    node: u64,
+) -> Result<&'a [u16], Refusal> {
+    let part = typed(|answer| calls::saw_operands(job, choices, kinds, operands, node, answer))?;
+    Ok(part_of(operands, part))
+}
+
+fn part_of<T>(array: &[T], part: Part) -> &[T] {
+    &array[part.first as usize..][..part.entries as usize]
 }
 
 fn typed<const N: usize, A: Words<N>>(

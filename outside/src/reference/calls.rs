@@ -67,6 +67,40 @@ pub fn certify(
     coded(choices, answer, || super::certify(job, choices, weights, kinds, operands, storage))
 }
 
+pub fn saw_check(
+    job: &[u8],
+    choices: u32,
+    kinds: &[u8],
+    operands: &[u16],
+    answer: &mut [u64],
+) -> u32 {
+    coded(choices, answer, || super::saw_check(job, choices, kinds, operands))
+}
+
+pub fn saw_kinds(
+    job: &[u8],
+    choices: u32,
+    kinds: &[u8],
+    operands: &[u16],
+    node: u64,
+    answer: &mut [u64],
+) -> u32 {
+    let part = || super::saw_part(job, choices, (kinds, operands), kinds.len(), node);
+    coded(choices, answer, || Ok(part()))
+}
+
+pub fn saw_operands(
+    job: &[u8],
+    choices: u32,
+    kinds: &[u8],
+    operands: &[u16],
+    node: u64,
+    answer: &mut [u64],
+) -> u32 {
+    let part = || super::saw_part(job, choices, (kinds, operands), operands.len(), node);
+    coded(choices, answer, || Ok(part()))
+}
+
 fn coded<const N: usize, A: Words<N>>(
     choices: u32,
     answer: &mut [u64],

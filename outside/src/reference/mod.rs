@@ -8,6 +8,7 @@ mod job;
 mod neat;
 mod normal;
 mod plan;
+mod saw;
 mod weights;
 mod writer;
 
@@ -18,6 +19,7 @@ pub use job::Job;
 pub use neat::neat_plan;
 pub use normal::normal_positions;
 pub use plan::{check_plan, check_plan_block};
+pub use saw::{saw_check, saw_part};
 pub use weights::capacity;
 pub use writer::write_plan;
 

@@ -55,7 +55,7 @@ fn is_piece(kind: &u8) -> bool {
 }
 
 /// The nodes of the tree that begins with the first one.
-fn tree(kinds: &[u8]) -> &[u8] {
+pub fn tree(kinds: &[u8]) -> &[u8] {
     let (mut parts, mut end) = (1, 0);
     while parts > 0 {
         parts = if is_cut(kinds[end]) { parts + 1 } else { parts - 1 };

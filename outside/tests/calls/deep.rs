@@ -67,7 +67,7 @@ fn lengthened(mut nodes: Vec<Node>) -> Vec<Node> {
     nodes
 }
 
-fn deep_plans(kerf: u16) -> Vec<Vec<Node>> {
+pub fn deep_plans(kerf: u16) -> Vec<Vec<Node>> {
     let mut plans = Vec::new();
     for order in [Order::LengthsThenWidths, Order::Alternating] {
         plans.extend([nested_in_second_parts(order, kerf), nested_in_first_parts(order, kerf)]);

@@ -17,6 +17,7 @@ mod limits;
 mod neat;
 mod readings;
 mod run;
+mod saw;
 mod stack;
 mod turning;
 mod widened;

@@ -21,18 +21,25 @@ extern "C" {
 
 /// Runs one proved call on a thread with a small stack, having measured that it fits.
 pub fn on_small_stack(call: Call, input: &Input, sizes: Sizes) -> (u32, Lent) {
-    let mut lent = Lent::new(sizes);
-    let used = measured(|| _ = call.run(&CALLS, input, &mut lent));
     let (choices, nodes) = (input.choices, input.kinds.len());
-    println!("{call:?}, choices {choices}: {used} bytes of stack, {nodes} nodes");
-    assert!(used + THREAD <= STACK, "{call:?} needs {used} bytes of stack");
-    lent = Lent::new(sizes);
-    let code = thread::scope(|scope| {
+    let what = format!("{call:?}, choices {choices}, {nodes} nodes");
+    fits_small_stack(&what, || {
+        let mut lent = Lent::new(sizes);
+        let code = call.run(&CALLS, input, &mut lent);
+        (code, lent)
+    })
+}
+
+/// Runs proved work on a thread with a small stack, having measured that it fits.
+pub fn fits_small_stack<A: Send>(what: &str, work: impl Fn() -> A + Sync) -> A {
+    let used = measured(|| _ = work());
+    println!("{what}: {used} bytes of stack");
+    assert!(used + THREAD <= STACK, "{what} needs {used} bytes of stack");
+    thread::scope(|scope| {
         let small = thread::Builder::new().stack_size(STACK);
-        let thread = small.spawn_scoped(scope, || call.run(&CALLS, input, &mut lent));
+        let thread = small.spawn_scoped(scope, &work);
         thread.expect("a thread").join().expect("the call returns")
-    });
-    (code, lent)
+    })
 }
 
 /// The bytes of stack that the work needs.
