@@ -1,6 +1,5 @@
 -- `test_plans::saw_calls::print_operands` is safe and ends; the loop counts up to its end.
 use Prim.Native.Nat.{_-_, _≤_}
-use lib.ListN.{length}
 use borrow.Author.Needs.{needs}
 use Rattle.test_plans.proofs.saw_calls.print_operands.Statement.{statement}
 use Rattle.test_plans.proofs.saw_calls.print_operands.Tie as tie
@@ -9,5 +8,5 @@ pub print-operands-spec : {M : Type 1} → statement M
 print-operands-spec =
     tie.close
     (tie.spec
-    (λ part i₀ i. i ≤ length part) (λ part i₀ i. length part - i) (search needs) (search needs) (search needs) (search needs) (search needs)
-    (search needs))
+    (λ part i₀ i-end i. i ≤ i-end) (λ part i₀ i-end i. i-end - i) (search needs) (search needs) (search needs) (search needs) (search needs)
+    (search needs) (search needs) (search needs))
