@@ -1,4 +1,4 @@
-// The certificate: job, weights, plan, then storage; refusals 1 to 20 and 27.
+// The certificate: job, weights, plan, then storage; refusals 1 to 20, 26 and 27.
 // The gap is the bound less the checked profit.
 use super::bound::tabled;
 use super::job::Job;
