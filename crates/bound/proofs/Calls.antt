@@ -8,7 +8,7 @@ use Rattle.cutting.specs.declared.Sides.{Sides}
 use Rattle.cutting.specs.Sides.{rect-of, sides-of}
 use Rattle.cutting.specs.Job.{Job, InRange, widened}
 use Rattle.cutting.specs.Listed.{heavy-in, pieces-job, PieceArray}
-use Rattle.cutting.proofs.Promises.{recursion, normal-listed, floor-figures}
+use Rattle.cutting.proofs.Promises.{recursion, figures-most, normal-listed, floor-figures}
 use Rattle.refusal.specs.Refusals.{next, first-refusal, by-check, outcome-by}
 use Rattle.refusal.specs.declared.Refusal.{Refusal}
 use Rattle.refusal.specs.declared.Checked.{Checked}
@@ -83,6 +83,8 @@ module _ (s : List ℕ) (choices : Choices) (ws : List ℕ) (old : Memory) where
         exact = λ b f. exact-by s choices ws old b (sym e ∙ f);
         recursion = recursion (wide-job s choices) (weight-in ws);
         normal = normal-listed (wide-job s choices);
+        accepted = λ a. bound-held (block-job s choices) (weight-in ws) (accepted-in-range s choices ws a);
+        figures = λ a. figures-most (block-job s choices) (weight-in ws) (accepted-in-range s choices ws a);
         floor = λ a. floor-figures (block-job s choices) (weight-in ws) (accepted-in-range s choices ws a);
       }
 

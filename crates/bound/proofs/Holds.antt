@@ -3,8 +3,8 @@
 use mathlib.Core.Path.{_≡_, refl}
 use Prim.Native.Nat.{ℕ}
 use Rattle.cutting.specs.Job.{Job, InRange, capacity, bound-of}
-use Rattle.cutting.proofs.Bound.{bound-ceiling, bound-less}
-use Rattle.cutting.proofs.Promises.{bound-exact, none-above, plate-holds}
+use Rattle.cutting.proofs.Bound.{capacity-less, bound-ceiling, bound-less}
+use Rattle.cutting.proofs.Promises.{bound-exact, none-above, none-heavier, plate-holds}
 use Rattle.refusal.specs.declared.Refusal.{Refusal}
 use Rattle.refusal.specs.declared.Checked.{Checked}
 use Rattle.refusal.specs.declared.Checked.the-variants.{Passed, Refused}
@@ -17,10 +17,12 @@ pub bound-held : (J : Job) (weight : ℕ → ℕ) → InRange J → BoundHolds J
 bound-held J weight h = record {
   most = bound-exact J weight h;
   demands = none-above J weight h;
+  weighs = none-heavier J weight h;
   ceiling = bound-ceiling J weight h;
   figure = refl;
   capacity-is = refl;
   held = plate-holds J h;
+  full-capacity = capacity-less J weight;
   full-demand = bound-less J weight;
 }
 

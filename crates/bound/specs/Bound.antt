@@ -10,7 +10,7 @@ use Rattle.cutting.specs.declared.Direction.the-variants.{Length, Width}
 use Rattle.cutting.specs.Limits.{most-figure}
 use Rattle.cutting.specs.Lists.{over}
 use Rattle.cutting.specs.Job.{Job, widened, capacity, at-full-demand, figure-of, bound-of, normal-positions}
-use Rattle.cutting.specs.Promises.{NoneAbove, PlateHolds, MostWithin, Recursion, NormalSums, FloorFigures}
+use Rattle.cutting.specs.Promises.{NoneAbove, NoneHeavier, PlateHolds, MostWithin, Recursion, NormalSums, FiguresMost, FloorFigures}
 use Rattle.refusal.specs.Refusals.{Check, Outcome, next, first-refusal, by-check, refused-as, outcome-by}
 use Rattle.refusal.specs.declared.Checked.{Checked}
 use Rattle.refusal.specs.declared.Refusal.the-variants.{ListShort, TableShort}
@@ -114,25 +114,32 @@ abbrev pub bound-said : List ℕ → Choices → List ℕ → Memory → Outcome
 bound-said s choices ws m = outcome-by (bound-verdict s choices ws m) (report-values (block-report s choices ws))
 
 -- what a bound n at the capacity q is: the most that a guillotine tree of weight at most q earns; no less than any tree that keeps the
--- demands earns; at most 1,000,000,000,000; the recursion's figure, the kerf added to
--- every side, at the plate and q. The capacity is the job's, no tree on the plate
--- has more copies of a kind than it counts as what the plate holds, and the bound of the full demands is no less than n
+-- demands earns, which weighs at most q; at most 1,000,000,000,000; the recursion's figure, the kerf added to every side, at the plate and
+-- q. The capacity is the job's, no tree on the plate has more copies of a kind than it counts as what the plate holds, and capacity and
+-- bound of the full demands are no less
 pub record BoundHolds (J : Job) (weight : ℕ → ℕ) (q n : ℕ) : Type 0 where
   pub most : MostWithin J weight q n
   pub demands : NoneAbove J n
+  pub weighs : NoneHeavier J weight q
   pub ceiling : n ≤ most-figure
   pub figure : n ≡ figure-of (widened J) weight (widened J .plate .0) (widened J .plate .1) q
   pub capacity-is : q ≡ capacity J weight
   pub held : PlateHolds J
+  pub full-capacity : q ≤ capacity (at-full-demand J) weight
   pub full-demand : n ≤ bound-of (at-full-demand J) weight
+
+-- the bound of a job block and weights holds at their capacity
+abbrev pub BlockHolds : List ℕ → Choices → List ℕ → Type 0
+BlockHolds s choices ws = BoundHolds (block-job s choices) (weight-in ws) (block-capacity s choices ws) (bound-of (block-job s choices) (weight-in ws))
 
 -- what an answer says: its bound holds at its capacity
 abbrev pub BoundSaid : List ℕ → Choices → List ℕ → BoundAnswer → Type 0
 BoundSaid s choices ws r = (b : BoundReport) → r ≡ answer.Answered b → BoundHolds (block-job s choices) (weight-in ws) (b .capacity) (b .bound)
 
 -- what the bound call promises of its answer and of the memory that it is lent: both are the definitions', number and values too; an
--- answered bound holds; with the kerf added to every side the figures follow the recursion, the normal positions are the sums, and where job and weights are accepted a
--- tabled figure is that of every rectangle whose largest normal sides it has
+-- answered bound holds; with the kerf added to every side the figures follow the recursion and the normal positions are the sums. Where
+-- job and weights are accepted, whatever storage is lent: their bound holds, every figure is the most that a tree earns there, and a tabled
+-- figure is that of every rectangle whose largest normal sides it has
 pub record BoundPromises (s : List ℕ) (choices : Choices) (ws : List ℕ) (old new : Memory) (r : BoundAnswer) : Type 0 where
   pub answers : r ≡ bound-answer s choices ws old
   pub outcome : bound-outcome r ≡ bound-said s choices ws old
@@ -140,4 +147,6 @@ pub record BoundPromises (s : List ℕ) (choices : Choices) (ws : List ℕ) (old
   pub exact : BoundSaid s choices ws r
   pub recursion : Recursion (wide-job s choices) (weight-in ws)
   pub normal : NormalSums (wide-job s choices)
+  pub accepted : Accepted s choices ws → BlockHolds s choices ws
+  pub figures : Accepted s choices ws → FiguresMost (block-job s choices) (weight-in ws)
   pub floor : Accepted s choices ws → FloorFigures (wide-job s choices) (weight-in ws)

@@ -35,7 +35,7 @@ use Rattle.certificate.specs.Contracts.{weights-verdict, storage-verdict
 use Rattle.certificate.specs.Promises.{CertifyPromises}
 use Rattle.certificate.specs.declared.Certificate.{Certificate}
 use Rattle.certificate.specs.declared.Certificate.the-variants as certificate
-use Rattle.certificate.proofs.Promises.{behind, drawn-most, certificates-hold}
+use Rattle.certificate.proofs.Promises.{behind, drawn-most, plans-judged, certificates-hold}
 
 -- a comparison's number and values: the bound less the profit, the bound and the profit
 compared-said : (p b : ℕ) → p ≤ b → certificate-outcome (compared p b) ≡ (0, certificate-values p b)
@@ -66,6 +66,7 @@ module _ (s : List ℕ) (choices : Choices) (ws kinds operands : List ℕ) (old 
         answers = e;
         outcome = ap (λ x. certificate-outcome x) e ∙ said-by (certify-verdict s choices ws kinds operands old) _ _ most;
         memory = l;
+        judged = plans-judged s choices kinds operands;
         best = λ n f. hold .0 n (sym e ∙ f);
         gap = λ n g f. hold .1 n g (sym e ∙ f);
       }

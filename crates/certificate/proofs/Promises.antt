@@ -19,6 +19,7 @@ use Rattle.plan.specs.declared.Report.{Report}
 use Rattle.plan.specs.Plan.{plan-answer}
 use Rattle.plan.proofs.Plans.{plans-checked}
 use Rattle.bound.specs.Bound.{Memory, memory-checks, wide-job, block-capacity, accept-verdict}
+use Rattle.bound.proofs.Holds.{bound-held}
 use Rattle.bound.proofs.Calls.{exact-by}
 use Rattle.certificate.specs.Certificate.{certify-verdict, plan-verdict, certificate-of}
 use Rattle.certificate.specs.Promises.{PlansJudged, BoundsHold, PlansEarn, Earns, BestSaid, GapSaid, CertificatesHold, BoundExact}
@@ -46,10 +47,7 @@ module _ (s : List ℕ) (choices : Choices) (ws kinds operands : List ℕ) (m : 
       (append-passed (job-checks s choices) (weight-checks (block-job s choices) ws) (b .0) .0, b .1)
 
 pub plans-judged : PlansJudged
-plans-judged s choices kinds operands good =
-    let J = block-job s choices in
-    let c = plans-checked J (read-in-range s choices good .kinds .1) kinds operands in
-    (λ p. (let t = c .tree p in (t .0, t .1, t .2 .own)), λ t h. c .passes tt t h)
+plans-judged s choices kinds operands good = plans-checked (block-job s choices) (read-in-range s choices good .kinds .1) kinds operands
 
 pub bounds-hold : BoundsHold
 bounds-hold s choices ws m = exact-by s choices ws m
@@ -58,7 +56,7 @@ pub plans-earn : PlansEarn
 plans-earn s choices ws accepted = let h = accepted-in-range s choices ws accepted in (trees.plan-follows (block-job s choices) (weight-in ws) h, plan-bound (block-job s choices) (weight-in ws) (range-solid (block-job s choices) h))
 
 pub bound-exact : BoundExact
-bound-exact s choices ws accepted = let h = accepted-in-range s choices ws accepted in (trees.bound-exact (block-job s choices) (weight-in ws) h, trees.none-above (block-job s choices) (weight-in ws) h)
+bound-exact s choices ws accepted = bound-held (block-job s choices) (weight-in ws) (accepted-in-range s choices ws accepted)
 
 module _ (s : List ℕ) (choices : Choices) (ws kinds operands : List ℕ) (m : Memory) where
   best-holds : BestSaid (block-job s choices) (weight-in ws) kinds operands (certificate-of s choices ws kinds operands m)

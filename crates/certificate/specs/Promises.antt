@@ -10,17 +10,17 @@ use Rattle.cutting.specs.Lists.{over}
 use Rattle.cutting.specs.Tree.{Tree}
 use Rattle.cutting.specs.Pieces.{Piece}
 use Rattle.cutting.specs.Job.{Job, profit, bound-of, normal-positions, bound-plan}
-use Rattle.cutting.specs.Promises.{NoneAbove, EarnsWithin, MostWithin, PlanFollows}
+use Rattle.cutting.specs.Promises.{NoneAbove, EarnsWithin, PlanFollows}
 use Rattle.refusal.specs.Refusals.{Check, number-of, next, first-refusal}
 use Rattle.refusal.specs.declared.Refusal.{Refusal}
 use Rattle.refusal.specs.declared.Checked.{Checked}
 use Rattle.refusal.specs.declared.Checked.the-variants.{Passed, Refused}
 use Rattle.job.specs.declared.Choices.{Choices}
-use Rattle.job.specs.Block.{job-checks}
 use Rattle.job.specs.Weights.{block-job, weight-in, Accepted}
-use Rattle.plan.specs.Plan.{plan-answer}
-use Rattle.plan.specs.Trees.{PlanOf, tree-report}
-use Rattle.bound.specs.Bound.{Memory, Leaves, wide-job, block-capacity, memory-checks, bound-answer, BoundSaid}
+use Rattle.plan.specs.Plan.{walk-answer, plan-answer}
+use Rattle.plan.specs.Trees.{PlanOf, ChecksPlan}
+use Rattle.plan.specs.Calls.{JobPasses}
+use Rattle.bound.specs.Bound.{Memory, Leaves, wide-job, block-capacity, memory-checks, bound-answer, BoundSaid, BlockHolds}
 use Rattle.certificate.specs.Certificate.{plan-verdict, certificate-of, certificate-outcome, certificate-said}
 use Rattle.certificate.specs.declared.Certificate.{Certificate}
 use Rattle.certificate.specs.declared.Certificate.the-variants.{Best, Gap}
@@ -43,13 +43,15 @@ MemoryKept = (before : Checked) (J : Job) (weight : ℕ → ℕ) (q : ℕ) (old 
     × (before ≡ Passed → number-of r ≡ 20 → (new .lengths ≡ over (normal-positions J Length) (old .lengths)) × (new .widths ≡ over (normal-positions J Width) (old .widths)))
     × (new .table ≡ old .table)
 
--- demand 2, the plan: for every good job block a plan passes exactly when its arrays are those of a guillotine tree on the plate that
--- keeps every demand and has at most 4,095 nodes and no idle cut, and what it then reports is that tree's own
+-- for a good job block a plan passes exactly when its arrays are those of a guillotine tree on the plate that keeps every demand and has at
+-- most 4,095 nodes and no idle cut; what it then reports is that tree's own; a tree with idle cuts is refused for the first of them
+abbrev pub PlanJudged : List ℕ → Choices → List ℕ → List ℕ → Type 0
+PlanJudged s choices kinds operands = JobPasses s choices
+    → ChecksPlan Unit (block-job s choices) kinds operands (walk-answer (block-job s choices) kinds operands) (plan-answer (block-job s choices) kinds operands)
+
+-- demand 2, the plan: every plan is judged so
 abbrev pub PlansJudged : Type 0
-PlansJudged = (s : List ℕ) (choices : Choices) (kinds operands : List ℕ) → first-refusal (job-checks s choices) ≡ Passed
-    → (plan-answer (block-job s choices) kinds operands .verdict ≡ Passed
-    → (t : Tree Piece) × PlanOf (block-job s choices) t kinds operands × (plan-answer (block-job s choices) kinds operands .report ≡ tree-report (block-job s choices) t))
-    × ((t : Tree Piece) → PlanOf (block-job s choices) t kinds operands → plan-answer (block-job s choices) kinds operands .verdict ≡ Passed)
+PlansJudged = (s : List ℕ) (choices : Choices) (kinds operands : List ℕ) → PlanJudged s choices kinds operands
 
 -- demand 2, the bound: whatever memory is lent, an answered bound is exact at the answered capacity
 abbrev pub BoundsHold : Type 0
@@ -76,12 +78,13 @@ BestSaid J weight kinds operands r = (n : ℕ) → r ≡ Best n → Earns J kind
 abbrev pub GapSaid : Job → (ℕ → ℕ) → List ℕ → List ℕ → Certificate → Type 0
 GapSaid J weight kinds operands r = (n gap : ℕ) → r ≡ Gap n gap → Earns J kinds operands n × (0 < gap) × (n + gap ≡ bound-of J weight) × NoneAbove J (n + gap)
 
--- what certify promises of its answer and of the memory that it is lent: both are the definitions', number and values too; "best" and a
--- gap say what they say of every tree
+-- what certify promises of its answer and of the memory that it is lent: both are the definitions', number and values too; the plan is
+-- judged by its tree; "best" and a gap say what they say of every tree
 pub record CertifyPromises (s : List ℕ) (choices : Choices) (ws kinds operands : List ℕ) (old new : Memory) (r : Certificate) : Type 0 where
   pub answers : r ≡ certificate-of s choices ws kinds operands old
   pub outcome : certificate-outcome r ≡ certificate-said s choices ws kinds operands old
   pub memory : Leaves (plan-verdict s choices ws kinds operands) (wide-job s choices) (weight-in ws) (block-capacity s choices ws) old new
+  pub judged : PlanJudged s choices kinds operands
   pub best : BestSaid (block-job s choices) (weight-in ws) kinds operands r
   pub gap : GapSaid (block-job s choices) (weight-in ws) kinds operands r
 
@@ -94,6 +97,4 @@ CertificatesHold = (s : List ℕ) (choices : Choices) (ws kinds operands : List 
 -- demand 3, exactness: for every accepted job and weights, storage apart, the bound is the most that a tree within the capacity earns,
 -- one earns it, and no tree that keeps every demand earns more
 abbrev pub BoundExact : Type 0
-BoundExact = (s : List ℕ) (choices : Choices) (ws : List ℕ) → Accepted s choices ws
-    → MostWithin (block-job s choices) (weight-in ws) (block-capacity s choices ws) (bound-of (block-job s choices) (weight-in ws))
-    × NoneAbove (block-job s choices) (bound-of (block-job s choices) (weight-in ws))
+BoundExact = (s : List ℕ) (choices : Choices) (ws : List ℕ) → Accepted s choices ws → BlockHolds s choices ws

@@ -112,7 +112,7 @@ module _ (J : Job) (solid : SolidKinds J) (i : ℕ) (known : i < J .count) (t : 
 
 module _ (J : Job) (weight : ℕ → ℕ) where
   -- the capacity of the full demands is no less
-  capacity-less : capacity J weight ≤ capacity (at-full-demand J) weight
+  pub capacity-less : capacity J weight ≤ capacity (at-full-demand J) weight
   capacity-less = sum-le (J .count) (λ i. counted J i * weight i) (λ i. J .demand i * weight i) (λ i l. mul-le-mul-right (weight i) (go (J .full-demand) (J .demand i) (plate-copies J i)))
     where
       go : (b : Bool) (demand held : ℕ) → counted-of b demand held ≤ demand

@@ -4,11 +4,11 @@ use native.Mathlib.Omega.{arith}
 use Rattle.cutting.specs.Tree.{side}
 use Rattle.cutting.specs.Lists.{range}
 use Rattle.cutting.specs.Job.{Job, InRange, widened, capacity, bound-of, normal-positions, normal-side}
-use Rattle.cutting.specs.Promises.{NoneAbove, PlateHolds, MostWithin, Recursion, NormalSums, FloorFigures, PlanFollows}
+use Rattle.cutting.specs.Promises.{NoneAbove, PlateHolds, NoneHeavier, MostWithin, FiguresMost, Recursion, NormalSums, FloorFigures, PlanFollows}
 use Rattle.cutting.proofs.Lists.{range-mem, mem-range, filter-mem, mem-filter}
 use Rattle.cutting.proofs.Members.{range-solid, widened-solid}
 use Rattle.cutting.proofs.Job.{figure-recursion}
-use Rattle.cutting.proofs.Bound.{copies-plate, bound-most, bound-earned, bound-holds}
+use Rattle.cutting.proofs.Bound.{copies-plate, figure-most, figure-earned, bound-most, bound-earned, demands-weight, bound-holds}
 use Rattle.cutting.proofs.Table.{normal-sums, figure-floor}
 use Rattle.cutting.proofs.Plan.{plan-recursion}
 
@@ -35,6 +35,14 @@ module _ (J : Job) (weight : ℕ → ℕ) where
     -- and no tree within the demands earns more
     pub none-above : NoneAbove J (bound-of J weight)
     none-above = bound-holds J weight (range-solid J h)
+
+    -- those weigh at most the capacity
+    pub none-heavier : NoneHeavier J weight (capacity J weight)
+    none-heavier = demands-weight J weight (range-solid J h)
+
+    -- every figure is the most of its rectangle and share
+    pub figures-most : FiguresMost J weight
+    figures-most l w c = let e = figure-earned J weight (range-solid J h) l w c in ((λ t. figure-most J weight (range-solid J h) t l w c), (e .0, (e .1, e .2, e .3)))
 
     pub floor-figures : FloorFigures (widened J) weight
     floor-figures l w c on-length on-width = figure-floor (widened J) weight (widened-solid J (range-solid J h)) l w c on-length on-width

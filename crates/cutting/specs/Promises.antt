@@ -12,7 +12,7 @@ use Rattle.cutting.specs.Lists.{range, only, greatest}
 use Rattle.cutting.specs.Tree.{side, Tree}
 use Rattle.cutting.specs.Pieces.{Piece, kind, fits-in}
 use Rattle.cutting.specs.Normal.{Sum, sides}
-use Rattle.cutting.specs.Job.{Job, laid, members, OnPlate, KeepsDemands, profit, weight-of, copies-of, widened, plate-copies, figure-of, normal-positions, normal-floor, plan-of, plan-choice, plan-after}
+use Rattle.cutting.specs.Job.{Job, laid, members, GuillotineTree, OnPlate, KeepsDemands, profit, weight-of, copies-of, widened, plate-copies, figure-of, normal-positions, normal-floor, plan-of, plan-choice, plan-after}
 
 -- no guillotine tree on the plate that keeps every demand earns more than n
 abbrev pub NoneAbove : Job → ℕ → Type 0
@@ -22,13 +22,28 @@ NoneAbove J n = (t : Tree Piece) → OnPlate J t → KeepsDemands J t → profit
 abbrev pub PlateHolds : Job → Type 0
 PlateHolds J = (t : Tree Piece) → OnPlate J t → (i : ℕ) → i < J .count → copies-of i t ≤ plate-copies J i
 
--- a guillotine tree on the plate of weight at most q that earns n
-abbrev pub EarnsWithin : Job → (ℕ → ℕ) → ℕ → ℕ → Tree Piece → Type 0
-EarnsWithin J weight q n t = OnPlate J t × (weight-of weight t ≤ q) × (profit J t ≡ n)
+-- a guillotine tree on the plate that keeps every demand weighs at most q
+abbrev pub NoneHeavier : Job → (ℕ → ℕ) → ℕ → Type 0
+NoneHeavier J weight q = (t : Tree Piece) → OnPlate J t → KeepsDemands J t → weight-of weight t ≤ q
 
--- n is the most that a guillotine tree on the plate of weight at most q earns: none earns more, and one earns it
+-- a guillotine tree on a rectangle of weight at most q that earns n
+abbrev pub EarnsOn : Job → (ℕ → ℕ) → ℕ → ℕ → ℕ → ℕ → Tree Piece → Type 0
+EarnsOn J weight l w q n t = GuillotineTree J l w t × (weight-of weight t ≤ q) × (profit J t ≡ n)
+
+-- n is the most that a guillotine tree on a rectangle of weight at most q earns: none earns more, and one earns it
+abbrev pub MostOn : Job → (ℕ → ℕ) → ℕ → ℕ → ℕ → ℕ → Type 0
+MostOn J weight l w q n = ((t : Tree Piece) → GuillotineTree J l w t → weight-of weight t ≤ q → profit J t ≤ n) × ((t : Tree Piece) × EarnsOn J weight l w q n t)
+
+-- the same on the plate
+abbrev pub EarnsWithin : Job → (ℕ → ℕ) → ℕ → ℕ → Tree Piece → Type 0
+EarnsWithin J weight q n t = EarnsOn J weight (J .plate .0) (J .plate .1) q n t
+
 abbrev pub MostWithin : Job → (ℕ → ℕ) → ℕ → ℕ → Type 0
-MostWithin J weight q n = ((t : Tree Piece) → OnPlate J t → weight-of weight t ≤ q → profit J t ≤ n) × ((t : Tree Piece) × EarnsWithin J weight q n t)
+MostWithin J weight q n = MostOn J weight (J .plate .0) (J .plate .1) q n
+
+-- a figure of the widened job is the most that a tree within its share earns on the rectangle whose sides are less by the kerf
+abbrev pub FiguresMost : Job → (ℕ → ℕ) → Type 0
+FiguresMost J weight = (l w c : ℕ) → MostOn J weight l w c (figure-of (widened J) weight (l + J .kerf) (w + J .kerf) c)
 
 -- the recursion: a figure is the greatest of 0; the price of any piece that may lie, fits and weighs at most the share; for each length
 -- cut, at every whole unit, and each first share, the first part's figure plus the second part's; the same for width cuts
