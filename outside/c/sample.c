@@ -1,4 +1,4 @@
-/* Job S of the paper from C: the bound, the plan behind it, its check and its certificate, upright
+/* Job S of the scope from C: the bound, the plan behind it, its check and its certificate, upright
  * and with pieces that may be turned; more copies than the plate can hold; a blade one unit wide.
  * The script `run` compiles this file against planner.h and compares what it prints with sample.out. */
 #include "planner.h"

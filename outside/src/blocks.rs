@@ -42,7 +42,7 @@ pub fn plan_block(kinds: &[u8], operands: &[u16]) -> Vec<u8> {
     block
 }
 
-/// Job S of the paper: plate 5 by 3, three kinds.
+/// Job S of the scope: plate 5 by 3, three kinds.
 pub fn job_s() -> Vec<u8> {
     job_block(5, 3, &[(2, 3, 7, 1), (3, 1, 4, 2), (2, 2, 5, 1)])
 }

@@ -20,7 +20,7 @@ use Rattle.job.specs.Weights.{block-job, weight-in, Accepted}
 use Rattle.job.proofs.Checks.{passed-both}
 use Rattle.job.proofs.Weights.{weights-passed, accepted-both, accepted-in-range}
 use Rattle.job.proofs.Taken.{Taken}
-use Rattle.bound.specs.Bound.{Memory, Leaves, wide-job, answer-by, memory-checks, report-values, block-capacity, block-report, accept-verdict, bound-verdict, bound-answer, bound-outcome, bound-said, BoundLeaves, BoundSaid, BoundPromises}
+use Rattle.bound.specs.Bound.{Memory, Leaves, wide-job, answer-by, memory-checks, report-values, block-capacity, block-report, accept-verdict, bound-verdict, bound-answer, bound-outcome, BoundLeaves, BoundSaid, BoundPromises}
 use Rattle.bound.specs.Contracts.{Boundable, Bounded}
 use Rattle.bound.specs.declared.BoundReport.{BoundReport}
 use Rattle.bound.specs.declared.BoundAnswer.{BoundAnswer}

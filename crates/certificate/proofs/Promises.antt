@@ -1,11 +1,11 @@
--- Demands 2 and 3 of specs/Promises, proved. Demand 1 is in proofs/Refusals.
+-- Parts 2 and 3 of specs/Promises, proved. Part 1 is in proofs/Refusals.
 use mathlib.Core.Path.{_≡_, sym, _∙_, ap}
 use mathlib.Core.List.{List}
 use Prim.Native.Nat.{ℕ, _≤_}
 use native.Mathlib.Omega.{arith}
 use Rattle.cutting.specs.Job.{Job, bound-of}
 use Rattle.cutting.proofs.Members.{range-solid}
-use Rattle.cutting.proofs.Plan.{plan-bound}
+use Rattle.cutting.proofs.Plan.{plan-bound, plan-idle}
 use Rattle.cutting.proofs.Promises as trees
 use Rattle.refusal.specs.Refusals.{first-refusal}
 use Rattle.refusal.specs.declared.Checked.the-variants.{Passed}
@@ -53,7 +53,7 @@ pub bounds-hold : BoundsHold
 bounds-hold s choices ws m = exact-by s choices ws m
 
 pub plans-earn : PlansEarn
-plans-earn s choices ws accepted = let h = accepted-in-range s choices ws accepted in (trees.plan-follows (block-job s choices) (weight-in ws) h, plan-bound (block-job s choices) (weight-in ws) (range-solid (block-job s choices) h))
+plans-earn s choices ws accepted = let h = accepted-in-range s choices ws accepted in (trees.plan-follows (block-job s choices) (weight-in ws) h, plan-bound (block-job s choices) (weight-in ws) (range-solid (block-job s choices) h), plan-idle (block-job s choices) (weight-in ws) (range-solid (block-job s choices) h) _ _ _)
 
 pub bound-exact : BoundExact
 bound-exact s choices ws accepted = bound-held (block-job s choices) (weight-in ws) (accepted-in-range s choices ws accepted)

@@ -1,4 +1,4 @@
--- Demand 1 of specs/Promises, proved: the first condition that holds decides, and what a refused call leaves in lent memory.
+-- Part 1 of specs/Promises, proved: the first condition that holds decides, and what a refused call leaves in lent memory.
 use mathlib.Core.Path.{_≡_, sym, ap}
 use mathlib.Core.Bool.{Bool, true, false, _||_}
 use mathlib.Core.List.{List, [], _∷_, List·Memᴰ·head, List·Memᴰ·tail, List·Memᴰ·not-nil}

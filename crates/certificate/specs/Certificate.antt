@@ -22,6 +22,7 @@ plan-verdict s choices ws kinds operands = next (accept-verdict s choices ws) (p
 abbrev pub certify-verdict : List ℕ → Choices → List ℕ → List ℕ → List ℕ → Memory → Checked
 certify-verdict s choices ws kinds operands m = next (plan-verdict s choices ws kinds operands) (first-refusal (memory-checks (wide-job s choices) (block-capacity s choices ws) m))
 
+-- the certificate of a profit and a bound, by whether they are equal
 abbrev pub compared-by : Bool → ℕ → ℕ → Certificate
 compared-by true profit bound = certificate.Best profit
 compared-by false profit bound = certificate.Gap profit (bound - profit)

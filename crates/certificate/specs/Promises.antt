@@ -1,13 +1,13 @@
--- What the product promises, demand by demand. The clauses `answers`, `outcome` and `memory` of the calls tie each answer, its number
+-- What the product promises, in three parts. The clauses `answers`, `outcome` and `memory` of the calls tie each answer, its number
 -- and values, and lent memory to their definitions; here stands what these definitions mean, over all checks, all memory and all
--- guillotine trees, of any size and whoever drew them. proofs/Promises proves it.
+-- guillotine trees, of any size and whoever drew them. proofs/Refusals proves part 1, proofs/Promises the others.
 use mathlib.Core.Path.{_≡_}
 use mathlib.Core.Bool.{true, false}
 use mathlib.Core.List.{List, _∷_, _++_, List·Memᴰ}
 use Prim.Native.Nat.{ℕ, _+_, _<_}
 use Rattle.cutting.specs.declared.Direction.the-variants.{Length, Width}
 use Rattle.cutting.specs.Lists.{over}
-use Rattle.cutting.specs.Tree.{Tree}
+use Rattle.cutting.specs.Tree.{Tree, IdleFree}
 use Rattle.cutting.specs.Pieces.{Piece}
 use Rattle.cutting.specs.Job.{Job, profit, bound-of, normal-positions, bound-plan}
 use Rattle.cutting.specs.Promises.{NoneAbove, EarnsWithin, PlanFollows}
@@ -29,12 +29,12 @@ use Rattle.certificate.specs.declared.Certificate.the-variants.{Best, Ga
 abbrev pub NoneHolds : List Check → Type 0
 NoneHolds cs = (c : Check) → List·Memᴰ c cs → c .0 ≡ false
 
--- demand 1, refusals: checks pass where no condition holds, and else the first that holds gives the refusal
+-- part 1, refusals: checks pass where no condition holds, and else the first that holds gives the refusal
 abbrev pub FirstDecides : Type 0
 FirstDecides = (cs : List Check) → (first-refusal cs ≡ Passed → NoneHolds cs)
     × ((r : Refusal) → first-refusal cs ≡ Refused r → (before : List Check) × (after : List Check) × (cs ≡ before ++ ((true, r) ∷ after)) × NoneHolds before)
 
--- demand 1, lent memory: a refusal of any number but 20 changes nothing; on 20 the lists are filled; on every refusal the table is as it
+-- part 1, lent memory: a refusal of any number but 20 changes nothing; on 20 the lists are filled; on every refusal the table is as it
 -- was. Of a call, J is its job with the kerf added to every side
 abbrev pub MemoryKept : Type 0
 MemoryKept = (before : Checked) (J : Job) (weight : ℕ → ℕ) (q : ℕ) (old new : Memory) → Leaves before J weight q old new
@@ -49,20 +49,21 @@ abbrev pub PlanJudged : List ℕ → Choices → List ℕ → List ℕ → Type 
 PlanJudged s choices kinds operands = JobPasses s choices
     → ChecksPlan Unit (block-job s choices) kinds operands (walk-answer (block-job s choices) kinds operands) (plan-answer (block-job s choices) kinds operands)
 
--- demand 2, the plan: every plan is judged so
+-- part 2, the plan: every plan is judged so
 abbrev pub PlansJudged : Type 0
 PlansJudged = (s : List ℕ) (choices : Choices) (kinds operands : List ℕ) → PlanJudged s choices kinds operands
 
--- demand 2, the bound: whatever memory is lent, an answered bound is exact at the answered capacity
+-- part 2, the bound: whatever memory is lent, an answered bound is exact at the answered capacity
 abbrev pub BoundsHold : Type 0
 BoundsHold = (s : List ℕ) (choices : Choices) (ws : List ℕ) (m : Memory) → BoundSaid s choices ws (bound-answer s choices ws m)
 
--- demand 2, the written plan: for every accepted job and weights the plan behind the bound follows the order of choice, and is a
--- guillotine tree on the plate that weighs at most the capacity and earns the bound
+-- part 2, the written plan: for every accepted job and weights the plan behind the bound follows the order of choice, and is a
+-- guillotine tree on the plate that weighs at most the capacity, earns the bound and has no idle cut
 abbrev pub PlansEarn : Type 0
 PlansEarn = (s : List ℕ) (choices : Choices) (ws : List ℕ) → Accepted s choices ws
     → PlanFollows (block-job s choices) (weight-in ws)
     × EarnsWithin (block-job s choices) (weight-in ws) (block-capacity s choices ws) (bound-of (block-job s choices) (weight-in ws)) (bound-plan (block-job s choices) (weight-in ws))
+    × IdleFree (bound-plan (block-job s choices) (weight-in ws))
 
 -- the arrays are those of a guillotine tree on the plate that keeps every demand and has no idle cut, and it earns n
 abbrev pub Earns : Job → List ℕ → List ℕ → ℕ → Type 0
@@ -88,13 +89,13 @@ pub record CertifyPromises (s : List ℕ) (choices : Choices) (ws kinds operands
   pub best : BestSaid (block-job s choices) (weight-in ws) kinds operands r
   pub gap : GapSaid (block-job s choices) (weight-in ws) kinds operands r
 
--- demand 3, best: a plan is called best exactly when its profit is the bound, and is then best, whoever drew it; a gap holds
+-- part 3, best: a plan is called best exactly when its profit is the bound, and is then best, whoever drew it; a gap holds
 abbrev pub CertificatesHold : Type 0
 CertificatesHold = (s : List ℕ) (choices : Choices) (ws kinds operands : List ℕ) (m : Memory)
     → BestSaid (block-job s choices) (weight-in ws) kinds operands (certificate-of s choices ws kinds operands m)
     × GapSaid (block-job s choices) (weight-in ws) kinds operands (certificate-of s choices ws kinds operands m)
 
--- demand 3, exactness: for every accepted job and weights, storage apart, the bound is the most that a tree within the capacity earns,
+-- part 3, exactness: for every accepted job and weights, storage apart, the bound is the most that a tree within the capacity earns,
 -- one earns it, and no tree that keeps every demand earns more
 abbrev pub BoundExact : Type 0
 BoundExact = (s : List ℕ) (choices : Choices) (ws : List ℕ) → Accepted s choices ws → BlockHolds s choices ws

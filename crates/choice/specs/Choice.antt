@@ -16,7 +16,7 @@ use Rattle.table.specs.Table.{position-count, words-needed, Figures}
 use Rattle.table.specs.Contracts.{Listed, Mapped, size-job}
 use Rattle.choice.specs.declared.Cell.{Cell}
 use Rattle.choice.specs.declared.Chosen.{Chosen}
-use Rattle.choice.specs.Search.{node-of, Numbered}
+use Rattle.choice.specs.Search.{numbered-node, Numbered}
 
 -- a plain job in range with its weights, both lists of normal positions, the floors of both sides and the filled table
 pub record Tabled (J : Job) (weight : ℕ → ℕ) (columns q : ℕ) (normal-lengths normal-widths length-floors width-floors table : List ℕ) : Type 0 where
@@ -47,7 +47,7 @@ pub record Inside (J : Job) (size : TableSize) (cell : Cell) : Type 0 where
 -- the choice among the pieces of an array as the code answers it: the node, and of a cut the first part's share
 abbrev pub chosen-of : List ℕ → Choice laid.Piece ℕ → Chosen
 chosen-of pieces as-waste = record { node = Waste; share = 0 }
-chosen-of pieces (as-piece p) = record { node = node-of (node-in pieces (laid.kind p)); share = 0 }
+chosen-of pieces (as-piece p) = record { node = numbered-node (node-in pieces (laid.kind p)); share = 0 }
 chosen-of pieces (as-cut d x q) = record { node = Cut d x; share = q .0 }
 
 -- the choice at a cell

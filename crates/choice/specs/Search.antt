@@ -22,13 +22,13 @@ use Rattle.choice.specs.declared.CutFound.{CutFound}
 use Rattle.choice.specs.declared.CutFound.the-variants as cut
 
 -- the node that lays a kind, upright or turned
-abbrev pub laying : Bool → ℕ → Node
-laying true i = Piece i
-laying false i = Turned i
+abbrev pub node-way : Bool → ℕ → Node
+node-way true i = Piece i
+node-way false i = Turned i
 
 -- the node of a number: 2i lays kind i upright, and 2i + 1 lays it turned
-abbrev pub node-of : ℕ → Node
-node-of number = laying (eqb (number % 2) 0) (number / 2)
+abbrev pub numbered-node : ℕ → Node
+numbered-node number = node-way (eqb (number % 2) 0) (number / 2)
 
 -- whether piece j fits the cell, weighs at most its share and has the value as its price
 abbrev pub piece-test : List ℕ → Cell → ℕ → ℕ → Bool
@@ -37,7 +37,7 @@ piece-test pieces cell value j = (fits-in (size-in pieces j) (rect-of (cell .sid
 -- the node of the piece that a search found
 abbrev pub piece-found : List ℕ → Option ℕ → PieceFound
 piece-found pieces none = piece.Missing
-piece-found pieces (some j) = piece.Laid (node-of (node-in pieces j))
+piece-found pieces (some j) = piece.Laid (numbered-node (node-in pieces j))
 
 -- so many pieces stand in the array, each with the number of a node
 pub record Numbered (count : ℕ) (pieces : List ℕ) : Type 0 where

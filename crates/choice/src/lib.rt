@@ -13,7 +13,7 @@ ghost use Rattle.cutting.specs.Lists.{range, first};
 ghost use Rattle.cutting.specs.Pieces.{fits-in};
 ghost use Rattle.cutting.specs.Sides.{rect-of};
 ghost use Rattle.table.specs.Contracts.{size-job};
-ghost use Rattle.choice.specs.Search.{node-of, piece-test, piece-found, Numbered, first-index, cut-found, or-width-cut, or-length-cut, Searchable};
+ghost use Rattle.choice.specs.Search.{numbered-node, piece-test, piece-found, Numbered, first-index, cut-found, or-width-cut, or-length-cut, Searchable};
 ghost use Rattle.choice.specs.Choice.{ChoiceInput, Inside, chosen-at};
 
 // A cell: a rectangle and a share.
@@ -58,9 +58,9 @@ fn choice_of(node: Node, share: u16) -> Chosen
 }
 
 // The node of a number: 2i lays kind i upright, and 2i + 1 lays it turned.
-fn node_of(number: u32) -> Node
+fn numbered_node(number: u32) -> Node
     requires { ⌜ number < 128 ⌝ }
-    ensures { λ r. ⌜ r ≡ node-of number ⌝ }
+    ensures { λ r. ⌜ r ≡ numbered-node number ⌝ }
 {
     let kind = (number / 2) as u16;
     if number % 2 == 0 {
@@ -107,7 +107,7 @@ fn find_piece(count: u16, pieces: &[u32; 640], cell: Cell, value: u64) -> PieceF
             value,
         );
         if earns {
-            return PieceFound::Laid(node_of(pieces[at + 4]));
+            return PieceFound::Laid(numbered_node(pieces[at + 4]));
         }
     }
     PieceFound::Missing

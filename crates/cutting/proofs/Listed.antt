@@ -1,32 +1,31 @@
 -- The pieces that may lie as kinds of a plain job, by their numbers: it has the same normal positions, figures and choices. So code that
 -- knows neither turned pieces, cancelled kinds nor kerf serves every job.
 use mathlib.Core.Path.{_≡_, refl, sym, _∙_, ap, ap₂}
-use mathlib.Core.Bool.{Bool, true, false, _&&_}
+use mathlib.Core.Bool.{Bool, true, false}
 use mathlib.Core.Option.{Option, none, some}
 use mathlib.Core.List.{List, [], _∷_, map, List·Memᴰ}
-use Prim.Native.Nat.{ℕ, zero, suc, _+_, _-_, _/_, _≤_, _<_, max}
+use Prim.Native.Nat.{ℕ, zero, suc, _+_, _-_, _≤_, _<_}
 use native.Mathlib.Omega.{arith}
 use lib.Dec.{leb, eqb}
 use lib.ListN.{length}
 use Rattle.cutting.specs.declared.Direction.{Direction}
 use Rattle.cutting.specs.declared.Direction.the-variants.{Length, Width}
 use Rattle.cutting.specs.Limits.{most-wide-side}
-use Rattle.cutting.specs.Lists.{range, only, filter, first, greatest, each, pairs}
+use Rattle.cutting.specs.Lists.{range, filter, first, greatest, each, pairs}
 use Rattle.cutting.specs.Tree.{Rect, side}
 use Rattle.cutting.specs.Figure.{leaf}
 use Rattle.cutting.specs.Pieces.{Piece, upright, turned, kind, ways, fits-in, sized}
 use Rattle.cutting.specs.Saws.{saw, floor}
 use Rattle.cutting.specs.Shares.{by-weight}
-use Rattle.cutting.specs.Normal.{sides, normal?, normal}
+use Rattle.cutting.specs.Normal.{sides, normal?}
 use Rattle.cutting.specs.Choice.{Choice, as-waste, as-piece, as-cut, or-waste, or-length, or-piece, or-zero}
-use Rattle.cutting.specs.Job.{Job, laid, widened, ordered, members, pieces, by-kind, figure-of, normal-side, normal-positions, normal-floor, laid-earns, pair-earns, first-pair, plan-choice, KindsAbove, SolidKinds, InRange}
+use Rattle.cutting.specs.Job.{Job, laid, widened, ordered, members, pieces, by-kind, figure-of, normal-side, normal-positions, laid-earns, pair-earns, first-pair, plan-choice, KindsAbove, InRange}
 use Rattle.cutting.specs.Listed.{plain, member-at, Listing, InTableRange}
 use Rattle.cutting.proofs.Lists.{mem-range, through, first-cong, entries, filter-map, first-map, filter-map-cong}
 use Rattle.cutting.proofs.Greatest.{greatest-map, greatest-cong}
 use Rattle.cutting.proofs.Recursion.{figure-same}
 use Rattle.cutting.proofs.Positions.{getD-mem}
 use Rattle.cutting.proofs.Members.{member-kind, members-above, members-count}
-use Rattle.cutting.proofs.Table.{figure-half}
 
 -- kinds that are all ordered and not to be turned lie upright each
 all-upright : (a n : ℕ) → each (ways false) (filter (λ j. leb 1 1) (range a n)) ≡ map upright (range a n)
@@ -79,19 +78,6 @@ module _ (r : Rect) (n : ℕ) (size : ℕ → Rect) (price : ℕ → ℕ) where
 
   pub plain-sides : (d : Direction) → sides (members N) (laid N) r d ≡ sides (range 0 n) size r d
   plain-sides d = ap (λ ps. sides ps (laid N) r d) plain-members ∙ sides-map upright (range 0 n) (laid N) r d
-
-  pub plain-normal : (d : Direction) → normal-side N d ≡ normal (range 0 n) size r d
-  plain-normal d = ap normal? (plain-sides d)
-
-  -- the recursion over half of the cuts, by numbers
-  pub plain-half : (weight : ℕ → ℕ) → SolidKinds N → (l w c : ℕ) → l ≤ r .0 → w ≤ r .1 → figure-of N weight l w c ≡
-      max (greatest (λ i. only (fits-in (size i) (l, w) && leb (weight i) c) (price i)) (range 0 n))
-      (max (greatest (λ x. greatest (λ k. figure-of N weight x w k + figure-of N weight (normal-floor N Length (l - x)) w (c - k)) (range 0 (suc c)))
-      (filter (normal-side N Length) (range 1 (l / 2))))
-      (greatest (λ x. greatest (λ k. figure-of N weight l x k + figure-of N weight l (normal-floor N Width (w - x)) (c - k)) (range 0 (suc c)))
-      (filter (normal-side N Width) (range 1 (w / 2)))))
-  plain-half weight solid l w c a b = figure-half N weight solid l w c a b
-      ∙ ap₂ max (plain-greatest (λ p. only (fits-in (laid N p) (l, w) && leb (weight (kind p)) c) (price (kind p)))) refl
 
 -- the pieces that may lie are their list's entries
 members-listed : (J : Job) → members J ≡ map (member-at J) (range 0 (length (members J)))

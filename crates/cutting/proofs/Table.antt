@@ -3,7 +3,7 @@
 use mathlib.Core.Path.{_≡_, _∙_}
 use mathlib.Core.Logic.{_↔_}
 use mathlib.Core.Bool.{_&&_}
-use Prim.Native.Nat.{ℕ, suc, _+_, _-_, _*_, _/_, _≤_, _<_, max}
+use Prim.Native.Nat.{ℕ, suc, _+_, _-_, _/_, _≤_, _<_, max}
 use native.Mathlib.Omega.{arith}
 use lib.Dec.{T, leb}
 use lib.ListN.{length, getD}
@@ -17,12 +17,12 @@ use Rattle.cutting.specs.Saws.{saw-normal, saw-half}
 use Rattle.cutting.specs.Shares.{by-weight}
 use Rattle.cutting.specs.Normal.{Sum, sides}
 use Rattle.cutting.specs.Job.{Job, laid, members, pieces, by-kind, figure-of, normal-side, normal-positions, normal-floor, KindsAbove, SolidKinds}
-use Rattle.cutting.proofs.Greatest.{greatest-map, most}
+use Rattle.cutting.proofs.Greatest.{greatest-map}
 use Rattle.cutting.proofs.Weights.{by-weight-monotone, by-weight-symmetric}
 use Rattle.cutting.proofs.Reduction.{Sufficient, CutsAt, saw-normal-cuts, saw-figure, floor-figure}
 use Rattle.cutting.proofs.Half.{half-figure}
 use Rattle.cutting.proofs.Normal.{normal-sum, normal-above, normal-sufficient}
-use Rattle.cutting.proofs.Positions.{rising, entry-passes, passes-entry, passing-length, sparse-length, first-zero, floor-at, greatest-half}
+use Rattle.cutting.proofs.Positions.{rising, entry-passes, passes-entry, passing-length, sparse-length, first-zero, floor-at}
 use Rattle.cutting.proofs.Members.{members-above, members-solid}
 
 -- the normal lengths and widths of a job suffice for its pieces
@@ -83,14 +83,6 @@ module _ (J : Job) (d : Direction) where
       → (suc a < length (normal-positions J d) → x < getD (normal-positions J d) (suc a) 0) → normal-floor J d x ≡ getD (normal-positions J d) a 0
   unfolding normal-positions
   positions-floor a x h l g f = floor-at (normal-side J d) normal-zero (suc (side d (J .plate))) a x (omega arith) l g f
-
-  -- the greatest over the normal positions from 1 to half of l, as a loop over the entries from 1 finds it: it stops at entry k, the first
-  -- that is past the half, or at the list's end
-  pub positions-half : (l k : ℕ) (f : ℕ → ℕ) → l ≤ side d (J .plate) → 1 ≤ k → k ≤ length (normal-positions J d)
-      → ((i : ℕ) → 1 ≤ i → i < k → 2 * getD (normal-positions J d) i 0 ≤ l) → (k < length (normal-positions J d) → l < 2 * getD (normal-positions J d) k 0)
-      → greatest f (filter (normal-side J d) (range 1 (l / 2))) ≡ most (k - 1) (λ i. f (getD (normal-positions J d) (suc i) 0))
-  unfolding normal-positions
-  positions-half l k f h p q below above = greatest-half (normal-side J d) normal-zero (suc (side d (J .plate))) l k f (omega arith) p q below above
 
 module _ (J : Job) (weight : ℕ → ℕ) (h : SolidKinds J) where
   -- a saw at the normal positions gives the same figures on the plate

@@ -190,16 +190,19 @@ plan-after J weight l w (as-piece p) = piece p
 plan-after J weight l w (as-cut Length x q) = or-first (cut-remains (J .kerf) (l - x)) Length (x - J .kerf) (plan-of J weight x w (q .0)) (plan-of J weight (l - x) w (q .1))
 plan-after J weight l w (as-cut Width x q) = or-first (cut-remains (J .kerf) (w - x)) Width (x - J .kerf) (plan-of J weight l x (q .0)) (plan-of J weight l (w - x) (q .1))
 
--- the area of the pieces, of the waste nodes, of the trim and of the sawdust of a tree on a rectangle
+-- the area of the pieces of a tree
 abbrev pub pieces-area-of : Job → Tree Piece → ℕ
 pieces-area-of J t = pieces-area (laid J) t
 
+-- the area of the waste nodes of a tree on a rectangle l by w
 abbrev pub waste-area-of : Job → ℕ → ℕ → Tree Piece → ℕ
 waste-area-of J l w t = waste-area (saw (J .kerf)) (l, w) t
 
+-- the area of its trim, what its pieces leave of the rectangles that they lie on
 abbrev pub trim-area-of : Job → ℕ → ℕ → Tree Piece → ℕ
 trim-area-of J l w t = trim-area (laid J) (saw (J .kerf)) (l, w) t
 
+-- the area of its sawdust
 abbrev pub sawdust-area-of : Job → ℕ → ℕ → Tree Piece → ℕ
 sawdust-area-of J l w t = sawdust-area (J .kerf) (l, w) t
 

@@ -38,16 +38,19 @@ pub record Listing (J : Job) (weight : ℕ → ℕ) (n : ℕ) (size : ℕ → Re
   pub prices : (j : ℕ) → j < n → price j ≡ J .price (kind (member-at J j))
   pub weights : (j : ℕ) → j < n → heavy j ≡ weight (kind (member-at J j))
 
--- the array has five entries a piece: its size as it lies, its price, its weight and its node
+-- the array has five entries a piece: length and width as it lies, price, weight and node. The size of piece j
 abbrev pub size-in : List ℕ → ℕ → Rect
 size-in pieces j = (getD pieces (5 * j) 0, getD pieces (5 * j + 1) 0)
 
+-- the price of piece j
 abbrev pub price-in : List ℕ → ℕ → ℕ
 price-in pieces j = getD pieces (5 * j + 2) 0
 
+-- the weight of piece j
 abbrev pub heavy-in : List ℕ → ℕ → ℕ
 heavy-in pieces j = getD pieces (5 * j + 3) 0
 
+-- the number of the node of piece j
 abbrev pub node-in : List ℕ → ℕ → ℕ
 node-in pieces j = getD pieces (5 * j + 4) 0
 
@@ -56,11 +59,12 @@ abbrev pub node-number : Piece → ℕ
 node-number (upright i) = 2 * i
 node-number (turned i) = 2 * i + 1
 
--- the piece of a node's number
+-- the piece of a kind, by whether it lies upright
 abbrev pub piece-way : Bool → ℕ → Piece
 piece-way true i = upright i
 piece-way false i = turned i
 
+-- the piece of a node's number
 abbrev pub numbered-piece : ℕ → Piece
 numbered-piece number = piece-way (eqb (number % 2) 0) (number / 2)
 

@@ -1,5 +1,4 @@
 -- A rectangle as the code has it.
-use Prim.Native.Nat.{ℕ}
 use Rattle.cutting.specs.Tree.{Rect}
 use Rattle.cutting.specs.declared.Sides.{Sides}
 

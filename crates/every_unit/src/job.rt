@@ -25,10 +25,8 @@ pub const LEFT: usize = 9007;
 
 pub const STATE: usize = 9008;
 
-// A number of each kind.
+// A number of each kind: its length, and 70 further on its width.
 pub const KIND_LENGTH: usize = 9010;
-
-pub const KIND_WIDTH: usize = 9080;
 
 pub const PRICE: usize = 9150;
 

@@ -15,7 +15,6 @@ use Rattle.refusal.specs.declared.Checked.{Checked}
 use Rattle.refusal.specs.declared.Checked.the-variants.{Passed, Refused}
 use Rattle.job.specs.declared.Choices.{Choices}
 use Rattle.job.specs.Block.{with-full-demand}
-use Rattle.job.specs.Weights.{block-job}
 use Rattle.plan.specs.Calls.{arrays-answer}
 use Rattle.bound.specs.Bound.{Memory, wide-job, bound-said}
 use Rattle.writer.specs.Write.{block-plan, write-said}

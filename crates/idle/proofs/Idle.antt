@@ -2,7 +2,7 @@
 use mathlib.Core.Path.{_≡_, refl, sym, _∙_, ap, ap₂}
 use mathlib.Core.Bool.{false}
 use mathlib.Core.List.{List, [], _∷_, _++_, map, append-assoc, append-nil}
-use Prim.Native.Nat.{ℕ, zero, suc, _+_, _-_, _≤_}
+use Prim.Native.Nat.{ℕ, zero, suc, _+_, _-_}
 use native.Mathlib.Omega.{arith}
 use lib.Dec.{ltb, eqb}
 use borrow.Author.Tests.{lt-ltb, eqb-false, ne-eqb}
@@ -14,12 +14,12 @@ use Rattle.cutting.specs.Tree.{Tree, waste, piece, cut, total, piece-count, Idl
 use Rattle.cutting.specs.Pieces as laid
 use Rattle.cutting.specs.Preorder.{preorder, kind-of, node-count, kinds-of}
 use Rattle.cutting.proofs.Preorder.{kinds-cut, count-cut}
-use Rattle.refusal.specs.Refusals.{Check, first-refusal}
+use Rattle.refusal.specs.Refusals.{first-refusal}
 use Rattle.refusal.specs.declared.Refusal.the-variants.{IdleCut}
 use Rattle.refusal.specs.declared.Checked.the-variants.{Passed}
 use Rattle.job.proofs.Checks.{cons-passed, append-passed, passed-append}
 use Rattle.node.specs.Nodes.{node-of}
-use Rattle.idle.specs.Idle.{trees-from, pieceless, is-idle, idle-checks, tree-checks}
+use Rattle.idle.specs.Idle.{pieceless-from, pieceless, is-idle, idle-checks, tree-checks}
 
 -- a tree of so many pieces before n trees without one
 abbrev before : ℕ → ℕ → ℕ
@@ -36,7 +36,7 @@ before-idle zero zero n = lt-ltb 1 (n + 1 + 1) (omega arith)
 before-idle zero (suc j) n = sym (ne-eqb (zero + suc j) 0 (λ e. (let w : ⊥ = omega (arith, e) in w)))
 before-idle (suc i) j n = sym (ne-eqb (suc i + j) 0 (λ e. (let w : ⊥ = omega (arith, e) in w)))
 
-cut-from : (d : Direction) (x n : ℕ) → trees-from (node-of (kind-of (Cut d x)) 0) n ≡ n - 1
+cut-from : (d : Direction) (x n : ℕ) → pieceless-from (node-of (kind-of (Cut d x)) 0) n ≡ n - 1
 cut-from Length x n = refl
 cut-from Width x n = refl
 

@@ -13,9 +13,9 @@ use Rattle.refusal.specs.declared.Refusal.the-variants.{IdleCut}
 use Rattle.refusal.specs.declared.Checked.{Checked}
 use Rattle.refusal.specs.declared.Checked.the-variants.{Passed}
 use Rattle.node.specs.Nodes.{node-of}
-use Rattle.idle.specs.Idle.{trees-from, pieceless, is-idle, idle-checks}
+use Rattle.idle.specs.Idle.{pieceless-from, pieceless, is-idle, idle-checks}
 
-from-most : (n : Node) (after most : ℕ) → after ≤ most → trees-from n after ≤ most + 1
+from-most : (n : Node) (after most : ℕ) → after ≤ most → pieceless-from n after ≤ most + 1
 from-most Waste after most h = omega arith
 from-most (Piece i) after most h = omega arith
 from-most (Turned i) after most h = omega arith
@@ -52,11 +52,11 @@ module _ {kinds : List ℕ} {verdict : Checked} {trees k : ℕ} (s : Scanned kin
     here = let e : k - 1 + 1 ≡ k = omega arith in let l : k - 1 < length kinds = omega (arith, s .inside) in
         drop-cons kinds (k - 1) 0 l ∙ ap (λ m. getD kinds (k - 1) 0 ∷ drop m kinds) (sym (add-one (k - 1)) ∙ e)
 
-    pub goes-on : {v : Checked} {m : ℕ} → v ≡ next (refuse-when (is-idle n trees) (IdleCut (k - 1))) verdict → m ≡ trees-from n trees → Scanned kinds v m (k - 1)
+    pub goes-on : {v : Checked} {m : ℕ} → v ≡ next (refuse-when (is-idle n trees) (IdleCut (k - 1))) verdict → m ≡ pieceless-from n trees → Scanned kinds v m (k - 1)
     unfolding idle-checks pieceless first-refusal
     goes-on {v} {m} d t = let e : k - 1 + 1 ≡ k = omega arith in
         record {
           inside = omega (arith, s .inside);
           decided = d ∙ (λ i. next (refuse-when (is-idle (read i) (s .counted i)) (IdleCut (k - 1))) ((s .decided ∙ ap (λ j. first-refusal (idle-checks j (drop k kinds))) (sym e)) i)) ∙ sym (ap (λ l. first-refusal (idle-checks (k - 1) l)) here);
-          counted = t ∙ (λ i. trees-from (read i) (s .counted i)) ∙ sym (ap pieceless here);
+          counted = t ∙ (λ i. pieceless-from (read i) (s .counted i)) ∙ sym (ap pieceless here);
         }

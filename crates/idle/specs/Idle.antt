@@ -14,16 +14,16 @@ use Rattle.node.specs.Nodes.{node-of}
 
 -- the trees without a piece that begin at a node, from those that begin after it: waste is one more, a cut makes one tree of two, and a
 -- piece ends them
-abbrev pub trees-from : Node → ℕ → ℕ
-trees-from Waste after = after + 1
-trees-from (Piece i) after = 0
-trees-from (Turned i) after = 0
-trees-from (Cut d x) after = after - 1
+abbrev pub pieceless-from : Node → ℕ → ℕ
+pieceless-from Waste after = after + 1
+pieceless-from (Piece i) after = 0
+pieceless-from (Turned i) after = 0
+pieceless-from (Cut d x) after = after - 1
 
 -- how many of the trees that a list of kinds begins hold no piece, before the first that holds one
 unfoldable pub pieceless : List ℕ → ℕ
 pieceless [] = 0
-pieceless (k ∷ ks) = trees-from (node-of k 0) (pieceless ks)
+pieceless (k ∷ ks) = pieceless-from (node-of k 0) (pieceless ks)
 
 -- whether a node is an idle cut: the two trees after it, its parts, hold no piece
 abbrev pub is-idle : Node → ℕ → Bool

@@ -1,5 +1,6 @@
-// Check 26: the first idle cut of a plan, neither of whose parts holds a piece. One scan of the kinds from the last node to the first
-// counts the trees that begin at each node, hold no piece and stand before the first that holds one; it needs no memory but the count.
+// Check 26: the first idle cut of a plan, neither of whose parts holds a piece. The nodes from any node on are a row of trees. One scan,
+// from the last node to the first, keeps one number: how many trees at the front of that row hold no piece. A cut is idle where its two
+// parts are among them.
 use cutting::Node;
 use node::decode;
 use refusal::Checked;
@@ -10,12 +11,12 @@ ghost use lib.ListN.{length};
 ghost use Rattle.cutting.specs.Limits.{most-nodes};
 ghost use Rattle.refusal.specs.declared.Refusal.the-variants.{IdleCut};
 ghost use Rattle.refusal.specs.Refusals.{next, refuse-when, first-refusal};
-ghost use Rattle.idle.specs.Idle.{trees-from, is-idle, idle-checks};
+ghost use Rattle.idle.specs.Idle.{pieceless-from, is-idle, idle-checks};
 
 // The trees without a piece that begin at a node, from those that begin after it.
-fn trees_from(node: Node, after: u16) -> u16
+fn pieceless_from(node: Node, after: u16) -> u16
     requires { ⌜ after ≤ most-nodes ⌝ }
-    ensures { λ r. ⌜ r ≡ trees-from node after ⌝ }
+    ensures { λ r. ⌜ r ≡ pieceless-from node after ⌝ }
 {
     match node {
         Node::Waste => after + 1,
@@ -58,14 +59,14 @@ pub fn idle_cut(kinds: &[u8]) -> Checked
     ensures { λ r. ⌜ r ≡ first-refusal (idle-checks 0 (now (kinds .entry))) ⌝ }
 {
     let mut verdict = Checked::Passed;
-    let mut trees: u16 = 0;
+    let mut pieceless: u16 = 0;
     let mut k = kinds.len();
     while 0 < k {
         k -= 1;
         let node = decode(kinds[k], 0);
-        let idle = is_idle(node, trees);
+        let idle = is_idle(node, pieceless);
         verdict = decide(idle, k as u16, verdict);
-        trees = trees_from(node, trees);
+        pieceless = pieceless_from(node, pieceless);
     }
     verdict
 }

@@ -18,7 +18,7 @@ use Rattle.job.specs.declared.Choices.{Choices}
 use Rattle.job.specs.declared.JobAnswer.{JobAnswer}
 use Rattle.job.specs.declared.JobRecord.{JobRecord}
 use Rattle.job.proofs.Checks.{passed-both, first-append, append-passed, cons-passed, each-passed}
-use Rattle.job.proofs.Entries.{entries-length, entries-in}
+use Rattle.job.proofs.Entries.{entries-in}
 
 or-false : (a b : Bool) → (a || b) ≡ false → (a ≡ false) × (b ≡ false)
 or-false true b p = (p, cc)
@@ -135,24 +135,6 @@ module _ (s : List ℕ) (choices : Choices) (p : first-refusal (job-checks s cho
       let few = header-passed (choices .«old_block») s (job-passed .0) .kinds .1 in
       let pair : (i : ℕ) → i < count-at s → (price-at end s i ≤ 1000000) × (demand-at end s i ≤ 255) = λ i l. (let q = cons-passed _ _ _ (pair-passed pair-checks s choices p i l) in (ltb-false 1000000 (price-at end s i) (q .0), ltb-false 255 (demand-at end s i) (cons-passed _ _ _ (q .1) .0))) in
       range-by pair-checks s choices p (λ i l. pair i l .1) (record-of s choices .prices) (λ i l. subst (λ x. x ≤ 1000000) (sym (entries-in (price-at end s) (count-at s) i few l)) (pair i l .0))
-
--- the fields of a block's record
-pub record-length : (s : List ℕ) (choices : Choices) → record-of s choices .length ≡ plate-length-at s
-unfolding record-of
-record-length s choices = refl
-
-pub record-width : (s : List ℕ) (choices : Choices) → record-of s choices .width ≡ plate-width-at s
-unfolding record-of
-record-width s choices = refl
-
-pub record-count : (s : List ℕ) (choices : Choices) → record-of s choices .count ≡ count-at s
-unfolding record-of
-record-count s choices = refl
-
--- the record's arrays have 64 entries
-pub record-arrays : (s : List ℕ) (choices : Choices) → (length (record-of s choices .lengths) ≡ 64) × (length (record-of s choices .widths) ≡ 64) × (length (record-of s choices .prices) ≡ 64) × (length (record-of s choices .demands) ≡ 64)
-unfolding record-of
-record-arrays s choices = (entries-length _ (count-at s), entries-length _ (count-at s), entries-length _ (count-at s), entries-length _ (count-at s))
 
 -- an answer by a verdict, whichever the checks and the record
 module _ (v : Checked) (j : JobRecord) where

@@ -15,7 +15,7 @@ use Rattle.refusal.specs.declared.Checked.{Checked}
 use Rattle.refusal.specs.declared.Checked.the-variants.{Passed, Refused}
 use Rattle.refusal.specs.declared.Refusal.{Refusal}
 use Rattle.refusal.specs.declared.Refusal.the-variants as refusal
-use Rattle.job.specs.Block.{count-at, job-checks, record-of}
+use Rattle.job.specs.Block.{job-checks}
 use Rattle.job.specs.Weights.{weight-in, weight-checks, weights-answer, weights-outcome, weights-said, block-job, Accepted}
 use Rattle.job.specs.declared.Choices.{Choices}
 use Rattle.job.specs.declared.WeightsAnswer.{WeightsAnswer}
@@ -89,11 +89,6 @@ accepted-both s choices ws p = append-passed (job-checks s choices) (weight-chec
 
 pub both-accepted : (s : List ℕ) (choices : Choices) (ws : List ℕ) → first-refusal (job-checks s choices) ≡ Passed → first-refusal (weight-checks (block-job s choices) ws) ≡ Passed → Accepted s choices ws
 both-accepted s choices ws p q = passed-append (job-checks s choices) (weight-checks (block-job s choices) ws) p q
-
--- accepted weights are as many as the kinds, and their capacity is at most 4,095
-pub accepted-weights : (s : List ℕ) (choices : Choices) (ws : List ℕ) → Accepted s choices ws → (length ws ≡ count-at s) × (capacity (block-job s choices) (weight-in ws) ≤ 4095)
-unfolding record-of
-accepted-weights s choices ws p = weights-passed (block-job s choices) ws (accepted-both s choices ws p .1)
 
 -- the job of an accepted block is in the scope's ranges
 pub accepted-in-range : (s : List ℕ) (choices : Choices) (ws : List ℕ) → Accepted s choices ws → InRange (block-job s choices)

@@ -32,16 +32,19 @@ u16-at s at = getD s at 0 + 256 * getD s (at + 1) 0
 abbrev pub u32-at : List ℕ → ℕ → ℕ
 u32-at s at = getD s at 0 + 256 * getD s (at + 1) 0 + 65536 * getD s (at + 2) 0 + 16777216 * getD s (at + 3) 0
 
--- the sizes: plate length, plate width, number of kinds, and the kerf, which the old block does not have
+-- the sizes stand first: the plate's length
 abbrev pub plate-length-at : List ℕ → ℕ
 plate-length-at s = u16-at s 0
 
+-- the plate's width
 abbrev pub plate-width-at : List ℕ → ℕ
 plate-width-at s = u16-at s 2
 
+-- the number of kinds
 abbrev pub count-at : List ℕ → ℕ
 count-at s = u16-at s 4
 
+-- the kerf, by whether the block is the old one, which has none
 abbrev pub kerf-at : Bool → List ℕ → ℕ
 kerf-at true s = 0
 kerf-at false s = u16-at s 6
@@ -51,17 +54,19 @@ abbrev pub sizes-end : Bool → ℕ
 sizes-end true = 6
 sizes-end false = 8
 
--- the first array, from byte h on: for each kind its length and width
+-- the first array, from byte h on, has a length and a width for each kind. The length of kind i
 abbrev pub length-at : ℕ → List ℕ → ℕ → ℕ
 length-at h s i = u16-at s (h + 4 * i)
 
+-- the width of kind i
 abbrev pub width-at : ℕ → List ℕ → ℕ → ℕ
 width-at h s i = u16-at s (h + 2 + 4 * i)
 
--- the second array, behind it: for each kind its price and demand
+-- the second array, behind it, has a price and a demand for each kind. The price of kind i
 abbrev pub price-at : ℕ → List ℕ → ℕ → ℕ
 price-at h s i = u32-at s (h + 4 * count-at s + 6 * i)
 
+-- the demand of kind i
 abbrev pub demand-at : ℕ → List ℕ → ℕ → ℕ
 demand-at h s i = u16-at s (h + 4 + 4 * count-at s + 6 * i)
 

@@ -86,14 +86,14 @@ pub struct Acceptance {
 }
 
 // A byte as a number of 16 bits.
-fn wide(byte: u8) -> u16
+fn to_u16(byte: u8) -> u16
     ensures { λ r. ⌜ (r ≡ byte) × (r < 256) ⌝ }
 {
     byte as u16
 }
 
 // A byte as a number of 32 bits.
-fn wider(byte: u8) -> u32
+fn to_u32(byte: u8) -> u32
     ensures { λ r. ⌜ (r ≡ byte) × (r < 256) ⌝ }
 {
     byte as u32
@@ -104,7 +104,7 @@ pub fn read_u16(block: &[u8], at: usize) -> u16
     requires { ⌜ at + 2 ≤ length (now block) ⌝ }
     ensures { λ r. ⌜ r ≡ u16-at (now (block .entry)) at ⌝ }
 {
-    wide(block[at]) + 256 * wide(block[at + 1])
+    to_u16(block[at]) + 256 * to_u16(block[at + 1])
 }
 
 // A field of four bytes.
@@ -112,10 +112,10 @@ fn read_u32(block: &[u8], at: usize) -> u32
     requires { ⌜ at + 4 ≤ length (now block) ⌝ }
     ensures { λ r. ⌜ r ≡ u32-at (now (block .entry)) at ⌝ }
 {
-    wider(block[at])
-        + 256 * wider(block[at + 1])
-        + 65536 * wider(block[at + 2])
-        + 16777216 * wider(block[at + 3])
+    to_u32(block[at])
+        + 256 * to_u32(block[at + 1])
+        + 65536 * to_u32(block[at + 2])
+        + 16777216 * to_u32(block[at + 3])
 }
 
 // Whether one of two conditions holds.
@@ -465,7 +465,7 @@ fn weigh(copies: u16, weight: u8) -> u32
     requires { ⌜ copies ≤ 255 ⌝ }
     ensures { λ r. ⌜ (r ≡ copies * weight) × (r ≤ 65025) ⌝ }
 {
-    (copies as u32) * wider(weight)
+    (copies as u32) * to_u32(weight)
 }
 
 // The capacity of as many weights as kinds, the kerf added to every side: at most 64 times 65,025.

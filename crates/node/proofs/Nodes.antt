@@ -24,7 +24,7 @@ use Rattle.refusal.specs.declared.Checked.the-variants.{Passed, Refused}
 use Rattle.job.specs.Block.{outside}
 use Rattle.job.proofs.Checks.{next-passed, cons-passed}
 use Rattle.node.specs.Nodes.{node-of, most-kind, unnumbered, misplaced, misfit, excess, node-checks}
-use Rattle.node.specs.Placed.{lying-as, piece-as, laying}
+use Rattle.node.specs.Placed.{lying-as, laying}
 
 -- a kind and an operand by the node that they are
 data Read (k o : ℕ) : Node → Type 0 where
@@ -54,15 +54,6 @@ waste-read (is-turned h) p = cc
 -- kind 0 is waste
 pub waste-kind : (k o : ℕ) → node-of k o ≡ Waste → k ≡ 0
 waste-kind k o p = waste-read (read k o) p
-
--- a piece of a kind's number
-pub number-of-piece : (b : Bool) (i : ℕ) → laid.kind (piece-as b i) ≡ i
-number-of-piece false i = refl
-number-of-piece true i = refl
-
-pub size-of-piece : (J : Job) (b : Bool) (i : ℕ) → laid J (piece-as b i) ≡ lying-as b (J .size i)
-size-of-piece J false i = refl
-size-of-piece J true i = refl
 
 module _ (J : Job) (c : List ℕ) (r : Rect) (k : ℕ) where
   pub kind-refused : (kind o : ℕ) → most-kind (J .turning) < kind → first-refusal (node-checks J c r k kind o) ≡ Refused (NodeKind k)

@@ -10,7 +10,7 @@ use Rattle.cutting.specs.declared.Direction.the-variants.{Length, Width}
 use Rattle.cutting.specs.declared.Node.{Node}
 use Rattle.cutting.specs.declared.Node.the-variants.{Waste, Piece, Turned, Cut}
 use Rattle.cutting.specs.Tree.{Rect, side, part}
-use Rattle.cutting.specs.Pieces as laid
+use Rattle.cutting.specs.Pieces as way
 use Rattle.cutting.specs.Pieces.{fits-in}
 use Rattle.cutting.specs.Areas.{area, breadth}
 use Rattle.cutting.specs.Job.{Job, laid}
@@ -34,15 +34,15 @@ most-kind false = 3
 most-kind true = 4
 
 -- what holds of the piece that a node lays, and of a node that lays none
-abbrev pub of-piece {ℓ} : {A : Type ℓ} → (laid.Piece → A) → A → Node → A
+abbrev pub of-piece {ℓ} : {A : Type ℓ} → (way.Piece → A) → A → Node → A
 of-piece f a Waste = a
-of-piece f a (Piece i) = f (laid.upright i)
-of-piece f a (Turned i) = f (laid.turned i)
+of-piece f a (Piece i) = f (way.upright i)
+of-piece f a (Turned i) = f (way.turned i)
 of-piece f a (Cut d x) = a
 
 -- 13: a piece number of n or more
 abbrev pub unnumbered : Job → Node → Bool
-unnumbered J n = of-piece (λ p. leb (J .count) (laid.kind p)) false n
+unnumbered J n = of-piece (λ p. leb (J .count) (way.kind p)) false n
 
 -- 14: a waste operand that is not 0, or a cut position outside 1 to the side less the kerf less 1; a side of at most the kerf and 1 has
 -- no position
@@ -58,7 +58,7 @@ misfit J r n = of-piece (λ p. not (fits-in (laid J p) r)) false n
 
 -- 16: a piece whose kind's copies so far have reached its demand
 abbrev pub excess : Job → List ℕ → Node → Bool
-excess J copies n = of-piece (λ p. leb (J .demand (laid.kind p)) (getD copies (laid.kind p) 0)) false n
+excess J copies n = of-piece (λ p. leb (J .demand (way.kind p)) (getD copies (way.kind p) 0)) false n
 
 -- checks 12 to 16 of node k, on the rectangle that it fills and after the copies before it
 abbrev pub node-checks : Job → List ℕ → Rect → ℕ → ℕ → ℕ → List Check
@@ -92,10 +92,10 @@ with-cut kerf d r t = record { profit = t .profit; pieces = t .pieces; waste = t
 -- the sums with one node more
 abbrev pub tallied : Job → Node → Rect → Tally → Tally
 tallied J Waste r t = with-waste r t
-tallied J (Piece i) r t = with-piece (J .price i) (laid J (laid.upright i)) r t
-tallied J (Turned i) r t = with-piece (J .price i) (laid J (laid.turned i)) r t
+tallied J (Piece i) r t = with-piece (J .price i) (laid J (way.upright i)) r t
+tallied J (Turned i) r t = with-piece (J .price i) (laid J (way.turned i)) r t
 tallied J (Cut d x) r t = with-cut (J .kerf) d r t
 
 -- the copies of each kind, upright and turned together, with one node more
 abbrev pub copied : Node → List ℕ → List ℕ
-copied n copies = of-piece (λ p. set copies (laid.kind p) (getD copies (laid.kind p) 0 + 1)) copies n
+copied n copies = of-piece (λ p. set copies (way.kind p) (getD copies (way.kind p) 0 + 1)) copies n

@@ -21,11 +21,12 @@ abbrev pub lying-as : Bool → Rect → Rect
 lying-as false r = r
 lying-as true r = quarter r
 
--- the piece of a kind's number, upright or turned, and the node that lays it
+-- the piece of a kind's number, by whether it is turned
 abbrev pub piece-as : Bool → ℕ → laid.Piece
 piece-as false i = laid.upright i
 piece-as true i = laid.turned i
 
+-- the node that lays it
 abbrev pub laying : Bool → ℕ → Node
 laying false i = Piece i
 laying true i = Turned i

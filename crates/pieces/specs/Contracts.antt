@@ -5,14 +5,14 @@ use mathlib.Core.List.{List}
 use Prim.Native.Nat.{ℕ, _+_, _*_, _<_}
 use lib.ListN.{length, getD, set}
 use Rattle.cutting.specs.Sides.{sides-of}
-use Rattle.cutting.specs.Pieces as laid
+use Rattle.cutting.specs.Pieces as way
 use Rattle.cutting.specs.Job.{Job, laid}
 use Rattle.cutting.specs.Listed.{size-in, price-in, heavy-in, node-in, node-number}
 use Rattle.pieces.specs.declared.Piece.{Piece}
 
 -- a piece of a job: its size as it lies, its kind's price and weight, and its node
-abbrev pub entry-of : Job → (ℕ → ℕ) → laid.Piece → Piece
-entry-of J weight p = record { size = sides-of (laid J p); price = J .price (laid.kind p); weight = weight (laid.kind p); node = node-number p }
+abbrev pub entry-of : Job → (ℕ → ℕ) → way.Piece → Piece
+entry-of J weight p = record { size = sides-of (laid J p); price = J .price (way.kind p); weight = weight (way.kind p); node = node-number p }
 
 -- an upright piece's entries where it is turned
 abbrev pub turned-piece : Piece → Piece
@@ -32,7 +32,7 @@ pub record At (pieces : List ℕ) (j : ℕ) (e : Piece) : Type 0 where
   pub node : node-in pieces j ≡ e .node
 
 -- the array begins with n pieces of a job
-pub record Listed (J : Job) (weight : ℕ → ℕ) (ps : List laid.Piece) (n : ℕ) (pieces : List ℕ) : Type 0 where
+pub record Listed (J : Job) (weight : ℕ → ℕ) (ps : List way.Piece) (n : ℕ) (pieces : List ℕ) : Type 0 where
   pub number : n ≡ length ps
   pub entries : length pieces ≡ 640
-  pub each : (j : ℕ) → j < n → At pieces j (entry-of J weight (getD ps j (laid.upright 0)))
+  pub each : (j : ℕ) → j < n → At pieces j (entry-of J weight (getD ps j (way.upright 0)))

@@ -25,7 +25,7 @@ use Rattle.refusal.specs.declared.Checked.the-variants.{Passed, Refused}
 use Rattle.node.proofs.Nodes.{pair-of, PieceFits, NodeFits, node-passed}
 use Rattle.plan.specs.declared.Report.{Report}
 use Rattle.plan.specs.declared.PlanAnswer.{PlanAnswer}
-use Rattle.plan.specs.Plan.{node-of, counted, proceed, walk}
+use Rattle.plan.specs.Plan.{node-of, report-after, proceed, walk}
 use Rattle.plan.proofs.Counts.{second, added}
 use Rattle.plan.proofs.Preorder.{written, written-cut}
 use Rattle.plan.proofs.Trees.{node-walks}
@@ -90,7 +90,7 @@ module _ (J : Job) (few : J .count ≤ 64) where
       record { tree = piece (laid.turned i); left = ns; nodes = refl; on = piece-lies (s .copies) (laid.turned i) r f; goes = node-walks J k (Turned i) ns r rs s f; kept = kept-piece i (s .copies) h (f .0 .0) (f .2) }
   after-node m parse k (Cut d x) ns r rs s l h f p =
       let w = node-walks J k (Cut d x) ns r rs s f in
-      let z = counted J (Cut d x) r s in
+      let z = report-after J (Cut d x) r s in
       let a = parse (k + 1) ns (part d x r) (second J d x r ∷ rs) z l h (ap (λ (z : PlanAnswer). z .verdict) (sym w) ∙ p) in
       let less : length (a .left) ≤ m = omega (arith, ap length (a .nodes), length-append (written (a .tree)) (a .left)) in
       let b = parse (k + 1 + node-count (a .tree)) (a .left) (second J d x r) rs (added J (a .tree) (part d x r) z) less (a .kept) (ap (λ (z : PlanAnswer). z .verdict) (sym (w ∙ a .goes)) ∙ p) in

@@ -29,10 +29,10 @@ use Rattle.idle.specs.Idle.{idle-checks, tree-checks}
 use Rattle.idle.proofs.Idle.{idle-tree, passed-free, free-passed}
 use Rattle.plan.specs.declared.Report.{Report}
 use Rattle.plan.specs.declared.PlanAnswer.{PlanAnswer}
-use Rattle.plan.specs.Plan.{plan-checks, walk-answer, plan-answer, walk, node-of, node-checks, parts, counted, nodes-in, passed, proceed, empty-report}
-use Rattle.plan.specs.Trees.{DrawnAs, PlanOf, tree-report, Reports, ChecksPlan}
+use Rattle.plan.specs.Plan.{plan-checks, walk-answer, plan-answer, walk, node-of, node-checks, parts, report-after, nodes-in, passed, proceed, empty-report}
+use Rattle.plan.specs.Trees.{DrawnAs, tree-report, Reports, ChecksPlan}
 use Rattle.plan.proofs.Walk.{nodes-length}
-use Rattle.plan.proofs.Whole.{walks-on, verdict-is, idle-decides}
+use Rattle.plan.proofs.Whole.{walks-on, verdict-is}
 use Rattle.plan.proofs.Counts.{added, added-profit, added-pieces, added-waste, added-trim, added-sawdust, added-length, added-copies}
 use Rattle.plan.proofs.Preorder.{written, count-written, arrays-written, kinds-length, operands-length, written-kinds, written-operands}
 use Rattle.plan.proofs.Trees.{tree-walks}
@@ -52,7 +52,7 @@ walk-zeros J k [] [] s = λ r e. no-pass (sym e)
 walk-zeros J k (n ∷ ns) [] s = λ r e. refl
 walk-zeros J k [] (q ∷ rs) s = λ r e. refl
 walk-zeros J k (n ∷ ns) (q ∷ rs) s = proceed-zeros (first-refusal (node-checks J (s .copies) q k (n .0) (n .1))) _
-    (walk-zeros J (k + 1) ns (parts (J .kerf) (node-of (n .0) (n .1)) q ++ rs) (counted J (node-of (n .0) (n .1)) q s))
+    (walk-zeros J (k + 1) ns (parts (J .kerf) (node-of (n .0) (n .1)) q ++ rs) (report-after J (node-of (n .0) (n .1)) q s))
 
 -- a tree has no copy of a kind past the job's
 none-past : (J : Job) (t : Tree laid.Piece) (l w : ℕ) → GuillotineTree J l w t → (i : ℕ) → J .count ≤ i → copies-of i t ≡ 0

@@ -17,17 +17,17 @@ use Rattle.cutting.proofs.Members.{lie-kind}
 use Rattle.cutting.proofs.Preorder.{count-cut}
 use Rattle.node.proofs.Nodes.{node-back, pair-of, PieceFits, NodeFits, node-passes}
 use Rattle.plan.specs.declared.Report.{Report}
-use Rattle.plan.specs.Plan.{node-of, parts, counted, proceed, walk}
+use Rattle.plan.specs.Plan.{node-of, parts, report-after, proceed, walk}
 use Rattle.plan.proofs.Counts.{second, added, added-copies, added-length}
 use Rattle.plan.proofs.Preorder.{written, written-cut}
 
 -- the walk goes on after a node that fits
 pub node-walks : (J : Job) (k : ℕ) (n : Node) (ns : List (ℕ × ℕ)) (r : Rect) (rs : List Rect) (s : Report) → NodeFits J (s .copies) r n
-    → walk J k (pair-of n ∷ ns) (r ∷ rs) s ≡ walk J (k + 1) ns (parts (J .kerf) n r ++ rs) (counted J n r s)
+    → walk J k (pair-of n ∷ ns) (r ∷ rs) s ≡ walk J (k + 1) ns (parts (J .kerf) n r ++ rs) (report-after J n r s)
 unfolding walk
 node-walks J k n ns r rs s h =
-    ap (λ v. proceed v (walk J (k + 1) ns (parts (J .kerf) (node-of (kind-of n) (operand-of n)) r ++ rs) (counted J (node-of (kind-of n) (operand-of n)) r s))) (node-passes J (s .copies) r k n h)
-    ∙ ap (λ m. walk J (k + 1) ns (parts (J .kerf) m r ++ rs) (counted J m r s)) (node-back n)
+    ap (λ v. proceed v (walk J (k + 1) ns (parts (J .kerf) (node-of (kind-of n) (operand-of n)) r ++ rs) (report-after J (node-of (kind-of n) (operand-of n)) r s))) (node-passes J (s .copies) r k n h)
+    ∙ ap (λ m. walk J (k + 1) ns (parts (J .kerf) m r ++ rs) (report-after J m r s)) (node-back n)
 
 module _ (J : Job) (few : J .count ≤ 64) where
   -- a report whose copies, with a tree's, keep every demand
@@ -54,7 +54,7 @@ module _ (J : Job) (few : J .count ≤ 64) where
   tree-walks (piece (laid.turned i)) k ns r rs s g h = node-walks J k (Turned i) ns r rs s (piece-fits (laid.turned i) r s g h)
   tree-walks (cut d x a b) k ns r rs s g h =
       let p = cut-parts d x a b r g in
-      let z = counted J (Cut d x) r s in
+      let z = report-after J (Cut d x) r s in
       let m = added J a (part d x r) z in
       let l = added-length J a (part d x r) z in
       ap (λ l. walk J k l (r ∷ rs) s) (written-cut d x a b ns)

@@ -27,7 +27,7 @@ use Rattle.node.specs.Placed.{Sized, Placed}
 use Rattle.node.proofs.Nodes.{NodeFits, node-passed}
 use Rattle.plan.specs.declared.Report.{Report}
 use Rattle.plan.specs.declared.PlanAnswer.{PlanAnswer}
-use Rattle.plan.specs.Plan.{node-of, parts, counted, plan-report, empty-report, passed, refused, unreported, proceed, walk, nodes-in}
+use Rattle.plan.specs.Plan.{node-of, parts, report-after, plan-report, empty-report, passed, refused, unreported, proceed, walk, nodes-in}
 use Rattle.plan.specs.Walk.{waiting, no-sums, rules-of, entry-at, CutInside, Held, Opens}
 
 -- two arrays of one length have as many nodes
@@ -63,7 +63,7 @@ module _ (J : Job) (kinds operands : List ℕ) (same : length kinds ≡ length o
         (placed : Placed J k (getD kinds k 0) (getD operands k 0) r t copies a after) where
       -- what follows the node
       abbrev then : PlanAnswer
-      then = walk J (k + 1) (drop (k + 1) (nodes-in kinds operands)) (parts (J .kerf) (node-of (getD kinds k 0) (getD operands k 0)) r ++ rs) (counted J (node-of (getD kinds k 0) (getD operands k 0)) r (plan-report t copies))
+      then = walk J (k + 1) (drop (k + 1) (nodes-in kinds operands)) (parts (J .kerf) (node-of (getD kinds k 0) (getD operands k 0)) r ++ rs) (report-after J (node-of (getD kinds k 0) (getD operands k 0)) r (plan-report t copies))
 
       opens-to : from k (r ∷ rs) t copies ≡ proceed (a .verdict) then
       unfolding walk

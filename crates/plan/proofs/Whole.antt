@@ -12,7 +12,7 @@ use Rattle.refusal.specs.declared.Checked.{Checked}
 use Rattle.refusal.specs.declared.Checked.the-variants.{Passed, Refused}
 use Rattle.idle.specs.Idle.{idle-checks}
 use Rattle.plan.specs.declared.PlanAnswer.{PlanAnswer}
-use Rattle.plan.specs.Plan.{walk-answer, plan-answer, walk, nodes-in, proceed, unreported, refused, empty-report}
+use Rattle.plan.specs.Plan.{walk-answer, plan-answer, walk, nodes-in, proceed, refused, empty-report}
 
 -- the verdict of two checks, the first of them an answer's own
 proceed-verdict : (v i : Checked) (a : PlanAnswer) → a .verdict ≡ v → proceed (next v i) a .verdict ≡ next v i

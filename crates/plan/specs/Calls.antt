@@ -27,13 +27,15 @@ arrays-answer s choices kinds operands = proceed (first-refusal (job-checks s ch
 abbrev pub arrays-before-idle : List ℕ → Choices → List ℕ → List ℕ → PlanAnswer
 arrays-before-idle s choices kinds operands = proceed (first-refusal (job-checks s choices)) (walk-answer (block-job s choices) kinds operands)
 
--- a plan block: the node count, that many kinds, that many operands
+-- a plan block has the node count, that many kinds, that many operands. The node count
 abbrev pub plan-count : List ℕ → ℕ
 plan-count p = u16-at p 0
 
+-- the kinds
 abbrev pub plan-kinds : List ℕ → List ℕ
 plan-kinds p = take (plan-count p) (drop 2 p)
 
+-- the operands
 unfoldable pub plan-operands : List ℕ → List ℕ
 plan-operands p = map (λ i. u16-at p (2 + plan-count p + 2 * i)) (range 0 (plan-count p))
 

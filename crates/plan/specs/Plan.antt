@@ -30,13 +30,14 @@ abbrev pub plan-report : Tally → List ℕ → Report
 plan-report t copies = record { profit = t .profit; copies = copies; pieces = t .pieces; waste = t .waste; trim = t .trim; sawdust = t .sawdust }
 
 -- a report with one node more
-abbrev pub counted : Job → Node → Rect → Report → Report
-counted J n r s = plan-report (tallied J n r (sums-of s)) (copied n (s .copies))
+abbrev pub report-after : Job → Node → Rect → Report → Report
+report-after J n r s = plan-report (tallied J n r (sums-of s)) (copied n (s .copies))
 
 -- the report before any node: the copies of 64 kinds, and every figure, are 0
 abbrev pub empty-report : Report
 empty-report = record { profit = 0; copies = replicate most-kinds 0; pieces = 0; waste = 0; trim = 0; sawdust = 0 }
 
+-- a passed plan with its report
 abbrev pub passed : Report → PlanAnswer
 passed s = record { verdict = Passed; report = s }
 
@@ -61,7 +62,7 @@ walk J k (n ∷ ns) [] s = refused (NodeLeft k)
 walk J k [] (r ∷ rs) s = refused (NodeMissing k)
 walk J k (n ∷ ns) (r ∷ rs) s =
     proceed (first-refusal (node-checks J (s .copies) r k (n .0) (n .1)))
-    (walk J (k + 1) ns (parts (J .kerf) (node-of (n .0) (n .1)) r ++ rs) (counted J (node-of (n .0) (n .1)) r s))
+    (walk J (k + 1) ns (parts (J .kerf) (node-of (n .0) (n .1)) r ++ rs) (report-after J (node-of (n .0) (n .1)) r s))
 
 -- the nodes of two arrays, each a kind and an operand
 abbrev pub nodes-in : List ℕ → List ℕ → List (ℕ × ℕ)

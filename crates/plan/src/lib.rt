@@ -241,7 +241,7 @@ pub fn check_nodes(job: JobRecord, kinds: &[u8], operands: &[u16]) -> PlanAnswer
 
 // A plan's arrays checked for a job block: refusals 1 to 7 and 27, then 10 to 18 and 26.
 pub fn check_plan(block: &[u8], choices: Choices, kinds: &[u8], operands: &[u16]) -> PlanAnswer
-    ensures answer { λ r. ⌜ r ≡ arrays-answer (now (block .entry)) choices (now (kinds .entry)) (now (operands .entry)) ⌝ }
+    ensures answers { λ r. ⌜ r ≡ arrays-answer (now (block .entry)) choices (now (kinds .entry)) (now (operands .entry)) ⌝ }
     ensures outcome { λ r. ⌜ plan-outcome r ≡ arrays-said (now (block .entry)) choices (now (kinds .entry)) (now (operands .entry)) ⌝ }
     ensures trees { λ r. ⌜ ChecksPlan (JobPasses (now (block .entry)) choices) (block-job (now (block .entry)) choices) (now (kinds .entry)) (now (operands .entry)) (arrays-before-idle (now (block .entry)) choices (now (kinds .entry)) (now (operands .entry))) r ⌝ }
 {
@@ -288,7 +288,7 @@ fn check_block(job: JobRecord, plan: &[u8]) -> PlanAnswer
 
 // A plan block checked for a job block: refusals 1 to 7 and 27, then 10 to 18 and 26.
 pub fn check_plan_block(block: &[u8], choices: Choices, plan: &[u8]) -> PlanAnswer
-    ensures answer { λ r. ⌜ r ≡ block-answer (now (block .entry)) choices (now (plan .entry)) ⌝ }
+    ensures answers { λ r. ⌜ r ≡ block-answer (now (block .entry)) choices (now (plan .entry)) ⌝ }
     ensures outcome { λ r. ⌜ plan-outcome r ≡ block-said (now (block .entry)) choices (now (plan .entry)) ⌝ }
     ensures trees { λ r. ⌜ ChecksPlan (JobPasses (now (block .entry)) choices × BlockPasses (now (plan .entry))) (block-job (now (block .entry)) choices) (plan-kinds (now (plan .entry))) (plan-operands (now (plan .entry))) (block-before-idle (now (block .entry)) choices (now (plan .entry))) r ⌝ }
 {

@@ -1,11 +1,11 @@
 -- The sides of the pieces that fit: how the list grows, and that it gives the normal positions of the plain job of the array.
 use mathlib.Core.Path.{_≡_, refl, sym, _∙_, ap, subst}
-use mathlib.Core.Bool.{Bool, true, false, and-comm}
+use mathlib.Core.Bool.{true, false, and-comm}
 use mathlib.Core.List.{List, [], _∷_, _++_, map}
 use Prim.Native.Nat.{ℕ, _+_, _-_, _*_, _≤_, _<_}
 use native.Mathlib.Omega.{arith}
 use lib.Dec.{T, leb}
-use lib.ListN.{length, getD, set, length-map, List·getD-append}
+use lib.ListN.{length, set, length-map, List·getD-append}
 use Rattle.cutting.specs.declared.Direction.{Direction}
 use Rattle.cutting.specs.declared.Direction.the-variants.{Length, Width}
 use Rattle.cutting.specs.Lists.{range, filter}

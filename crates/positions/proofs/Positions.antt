@@ -36,10 +36,6 @@ module _ (J : Job) (d : Direction) (positions : List ℕ) (n : ℕ) (h : n ≤ l
       sym (entry-is i (f .within)) ∙ sym (positions-floor J d i x l (omega (arith, count-is, f .within)) (omega (arith, entry-is i (f .within), f .not-above))
       (λ k. (let m : suc i < n = omega (arith, count-is) in rw (entry-is (suc i) m) (rw add-one at (f .next-above (omega arith))))))
 
-  -- the list read back: it has room for the normal positions, and holds them
-  pub positions-read : (length (normal-positions J d) ≤ length positions) × ((i : ℕ) → i < length (normal-positions J d) → getD positions i 0 ≡ getD (normal-positions J d) i 0)
-  positions-read = (omega (arith, count-is), λ i l. sym (entry-is i (omega (arith, count-is))))
-
   -- the map read back: at each length it names the largest normal position not above it
   pub floors-found : (floors : List ℕ) → Floors positions n (side d (J .plate) + 1) floors → (x : ℕ) → x ≤ side d (J .plate)
       → (getD floors x 0 < length (normal-positions J d)) × (getD (normal-positions J d) (getD floors x 0) 0 ≡ normal-floor J d x)

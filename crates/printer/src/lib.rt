@@ -44,18 +44,22 @@ pub fn keeps_demands(block: &[u8], choices: Choices, kinds: &[u8], operands: &[u
     }
 }
 
+// A word of a line.
 fn print_word(word: &[u8]) {
     io::write_all(STDOUT_FILENO, word);
 }
 
+// A number in decimal.
 fn print_number(n: u64) {
     io::print_decimal(STDOUT_FILENO, n);
 }
 
+// A number of 16 bits.
 fn print_small(n: u16) {
     print_number(n as u64);
 }
 
+// A number of 8 bits.
 fn print_byte(n: u8) {
     print_number(n as u64);
 }
@@ -88,6 +92,7 @@ fn print_weight(weight: u8) {
     print_byte(weight);
 }
 
+// The weights, one after another.
 fn print_each(weights: &[u8]) {
     for i in 0..weights.len() {
         print_weight(weights[i]);

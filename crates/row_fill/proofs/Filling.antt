@@ -19,7 +19,7 @@ use Rattle.cutting.proofs.Table.{positions-first, positions-some, positions-len
 use Rattle.table.specs.declared.TableSize.{TableSize}
 use Rattle.table.specs.Table.{words-needed, Figures, Kept}
 use Rattle.table.specs.Contracts.{size-job, Positions, Fillable, FilledBy}
-use Rattle.table.specs.Words.{Outside, Run, HalfReady, Half, remainder, Axis}
+use Rattle.table.specs.Words.{Run, HalfReady, Half, remainder, Axis}
 use Rattle.table.specs.States.{Covers, figure-at}
 use Rattle.table.proofs.Words.{cell-before, words-past}
 use Rattle.table.proofs.Halves.{half-below, half-more, half-cuts, half-parts, half-ready, half-next}
@@ -27,7 +27,7 @@ use Rattle.table.proofs.Figures.{entry-is, entry-side, positions-axis}
 use Rattle.table.proofs.Weighed.{plain-order, figure-one}
 use Rattle.table.proofs.Across.{across, no-side, two-parts, more-side, piece-most, state-low}
 use Rattle.table.proofs.Complete.{side-covered, complete}
-use Rattle.row_fill.specs.Raised.{Alone, Pieces}
+use Rattle.row_fill.specs.Raised.{Pieces}
 use Rattle.row_fill.specs.Rows.{Entries, LengthsTaken, WidthsTaken, Rows}
 use Rattle.row_fill.specs.Ready.{ceiling, Capped, LengthsReady, RowReady}
 

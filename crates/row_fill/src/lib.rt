@@ -10,7 +10,7 @@ use table::half;
 use table::set_run;
 use table::widen;
 ghost use mathlib.Core.Path.{_≡_};
-ghost use Prim.Native.Nat.{ℕ, _+_, _-_, _≤_, _<_, min};
+ghost use Prim.Native.Nat.{_+_, _-_, _≤_, _<_, min};
 ghost use lib.ListN.{length};
 ghost use Rattle.cutting.specs.Listed.{heavy-in};
 ghost use Rattle.table.specs.Contracts.{size-job, Fillable, FilledBy};
@@ -28,6 +28,7 @@ struct Row {
     count: u16,
 }
 
+// The smaller of two.
 fn smaller(a: usize, b: usize) -> usize
     ensures { λ r. ⌜ r ≡ min a b ⌝ }
 {

@@ -24,7 +24,7 @@ use Rattle.job.proofs.Read.{block-parts}
 use Rattle.idle.specs.Idle.{idle-checks}
 use Rattle.plan.specs.declared.Report.{Report}
 use Rattle.plan.specs.declared.PlanAnswer.{PlanAnswer}
-use Rattle.plan.specs.Plan.{node-of, node-checks, parts, counted, empty-report, proceed, walk, plan-checks, nodes-in, walk-answer, plan-answer}
+use Rattle.plan.specs.Plan.{node-of, node-checks, parts, report-after, empty-report, proceed, walk, plan-checks, nodes-in, walk-answer, plan-answer}
 use Rattle.plan.specs.Calls.{arrays-answer}
 use Rattle.plan.proofs.Parse.{no-pass}
 use Rattle.saw.specs.declared.SawReport.{SawReport}
@@ -47,7 +47,7 @@ laid-more k size r w = record { copies = set (w .copies) k (getD (w .copies) k 0
 
 module _ (J : Job) (price : ℕ → ℕ) where
   -- a node more
-  counted-alike : (n : Node) (r : Rect) (s z : Report) → without-profit s ≡ without-profit z → without-profit (counted J n r s) ≡ without-profit (counted (at-prices price J) n r z)
+  counted-alike : (n : Node) (r : Rect) (s z : Report) → without-profit s ≡ without-profit z → without-profit (report-after J n r s) ≡ without-profit (report-after (at-prices price J) n r z)
   counted-alike Waste r s z h = ap (λ (w : SawReport). record { copies = w .copies; pieces = w .pieces; waste = w .waste + area r; trim = w .trim; sawdust = w .sawdust }) h
   counted-alike (Piece k) r s z h = ap (laid-more k (laid J (laid.upright k)) r) h
   counted-alike (Turned k) r s z h = ap (laid-more k (laid J (laid.turned k)) r) h
@@ -60,9 +60,9 @@ module _ (J : Job) (price : ℕ → ℕ) where
   walk-alike (n ∷ ns) k [] s z h = refl
   walk-alike (n ∷ ns) k (r ∷ rs) s z h =
       let m = node-of (n .0) (n .1) in
-      let after = walk J (k + 1) ns (parts (J .kerf) m r ++ rs) (counted J m r s) in
+      let after = walk J (k + 1) ns (parts (J .kerf) m r ++ rs) (report-after J m r s) in
       ap (λ c. saw-of (proceed (first-refusal (node-checks J c r k (n .0) (n .1))) after)) (ap (λ (w : SawReport). w .copies) h)
-      ∙ proceed-alike (first-refusal (node-checks J (z .copies) r k (n .0) (n .1))) after _ (walk-alike ns (k + 1) (parts (J .kerf) m r ++ rs) (counted J m r s) (counted (at-prices price J) m r z) (counted-alike m r s z h))
+      ∙ proceed-alike (first-refusal (node-checks J (z .copies) r k (n .0) (n .1))) after _ (walk-alike ns (k + 1) (parts (J .kerf) m r ++ rs) (report-after J m r s) (report-after (at-prices price J) m r z) (counted-alike m r s z h))
 
   -- whatever the prices, the plan check gives the same verdict, copies and areas
   plan-alike : (kinds operands : List ℕ) → saw-of (plan-answer J kinds operands) ≡ saw-of (plan-answer (at-prices price J) kinds operands)

@@ -135,7 +135,7 @@ fn without_profit(answer: PlanAnswer) -> SawAnswer
 
 // A plan's arrays checked by the saw: refusals 1 to 5, 7 and 27, then 10 to 18 and 26.
 pub fn saw_check(block: &[u8], choices: Choices, kinds: &[u8], operands: &[u16]) -> SawAnswer
-    ensures answer { λ r. ⌜ r ≡ saw-answer (now (block .entry)) choices (now (kinds .entry)) (now (operands .entry)) ⌝ }
+    ensures answers { λ r. ⌜ r ≡ saw-answer (now (block .entry)) choices (now (kinds .entry)) (now (operands .entry)) ⌝ }
     ensures outcome { λ r. ⌜ saw-outcome r ≡ saw-said (now (block .entry)) choices (now (kinds .entry)) (now (operands .entry)) ⌝ }
     ensures trees { λ r. ⌜ SawChecks (now (block .entry)) choices (now (kinds .entry)) (now (operands .entry)) r ⌝ }
     ensures blind { λ r. ⌜ AtAnyPrices choices (now (block .entry)) (λ z. r ≡ saw-answer z choices (now (kinds .entry)) (now (operands .entry))) ⌝ }

@@ -13,17 +13,19 @@ use Rattle.cutting.specs.Job.{Job}
 use Rattle.table.specs.Words.{Outside, remainder, Cuts}
 use Rattle.table.specs.States.{below, Blocks, Covers}
 
--- the figure and the note of a word
+-- the figure of a word, its lower 41 bits
 unfoldable pub figure-in : ℕ → ℕ
 figure-in w = w % 2199023255552
 
+-- the note of a word, the bits above them
 unfoldable pub note-in : ℕ → ℕ
 note-in w = w / 2199023255552
 
--- the figure and the note at state s, or at place s of the list, of the cell from word x on
+-- the figure at state s of the cell from word x on
 abbrev pub held : List ℕ → ℕ → ℕ → ℕ
 held xs x s = figure-in (getD xs (x + s) 0)
 
+-- the note at state s, or at place s of the list, of that cell
 abbrev pub note : List ℕ → ℕ → ℕ → ℕ
 note xs x s = note-in (getD xs (x + s) 0)
 
@@ -82,10 +84,11 @@ pub record Raised (le : ℕ → ℕ → Bool) (at words t v : ℕ) (old new : Li
   pub own : getD new (at + t) 0 ≡ v + 2199023255552
   pub rest : Outside at (at + words) old new
 
--- state t of the cell from x on is flagged, or is on its list
+-- state t of the cell from x on is flagged
 abbrev pub Flagged : List ℕ → ℕ → ℕ → Type 0
 Flagged xs x t = 1 ≤ note xs x t
 
+-- state t is on the list of the cell from x on
 abbrev pub Listed : List ℕ → ℕ → ℕ → ℕ → Type 0
 Listed xs x words t = (k : ℕ) × (k < words) × (note xs x k ≡ t + 1)
 

@@ -17,10 +17,11 @@ use Rattle.state_fill.specs.declared.cells.Place.{Place}
 use Rattle.state_fill.specs.declared.parts.Line.{Line}
 use Rattle.state_fill.specs.Cells.{held, note, under, Digits, Listed, Level}
 
--- the cells of a cell's width, along the lengths, and those of its length, along the widths
+-- the cells of a cell's width, along the lengths
 abbrev pub length-line : Shape → Place → Line
 length-line shape place = record { index = place .a; «half_end» = place .«length_half_end»; at = place .at; base = place .column; stride = shape .stride }
 
+-- the cells of a cell's length, along the widths
 abbrev pub width-line : Shape → Place → Line
 width-line shape place = record { index = place .b; «half_end» = place .«width_half_end»; at = place .at; base = place .at - place .column; stride = shape .words }
 
@@ -53,10 +54,11 @@ Rows J le own normal-lengths normal-widths words a xs = (i j : ℕ) → i < a �
 abbrev pub Cells : Job → (ℕ → ℕ → Bool) → (ℕ → ℕ) → List ℕ → List ℕ → ℕ → ℕ → ℕ → List ℕ → Type 0
 Cells J le own normal-lengths normal-widths words a b xs = (j : ℕ) → j < b → Made J le own normal-lengths normal-widths words a j xs
 
--- the figures of the cells of the rows below a, and of the cells of row a below cell b, are the same from state `flat` on
+-- the figures of the cells of the rows below a are the same from state `flat` on
 abbrev pub LevelRows : Job → (ℕ → ℕ → Bool) → (ℕ → ℕ) → List ℕ → List ℕ → ℕ → ℕ → ℕ → Type 0
 LevelRows J le own normal-lengths normal-widths words flat a = (i j : ℕ) → i < a → j < position-count J Width → Level words flat (tabled J le own normal-lengths normal-widths i j)
 
+-- the figures of the cells of row a below cell b are the same from state `flat` on
 abbrev pub LevelCells : Job → (ℕ → ℕ → Bool) → (ℕ → ℕ) → List ℕ → List ℕ → ℕ → ℕ → ℕ → ℕ → Type 0
 LevelCells J le own normal-lengths normal-widths words flat a b = (j : ℕ) → j < b → Level words flat (tabled J le own normal-lengths normal-widths a j)
 

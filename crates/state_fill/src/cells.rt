@@ -158,7 +158,7 @@ pub struct Place {
     pub flat: usize,
 }
 
-// The cells that the cell's cuts read: those of its width, along the lengths, and those of its length, along the widths.
+// The cells that the cell's length cuts read: those of its width, along the lengths.
 fn length_line(shape: Shape, place: Place) -> Line
     ensures { λ r. ⌜ r ≡ length-line shape place ⌝ }
 {
@@ -171,6 +171,7 @@ fn length_line(shape: Shape, place: Place) -> Line
     }
 }
 
+// Those that its width cuts read: of its length, along the widths.
 fn width_line(shape: Shape, place: Place) -> Line
     requires { ⌜ place .column ≤ place .at ⌝ }
     ensures { λ r. ⌜ r ≡ width-line shape place ⌝ }

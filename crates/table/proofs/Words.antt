@@ -28,14 +28,6 @@ run-more f at j old xs v l e w = record {
   };
 }
 
--- one word written
-pub run-one : (f : ℕ → ℕ) (at : ℕ) (xs : List ℕ) (v : ℕ) → at < length xs → v ≡ f 0 → Run f at 1 xs (set xs at v)
-run-one f at xs v l e = let z : at + 0 ≡ at = omega arith in rw z at (run-more f at 0 xs xs v (omega arith) e (run-none f at xs))
-
--- one word more from the table's beginning
-pub first-more : (f : ℕ → ℕ) (j : ℕ) (old xs : List ℕ) (v : ℕ) → j < length xs → v ≡ f j → Run f 0 j old xs → Run f 0 (j + 1) old (set xs j v)
-first-more f j old xs v l e w = let z : 0 + j ≡ j = omega arith in rw z at (run-more f 0 j old xs v (omega arith) e w)
-
 -- a cell lies before the next one
 pub cell-before : (b columns words : ℕ) → b < columns → b * words + words ≤ columns * words
 cell-before b columns words h = omega (arith, mul-le-mul-right {m = b + 1} {n = columns} words (omega arith))

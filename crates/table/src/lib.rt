@@ -2,7 +2,7 @@
 // figures, and runs of words. The definitions of the table's contents stand in specs/Table, what a fill asks and leaves in
 // specs/Contracts; which cuts can give a cell more, and what makes a cell complete, is proved in proofs/Covered and proofs/Complete.
 ghost use mathlib.Core.Path.{_≡_};
-ghost use Prim.Native.Nat.{ℕ, _+_, _-_, _*_, _≤_, _<_, max};
+ghost use Prim.Native.Nat.{_+_, _-_, _*_, _≤_, _<_, max};
 ghost use lib.ListN.{length, getD};
 ghost use Rattle.table.specs.Words.{Run, HalfReady, Half};
 
@@ -54,6 +54,7 @@ pub fn greater_lifted(a: u64, lifted: u64) -> u64
     a + d % 9223372036854775808 * (d / 9223372036854775808)
 }
 
+// The greater of two figures.
 pub fn greater(a: u64, b: u64) -> u64
     requires { ⌜ (a < 9223372036854775808) × (b < 9223372036854775808) ⌝ }
     ensures { λ r. ⌜ r ≡ max a b ⌝ }

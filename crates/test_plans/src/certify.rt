@@ -8,9 +8,12 @@ use crate::lent::OPERANDS;
 use crate::lent::WEIGHTS;
 use crate::lent::choices;
 use crate::lent::count;
+use crate::lent::other_choices;
 use crate::lent::print_refusal;
 use certificate::Certificate;
 use certificate::certify;
+use certificate::certify_full_demand;
+use job::Choices;
 use refusal::Refusal;
 use test_tools::Words;
 use test_tools::bytes;
@@ -52,12 +55,47 @@ fn print_changed(t: &Words, lengths: &[u16; 1028], widths: &[u16; 1028], table: 
     print_numbers(b"; changed # # #", &[p, r, k]);
 }
 
+// The certificate, or the one of the full demands.
+fn certify_lent(
+    block: &[u8],
+    choices: Choices,
+    weights: &[u8],
+    kinds: &[u8],
+    operands: &[u16],
+    lengths: &mut [u16],
+    widths: &mut [u16],
+    table: &mut [u64],
+) -> Certificate {
+    if choices.full_demand {
+        return certify_full_demand(
+            block,
+            other_choices(choices),
+            weights,
+            kinds,
+            operands,
+            lengths,
+            widths,
+            table,
+        );
+    }
+    certify(
+        block,
+        choices,
+        weights,
+        kinds,
+        operands,
+        lengths,
+        widths,
+        table,
+    )
+}
+
 // The certificate of a plan, with the parts of lists and table that are lent.
 fn certify_plan(t: &Words, block: &[u8], weights: &[u8], kinds: &[u8], operands: &[u16]) {
     let mut lengths = marked_list();
     let mut widths = marked_list();
     let mut table = marked_table();
-    print_certificate(certify(
+    print_certificate(certify_lent(
         block,
         choices(t),
         weights,

@@ -2,16 +2,18 @@
 // `job`, `weights`, `kinds`, `operands` and `plan` set the bytes of the job block, the weights, the plan's two arrays and the plan block;
 // `lend` sets how many entries of the two lists and words of the table a certificate is lent, `neat` how many entries of the two output
 // arrays a neat plan is lent; `turning` sets whether pieces may be turned
-// from here on, 1 or 0, `full` whether the capacity is that of the full demands (a plan is then written by the call of that name), and
+// from here on, 1 or 0, `full` whether the capacity is that of the full demands (a plan is then written, or certified, by the call of that name), and
 // `before` whether job blocks are old ones, from before the kerf. Then a call runs on what is set:
 // `Arrays` checks the two arrays, `Block` the plan block, `Jobs` and `Plans` every truncation of the job block and of the plan block;
 // `Write` writes a plan into the arrays and prints arrays of seven entries as kind.operand; `Neat` writes the neat plan of the arrays into
 // the output arrays and prints seven entries of them; `Certify` certifies the arrays and prints how
 // many entries of the lists and words of the table it changed; `Saw` checks the two arrays as the saw does, and `Entries` prints the part of
-// them that belongs to the node which `entry` sets. An answer is printed as its values, a refusal as number and place.
+// them that belongs to the node which `entry` sets;
+// `Old` reads the job block by the call for old ones. An answer is printed as its values, a refusal as number and place.
 mod certify;
 mod check;
 mod lent;
+mod old_job;
 mod saw_calls;
 mod tidy;
 mod write;
@@ -32,6 +34,7 @@ use lent::PLAN;
 use lent::REMARK;
 use lent::TURNING;
 use lent::WEIGHTS;
+use old_job::run_old_job;
 use saw_calls::run_entries;
 use saw_calls::run_saw;
 use test_tools::Words;
@@ -71,6 +74,7 @@ fn run(t: &mut Words, letter: u8) {
         b'C' => run_certify(t),
         b'S' => run_saw(t),
         b'E' => run_entries(t),
+        b'O' => run_old_job(t),
         _ => row_to(t, place(letter)),
     }
 }

@@ -29,17 +29,17 @@ use Rattle.table.specs.declared.TableSize.{TableSize}
 use Rattle.table.specs.Contracts.{size-job}
 use Rattle.choice.specs.declared.Cell.{Cell}
 use Rattle.choice.specs.declared.Chosen.{Chosen}
-use Rattle.choice.specs.Search.{laying, node-of}
+use Rattle.choice.specs.Search.{node-way, numbered-node}
 use Rattle.choice.specs.Choice.{Inside, chosen-of, chosen-at}
 use Rattle.writer.specs.Contracts.{plan-at, left-out, first-of, half-of}
 use Rattle.writer.proofs.Preorder.{nodes-most, count-sawn, count-laid}
 
 -- the node that a number stands for is its piece's
-number-nodes : (number : ℕ) → preorder (piece (numbered-piece number)) ≡ node-of number ∷ []
+number-nodes : (number : ℕ) → preorder (piece (numbered-piece number)) ≡ numbered-node number ∷ []
 unfolding preorder
 number-nodes number = go (eqb (number % 2) 0)
   where
-    go : (b : Bool) → preorder (piece (piece-way b (number / 2))) ≡ laying b (number / 2) ∷ []
+    go : (b : Bool) → preorder (piece (piece-way b (number / 2))) ≡ node-way b (number / 2) ∷ []
     go true = refl
     go false = refl
 
@@ -75,7 +75,7 @@ module _ (kerf : ℕ) (size : TableSize) (pieces : List ℕ) (r : Rect) (c : ℕ
   leaf-after (as-cut d x q) k = absurd (k d x refl)
 
   -- a number's node is no cut
-  no-cut : {A : Type 0} (b : Bool) (i : ℕ) (d : Direction) (x : ℕ) → laying b i ≡ Cut d x → A
+  no-cut : {A : Type 0} (b : Bool) (i : ℕ) (d : Direction) (x : ℕ) → node-way b i ≡ Cut d x → A
   no-cut true i d x e = absurd (let z : _≡_ {A = ℕ} 0 1 = cc in omega arith)
   no-cut false i d x e = absurd (let z : _≡_ {A = ℕ} 0 1 = cc in omega arith)
 

@@ -43,10 +43,11 @@ with-cell waiting i cell = set (set (set waiting (3 * i) (cell .sides .length)) 
 abbrev pub plan-at : ℕ → TableSize → List ℕ → Cell → Tree laid.Piece
 plan-at kerf size pieces cell = array-plan kerf (size .length, size .width) (size .count) pieces (rect-of (cell .sides)) (cell .share)
 
--- the cell of the plate with all of the capacity, and the plan from it
+-- the cell of the plate with all of the capacity
 abbrev pub plate-cell : TableSize → Cell
 plate-cell size = record { sides = record { length = size .length; width = size .width }; share = size .capacity }
 
+-- the plan from that cell
 abbrev pub whole-plan : ℕ → TableSize → List ℕ → Tree laid.Piece
 whole-plan kerf size pieces = plan-at kerf size pieces (plate-cell size)
 

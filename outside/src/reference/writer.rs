@@ -1,5 +1,5 @@
 // The plan behind the bound, chosen from the figures of whole rectangles: refusal 21.
-// The order of choice is the paper's; a cut stands at a side of a cell, the remainder is true. A cut
+// The order of choice is the scope's; a cut stands at a side of a cell, the remainder is true. A cut
 // that has no second part is left out.
 use super::bound::{tabled, Tabled};
 use super::job::{Job, Piece};

@@ -1,4 +1,4 @@
-// The marked examples of the paper, on the reference and on the proved calls, with the new block and,
+// The marked examples of the scope, on the reference and on the proved calls, with the new block and,
 // where the kerf is 0, with the old one too.
 // Each says what a call answers; refusals are a number and a place.
 use crate::lent::{Lent, Sizes, AMPLE};

@@ -1,4 +1,4 @@
-// Tests of the calls of planner.h: the proved archive and the reference on the paper's examples,
+// Tests of the calls of planner.h: the proved archive and the reference on the scope's examples,
 // and the one against the other, with all lent memory, on generated inputs.
 mod baselines;
 mod cancelled;

@@ -1,4 +1,4 @@
-// Points that the paper leaves to a close reading, one case each.
+// Points that the scope leaves to a close reading, one case each.
 // Every case tells two possible readings apart.
 use crate::examples::{answers, input, lists, plan_refused, refuses, reports, writes};
 use crate::lent::{Lent, Sizes, AMPLE};

@@ -151,9 +151,10 @@ fn short_answers_and_unknown_choices_change_nothing() {
 #[test]
 fn generated_inputs_agree_whatever_their_prices() {
     let random = &mut Random::new(9);
-    let (mut calls, mut passed) = (0, 0);
+    let (mut inputs, mut calls, mut passed) = (0, 0, 0);
     for choices in all_choices() {
         for _ in 0..3000 {
+            inputs += 1;
             let mut office = draw(random, SMALL, choices);
             damage(random, &mut office);
             let saw = repriced(random, &office);
@@ -161,7 +162,7 @@ fn generated_inputs_agree_whatever_their_prices() {
             calls += 2 * saw_agrees(random, &office, &saw);
         }
     }
-    println!("{calls} calls of the saw compared, {passed} plans passed by the office");
+    println!("the saw: {inputs} inputs, {calls} calls compared, {passed} plans passed by the office");
     assert!(passed >= 4000, "{passed} plans passed");
 }
 

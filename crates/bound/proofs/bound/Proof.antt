@@ -1,7 +1,7 @@
 -- `bound::bound` meets its contract: the pieces of an accepted job are listed, and their bound is the job's.
 use mathlib.Core.Path.{refl}
 use denote.Ref.{now}
-use Rattle.job.proofs.Taken.{Taken, taken, refused-both}
+use Rattle.job.proofs.Taken.{taken, refused-both}
 use Rattle.bound.specs.Bound.{lent}
 use Rattle.bound.proofs.Calls.{range-taken, listable, boundable, job-bounded, early, accepted}
 use borrow.Author.Needs.{needs}

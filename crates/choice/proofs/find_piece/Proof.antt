@@ -18,8 +18,8 @@ abbrev μ-loop : tie.MeasureT-loop
 loop-holds : tie.Need-loop-holds Inv-loop μ-loop
 loop-holds c = (refl, left-start _ _)
 
-node-of-requires : tie.Need-node-of-requires Inv-loop μ-loop
-node-of-requires c κs =
+numbered-node-requires : tie.Need-numbered-node-requires Inv-loop μ-loop
+numbered-node-requires c κs =
     let turn = c .before .before .before .before .before .before .before .before .loop in
     c .before .before .before .before .before .before .before .before .before .pre .nodes (turn .j) (search needs)
 
@@ -27,7 +27,7 @@ returns : tie.Need-returns Inv-loop μ-loop
 returns c =
     let turn = c .before .before .before .before .before .before .before .before .before .loop in
     let a = c .before .before .before .before .before .before .before .before .before .before .args in
-    ap Laid (c .node-of .ensures)
+    ap Laid (c .numbered-node .ensures)
     ∙ sym (ap (piece-found (a .pieces .now)) (turn .inv .1 ∙ left-passes _ _ (turn .j) (search needs) (sym (c .before .before .before .piece-earns .ensures) ∙ c .before .before .if1 .taken)))
 
 loop-again : tie.Need-loop-again Inv-loop μ-loop
@@ -44,5 +44,5 @@ find-piece-spec =
     (tie.spec Inv-loop μ-loop loop-holds (λ c. search needs) (λ c. search needs) (λ c. search needs)
     (λ c. search needs) (λ c. search needs) (λ c. search needs) (λ c. search needs) (λ c. search needs)
     (λ c. search needs) (λ c. search needs) (λ c. search needs) (λ c. search needs) (λ c. search needs)
-    (λ c. search needs) (λ c. search needs) (λ c. search needs) node-of-requires returns (λ c. search needs)
+    (λ c. search needs) (λ c. search needs) (λ c. search needs) numbered-node-requires returns (λ c. search needs)
     (λ c. search needs) loop-again returns-2)

@@ -1,5 +1,4 @@
 -- `idle::decide` meets its contract.
-use borrow.Author.Needs.{needs}
 use Rattle.idle.proofs.decide.Statement.{statement}
 use Rattle.idle.proofs.decide.Tie as tie
 

@@ -19,25 +19,13 @@ abbrev μ-loop : tie.MeasureT-loop
 loop-holds : tie.Need-loop-holds Inv-loop μ-loop
 loop-holds c = begins (now (c .before .args .kinds))
 
-sub-k : tie.Need-sub-k Inv-loop μ-loop
-sub-k c = search needs
-
-shared-slice-read-decode : tie.Need-shared-slice-read-decode Inv-loop μ-loop
-shared-slice-read-decode c = search needs
-
-cast-decide : tie.Need-cast-decide Inv-loop μ-loop
-cast-decide c = search needs
-
-trees-from-requires : tie.Need-trees-from-requires Inv-loop μ-loop
-trees-from-requires c κs = let s = few (c .before .before .before .before .before .loop .inv) in omega (arith, s, c .before .before .before .before .before .before .before .pre)
-
-loop-less : tie.Need-loop-less Inv-loop μ-loop
-loop-less c = search needs
+pieceless-from-requires : tie.Need-pieceless-from-requires Inv-loop μ-loop
+pieceless-from-requires c κs = let s = few (c .before .before .before .before .before .loop .inv) in omega (arith, s, c .before .before .before .before .before .before .before .pre)
 
 loop-again : tie.Need-loop-again Inv-loop μ-loop
 loop-again c =
     let l = c .before .before .before .before .before .before .loop in
-    goes-on (l .inv) (omega (arith, c .before .before .before .before .before .loop-test)) (c .before .before .before .decode .ensures) (c .before .decide .ensures ∙ ap (λ b. next (refuse-when b (IdleCut (l .k - 1))) (l .verdict)) (c .before .before .is-idle .ensures)) (c .trees-from .ensures)
+    goes-on (l .inv) (omega (arith, c .before .before .before .before .before .loop-test)) (c .before .before .before .decode .ensures) (c .before .decide .ensures ∙ ap (λ b. next (refuse-when b (IdleCut (l .k - 1))) (l .verdict)) (c .before .before .is-idle .ensures)) (c .pieceless-from .ensures)
 
 returns : tie.Need-returns Inv-loop μ-loop
 returns c = ends (c .before .loop .inv) (omega (arith, c .loop-test))
@@ -45,4 +33,4 @@ returns c = ends (c .before .loop .inv) (omega (arith, c .loop-test))
 pub idle-cut-spec : {M : Type 1} → statement M
 idle-cut-spec =
     tie.close
-    (tie.spec Inv-loop μ-loop loop-holds sub-k shared-slice-read-decode (λ c κs. search needs) (λ c κs. search needs) cast-decide (λ c κs. search needs) trees-from-requires loop-less loop-again returns)
+    (tie.spec Inv-loop μ-loop loop-holds (λ c. search needs) (λ c. search needs) (λ c κs. search needs) (λ c κs. search needs) (λ c. search needs) (λ c κs. search needs) pieceless-from-requires (λ c. search needs) loop-again returns)

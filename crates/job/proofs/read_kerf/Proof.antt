@@ -1,10 +1,6 @@
 -- `job::read_kerf` meets its contract.
 use mathlib.Core.Path.{sym, _∙_, ap}
-use Prim.Native.Nat.{_≤_}
-use native.Mathlib.Omega.{arith}
-use borrow.Author.Needs.{needs}
 use denote.Ref.{now}
-use lib.ListN.{length}
 use Rattle.job.specs.Block.{kerf-at, sizes-end}
 use Rattle.job.proofs.read_kerf.Statement.{statement}
 use Rattle.job.proofs.read_kerf.Tie as tie

@@ -1,5 +1,4 @@
 -- `node::lay` meets its contract.
-use mathlib.Core.Path.{_∙_}
 use borrow.Author.Needs.{needs}
 use Rattle.node.proofs.lay.Statement.{statement}
 use Rattle.node.proofs.lay.Tie as tie

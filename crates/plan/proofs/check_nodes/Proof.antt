@@ -1,6 +1,5 @@
 -- `plan::check_nodes` meets its contract: the walk comes first, then check 26.
 use mathlib.Core.Path.{_∙_, sym, ap}
-use native.Mathlib.Omega.{arith}
 use denote.Ref.{now}
 use borrow.Author.Needs.{needs}
 use Rattle.job.specs.Block.{job-of}

@@ -1,5 +1,4 @@
 -- `refusal::refuse_if` meets its contract.
-use borrow.Author.Needs.{needs}
 use Rattle.refusal.proofs.refuse_if.Statement.{statement}
 use Rattle.refusal.proofs.refuse_if.Tie as tie
 

@@ -6,8 +6,8 @@ use crate::measure::medians;
 
 pub fn table(title: &str, wanted: &str, jobs: &[Job]) {
     println!("\n## {title}\n");
-    println!("| job | p | r | Q | words | call | ours ms | Rust ms | C ms | ours / best |");
-    println!("|---|--:|--:|--:|--:|---|--:|--:|--:|--:|");
+    println!("| job | p | r | Q | words | nodes | call | ours ms | Rust ms | C ms | ours / best |");
+    println!("|---|--:|--:|--:|--:|--:|---|--:|--:|--:|--:|");
     for job in jobs.iter().filter(|job| job.name.contains(wanted)) {
         let facts = facts(job);
         let mut memory = Memory::enough_for(job);
@@ -33,7 +33,7 @@ fn facts(job: &Job) -> String {
     let nodes = ours.1.nodes;
     let sizes = [bound.lengths, bound.widths, bound.capacity, words as u64];
     let [p, r, q, words] = sizes.map(|size| size.to_string());
-    format!("| {} | {p} | {r} | {q} | {words} | {nodes} nodes", job.name)
+    format!("| {} | {p} | {r} | {q} | {words} | {nodes} |", job.name)
 }
 
 fn line(facts: &str, call: &str, [ours, rust, c]: [f64; 3]) {

@@ -2,7 +2,7 @@
 use borrow.Author.Needs.{needs}
 use native.Mathlib.Omega.{arith}
 use mathlib.Core.Path.{_≡_, refl, _∙_}
-use Prim.Native.Nat.{_-_, _≤_, _<_}
+use Prim.Native.Nat.{_-_, _≤_}
 use lib.ListN.{length}
 use Rattle.state_fill.specs.Cells.{under, CutAt, Topped}
 use Rattle.state_fill.proofs.Joining.{ready-kept, growing-kept, cut-none, cut-then, cuts-fewer}

@@ -1,12 +1,12 @@
 -- `writer::nodes::settle` meets its contract. The measure is the half perimeter of the cell.
-use mathlib.Core.Path.{_≡_, refl, sym, _∙_, ap}
+use mathlib.Core.Path.{_≡_, refl, sym, _∙_}
 use Prim.Native.Nat.{_≤_, _<_}
 use native.Mathlib.Omega.{arith}
 use borrow.Author.Needs.{needs}
 use denote.Ref.{now}
 use Rattle.table.specs.Contracts.{size-job}
 use Rattle.choice.specs.Choice.{Inside, chosen-at}
-use Rattle.writer.specs.Contracts.{plan-at, first-of, half-of}
+use Rattle.writer.specs.Contracts.{plan-at, half-of}
 use Rattle.writer.proofs.Plan.{goes-on}
 use Rattle.writer.proofs.nodes.settle.Statement.{statement}
 use Rattle.writer.proofs.nodes.settle.Tie as tie

@@ -1,8 +1,8 @@
--- `idle::trees_from` meets its contract: each node tells which it is.
+-- `idle::pieceless_from` meets its contract: each node tells which it is.
 use native.Mathlib.Omega.{arith}
 use borrow.Author.Needs.{needs}
-use Rattle.idle.proofs.trees_from.Statement.{statement}
-use Rattle.idle.proofs.trees_from.Tie as tie
+use Rattle.idle.proofs.pieceless_from.Statement.{statement}
+use Rattle.idle.proofs.pieceless_from.Tie as tie
 
 returns : tie.Need-returns
 returns c = rw (c .before .enum-told4 .given .1)
@@ -13,7 +13,7 @@ returns-2 c = rw (c .enum-told .given .1)
 returns-5 : tie.Need-returns-5
 returns-5 c = rw (c .before .enum-told4 .given .1) (omega arith)
 
-pub trees-from-spec : {M : Type 1} → statement M
-trees-from-spec =
+pub pieceless-from-spec : {M : Type 1} → statement M
+pieceless-from-spec =
     tie.close
     (tie.spec (λ c. search needs) (λ c. search needs) (λ c. search needs) (λ c. search needs) (λ c. search needs) (λ c. search needs) returns returns-2 (λ c. search needs) (λ c. search needs) returns-5)
