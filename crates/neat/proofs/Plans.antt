@@ -23,7 +23,6 @@ use Rattle.job.specs.declared.JobRecord.{JobRecord}
 use Rattle.job.specs.declared.JobAnswer.{JobAnswer}
 use Rattle.job.specs.Block.{job-checks, read-of, job-of}
 use Rattle.job.specs.Weights.{block-job}
-use Rattle.job.proofs.Checks.{passed-both}
 use Rattle.job.proofs.Read as read
 use Rattle.plan.specs.Plan.{nodes-in, plan-answer}
 use Rattle.plan.specs.Walk.{Walkable}
@@ -32,7 +31,7 @@ use Rattle.plan.proofs.Preorder.{written, arrays-written, kinds-length, operand
 use Rattle.plan.proofs.Plans.{plans-checked}
 use Rattle.neat.specs.declared.NeatAnswer.{NeatAnswer}
 use Rattle.neat.specs.declared.NeatAnswer.the-variants as answer
-use Rattle.neat.specs.Neat.{trees-in, first-tree, tree-in, neat-tree, room-check, neat-checked, neat-verdict, block-neat, neat-answer-by, neat-outcome, NeatPlan, NeatPromises}
+use Rattle.neat.specs.Neat.{trees-in, first-tree, tree-in, neat-tree, room-check, neat-checked, neat-verdict, block-neat, neat-answer-by, neat-outcome, NeatPlan, NeatJudged, NeatPromises}
 use Rattle.neat.specs.Scan.{unless-none, neat-nodes as nodes-written, pieces-in, nodes-for, AllFit, Scannable, Neatened}
 use Rattle.neat.proofs.Trees.{trees-tree, pieces-tree, tree-fits}
 
@@ -52,19 +51,21 @@ module _ (J : Job) (t : Tree laid.Piece) where
       go zero e = no-piece e
       go (suc n) e = some-pieces n e
 
+-- the arrays of a tree draw it
+module _ (J : Job) (kinds operands : List ℕ) (t : Tree laid.Piece) (drawn : DrawnAs J t kinds operands) where
+  nodes-are : nodes-in kinds operands ≡ written t ++ []
+  nodes-are = ap₂ nodes-in (drawn .kinds-are) (drawn .operands-are) ∙ arrays-written t ∙ sym (append-nil (written t))
+
+  trees-are : trees-in (nodes-in kinds operands) ≡ t ∷ []
+  unfolding trees-in
+  trees-are = ap trees-in nodes-are ∙ trees-tree t []
+
+  drawn-is : t ≡ tree-in kinds operands
+  drawn-is = sym (ap first-tree trees-are)
+
 module _ (J : Job) (range : InRange J) (kinds operands : List ℕ) where
-  -- the arrays of a tree draw it
+  -- what the scan is given of them
   module _ (t : Tree laid.Piece) (drawn : DrawnAs J t kinds operands) where
-    nodes-are : nodes-in kinds operands ≡ written t ++ []
-    nodes-are = ap₂ nodes-in (drawn .kinds-are) (drawn .operands-are) ∙ arrays-written t ∙ sym (append-nil (written t))
-
-    trees-are : trees-in (nodes-in kinds operands) ≡ t ∷ []
-    unfolding trees-in
-    trees-are = ap trees-in nodes-are ∙ trees-tree t []
-
-    drawn-is : t ≡ tree-in kinds operands
-    drawn-is = sym (ap first-tree trees-are)
-
     pieces-are : pieces-in kinds ≡ piece-count t
     unfolding pieces-in
     pieces-are = ap pieces-in (drawn .kinds-are ∙ sym (append-nil (kinds-of t))) ∙ pieces-tree t [] ∙ omega arith
@@ -73,12 +74,12 @@ module _ (J : Job) (range : InRange J) (kinds operands : List ℕ) where
     walkable = (ap length (drawn .kinds-are) ∙ kinds-length t ∙ sym (operands-length t) ∙ sym (ap length (drawn .operands-are)), omega (arith, ap length (drawn .kinds-are), kinds-length t, drawn .nodes))
 
     all-fit : AllFit J (nodes-in kinds operands)
-    all-fit = subst (AllFit J) (sym nodes-are) (tree-fits J range t [] (J .plate, omega arith, drawn .on-plate) tt)
+    all-fit = subst (AllFit J) (sym (nodes-are J kinds operands t drawn)) (tree-fits J range t [] (J .plate, omega arith, drawn .on-plate) tt)
 
     -- what is written, where the tree holds a piece
     written-are : (n : ℕ) → piece-count t ≡ suc n → nodes-written J (trees-in (nodes-in kinds operands)) ≡ preorder (neat-of J t)
     unfolding nodes-written
-    written-are n e = ap (nodes-written J) trees-are ∙ ap (λ m. unless-none m (preorder (neat-of J t)) ++ []) e ∙ append-nil (preorder (neat-of J t))
+    written-are n e = ap (nodes-written J) (trees-are J kinds operands t drawn) ∙ ap (λ m. unless-none m (preorder (neat-of J t)) ++ []) e ∙ append-nil (preorder (neat-of J t))
 
   module _ (p : plan-answer J kinds operands .verdict ≡ Passed) where
     t₀ : Tree laid.Piece
@@ -93,32 +94,39 @@ module _ (J : Job) (range : InRange J) (kinds operands : List ℕ) where
 
     -- the arrays draw the tree of the plan
     pub plan-is : PlanOf J t kinds operands
-    plan-is = subst (λ u. PlanOf J u kinds operands) (drawn-is t₀ (plan₀ .drawn)) plan₀
+    plan-is = subst (λ u. PlanOf J u kinds operands) (drawn-is J kinds operands t₀ (plan₀ .drawn)) plan₀
 
     same-copies : (i : ℕ) → copies-of i (neat-of J t) ≡ copies-of i t
     same-copies i = neat-total (J .kerf) (laid J) _ t
+
+    -- it is the plan of the neat tree
+    neat-passes : PlanOf J (neat-of J t) (kinds-of (neat-of J t)) (operands-of (neat-of J t))
+    neat-passes =
+        record {
+          drawn = record {
+            on-plate = neat-on J (range-solid J range) t (J .plate .0) (J .plate .1) (plan-is .drawn .on-plate);
+            demands = λ i h. omega (arith, same-copies i, plan-is .drawn .demands i h);
+            nodes = omega (arith, neat-nodes J t, plan-is .drawn .nodes);
+            kinds-are = refl;
+            operands-are = refl;
+          };
+          idle-free = neat-idle (J .kerf) (laid J) t;
+        }
 
     -- the neat plan of a plan that passes
     pub neat-plan : NeatPlan J t kinds operands
     neat-plan =
         record {
           drawn = plan-is;
-          only = λ u d. drawn-is u d;
-          passes = record {
-            drawn = record {
-              on-plate = neat-on J (range-solid J range) t (J .plate .0) (J .plate .1) (plan-is .drawn .on-plate);
-              demands = λ i h. omega (arith, same-copies i, plan-is .drawn .demands i h);
-              nodes = omega (arith, neat-nodes J t, plan-is .drawn .nodes);
-              kinds-are = refl;
-              operands-are = refl;
-            };
-            idle-free = neat-idle (J .kerf) (laid J) t;
-          };
+          only = λ u d. drawn-is J kinds operands u d;
+          passes = neat-passes;
+          checked = plans-checked J (range .kinds .1) (kinds-of (neat-of J t)) (operands-of (neat-of J t)) .passes tt (neat-of J t) neat-passes;
           earns = neat-total (J .kerf) (laid J) _ t;
           copies = same-copies;
           no-more-nodes = neat-nodes J t;
           no-more-stages = neat-stages (J .kerf) (laid J) t;
           again = neat-again (J .kerf) (laid J) t;
+          same-plan = ap (neat-of J) (sym (drawn-is J (kinds-of (neat-of J t)) (operands-of (neat-of J t)) (neat-of J t) (neat-passes .drawn))) ∙ neat-again (J .kerf) (laid J) t;
         }
 
     pub plan-most : length kinds ≤ 4095
@@ -205,6 +213,10 @@ pub first-stored : (old : List ℕ) (v : ℕ) → 1 ≤ length old → set old 0
 first-stored [] v h = absurd (omega arith)
 first-stored (x ∷ old) v h = refl
 
+-- the same for a job block
+pub neat-judged : (s : List ℕ) (choices : Choices) (kinds operands : List ℕ) → NeatJudged s choices kinds operands
+neat-judged s choices kinds operands good passed = neat-plan (block-job s choices) (read.read-in-range s choices good) kinds operands passed
+
 -- the call: a job that is refused, and one that was read
 module _ (s : List ℕ) (choices : Choices) (kinds operands old-kinds old-operands new-kinds new-operands : List ℕ) where
   abbrev verdict : Checked
@@ -220,7 +232,7 @@ module _ (s : List ℕ) (choices : Choices) (kinds operands old-kinds old-operan
         answers = h .answers;
         outcome = ap (λ a. neat-outcome a) (h .answers) ∙ outcome-by-answer verdict (node-count (block-neat s choices kinds operands));
         memory = h .memory;
-        plan = λ p. (let q = passed-both (first-refusal (job-checks s choices)) _ p in neat-plan (block-job s choices) (read.read-in-range s choices (q .0)) kinds operands (q .1));
+        plan = neat-judged s choices kinds operands;
       }
 
   pub read-on : {a : JobAnswer} {r : NeatAnswer} → a ≡ read-of s choices → a .verdict ≡ Passed

@@ -24,6 +24,7 @@ use Rattle.job.specs.Block.{job-checks}
 use Rattle.job.specs.Weights.{block-job}
 use Rattle.plan.specs.Plan.{node-of, nodes-in, plan-answer}
 use Rattle.plan.specs.Trees.{DrawnAs, PlanOf}
+use Rattle.plan.specs.Calls.{JobPasses}
 use Rattle.neat.specs.declared.NeatAnswer.{NeatAnswer}
 use Rattle.neat.specs.declared.NeatAnswer.the-variants as answer
 
@@ -98,16 +99,22 @@ pub record NeatLeaves (v : Checked) (t : Tree laid.Piece) (old-kinds old-operand
   pub operands : new-operands ≡ written-by v (operands-of t) old-operands
 
 -- the neat plan of a tree t that a passed plan's arrays draw, and no other tree: it passes the check too, earns the same, has the same
--- copies of every kind, no more nodes and no more stages, and neatening it again gives the same plan
+-- copies of every kind, no more nodes and no more stages, and neatening it again, its tree or its arrays, gives the same plan
 pub record NeatPlan (J : Job) (t : Tree laid.Piece) (kinds operands : List ℕ) : Type 0 where
   pub drawn : PlanOf J t kinds operands
   pub only : (u : Tree laid.Piece) → DrawnAs J u kinds operands → u ≡ t
   pub passes : PlanOf J (neat-of J t) (kinds-of (neat-of J t)) (operands-of (neat-of J t))
+  pub checked : plan-answer J (kinds-of (neat-of J t)) (operands-of (neat-of J t)) .verdict ≡ Passed
   pub earns : profit J (neat-of J t) ≡ profit J t
   pub copies : (i : ℕ) → copies-of i (neat-of J t) ≡ copies-of i t
   pub no-more-nodes : node-count (neat-of J t) ≤ node-count t
   pub no-more-stages : stages (neat-of J t) ≤ stages t
   pub again : neat-of J (neat-of J t) ≡ neat-of J t
+  pub same-plan : neat-tree J (kinds-of (neat-of J t)) (operands-of (neat-of J t)) ≡ neat-of J t
+
+-- where a job block and a plan's arrays pass their checks, what holds of the neat plan
+abbrev pub NeatJudged : List ℕ → Choices → List ℕ → List ℕ → Type 0
+NeatJudged s choices kinds operands = JobPasses s choices → plan-answer (block-job s choices) kinds operands .verdict ≡ Passed → NeatPlan (block-job s choices) (tree-in kinds operands) kinds operands
 
 -- what the call promises of its answer and of the output arrays: answer and arrays are the definitions', number and values too; and where
 -- job and plan pass their checks, what holds of the neat plan
@@ -115,4 +122,4 @@ pub record NeatPromises (s : List ℕ) (choices : Choices) (kinds operands old-k
   pub answers : r ≡ neat-answer s choices kinds operands old-kinds old-operands
   pub outcome : neat-outcome r ≡ neat-said s choices kinds operands old-kinds old-operands
   pub memory : NeatLeaves (neat-verdict s choices kinds operands old-kinds old-operands) (block-neat s choices kinds operands) old-kinds old-operands new-kinds new-operands
-  pub plan : next (first-refusal (job-checks s choices)) (plan-answer (block-job s choices) kinds operands .verdict) ≡ Passed → NeatPlan (block-job s choices) (tree-in kinds operands) kinds operands
+  pub plan : NeatJudged s choices kinds operands

@@ -1,6 +1,6 @@
 -- The saw's exported functions, stopped and called: what their words say of trees and of a node's part, and that no price is in them.
 use mathlib.Core.Path.{_≡_, refl, sym, _∙_, ap, ap₂, subst}
-use mathlib.Core.Bool.{Bool, false}
+use mathlib.Core.Bool.{false}
 use mathlib.Core.List.{List, [], _∷_}
 use Prim.Native.Nat.{ℕ, _+_, _-_, _≤_, _<_}
 use native.Mathlib.Omega.{arith}
@@ -10,15 +10,17 @@ use Rattle.cutting.specs.declared.Node.{Node}
 use Rattle.cutting.specs.Lists.{over}
 use Rattle.cutting.specs.Tree.{Tree}
 use Rattle.cutting.specs.Pieces.{Piece}
-use Rattle.cutting.specs.Preorder.{preorder, node-count}
+use Rattle.cutting.specs.Preorder.{node-count}
 use Rattle.refusal.specs.Refusals.{Outcome, outcome-by}
 use Rattle.refusal.specs.declared.Checked.{Checked}
 use Rattle.refusal.specs.declared.Checked.the-variants.{Passed, Refused}
 use Rattle.refusal.proofs.Numbers.{number-some}
+use Rattle.refusal.specs.declared.Refusal.the-variants.{Price}
 use Rattle.plan.specs.Trees.{PlanOf}
+use Rattle.plan.specs.Calls.{arrays-answer}
 use Rattle.saw.specs.declared.Part.{Part}
 use Rattle.saw.specs.declared.SawAnswer.{SawAnswer}
-use Rattle.saw.specs.Saw.{saw-values, saw-outcome, saw-said, SawReports, SawChecks}
+use Rattle.saw.specs.Saw.{saw-of, saw-values, saw-outcome, saw-said, SawReports, SawChecks}
 use Rattle.saw.specs.Prices.{OnlyPrices}
 use Rattle.saw.specs.Parts.{tree-at, part-by, node-part, part-said}
 use Rattle.saw.proofs.Prices.{same-answer}
@@ -37,6 +39,10 @@ module _ (s : List ℕ) (choices : ℕ) (kinds operands old : List ℕ) where
       → (n ≡ returned words old choices (said s)) × (new ≡ answered words old choices (said s)) → PriceBlind words s choices said old new n
   blind words said same a z o = (a .0 ∙ ap (λ x. returned words old choices x) (same z o), a .1 ∙ ap (λ x. answered words old choices x) (same z o))
 
+  -- unless the plan check gives 6, it is what that says without the profit
+  beside-said : ((i : ℕ) → arrays-answer s (choices-of choices) kinds operands .verdict ≡ Refused (Price i) → ⊥) → saw-said s (choices-of choices) kinds operands ≡ saw-outcome (saw-of (arrays-answer s (choices-of choices) kinds operands))
+  beside-said f = let m = check-met s (choices-of choices) kinds operands refl in sym (m .1 .0) ∙ ap (λ a. saw-outcome a) (m .1 .1 .1 .1 .alike f)
+
   -- both cases of the check
   abbrev pub SawAnswers : ℕ → List ℕ → Type 0
   SawAnswers n new = (n ≡ returned 68 old choices (saw-said s (choices-of choices) kinds operands)) × ((new ≡ answered 68 old choices (saw-said s (choices-of choices) kinds operands)) × SawChecked s choices kinds operands old new n)
@@ -50,11 +56,17 @@ module _ (s : List ℕ) (choices : ℕ) (kinds operands old : List ℕ) where
             a .1,
             record {
               tree = λ z. absurd (omega (arith, z, h));
-              passes = λ k u b t p. e ∙ ap₂ (λ x y. returned-by x y (0, [])) (le-ltb (length old) 68 k) u;
+              passes = λ k u b t p. none k u;
+              idle = λ k u b t d i p. absurd (omega (arith, h, none k u));
+              office = λ f. (a .0 ∙ ap (λ x. returned 68 old choices x) (beside-said f), a .1 ∙ ap (λ x. answered 68 old choices x) (beside-said f));
               blind = blind 68 (λ z. saw-said z (choices-of choices) kinds operands) same-said (a .0, a .1);
             },
           ),
         )
+      where
+        -- a call with words enough and known choices is not stopped
+        none : 68 ≤ length old → unknown choices ≡ false → before ≡ 0
+        none k u = e ∙ ap₂ (λ x y. returned-by x y (0, [])) (le-ltb (length old) 68 k) u
 
     pub saw-called : {n : ℕ} {new : List ℕ} {r : SawAnswer} → before ≤ 0 → saw-outcome r ≡ saw-said s (choices-of choices) kinds operands → SawChecks s (choices-of choices) kinds operands r → Gives (saw-outcome r) n old new → SawAnswers n new
     saw-called {n} {new} {r} h o checks g =
@@ -66,6 +78,8 @@ module _ (s : List ℕ) (choices : ℕ) (kinds operands old : List ℕ) where
               tree = λ z. (let p = passed (r .verdict) refl z in let t = checks .tree p in
                   (t .0, t .1, g .1 ∙ ap (λ v. over (outcome-by v (saw-values (r .report)) .1) old) p ∙ ap (λ w. over (saw-values w) old) (t .2 .own), subst (λ w. SawReports (saw-job-with s choices) (t .0) w) (t .2 .own) (t .2)));
               passes = λ k u b t p. g .0 ∙ ap (λ v. outcome-by v (saw-values (r .report)) .0) (checks .passes b t p);
+              idle = λ k u b t d i p. (let v = checks .idle b t d ∙ p in (g .0 ∙ ap (λ v. outcome-by v (saw-values (r .report)) .0) v, g .1 ∙ ap (λ v. over (outcome-by v (saw-values (r .report)) .1) old) v));
+              office = λ f. (a .0 ∙ ap (λ x. returned 68 old choices x) (beside-said f), a .1 ∙ ap (λ x. answered 68 old choices x) (beside-said f));
               blind = blind 68 (λ z. saw-said z (choices-of choices) kinds operands) same-said (a .0, a .1);
             },
           ),

@@ -66,7 +66,7 @@ neat-given s choices kinds operands old-kinds old-operands new-kinds new-operand
         let b = passed-both (first-refusal (job-checks s choices)) _ e in
         let c = passed-both (plan-answer (block-job s choices) kinds operands .verdict) _ (b .1) in
         record {
-          plan = p .plan (ap₂ next (b .0) (c .0));
+          plan = p .plan (b .0) (c .0);
           kinds-hold = p .memory .kinds ∙ ap (λ v. written-by v (kinds-of (block-neat s choices kinds operands)) old-kinds) e;
           operands-hold = p .memory .operands ∙ ap (λ v. written-by v (operands-of (block-neat s choices kinds operands)) old-operands) e;
           counted = ap (λ w. answer-word w 0) (g .1 ∙ ap (λ (o : Outcome). over (o .1) old) (said Passed e));

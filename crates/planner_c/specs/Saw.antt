@@ -9,9 +9,13 @@ use Rattle.cutting.specs.Tree.{Tree}
 use Rattle.cutting.specs.Pieces.{Piece}
 use Rattle.cutting.specs.Job.{Job}
 use Rattle.cutting.specs.Preorder.{node-count}
-use Rattle.refusal.specs.Refusals.{Outcome}
-use Rattle.plan.specs.Trees.{PlanOf, tree-report}
-use Rattle.saw.specs.Saw.{SawPasses, saw-job, without-profit, saw-values, saw-said, SawReports}
+use Rattle.refusal.specs.Refusals.{Outcome, first-refusal}
+use Rattle.refusal.specs.declared.Refusal.the-variants.{Price, IdleCut}
+use Rattle.refusal.specs.declared.Checked.the-variants.{Refused}
+use Rattle.idle.specs.Idle.{tree-checks}
+use Rattle.plan.specs.Trees.{DrawnAs, PlanOf, tree-report}
+use Rattle.plan.specs.Calls.{arrays-answer}
+use Rattle.saw.specs.Saw.{SawPasses, saw-job, without-profit, saw-of, saw-values, saw-outcome, saw-said, SawReports}
 use Rattle.saw.specs.Prices.{AtAnyPrices}
 use Rattle.saw.specs.Parts.{tree-at, node-part, part-said}
 use Rattle.planner_c.specs.Exports.{unknown, choices-of, returned, answered}
@@ -26,10 +30,16 @@ PriceBlind words s choices said old new n = AtAnyPrices (choices-of choices) s (
 
 -- the saw's check returns 0 only for the preorder of a guillotine tree on the plate that keeps every demand and has no idle cut, and its
 -- words are then that tree's own copies and areas, which sum to the plate's; where the answer has words enough, the choices are known
--- and no check of the saw refuses the block, it returns 0 for every such plan
+-- and no check of the saw refuses the block, it returns 0 for every such plan, and for one with idle cuts 26 with the first of them; unless
+-- the plan check gives 6, number and words are the plan check's without the profit
 pub record SawChecked (s : List ℕ) (choices : ℕ) (kinds operands old new : List ℕ) (n : ℕ) : Type 0 where
   pub tree : n ≡ 0 → (t : Tree Piece) × PlanOf (saw-job-with s choices) t kinds operands × (new ≡ over (saw-values (without-profit (tree-report (saw-job-with s choices) t))) old) × SawReports (saw-job-with s choices) t (without-profit (tree-report (saw-job-with s choices) t))
   pub passes : 68 ≤ length old → unknown choices ≡ false → SawPasses s (choices-of choices) → (t : Tree Piece) → PlanOf (saw-job-with s choices) t kinds operands → n ≡ 0
+  pub idle : 68 ≤ length old → unknown choices ≡ false → SawPasses s (choices-of choices) → (t : Tree Piece) → DrawnAs (saw-job-with s choices) t kinds operands
+      → (k : ℕ) → first-refusal (tree-checks 0 t) ≡ Refused (IdleCut k) → (n ≡ 26) × (new ≡ over (k ∷ []) old)
+  pub office : ((i : ℕ) → arrays-answer s (choices-of choices) kinds operands .verdict ≡ Refused (Price i) → ⊥)
+      → (n ≡ returned 68 old choices (saw-outcome (saw-of (arrays-answer s (choices-of choices) kinds operands))))
+      × (new ≡ answered 68 old choices (saw-outcome (saw-of (arrays-answer s (choices-of choices) kinds operands))))
   pub blind : PriceBlind 68 s choices (λ z. saw-said z (choices-of choices) kinds operands) old new n
 
 -- a node's part in one of a plan's arrays, of which a tree has the entries f: for a plan that passes the words are the node and the

@@ -8,7 +8,7 @@ ghost use mathlib.Core.Path.{_≡_};
 ghost use Rattle.job.specs.Weights.{weight-in};
 ghost use Rattle.plan.specs.Calls.{arrays-said, block-said, plan-kinds, plan-operands, JobPasses, BlockPasses};
 ghost use Rattle.bound.specs.Bound.{lent, BoundLeaves, bound-said};
-ghost use Rattle.neat.specs.Neat.{neat-said};
+ghost use Rattle.neat.specs.Neat.{neat-said, NeatJudged};
 ghost use Rattle.writer.specs.Write.{write-said};
 ghost use Rattle.certificate.specs.Certificate.{certificate-said};
 ghost use Rattle.cutting.specs.Preorder.{kinds-of, operands-of};
@@ -150,6 +150,7 @@ pub extern "C" fn planner_neat_plan(
         (NeatLeft (now (block .entry)) (choices-of choices) (now (kinds .entry)) (now (operands .entry)))
         (now («neat_kinds» .entry), now («neat_operands» .entry)) (now («neat_kinds» .exit), now («neat_operands» .exit)) ⌝ }
     ensures trees { λ n. ⌜ (n ≡ 0 → NeatGiven (job-with (now (block .entry)) choices) (now (kinds .entry)) (now (operands .entry)) (now («neat_kinds» .entry), now («neat_operands» .entry)) (now («neat_kinds» .exit), now («neat_operands» .exit)) (now (answer .exit))) ⌝ }
+    ensures judged { λ _. ⌜ NeatJudged (now (block .entry)) (choices-of choices) (now (kinds .entry)) (now (operands .entry)) ⌝ }
 {
     let stop = choices::early(answer.len(), 1, choices);
     if 0 < stop {

@@ -2,6 +2,7 @@
 use native.Mathlib.Omega.{arith}
 use denote.Ref.{now}
 use Rattle.neat.specs.Neat.{neat-said}
+use Rattle.neat.proofs.Plans.{neat-judged}
 use Rattle.planner_c.specs.Exports.{choices-of, NeatLeft}
 use Rattle.planner_c.proofs.Exports.{stops, words-enough, enough, untouched, called}
 use Rattle.planner_c.proofs.Trees.{neat-given}
@@ -20,7 +21,7 @@ returns c =
         s .1,
         (
           untouched 1 (a .choices) (now (a .answer)) f (NeatLeft (now (a .block)) (choices-of (a .choices)) (now (a .kinds)) (now (a .operands))) (now (a .neat-kinds), now (a .neat-operands)) h,
-          λ e. absurd (omega (arith, h, e)),
+          (λ e. absurd (omega (arith, h, e)), neat-judged (now (a .block)) (choices-of (a .choices)) (now (a .kinds)) (now (a .operands))),
         ),
       ),
     )
@@ -41,7 +42,7 @@ returns-2 c =
         s .1,
         (
           called 1 (a .choices) (now (a .answer)) f (NeatLeft (now (a .block)) (choices-of (a .choices)) (now (a .kinds)) (now (a .operands))) h (e .memory),
-          neat-given (now (a .block)) (choices-of (a .choices)) (now (a .kinds)) (now (a .operands)) (now (a .neat-kinds)) (now (a .neat-operands)) _ _ (now (a .answer)) _ e g,
+          (neat-given (now (a .block)) (choices-of (a .choices)) (now (a .kinds)) (now (a .operands)) (now (a .neat-kinds)) (now (a .neat-operands)) _ _ (now (a .answer)) _ e g, neat-judged (now (a .block)) (choices-of (a .choices)) (now (a .kinds)) (now (a .operands))),
         ),
       ),
     )
