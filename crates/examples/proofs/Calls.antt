@@ -1,4 +1,5 @@
--- What the bound, writing and certificate calls answer on an accepted job block and weights, where the lengths of what is lent are known.
+-- What the bound, writing and certificate calls answer on an accepted job block and weights, and the neat call on a plan that passes, where
+-- the lengths of what is lent are known.
 -- The bound comes from cuts at normal positions, which are quick to compute; cuts at every unit take long.
 use mathlib.Core.Path.{_≡_}
 use mathlib.Core.Bool.{false, _||_}
@@ -22,11 +23,13 @@ use Rattle.job.specs.declared.Choices.{Choices}
 use Rattle.job.specs.Weights.{block-job, weight-in, Accepted}
 use Rattle.job.proofs.Weights.{accepted-in-range}
 use Rattle.plan.specs.Plan.{plan-answer}
+use Rattle.plan.specs.Calls.{JobPasses}
+use Rattle.neat.specs.Neat.{block-neat, neat-said}
 use Rattle.table.specs.Table.{position-count, words-needed}
 use Rattle.bound.specs.Bound.{Memory, wide-job, memory-checks, bound-said}
 use Rattle.writer.specs.Write.{block-plan, write-said}
 use Rattle.certificate.specs.Certificate.{certificate-said}
-use Rattle.examples.specs.Examples.{LongLists, Enough, TooShort}
+use Rattle.examples.specs.Examples.{old-block, LongLists, Enough, TooShort}
 
 module _ (choices : Choices) (s ws : List ℕ) where
   -- the capacity of a job block and weights
@@ -85,3 +88,10 @@ module _ (choices : Choices) (s ws : List ℕ) where
             → write-said s choices ws m kinds operands ≡ (0, values-in ++ node-count (block-plan s choices ws) ∷ [])
         unfolding first-refusal
         written kinds operands h k o = simp (good, storage-passes, bound-normal, le-ltb 4095 (node-count (block-plan s choices ws)) h, le-ltb (length kinds) (node-count (block-plan s choices ws)) k, le-ltb (length operands) (node-count (block-plan s choices ws)) o)
+
+-- the neat call answers the node count where the output arrays are long enough
+pub neatened : (s : List ℕ) → JobPasses s old-block → (kinds operands : List ℕ) → plan-answer (block-job s old-block) kinds operands .verdict ≡ Passed
+    → (ks os : List ℕ) → node-count (block-neat s old-block kinds operands) ≤ length ks → node-count (block-neat s old-block kinds operands) ≤ length os
+    → neat-said s old-block kinds operands ks os ≡ (0, node-count (block-neat s old-block kinds operands) ∷ [])
+unfolding first-refusal
+neatened s good kinds operands e ks os k o = simp (good, e, le-ltb (length ks) (node-count (block-neat s old-block kinds operands)) k, le-ltb (length os) (node-count (block-neat s old-block kinds operands)) o)

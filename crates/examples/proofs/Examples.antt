@@ -7,6 +7,7 @@ use native.Mathlib.Omega.{arith}
 use borrow.Author.Tests.{le-ltb}
 use Rattle.cutting.specs.declared.Direction.the-variants.{Length, Width}
 use Rattle.cutting.specs.Lists.{range, sum, filter, each, any, greatest}
+use Rattle.cutting.specs.Tree.{total}
 use Rattle.cutting.specs.Figure.{leaf, best, step, after, figure}
 use Rattle.cutting.specs.Pieces.{sized}
 use Rattle.cutting.specs.Saws.{floor, saw-normal, saw-written}
@@ -14,6 +15,7 @@ use Rattle.cutting.specs.Shares.{by-weight}
 use Rattle.cutting.specs.Normal.{summed, normal?, sides}
 use Rattle.cutting.specs.Choice.{choice, plan-within, written, sawn}
 use Rattle.cutting.specs.Preorder.{preorder, kinds-of, operands-of, node-count}
+use Rattle.cutting.specs.Neat.{used, neat}
 use Rattle.cutting.specs.Job.{ordered, members, pieces, normal-positions, lossless-plan, plan-of}
 use Rattle.refusal.specs.Refusals.{first-refusal}
 use Rattle.refusal.specs.declared.Checked.the-variants.{Passed}
@@ -22,6 +24,9 @@ use Rattle.job.specs.Weights.{block-job, Accepted}
 use Rattle.idle.specs.Idle.{pieceless, idle-checks}
 use Rattle.plan.specs.Plan.{walk, walk-answer, plan-answer}
 use Rattle.plan.specs.Calls.{JobPasses}
+use Rattle.saw.specs.Saw.{saw-checks}
+use Rattle.saw.specs.Parts.{extent}
+use Rattle.neat.specs.Neat.{trees-in, block-neat}
 use Rattle.writer.specs.Write.{block-plan}
 use Rattle.examples.specs.Examples as line
 use Rattle.examples.specs.Examples.{Example, old-block, RefusedAs, PassedTo, ExampleHolds, misfit-job, marked}
@@ -43,6 +48,11 @@ Computed (line.first-refused s kind operand number place) = JobPasses s old-bloc
 Computed (line.first-passes s kind operand) = JobPasses s old-block × PassedTo 0 (first-verdict (block-job s old-block) kind operand)
 Computed (line.certifies choices s ws kinds operands words gap bound profit) =
     Accepted s choices ws × (words-in choices s ws ≡ words) × (plan-answer (block-job s choices) kinds operands .verdict ≡ Passed) × (certificate-in choices s ws kinds operands ≡ gap ∷ bound ∷ profit ∷ [])
+Computed (line.neatens s kinds operands nodes neat-kinds neat-operands) =
+    JobPasses s old-block × (plan-answer (block-job s old-block) kinds operands .verdict ≡ Passed) × (node-count (block-neat s old-block kinds operands) ≡ nodes)
+    × (kinds-of (block-neat s old-block kinds operands) ≡ neat-kinds) × (operands-of (block-neat s old-block kinds operands) ≡ neat-operands)
+Computed (line.saw-passes s kinds operands pieces waste trim copies sawdust) = ExampleHolds (line.saw-passes s kinds operands pieces waste trim copies sawdust)
+Computed (line.part s kinds operands node first entries) = ExampleHolds (line.part s kinds operands node first entries)
 
 -- a line holds from what is computed of it
 holds : (e : Example) → Computed e → ExampleHolds e
@@ -58,6 +68,9 @@ holds (line.refused s kinds operands number place) c = c
 holds (line.first-refused s kind operand number place) c = begins-refused s (c .0) kind operand number place (c .1)
 holds (line.first-passes s kind operand) c = begins-passed s (c .0) kind operand (c .1)
 holds (line.certifies choices s ws kinds operands words gap bound profit) c = λ m h. call.certified choices s ws (c .0) m (rw (c .1) h) kinds operands (c .2) ∙ ap (λ vs. (0, vs)) (c .3)
+holds (line.neatens s kinds operands nodes neat-kinds neat-operands) c = (λ ks os k o. call.neatened s (c .0) kinds operands (c .1) ks os (rw (c .2) k) (rw (c .2) o) ∙ ap (λ n. (0, n ∷ [])) (c .2), c .3, c .4)
+holds (line.saw-passes s kinds operands pieces waste trim copies sawdust) c = c
+holds (line.part s kinds operands node first entries) c = c
 
 -- the computations of lines, in their order
 data AllComputed : List Example → Type 0 where
@@ -91,7 +104,7 @@ module _ (a b c d e f weight : ℕ) where
 module _ (pair ws : List ℕ) (good : Accepted (misfit-job pair) old-block ws) where
   -- the table's computations, line by line
   computed : AllComputed (marked pair ws)
-  unfolding marked range sum filter each any greatest leaf best step after figure sized floor saw-normal saw-written by-weight summed normal? sides choice plan-within written sawn lossless-plan preorder kinds-of operands-of node-count ordered members pieces normal-positions plan-of first-refusal each-kind job-checks entries record-of walk walk-answer pieceless idle-checks plan-answer
+  unfolding marked range sum filter each any greatest leaf best step after figure sized floor saw-normal saw-written by-weight summed normal? sides choice plan-within written sawn lossless-plan preorder kinds-of operands-of node-count ordered members pieces normal-positions plan-of first-refusal each-kind job-checks entries record-of walk walk-answer pieceless idle-checks plan-answer total trees-in used neat saw-checks extent
   computed =
       refl
       and refl
@@ -123,6 +136,11 @@ module _ (pair ws : List ℕ) (good : Accepted (misfit-job pair) old-block ws) w
       and (refl, refl, refl)
       and (refl, refl, refl)
       and refl
+      and (refl, refl, refl, refl, refl)
+      and refl
+      and refl
+      and (refl, refl)
+      and (refl, refl)
       and done
 
   -- every marked example holds

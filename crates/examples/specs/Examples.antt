@@ -16,6 +16,9 @@ use Rattle.refusal.specs.declared.Checked.the-variants.{Passed, Refused}
 use Rattle.job.specs.declared.Choices.{Choices}
 use Rattle.job.specs.Block.{with-full-demand}
 use Rattle.plan.specs.Calls.{arrays-answer}
+use Rattle.saw.specs.Saw.{saw-said}
+use Rattle.saw.specs.Parts.{node-part, part-said}
+use Rattle.neat.specs.Neat.{block-neat, neat-said}
 use Rattle.bound.specs.Bound.{Memory, wide-job, bound-said}
 use Rattle.writer.specs.Write.{block-plan, write-said}
 use Rattle.certificate.specs.Certificate.{certificate-said}
@@ -38,6 +41,12 @@ pub data Example : Type 0 where
   first-passes : (job : List ℕ) (kind operand : ℕ) → Example
   -- the certificate of a plan under weights answers the gap, 0 for best, the bound and the profit
   certifies : Choices → (job weights kinds operands : List ℕ) (words gap bound profit : ℕ) → Example
+  -- the neat call answers the node count, and the neat plan of a plan is this one
+  neatens : (job kinds operands : List ℕ) (nodes : ℕ) (neat-kinds neat-operands : List ℕ) → Example
+  -- the saw passes a plan with areas of pieces, waste nodes and trim, copies of each kind and sawdust
+  saw-passes : (job kinds operands : List ℕ) (pieces waste trim : ℕ) (copies : List ℕ) (sawdust : ℕ) → Example
+  -- the part of a node, in a plan's kinds as in its operands, has a first entry and a number of entries
+  part : (job kinds operands : List ℕ) (node first entries : ℕ) → Example
 
 -- the marked examples' jobs are old blocks, and make no other choice
 abbrev pub old-block : Choices
@@ -96,6 +105,12 @@ ExampleHolds (refused s kinds operands number place) = RefusedAs number place (a
 ExampleHolds (first-refused s kind operand number place) = Beginning s kind operand (RefusedAs number place)
 ExampleHolds (first-passes s kind operand) = Beginning s kind operand (PassedTo 0)
 ExampleHolds (certifies choices s ws kinds operands words gap bound profit) = (m : Memory) → Enough s choices words m → certificate-said s choices ws kinds operands m ≡ (0, gap ∷ bound ∷ profit ∷ [])
+ExampleHolds (neatens s kinds operands nodes neat-kinds neat-operands) =
+    ((ks os : List ℕ) → nodes ≤ length ks → nodes ≤ length os → neat-said s old-block kinds operands ks os ≡ (0, nodes ∷ []))
+    × (kinds-of (block-neat s old-block kinds operands) ≡ neat-kinds) × (operands-of (block-neat s old-block kinds operands) ≡ neat-operands)
+ExampleHolds (saw-passes s kinds operands pieces waste trim copies sawdust) = saw-said s old-block kinds operands ≡ (0, pieces ∷ waste ∷ trim ∷ (padded copies ++ (sawdust ∷ [])))
+ExampleHolds (part s kinds operands node first entries) =
+    (part-said (node-part s old-block kinds operands kinds node) ≡ (0, first ∷ entries ∷ [])) × (part-said (node-part s old-block kinds operands operands node) ≡ (0, first ∷ entries ∷ []))
 
 -- job S: plate 5 by 3, three kinds; sizes 2 by 3, 3 by 1, 2 by 2; price 7, demand 1; price 4, demand 2; price 5, demand 1
 abbrev pub job-s : List ℕ
@@ -105,6 +120,16 @@ job-s =
     ∷ 7 ∷ 0 ∷ 0 ∷ 0 ∷ 1 ∷ 0
     ∷ 4 ∷ 0 ∷ 0 ∷ 0 ∷ 2 ∷ 0
     ∷ 5 ∷ 0 ∷ 0 ∷ 0 ∷ 1 ∷ 0
+    ∷ []
+
+-- job S with prices of 4,294,967,295, which the office refuses
+abbrev pub costly-job : List ℕ
+costly-job =
+    5 ∷ 0 ∷ 3 ∷ 0 ∷ 3 ∷ 0
+    ∷ 2 ∷ 0 ∷ 3 ∷ 0 ∷ 3 ∷ 0 ∷ 1 ∷ 0 ∷ 2 ∷ 0 ∷ 2 ∷ 0
+    ∷ 255 ∷ 255 ∷ 255 ∷ 255 ∷ 1 ∷ 0
+    ∷ 255 ∷ 255 ∷ 255 ∷ 255 ∷ 2 ∷ 0
+    ∷ 255 ∷ 255 ∷ 255 ∷ 255 ∷ 1 ∷ 0
     ∷ []
 
 -- plate 1 by 1, one kind 2 by 2, then the bytes of its price and demand
@@ -183,4 +208,12 @@ marked pair ws =
     -- Plate 5 by 3, kerf 1, kind 2 by 3 of price 7 and demand 2: bound 14 under weight 0; cut at 2, profit 14, areas 12, 0, 0 and sawdust 3.
     ∷ bounds no-choice sawn-job (0 ∷ []) 6 14 0 3 2
     ∷ passes no-choice sawn-job (2 ∷ 1 ∷ 1 ∷ []) (2 ∷ 0 ∷ 0 ∷ []) 14 (2 ∷ []) 12 0 0 3
+    -- Job S, kinds 2 1 1, operands 3 0 2: the neat plan has 3 nodes, kinds 2 1 1, operands 2 0 2.
+    ∷ neatens job-s (2 ∷ 1 ∷ 1 ∷ []) (3 ∷ 0 ∷ 2 ∷ []) 3 (2 ∷ 1 ∷ 1 ∷ []) (2 ∷ 0 ∷ 2 ∷ [])
+    -- Kinds 2 1 3 1 1, operands 2 0 1 1 2 at the saw: areas 13, 0, 2, 0 and copies 1 1 1, also with prices of 4,294,967,295.
+    ∷ saw-passes job-s (2 ∷ 1 ∷ 3 ∷ 1 ∷ 1 ∷ []) (2 ∷ 0 ∷ 1 ∷ 1 ∷ 2 ∷ []) 13 0 2 (1 ∷ 1 ∷ 1 ∷ []) 0
+    ∷ saw-passes costly-job (2 ∷ 1 ∷ 3 ∷ 1 ∷ 1 ∷ []) (2 ∷ 0 ∷ 1 ∷ 1 ∷ 2 ∷ []) 13 0 2 (1 ∷ 1 ∷ 1 ∷ []) 0
+    -- The part of node 2 has the three entries from 2 on, that of node 5 none, at 5.
+    ∷ part job-s (2 ∷ 1 ∷ 3 ∷ 1 ∷ 1 ∷ []) (2 ∷ 0 ∷ 1 ∷ 1 ∷ 2 ∷ []) 2 2 3
+    ∷ part job-s (2 ∷ 1 ∷ 3 ∷ 1 ∷ 1 ∷ []) (2 ∷ 0 ∷ 1 ∷ 1 ∷ 2 ∷ []) 5 5 0
     ∷ []
