@@ -1,4 +1,4 @@
-// Runs the calls on plans by a script (its standard input): the check of plans, the writing of plans, neat plans, certificates.
+// Runs the calls on plans by a script (its standard input): the check of plans, the writing of plans, neat plans, certificates, the saw.
 // `job`, `weights`, `kinds`, `operands` and `plan` set the bytes of the job block, the weights, the plan's two arrays and the plan block;
 // `lend` sets how many entries of the two lists and words of the table a certificate is lent, `neat` how many entries of the two output
 // arrays a neat plan is lent; `turning` sets whether pieces may be turned
