@@ -1,4 +1,5 @@
--- Used sizes and neat plans: cuts that free nothing are left out, and the others stand where the used size of the first part ends.
+-- Used sizes and neat plans: a cut with a pieceless part is replaced by its other part, and the others stand where the used size of the
+-- first part ends.
 use Prim.Native.Nat.{ℕ, zero, suc, _+_, max}
 use Rattle.cutting.specs.declared.Direction.{Direction}
 use Rattle.cutting.specs.declared.Direction.the-variants.{Length, Width}

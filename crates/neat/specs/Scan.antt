@@ -28,7 +28,7 @@ use Rattle.neat.specs.Neat.{trees-in, neat-answer-by, NeatLeaves}
 abbrev pub most-sides : Rect
 most-sides = (65535, 65535)
 
--- a cut whose parts hold m and n pieces, where it remains; waste stands for nothing
+-- a cut whose parts have the used lengths m and n, 0 where there is no piece: where it remains; waste stands for nothing
 abbrev pub moved : Direction → ℕ → ℕ → ℕ → Node
 moved d zero n x = Waste
 moved d (suc m) zero x = Waste

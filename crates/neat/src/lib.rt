@@ -57,7 +57,8 @@ fn greater(a: u16, b: u16) -> u16
     if a < b { b } else { a }
 }
 
-// The used size of a cut over those of its parts: a used length of 0 tells that a part holds no piece.
+// The used size of a cut over those of its parts: a used length of 0 tells that a part holds no piece; so lengths stand for the counts of
+// `joined`, which asks only which are 0.
 fn join(d: Direction, kerf: u16, first: Sides, second: Sides) -> Sides
     requires { ⌜ joined kerf d (first .length) (second .length) (rect-of first) (rect-of second) ⊑ most-sides ⌝ }
     ensures { λ r. ⌜ r ≡ sides-of (joined kerf d (first .length) (second .length) (rect-of first) (rect-of second)) ⌝ }
