@@ -40,7 +40,7 @@ left-after (Piece i) left = left - 1
 left-after (Turned i) left = left - 1
 left-after (Cut d x) left = left + 1
 
--- how many entries the next trees of a list of kinds have, so many of them
+-- the number of entries that the next `left` trees of a list of kinds have
 unfoldable pub extent : List ℕ → ℕ → ℕ
 extent [] left = 0
 extent (k ∷ ks) left = only (ltb 0 left) (suc (extent ks (left-after (node-of k 0) left)))
