@@ -180,7 +180,8 @@ fn tree_end(kinds: &[u8], node: usize) -> usize
     i
 }
 
-// The part of a node in an array of so many entries: empty, at the array's end, where the plan does not pass or the node is past it.
+// For the two calls below and for C: the part of a node in one of the two arrays, which has `count` entries: empty, at the array's end,
+// where the plan does not pass or the node is past it.
 pub fn node_part(
     block: &[u8],
     choices: Choices,
