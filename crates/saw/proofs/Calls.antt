@@ -1,9 +1,8 @@
 -- What is known of a block that the saw reads, and that an answer which equals its definition meets the whole contract.
 use mathlib.Core.Path.{_≡_, refl, sym, _∙_, ap, subst}
 use mathlib.Core.List.{List}
-use Prim.Native.Nat.{ℕ, _<_}
+use Prim.Native.Nat.{ℕ}
 use native.Mathlib.Omega.{arith}
-use lib.Dec.{ltb}
 use borrow.Author.Tests.{ltb-false}
 use Rattle.cutting.specs.Job.{InRange}
 use Rattle.refusal.specs.declared.Refusal.{Refusal}
@@ -13,7 +12,7 @@ use Rattle.refusal.specs.Refusals.{next, first-refusal, outcome-by}
 use Rattle.job.specs.declared.Choices.{Choices}
 use Rattle.job.specs.declared.JobRecord.{JobRecord}
 use Rattle.job.specs.declared.JobAnswer.{JobAnswer}
-use Rattle.job.specs.Block.{count-at, sizes-end, demand-at, header-checks, entries, job-outcome, job-of}
+use Rattle.job.specs.Block.{count-at, sizes-end, demand-at, entries, job-outcome, job-of}
 use Rattle.job.specs.Contracts.{HoldsKinds}
 use Rattle.job.proofs.Checks.{cons-passed}
 use Rattle.job.proofs.Entries.{entries-past}

@@ -1,6 +1,6 @@
 -- The saw beside the office: a plan's check with other prices has the same verdict, copies and areas, and without 6 the block's checks
 -- decide alike.
-use mathlib.Core.Path.{_≡_, refl, sym, _∙_, ap, ap₂}
+use mathlib.Core.Path.{_≡_, refl, sym, _∙_, ap}
 use mathlib.Core.Bool.{Bool, true, false}
 use mathlib.Core.List.{List, [], _∷_, _++_}
 use Prim.Native.Nat.{ℕ, zero, suc, _+_, _-_, _*_}
@@ -18,7 +18,7 @@ use Rattle.refusal.specs.declared.Checked.{Checked}
 use Rattle.refusal.specs.declared.Checked.the-variants.{Passed, Refused}
 use Rattle.refusal.specs.Refusals.{next, refuse-when, first-refusal}
 use Rattle.job.specs.declared.Choices.{Choices}
-use Rattle.job.specs.Block.{price-at, demand-at, sizes-end, count-at, header-checks, size-check, pair-checks, each-kind, job-checks, record-of, job-of}
+use Rattle.job.specs.Block.{price-at, demand-at, sizes-end, count-at, header-checks, size-check, pair-checks, each-kind, job-checks}
 use Rattle.job.specs.Weights.{block-job}
 use Rattle.job.proofs.Read.{block-parts}
 use Rattle.idle.specs.Idle.{idle-checks}

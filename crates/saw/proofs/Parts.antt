@@ -5,7 +5,6 @@ use Prim.Native.Nat.{ℕ, zero, suc, _+_, _-_, _*_, _≤_, _<_}
 use native.Mathlib.Omega.{arith}
 use native.Mathlib.Numerals.{add-one}
 use native.Mathlib.Decide.{decLt}
-use lib.Dec.{ltb}
 use lib.ListN.{length, take, drop, getD, length-append, length-map, drop-of-length-le, List·getD-append}
 use lib.Seq.{drop-cons, drop-append-add, take-at, getD-append-add}
 use borrow.Author.Tests.{lt-ltb, le-ltb}
@@ -17,7 +16,7 @@ use Rattle.cutting.specs.declared.Node.the-variants.{Cut}
 use Rattle.cutting.specs.Lists.{only}
 use Rattle.cutting.specs.Tree.{Tree, waste, piece, cut}
 use Rattle.cutting.specs.Pieces as laid
-use Rattle.cutting.specs.Preorder.{preorder, kind-of, node-count, kinds-of, operands-of}
+use Rattle.cutting.specs.Preorder.{preorder, kind-of, node-count, kinds-of}
 use Rattle.cutting.proofs.Preorder.{count-cut}
 use Rattle.refusal.specs.declared.Refusal.{Refusal}
 use Rattle.refusal.specs.declared.Checked.{Checked}

@@ -11,7 +11,6 @@ use Rattle.cutting.specs.Lists.{range, only}
 use Rattle.refusal.specs.declared.Refusal.the-variants.{ShortHeader, PlateSide, KindCount, Kerf, BlockLength, KindSide, Demand}
 use Rattle.refusal.specs.Refusals.{Check, first-refusal}
 use Rattle.job.specs.declared.Choices.{Choices}
-use Rattle.job.specs.declared.JobRecord.{JobRecord}
 use Rattle.job.specs.Block.{u16-at, plate-length-at, plate-width-at, count-at, kerf-at, sizes-end, length-at, width-at, demand-at, outside, header-checks, size-check, each-kind, entries, record-of, read-by, job-of}
 use Rattle.job.proofs.Read.{sizes-least}
 use Rattle.plan.specs.Plan.{proceed, plan-answer}

@@ -15,7 +15,7 @@ use plan::PlanAnswer;
 use plan::check_nodes;
 use refusal::Checked;
 ghost use mathlib.Core.Path.{_≡_};
-ghost use Prim.Native.Nat.{ℕ, _+_, _≤_, _<_, _^_};
+ghost use Prim.Native.Nat.{_+_, _≤_, _<_, _^_};
 ghost use lib.ListN.{length};
 ghost use Rattle.cutting.specs.Preorder.{kinds-of, operands-of};
 ghost use Rattle.refusal.specs.Refusals.{first-refusal};

@@ -1,6 +1,5 @@
 -- `planner_c::planner_saw_kinds` meets its contract: stopped, or the part's first entry and the number of its entries.
 use mathlib.Core.Path.{_∙_, ap}
-use native.Mathlib.Omega.{arith}
 use denote.Ref.{now}
 use Rattle.cutting.specs.Preorder.{kind-of, kinds-of}
 use Rattle.saw.specs.Parts.{node-part}
