@@ -15,7 +15,11 @@ use Rattle.job.specs.Block.{u16-at, plate-length-at, plate-width-at, count-at, 
 use Rattle.job.proofs.Read.{sizes-least}
 use Rattle.plan.specs.Plan.{proceed, plan-answer}
 use Rattle.saw.specs.Saw.{demand-checks, saw-checks, saw-record, saw-read, saw-of, saw-answer}
-use Rattle.saw.specs.Prices.{OnlyPrices}
+use Rattle.saw.specs.Prices.{PriceByte, OnlyPrices}
+
+-- each of the four bytes of every price is one that may differ
+pub price-bytes : (h n i j : ℕ) → i < n → j < 4 → PriceByte h n (h + 4 * n + 6 * i + j)
+price-bytes h n i j l m = (i, l, omega arith, omega (arith, m))
 
 -- checks of the kinds, and entries of an array, that agree kind by kind
 each-same : (f g : ℕ → List Check) (i n : ℕ) → ((k : ℕ) → k < i + n → f k ≡ g k) → each-kind f i n ≡ each-kind g i n

@@ -75,9 +75,14 @@ pub fn deep_plans(kerf: u16) -> Vec<Vec<Node>> {
     plans
 }
 
+/// 4,095 nodes, two of them pieces.
+pub fn longest_plan_of_waste() -> Vec<Node> {
+    lengthened(nested_in_first_parts(Order::LengthsThenWidths, 0))
+}
+
 #[test]
 fn deepest_plans_are_checked_and_certified() {
-    let longest = lengthened(nested_in_first_parts(Order::LengthsThenWidths, 0));
+    let longest = longest_plan_of_waste();
     assert_eq!(longest.len(), 4095);
     for choices in [0, TURNING] {
         for nodes in deep_plans(0).iter().chain([&longest]) {
@@ -128,7 +133,7 @@ fn deepest_plans_are_refused() {
         for (choices, last, number) in ends {
             let nodes: Vec<Node> = cuts.iter().copied().chain(last).collect();
             let input = input(job.clone(), &[0], &nodes).with(choices);
-            for call in [Call::CheckPlan, Call::CheckPlanBlock, Call::Certify] {
+            for call in [Call::CheckPlan, Call::CheckPlanBlock, Call::NeatPlan, Call::Certify] {
                 let (code, lent) = agrees(call, &input, LARGE);
                 assert_eq!((code, lent.answer.words()[0]), (number, 1998));
             }
@@ -161,7 +166,12 @@ fn longest_plan(blank: Input, table: usize, piece: u8) {
     assert!(leaves.is_empty());
     let full = input(blank.job, &[0; 64], &nodes).with(blank.choices);
     let profit = 2_048_000_000;
-    let firsts = [(Call::CheckPlan, profit), (Call::CheckPlanBlock, profit), (Call::Certify, 0)];
+    let firsts = [
+        (Call::CheckPlan, profit),
+        (Call::CheckPlanBlock, profit),
+        (Call::NeatPlan, 4095),
+        (Call::Certify, 0),
+    ];
     for (call, first) in firsts {
         let (code, lent) = agrees(call, &full, sizes);
         assert_eq!((code, lent.answer.words()[0]), (0, first));

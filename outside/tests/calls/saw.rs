@@ -1,7 +1,7 @@
 // The saw beside the office: the proved calls against the reference, blocks that differ only in
 // prices against each other, and the check of the saw against that of the office.
 use crate::damage::damage;
-use crate::deep::deep_plans;
+use crate::deep::{deep_plans, longest_plan_of_waste};
 use crate::examples::{input, Node};
 use crate::inputs::{draw, SMALL};
 use crate::lent::{Lent, Sizes, AMPLE};
@@ -201,7 +201,8 @@ fn beside_the_office(office: &Input, saw: &Input) -> bool {
 #[test]
 fn deepest_plans_fit_the_stack() {
     for (kerf, choices) in [(0, 0), (0, TURNING), (20, 0)] {
-        for nodes in deep_plans(kerf) {
+        let longest = (kerf == 0).then(longest_plan_of_waste);
+        for nodes in deep_plans(kerf).into_iter().chain(longest) {
             let job = kerf_block(1000, 1000, kerf, &[(1, 1, u32::MAX, 2)]);
             let i = input(job, &[], &nodes).with(choices);
             let middle = nodes.len() as u64 / 2;
