@@ -12,6 +12,7 @@ use outside::blocks::{job_block, job_s, kerf_block, old_block};
 use outside::planner;
 use outside::random::Random;
 use outside::reference;
+use std::collections::BTreeMap;
 
 const PLAN: [Node; 5] = [(2, 2), (1, 0), (3, 1), (1, 1), (1, 2)];
 
@@ -152,6 +153,7 @@ fn short_answers_and_unknown_choices_change_nothing() {
 fn generated_inputs_agree_whatever_their_prices() {
     let random = &mut Random::new(9);
     let (mut inputs, mut calls, mut passed) = (0, 0, 0);
+    let mut met: BTreeMap<u32, usize> = BTreeMap::new();
     for choices in all_choices() {
         for _ in 0..3000 {
             inputs += 1;
@@ -159,11 +161,15 @@ fn generated_inputs_agree_whatever_their_prices() {
             damage(random, &mut office);
             let saw = repriced(random, &office);
             passed += usize::from(beside_the_office(&office, &saw));
+            *met.entry(Saw::Check.agrees(&saw, SAW_WORDS).0).or_insert(0) += 1;
             calls += 2 * saw_agrees(random, &office, &saw);
         }
     }
     println!("the saw: {inputs} inputs, {calls} calls compared, {passed} plans passed by the office");
     assert!(passed >= 4000, "{passed} plans passed");
+    let expected = (0..=5).chain([7]).chain(10..=18).chain([26, 27, 101]);
+    assert!(expected.eq(met.keys().copied()), "{met:?}");
+    assert!(met.values().all(|&times| times >= 20), "{met:?}");
 }
 
 /// Every call of the saw, on both blocks; gives the number of calls.
