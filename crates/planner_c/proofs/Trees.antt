@@ -8,8 +8,10 @@ use lib.ListN.{length}
 use borrow.Author.Tests.{le-ltb}
 use Rattle.cutting.specs.Lists.{over}
 use Rattle.cutting.specs.Job.{Job}
+use Rattle.cutting.specs.Promises.{FiguresMost}
+use Rattle.cutting.proofs.Promises.{figures-most}
 use Rattle.cutting.specs.Preorder.{node-count, kinds-of, operands-of}
-use Rattle.refusal.specs.Refusals.{Outcome, next, first-refusal, outcome-by}
+use Rattle.refusal.specs.Refusals.{Outcome, first-refusal, outcome-by}
 use Rattle.refusal.proofs.Numbers.{number-some}
 use Rattle.refusal.specs.declared.Checked.{Checked}
 use Rattle.refusal.specs.declared.Checked.the-variants.{Passed, Refused}
@@ -17,7 +19,8 @@ use Rattle.plan.specs.declared.PlanAnswer.{PlanAnswer}
 use Rattle.plan.specs.Trees.{ChecksPlan, Reports}
 use Rattle.job.specs.declared.Choices.{Choices}
 use Rattle.job.specs.Block.{job-checks}
-use Rattle.job.specs.Weights.{block-job, weight-in}
+use Rattle.job.specs.Weights.{block-job, weight-in, Accepted}
+use Rattle.job.proofs.Weights.{accepted-in-range}
 use Rattle.job.proofs.Checks.{passed-both}
 use Rattle.plan.specs.Plan.{plan-answer}
 use Rattle.neat.specs.declared.NeatAnswer.{NeatAnswer}
@@ -41,6 +44,10 @@ pub bound-given : (s : List ℕ) (choices : Choices) (ws : List ℕ) {n : ℕ} (
     → BoundGiven (block-job s choices) (weight-in ws) new n
 bound-given s choices ws old (bound.Answered b) said g e = subst (λ w. BoundHolds (block-job s choices) (weight-in ws) (answer-word w 1) (answer-word w 0)) (sym (g .1)) (said b refl)
 bound-given s choices ws old (bound.Refused r) said g e = absurd (omega (arith, number-some r, g .0, e))
+
+-- every figure of an accepted job is the most that a tree earns there
+pub block-figures : (s : List ℕ) (choices : Choices) (ws : List ℕ) → Accepted s choices ws → FiguresMost (block-job s choices) (weight-in ws)
+block-figures s choices ws a = figures-most (block-job s choices) (weight-in ws) (accepted-in-range s choices ws a)
 
 -- a written plan
 pub plan-given : (s : List ℕ) (choices : Choices) (ws : List ℕ) {n : ℕ} (kinds operands new-kinds new-operands old : List ℕ) {new : List ℕ} (a : WriteAnswer)

@@ -5,12 +5,14 @@ mod choices;
 mod words;
 
 ghost use mathlib.Core.Path.{_≡_};
-ghost use Rattle.job.specs.Weights.{weight-in};
+ghost use Rattle.cutting.specs.Promises.{FiguresMost};
+ghost use Rattle.job.specs.Weights.{weight-in, Accepted};
 ghost use Rattle.plan.specs.Calls.{arrays-said, block-said, plan-kinds, plan-operands, JobPasses, BlockPasses};
 ghost use Rattle.bound.specs.Bound.{lent, BoundLeaves, bound-said};
 ghost use Rattle.neat.specs.Neat.{neat-said, NeatJudged};
 ghost use Rattle.writer.specs.Write.{write-said};
 ghost use Rattle.certificate.specs.Certificate.{certificate-said};
+ghost use Rattle.certificate.specs.Promises.{PlanJudged};
 ghost use Rattle.cutting.specs.Preorder.{kinds-of, operands-of};
 ghost use Rattle.saw.specs.Saw.{saw-said};
 ghost use Rattle.saw.specs.Parts.{node-part, part-said};
@@ -76,6 +78,7 @@ pub extern "C" fn planner_bound(
         (BoundLeaves (now (block .entry)) (choices-of choices) (now (weights .entry)))
         (lent (now (lengths .entry)) (now (widths .entry)) (now (table .entry))) (lent (now (lengths .exit)) (now (widths .exit)) (now (table .exit))) ⌝ }
     ensures trees { λ n. ⌜ BoundGiven (job-with (now (block .entry)) choices) (weight-in (now (weights .entry))) (now (answer .exit)) n ⌝ }
+    ensures figures { λ _. ⌜ (Accepted (now (block .entry)) (choices-of choices) (now (weights .entry)) → FiguresMost (job-with (now (block .entry)) choices) (weight-in (now (weights .entry)))) ⌝ }
 {
     let stop = choices::early(answer.len(), 4, choices);
     if 0 < stop {
@@ -187,6 +190,7 @@ pub extern "C" fn planner_certify(
         (CertificateLeaves (now (block .entry)) (choices-of choices) (now (weights .entry)) (now (kinds .entry)) (now (operands .entry)))
         (lent (now (lengths .entry)) (now (widths .entry)) (now (table .entry))) (lent (now (lengths .exit)) (now (widths .exit)) (now (table .exit))) ⌝ }
     ensures trees { λ n. ⌜ CertificateGiven (job-with (now (block .entry)) choices) (weight-in (now (weights .entry))) (now (kinds .entry)) (now (operands .entry)) (now (answer .exit)) n ⌝ }
+    ensures judged { λ _. ⌜ PlanJudged (now (block .entry)) (choices-of choices) (now (kinds .entry)) (now (operands .entry)) ⌝ }
 {
     let stop = choices::early(answer.len(), 3, choices);
     if 0 < stop {

@@ -4,7 +4,7 @@ use denote.Ref.{now}
 use Rattle.bound.specs.Bound.{lent, BoundLeaves, bound-said}
 use Rattle.planner_c.specs.Exports.{choices-of}
 use Rattle.planner_c.proofs.Exports.{stops, words-enough, enough, untouched, called}
-use Rattle.planner_c.proofs.Trees.{bound-given}
+use Rattle.planner_c.proofs.Trees.{bound-given, block-figures}
 use borrow.Author.Needs.{needs}
 use Rattle.planner_c.proofs.planner_bound.Statement.{statement}
 use Rattle.planner_c.proofs.planner_bound.Tie as tie
@@ -16,7 +16,7 @@ returns c =
     let h = c .if1 .taken in
     let m = lent (now (a .lengths)) (now (a .widths)) (now (a .table)) in
     let s = stops 4 (a .choices) (now (a .answer)) f (bound-said (now (a .block)) (choices-of (a .choices)) (now (a .weights)) m) h in
-    (s .0, (s .1, (untouched 4 (a .choices) (now (a .answer)) f (BoundLeaves (now (a .block)) (choices-of (a .choices)) (now (a .weights))) m h, λ e. absurd (omega (arith, h, e)))))
+    (s .0, (s .1, (untouched 4 (a .choices) (now (a .answer)) f (BoundLeaves (now (a .block)) (choices-of (a .choices)) (now (a .weights))) m h, (λ e. absurd (omega (arith, h, e)), block-figures (now (a .block)) (choices-of (a .choices)) (now (a .weights))))))
 
 put-bound-requires : tie.Need-put-bound-requires
 put-bound-requires c κs = let a = c .before .before .before .before .before .before .before .before .before .before .before .before .before .before .before .before .before .before .before .before .args in words-enough 4 (a .choices) (now (a .answer)) (c .before .before .before .before .before .before .before .before .before .before .before .before .before .early .ensures) (c .before .before .before .before .before .before .before .before .before .before .before .before .if1 .left)
@@ -35,7 +35,7 @@ returns-2 c =
         s .1,
         (
           called 4 (a .choices) (now (a .answer)) f (BoundLeaves (now (a .block)) (choices-of (a .choices)) (now (a .weights))) h (e .memory),
-          bound-given (now (a .block)) (choices-of (a .choices)) (now (a .weights)) (now (a .answer)) _ (e .exact) g,
+          (bound-given (now (a .block)) (choices-of (a .choices)) (now (a .weights)) (now (a .answer)) _ (e .exact) g, block-figures (now (a .block)) (choices-of (a .choices)) (now (a .weights))),
         ),
       ),
     )

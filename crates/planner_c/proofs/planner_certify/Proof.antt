@@ -4,6 +4,7 @@ use denote.Ref.{now}
 use Rattle.job.specs.Weights.{weight-in}
 use Rattle.bound.specs.Bound.{lent}
 use Rattle.certificate.specs.Certificate.{certificate-said}
+use Rattle.certificate.proofs.Promises.{plans-judged}
 use Rattle.planner_c.specs.Exports.{choices-of, job-with, CertificateLeaves}
 use Rattle.planner_c.proofs.Exports.{stops, words-enough, enough, untouched, called}
 use Rattle.planner_c.proofs.Calls.{certificate-sums}
@@ -19,7 +20,7 @@ returns c =
     let h = c .if1 .taken in
     let m = lent (now (a .lengths)) (now (a .widths)) (now (a .table)) in
     let s = stops 3 (a .choices) (now (a .answer)) f (certificate-said (now (a .block)) (choices-of (a .choices)) (now (a .weights)) (now (a .kinds)) (now (a .operands)) m) h in
-    (s .0, (s .1, (untouched 3 (a .choices) (now (a .answer)) f (CertificateLeaves (now (a .block)) (choices-of (a .choices)) (now (a .weights)) (now (a .kinds)) (now (a .operands))) m h, λ e. absurd (omega (arith, h, e)))))
+    (s .0, (s .1, (untouched 3 (a .choices) (now (a .answer)) f (CertificateLeaves (now (a .block)) (choices-of (a .choices)) (now (a .weights)) (now (a .kinds)) (now (a .operands))) m h, (λ e. absurd (omega (arith, h, e)), plans-judged (now (a .block)) (choices-of (a .choices)) (now (a .kinds)) (now (a .operands))))))
 
 put-certificate-requires : tie.Need-put-certificate-requires
 put-certificate-requires c κs =
@@ -41,9 +42,12 @@ returns-2 c =
         (
           called 3 (a .choices) (now (a .answer)) f (CertificateLeaves (now (a .block)) (choices-of (a .choices)) (now (a .weights)) (now (a .kinds)) (now (a .operands))) h
               (e .memory),
-          certificate-given (job-with (now (a .block)) (a .choices)) (now (a .kinds)) (now (a .operands)) (now (a .answer)) (weight-in (now (a .weights))) _
-              (e .best)
-              (e .gap) g,
+          (
+            certificate-given (job-with (now (a .block)) (a .choices)) (now (a .kinds)) (now (a .operands)) (now (a .answer)) (weight-in (now (a .weights))) _
+                (e .best)
+                (e .gap) g,
+            plans-judged (now (a .block)) (choices-of (a .choices)) (now (a .kinds)) (now (a .operands)),
+          ),
         ),
       ),
     )
