@@ -4,7 +4,7 @@ use mathlib.Core.Bool.{Bool, true, false}
 use mathlib.Core.List.{List, [], _∷_}
 use Prim.Native.Nat.{ℕ}
 use Rattle.refusal.specs.declared.Refusal.{Refusal}
-use Rattle.refusal.specs.declared.Refusal.the-variants.{ShortHeader, PlateSide, KindCount, BlockLength, KindSide, Price, Demand, WeightCount, Capacity, PlanLength, NodeCount, NodeKind, PieceNumber, Operand, Misfit, Excess, NodeMissing, NodeLeft, ListShort, TableShort, PlanLong, IdleCut, Kerf}
+use Rattle.refusal.specs.declared.Refusal.the-variants.{ShortHeader, PlateSide, KindCount, BlockLength, KindSide, Price, Demand, WeightCount, Capacity, PlanLength, NodeCount, NodeKind, PieceNumber, Operand, Misfit, Excess, NodeMissing, NodeLeft, ListShort, TableShort, PlanLong, StageLimit, ManyStages, IdleCut, Kerf}
 use Rattle.refusal.specs.declared.Checked.{Checked}
 use Rattle.refusal.specs.declared.Checked.the-variants.{Passed, Refused}
 
@@ -31,6 +31,8 @@ number-of (NodeLeft k) = 18
 number-of ListShort = 19
 number-of (TableShort n) = 20
 number-of (PlanLong n) = 21
+number-of StageLimit = 22
+number-of (ManyStages k) = 23
 number-of (IdleCut k) = 26
 number-of Kerf = 27
 
@@ -57,6 +59,8 @@ place-of (NodeLeft k) = k
 place-of ListShort = 0
 place-of (TableShort n) = n
 place-of (PlanLong n) = n
+place-of StageLimit = 0
+place-of (ManyStages k) = k
 place-of (IdleCut k) = k
 place-of Kerf = 0
 

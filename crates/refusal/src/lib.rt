@@ -26,6 +26,8 @@ pub enum Refusal {
     ListShort,
     TableShort(u64),
     PlanLong(u64),
+    StageLimit,
+    ManyStages(u16),
     IdleCut(u16),
     Kerf,
 }
@@ -62,6 +64,8 @@ pub fn number(r: Refusal) -> u16
         Refusal::ListShort => 19,
         Refusal::TableShort(_) => 20,
         Refusal::PlanLong(_) => 21,
+        Refusal::StageLimit => 22,
+        Refusal::ManyStages(_) => 23,
         Refusal::IdleCut(_) => 26,
         Refusal::Kerf => 27,
     }
@@ -93,6 +97,8 @@ pub fn place(r: Refusal) -> u64
         Refusal::ListShort => 0,
         Refusal::TableShort(n) => n,
         Refusal::PlanLong(n) => n,
+        Refusal::StageLimit => 0,
+        Refusal::ManyStages(k) => k as u64,
         Refusal::IdleCut(k) => k as u64,
         Refusal::Kerf => 0,
     }
