@@ -31,7 +31,7 @@ module _ (J : Job) (weight : ℕ → ℕ) (n : ℕ) (pieces : List ℕ) (array :
   abbrev N : Job
   N = pieces-job (J .plate) n pieces
 
-  same-positions : (d : Direction) → normal-positions N d ≡ normal-positions J d
+  pub same-positions : (d : Direction) → normal-positions N d ≡ normal-positions J d
   same-positions d = listed-positions J weight n (size-in pieces) (price-in pieces) (heavy-in pieces) (array .listing) d
 
   pub same-figure : (l w c : ℕ) → figure-of N (heavy-in pieces) l w c ≡ figure-of J weight l w c
@@ -40,7 +40,7 @@ module _ (J : Job) (weight : ℕ → ℕ) (n : ℕ) (pieces : List ℕ) (array :
   pub same-count : (d : Direction) → position-count N d ≡ position-count J d
   same-count d = ap length (same-positions d)
 
-  same-position : (d : Direction) (a : ℕ) → position N d a ≡ position J d a
+  pub same-position : (d : Direction) (a : ℕ) → position N d a ≡ position J d a
   same-position d a = ap (λ xs. getD xs a 0) (same-positions d)
 
   pub same-words : (q : ℕ) → words-needed N q ≡ words-needed J q

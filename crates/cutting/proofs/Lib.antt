@@ -31,6 +31,7 @@ pub mod Table
 pub mod Laws
 pub mod Bound
 pub mod Listed
+pub mod Staged
 pub mod Plan
 pub mod Promises
 pub mod Sound

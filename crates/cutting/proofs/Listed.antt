@@ -96,7 +96,7 @@ module _ (J : Job) (weight : ℕ → ℕ) (n : ℕ) (size : ℕ → Rect) (price
   numbered = members-listed J ∙ ap (λ n. map (member-at J) (range 0 n)) (sym (given .number))
 
   -- the greatest over the pieces is that over the numbers
-  greatest-listed : (f g : Piece → ℕ) → ((j : ℕ) → j < n → f (upright j) ≡ g (member-at J j)) → greatest f (members L) ≡ greatest g (members J)
+  pub greatest-listed : (f g : Piece → ℕ) → ((j : ℕ) → j < n → f (upright j) ≡ g (member-at J j)) → greatest f (members L) ≡ greatest g (members J)
   greatest-listed f g h = plain-greatest (J .plate) n size price f ∙ (greatest-cong _ _ (range 0 n) (λ j m. h j (below j m))
       ∙ (sym (greatest-map g (member-at J) (range 0 n)) ∙ sym (ap (greatest g) numbered)))
 

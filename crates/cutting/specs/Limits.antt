@@ -37,6 +37,10 @@ most-capacity = 4095
 abbrev pub most-nodes : ℕ
 most-nodes = 4095
 
+-- the greatest limit on stages
+abbrev pub most-limit : ℕ
+most-limit = 8
+
 -- no figure is greater: the greatest plate times the greatest price
 abbrev pub most-figure : ℕ
 most-figure = 1000000000000
