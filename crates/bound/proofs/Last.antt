@@ -37,7 +37,7 @@ words-most J h q l =
     omega (arith, mul-le-mul (mul-le-mul (count-most J h Length) (count-most J h Width)) c)
 
 -- the last normal position is the largest not above the plate's side
-last-position : (J : Job) (d : Direction) → position J d (position-count J d - 1) ≡ normal-floor J d (side d (J .plate))
+pub last-position : (J : Job) (d : Direction) → position J d (position-count J d - 1) ≡ normal-floor J d (side d (J .plate))
 last-position J d =
     let n = position-count J d in
     let some = positions-some J d in
@@ -51,7 +51,7 @@ less-one p r h = go (p - 1) (omega arith)
     go k e = rw e (omega arith)
 
 -- the word before the end
-word-last : (p r n : ℕ) → 0 < p → 0 < r → ((p - 1) * r + (r - 1)) * (n + 1) + n ≡ p * r * (n + 1) - 1
+pub word-last : (p r n : ℕ) → 0 < p → 0 < r → ((p - 1) * r + (r - 1)) * (n + 1) + n ≡ p * r * (n + 1) - 1
 word-last p r n hp hr =
     let e = less-one p r hp in
     let f : (p - 1) * r + (r - 1) + 1 ≡ p * r = omega arith in

@@ -40,7 +40,7 @@ lists-long m n l w e =
     (omega arith, omega arith)
 
 -- a refusal is no report
-unreported : {A : Type 0} {r : Refusal} {b : BoundReport} → answer.Refused r ≡ answer.Answered b → A
+pub unreported : {A : Type 0} {r : Refusal} {b : BoundReport} → answer.Refused r ≡ answer.Answered b → A
 unreported e = absurd (let z : _≡_ {A = ℕ} 0 1 = cc in omega arith)
 
 module _ (J : Job) (weight : ℕ → ℕ) (q : ℕ) (old : Memory) where

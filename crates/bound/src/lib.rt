@@ -39,7 +39,7 @@ pub enum BoundAnswer {
 }
 
 // The words that a table needs.
-fn words(p: u16, r: u16, q: u16) -> u64
+pub fn words(p: u16, r: u16, q: u16) -> u64
     requires { ⌜ (p ≤ most-wide-side + 1) × (r ≤ most-wide-side + 1) × (q ≤ most-capacity) ⌝ }
     ensures { λ n. ⌜ n ≡ p * r * (q + 1) ⌝ }
 {
@@ -47,7 +47,7 @@ fn words(p: u16, r: u16, q: u16) -> u64
 }
 
 // Whether lists of m and of n entries are too short for the plate.
-fn lists_short(m: usize, n: usize, length: u16, width: u16) -> bool
+pub fn lists_short(m: usize, n: usize, length: u16, width: u16) -> bool
     ensures { λ r. ⌜ r ≡ (ltb m (length + 1) || ltb n (width + 1)) ⌝ }
 {
     if m < (length as usize) + 1 {
@@ -57,7 +57,7 @@ fn lists_short(m: usize, n: usize, length: u16, width: u16) -> bool
 }
 
 // The floors of both sides into one array: those of the lengths first, those of the widths from entry 1,021 on.
-fn map_sides(size: TableSize, lengths: &[u16], widths: &[u16], floors: &mut [u16])
+pub fn map_sides(size: TableSize, lengths: &[u16], widths: &[u16], floors: &mut [u16])
     requires { ⌜ Mappable (now lengths) (size .rows) (size .length) 1021 × Mappable (now widths) (size .columns) (size .width) 1021 × (length (now floors) ≡ 2042) ⌝ }
     ensures { λ _. ⌜ SidesMapped size (now (lengths .entry)) (now (widths .entry)) (now (floors .exit)) ⌝ }
 {

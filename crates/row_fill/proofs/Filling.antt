@@ -25,7 +25,7 @@ use Rattle.table.proofs.Words.{cell-before, words-past}
 use Rattle.table.proofs.Halves.{half-below, half-more, half-cuts, half-parts, half-ready, half-next}
 use Rattle.table.proofs.Figures.{entry-is, entry-side, positions-axis}
 use Rattle.table.proofs.Weighed.{plain-order, figure-one}
-use Rattle.table.proofs.Across.{across, no-side, two-parts, more-side, piece-most, state-low}
+use Rattle.table.proofs.Across.{across, across-joins, no-side, two-parts, more-side, piece-most, state-low}
 use Rattle.table.proofs.Complete.{side-covered, complete}
 use Rattle.row_fill.specs.Raised.{Pieces}
 use Rattle.row_fill.specs.Rows.{Entries, LengthsTaken, WidthsTaken, Rows}
@@ -80,7 +80,7 @@ module _ (J : Job) (weight : ℕ → ℕ) (fit : InTableRange J) (d : Direction)
     pub side-taken : (a half-end g : ℕ) → a < count → Half positions a half-end → worth (a - 1) 0 ≤ g
         → ((i j : ℕ) → 1 ≤ i → i < half-end → j ≡ remainder positions floors a i → j < a → i ≤ j → getD positions i 0 + getD positions j 0 ≡ getD positions a 0 → worth (j - 1) 0 < worth j 0 → worth i 0 + worth j 0 ≤ g)
         → (i : ℕ) → 1 ≤ i → i < half-end → (e m : ℕ) → T (leb e (e + m)) → e + m ≡ 0 → worth i e + worth (remainder positions floors a i) m ≤ g
-    side-taken a half-end g ha half before taken = side-covered J leb weight plain-order fit d count positions floors given o a half-end 0 g 1 Up ha half (omega arith) before (λ i h. rises i)
+    side-taken a half-end g ha half before taken = side-covered J leb plain-order fit d count positions floors given (across J leb weight d o) (across-joins J leb weight plain-order fit d o) a half-end 0 g 1 Up ha half (omega arith) before (λ i h. rises i)
         (λ i j l m e h x t u ht hu f y b v. (let y0 : t ≡ 0 = omega arith in let z0 : u ≡ 0 = omega arith in rw (y0, z0) (taken i j l m e h (larger i j l m x (decLe i j)) x y)))
       where
         larger : (i j : ℕ) → 1 ≤ i → i < half-end → getD positions i 0 + getD positions j 0 ≡ getD positions a 0 → Dec (i ≤ j) → i ≤ j

@@ -27,7 +27,8 @@ use Rattle.table.specs.States.{Order, Covers}
 use Rattle.state_fill.specs.Cells.{figure-in, note-in, held, under, Level, Startable, Levelled, Rises, Flagged, Listed, Low, Grown, Growing, Ready, Cuttable, CutAt, Placed, Inherited, Finished, FlaggedBelow, Topped}
 use Rattle.state_fill.specs.Tables.{tabled, cell, Made, Spot}
 use Rattle.state_fill.proofs.Noted.{figure-small, figure-plain, note-plain}
-use Rattle.table.proofs.Across.{across, across-above, state-above, state-low, more-side, piece-most}
+use Rattle.table.proofs.Across.{across, across-joins, state-above, state-low, more-side, piece-most}
+use Rattle.table.proofs.Covered.{Joins}
 use Rattle.table.proofs.Complete.{along, side-covered, complete}
 use Rattle.state_fill.proofs.Growing.{outside-same, outside-chain, grown-then, order-of, under-zero, last-state}
 use Rattle.state_fill.proofs.Joining.{held-kept, note-kept, listed-kept}
@@ -49,7 +50,7 @@ covers-same le words some f h g e c s l = go (c s l)
     go (inr x) = inr (x .0, x .1, x .2, x .3, omega (arith, e s l, e (x .0) (x .1), x .4))
 
 -- the greater of two cells is covered over the second by what the first one lists, and at which it is above the second
-start-covers : (le : ℕ → ℕ → Bool) (words : ℕ) (some flag : ℕ → Type 0) (f g h top : ℕ → ℕ) → ((s : ℕ) → s < words → top s ≡ max (f s) (g s)) → ((s : ℕ) → h s ≤ g s) → Rises le words g
+pub start-covers : (le : ℕ → ℕ → Bool) (words : ℕ) (some flag : ℕ → Type 0) (f g h top : ℕ → ℕ) → ((s : ℕ) → s < words → top s ≡ max (f s) (g s)) → ((s : ℕ) → h s ≤ g s) → Rises le words g
     → ((t : ℕ) → t < words → some t → g t < f t → flag t) → Covers le words some f h → Covers le words flag top g
 start-covers le words some flag f g h top is low rises flags c s l = go (decLe (f s) (g s)) (c s l)
   where
@@ -59,7 +60,7 @@ start-covers le words some flag f g h top is low rises flags c s l = go (decLe (
     go (no k) (inr x) = inr (x .0, x .1, x .2, flags (x .0) (x .1) (x .3) (omega (arith, rises (x .0) s l (x .2), x .4)), omega (arith, is s l, is (x .0) (x .1), x .4))
 
 -- figures that some states cover are the same past all of these, where the figures covered over are
-level-past : (le : ℕ → ℕ → Bool) → ((t s : ℕ) → t ≤ s → T (le t s)) → (words flat top : ℕ) (some : ℕ → Type 0) (f g : ℕ → ℕ) → Rises le words f → ((s : ℕ) → g s ≤ f s)
+pub level-past : (le : ℕ → ℕ → Bool) → ((t s : ℕ) → t ≤ s → T (le t s)) → (words flat top : ℕ) (some : ℕ → Type 0) (f g : ℕ → ℕ) → Rises le words f → ((s : ℕ) → g s ≤ f s)
     → ((t : ℕ) → t < words → some t → t < top) → Covers le words some f g → Level words flat g → Level words (max flat top) f
 level-past le plain words flat top some f g rises low below c level s h l = go (c s l)
   where
@@ -85,27 +86,27 @@ made-kept {J} {le} {own} {normal-lengths} {normal-widths} {words} {i} {j} {at} {
   wider = covers-more le words _ _ _ _ (λ t l s. listed-kept at end old new o (cell J words i j) words t h s) (w .wider);
 }
 
--- the cuts of one side
-module _ (J : Job) (le : ℕ → ℕ → Bool) (own : ℕ → ℕ) (order : Order le) (fit : InTableRange J) (d : Direction) (count : ℕ) (positions floors : List ℕ) (given : Positions J d count positions floors)
-    (o a half-end base stride at words : ℕ) (old new : List ℕ) (ha : a < count) (half : Half positions a half-end)
-    (figures : (i s : ℕ) → i < a → s < words → held old (base + i * stride) s ≡ across J le own d o (getD positions i 0) s)
-    (covers : (i : ℕ) → i < a → Covers le words (Listed old (base + i * stride) words) (across J le own d o (getD positions i 0)) (across J le own d o (getD positions (i - 1) 0)))
+-- the cuts of one side, along which a cell of length x has the figures h x
+module _ (J : Job) (le : ℕ → ℕ → Bool) (order : Order le) (fit : InTableRange J) (d : Direction) (count : ℕ) (positions floors : List ℕ) (given : Positions J d count positions floors)
+    (h : ℕ → ℕ → ℕ) (joins : Joins le h) (a half-end base stride at words : ℕ) (old new : List ℕ) (ha : a < count) (half : Half positions a half-end)
+    (figures : (i s : ℕ) → i < a → s < words → held old (base + i * stride) s ≡ h (getD positions i 0) s)
+    (covers : (i : ℕ) → i < a → Covers le words (Listed old (base + i * stride) words) (h (getD positions i 0)) (h (getD positions (i - 1) 0)))
     (cuts : CutAt le positions floors a 1 half-end base stride at words old new) where
   -- no word is above the figure
-  pub side-low : Low (across J le own d o (getD positions a 0)) at words old → Low (across J le own d o (getD positions a 0)) at words new
-  side-low h = cuts .low (across J le own d o (getD positions a 0)) (λ t s l b. across-above J le own order fit d o (getD positions a 0) t s b) (λ i t u l m ht hu z b.
+  pub side-low : Low (h (getD positions a 0)) at words old → Low (h (getD positions a 0)) at words new
+  side-low below = cuts .low (h (getD positions a 0)) (λ t s l b. joins .above (getD positions a 0) t s b) (λ i t u l m ht hu z b.
       (let q = half-parts positions floors count (positions-axis J d count positions floors fit given) a half-end i ha half l m in
       omega (
         arith,
         figures i t (omega (arith, half .most)) ht,
         figures (remainder positions floors a i) u (q .0) hu,
-        along J le own order fit d count positions floors given o .sums i (remainder positions floors a i) a t u (omega (arith, half .most)) (omega (arith, q .0)) ha (q .1) b,
-      ))) h
+        along J le order fit d count positions floors given h joins .sums i (remainder positions floors a i) a t u (omega (arith, half .most)) (omega (arith, q .0)) ha (q .1) b,
+      ))) below
 
   -- and no cut gives more than g at a state, if what the cell has at the states below is at most g
-  pub side-taken : (s g : ℕ) → s < words → across J le own d o (getD positions (a - 1) 0) s ≤ g → ((t : ℕ) → T (le t s) → held new at t ≤ g)
-      → (i : ℕ) → 1 ≤ i → i < half-end → (e m : ℕ) → T (le e (e + m)) → e + m ≡ s → across J le own d o (getD positions i 0) e + across J le own d o (getD positions (remainder positions floors a i) 0) m ≤ g
-  side-taken s g hs before has = side-covered J le own order fit d count positions floors given o a half-end s g words (λ i. Listed old (base + i * stride) words) ha half hs before covers
+  pub side-taken : (s g : ℕ) → s < words → h (getD positions (a - 1) 0) s ≤ g → ((t : ℕ) → T (le t s) → held new at t ≤ g)
+      → (i : ℕ) → 1 ≤ i → i < half-end → (e m : ℕ) → T (le e (e + m)) → e + m ≡ s → h (getD positions i 0) e + h (getD positions (remainder positions floors a i) 0) m ≤ g
+  side-taken s g hs before has = side-covered J le order fit d count positions floors given h joins a half-end s g words (λ i. Listed old (base + i * stride) words) ha half hs before covers
       (λ i j l m e hj x t u ht hu f y b v. omega (
         arith,
         figures i t (omega (arith, half .most)) ht,
@@ -358,8 +359,8 @@ module _ {J : Job} {own : ℕ → ℕ} {normal-lengths length-floors normal-widt
 
         -- no figure is too large
         sound : Low (F a b) at words t6
-        sound = side-low J (under blocks d) own order fit Width (position-count J Width) normal-widths width-floors (spot .lent .widths) (getD normal-lengths a 0) b width-half-end (at - column) words at words t5 t6 (spot .width-in .1) (spot .width-half) width-figures width-covers width-cuts
-            (side-low J (under blocks d) own order fit Length (position-count J Length) normal-lengths length-floors (spot .lent .lengths) (getD normal-widths b 0) a length-half-end column stride at words t4 t5 (spot .length-in .1) (spot .length-half) length-figures length-covers length-cuts
+        sound = side-low J (under blocks d) order fit Width (position-count J Width) normal-widths width-floors (spot .lent .widths) (across J (under blocks d) own Width (getD normal-lengths a 0)) (across-joins J (under blocks d) own order fit Width (getD normal-lengths a 0)) b width-half-end (at - column) words at words t5 t6 (spot .width-in .1) (spot .width-half) width-figures width-covers width-cuts
+            (side-low J (under blocks d) order fit Length (position-count J Length) normal-lengths length-floors (spot .lent .lengths) (across J (under blocks d) own Length (getD normal-widths b 0)) (across-joins J (under blocks d) own order fit Length (getD normal-widths b 0)) a length-half-end column stride at words t4 t5 (spot .length-in .1) (spot .length-half) length-figures length-covers length-cuts
             (kinds .low (F a b) (rising a b) (λ i h e f l. piece-most J (under blocks d) own order fit (upright i) (getD normal-lengths a 0) (getD normal-widths b 0) (own i) (table-lies J fit i h) (omega arith) (omega arith) (order .same (own i))) inherited-low))
 
         rises : Rises (under blocks d) words (held t6 at)
@@ -370,9 +371,9 @@ module _ {J : Job} {own : ℕ → ℕ} {normal-lengths length-floors normal-widt
         full s h = complete J (under blocks d) own order fit (position-count J Length) (position-count J Width) normal-lengths length-floors normal-widths width-floors (spot .lent .lengths) (spot .lent .widths) a b s (held t6 at s) (spot .length-in .1) (spot .width-in .1)
             above before (λ i l e f m. (let k : own i < words = omega (arith, order .less (own i) s m) in omega (arith, kinds .taken i l e f k, length-cuts .grown .more (own i) k, width-cuts .grown .more (own i) k, rises (own i) s h m)))
             length-half-end width-half-end (spot .length-half) (spot .width-half)
-            (side-taken J (under blocks d) own order fit Length (position-count J Length) normal-lengths length-floors (spot .lent .lengths) (getD normal-widths b 0) a length-half-end column stride at words t4 t5 (spot .length-in .1) (spot .length-half) length-figures length-covers length-cuts
+            (side-taken J (under blocks d) order fit Length (position-count J Length) normal-lengths length-floors (spot .lent .lengths) (across J (under blocks d) own Length (getD normal-widths b 0)) (across-joins J (under blocks d) own order fit Length (getD normal-widths b 0)) a length-half-end column stride at words t4 t5 (spot .length-in .1) (spot .length-half) length-figures length-covers length-cuts
             s (held t6 at s) h above (λ t m. omega (arith, width-cuts .grown .more t (omega (arith, order .less t s m)), rises t s h m)))
-            (side-taken J (under blocks d) own order fit Width (position-count J Width) normal-widths width-floors (spot .lent .widths) (getD normal-lengths a 0) b width-half-end (at - column) words at words t5 t6 (spot .width-in .1) (spot .width-half) width-figures width-covers width-cuts
+            (side-taken J (under blocks d) order fit Width (position-count J Width) normal-widths width-floors (spot .lent .widths) (across J (under blocks d) own Width (getD normal-lengths a 0)) (across-joins J (under blocks d) own order fit Width (getD normal-lengths a 0)) b width-half-end (at - column) words at words t5 t6 (spot .width-in .1) (spot .width-half) width-figures width-covers width-cuts
             s (held t6 at s) h before (λ t m. rises t s h m))
           where
             above : F (a - 1) b s ≤ held t6 at s

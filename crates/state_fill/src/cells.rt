@@ -31,7 +31,7 @@ fn start(table: &mut [u64], at: usize, first: usize, second: usize, words: usize
 }
 
 // All words of the cell become that. From state `flat` on the figures of the cells before it are the same: there one pair is read.
-fn begin(table: &mut [u64], at: usize, first: usize, second: usize, words: usize, flat: usize)
+pub fn begin(table: &mut [u64], at: usize, first: usize, second: usize, words: usize, flat: usize)
     requires { ⌜ Startable first second at words flat (now table) ⌝ }
     ensures { λ _. ⌜ Run (λ s. max (held (now (table .entry)) first s) (held (now (table .entry)) second s)) at words (now (table .entry)) (now (table .exit)) ⌝ }
 {
@@ -43,7 +43,7 @@ fn begin(table: &mut [u64], at: usize, first: usize, second: usize, words: usize
 }
 
 // The states that the cell from `first` on lists, and at which it is above the cell from `second` on, are flagged.
-fn inherit(
+pub fn inherit(
     table: &mut [u64],
     at: usize,
     first: usize,
@@ -91,7 +91,7 @@ fn place_piece(
 }
 
 // The prices of the pieces of exactly the size l by w, at their states; smaller ones came with the cells before.
-fn place_pieces(
+pub fn place_pieces(
     table: &mut [u64],
     pieces: &[u32; 640],
     blocks: &[u32],
@@ -120,7 +120,7 @@ fn place_pieces(
 }
 
 // The flagged states, all below `top`, become the cell's list: the k-th one, plus 1, above the figure of word k.
-fn finish(table: &mut [u64], at: usize, words: usize, top: usize)
+pub fn finish(table: &mut [u64], at: usize, words: usize, top: usize)
     requires { ⌜ (at + words ≤ length (now table)) × (words ≤ 65536) × FlaggedBelow at words top (now table) ⌝ }
     ensures { λ _. ⌜ Finished at words (now (table .entry)) (now (table .exit)) ⌝ }
 {

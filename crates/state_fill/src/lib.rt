@@ -9,7 +9,14 @@ mod shape;
 mod weights;
 mod words;
 
+pub use cells::begin;
+pub use cells::finish;
+pub use cells::inherit;
+pub use cells::place_pieces;
+pub use parts::Line;
+pub use parts::cut;
 pub use raise::below;
 pub use rows::fill;
+pub use rows::strip_all;
 pub use shape::Shape;
 pub use weights::fill_weighed;

@@ -88,7 +88,7 @@ fn strip(table: &mut [u64], x: usize, words: usize)
 }
 
 // The lists are taken off s cells.
-fn strip_all(table: &mut [u64], s: usize, words: usize)
+pub fn strip_all(table: &mut [u64], s: usize, words: usize)
     requires { ⌜ (s * words ≤ length (now table)) × Bare s words (now table) ⌝ }
     ensures { λ _. ⌜ Plain s words (now (table .entry)) (now (table .exit)) ⌝ }
 {

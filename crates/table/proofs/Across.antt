@@ -24,6 +24,7 @@ use Rattle.cutting.proofs.Half.{half-figure}
 use Rattle.cutting.proofs.Members.{lie-member, member-kind, members-solid, table-solid}
 use Rattle.cutting.proofs.Table.{sides-suffice}
 use Rattle.table.specs.States.{by-state, Order, figure-at}
+use Rattle.table.proofs.Covered.{Joins, more-along}
 use Rattle.table.proofs.Shares.{state-split, by-state-monotone, by-state-symmetric, figure-above}
 
 module _ (J : Job) (le : ℕ → ℕ → Bool) (own : ℕ → ℕ) where
@@ -94,12 +95,13 @@ module _ (J : Job) (le : ℕ → ℕ → Bool) (own : ℕ → ℕ) (order : Orde
       go (no n) (yes e) = let f : x + 0 ≡ x = omega arith in rw (e, f) (omega (arith, no-side d o m, across-above d o x k (k + m) c))
       go (no n) (no u) = whole d o x y k m (omega arith) (omega arith) c
 
+  -- so the figures along a side join
+  pub across-joins : (d : Direction) (o : ℕ) → Joins le (across J le own d o)
+  across-joins d o = record { above = across-above d o; parts = two-parts d o }
+
   -- a longer side gives no less
   pub more-side : (d : Direction) (o x y s : ℕ) → x ≤ y → across J le own d o x s ≤ across J le own d o y s
-  more-side d o x y s h =
-      let e : x + (y - x) ≡ y = omega arith in
-      let f : s + 0 ≡ s = omega arith in
-      omega (arith, rw (e, f) at (two-parts d o x (y - x) s 0 (rw f (order .same s))))
+  more-side d o = more-along le order (across J le own d o) (across-joins d o)
 
   -- the recursion over cuts at normal positions up to half of a side, the remainder counted down to a normal position
   pub state-half : (l w s : ℕ) → l ≤ J .plate .0 → w ≤ J .plate .1 → figure-at J le own l w s ≡

@@ -11,6 +11,18 @@ use lib.Dec.{T}
 use lib.ListN.{getD}
 use Rattle.table.specs.States.{Order, Covers}
 
+-- values by the length of a side and the state: a state above gives no less, and two parts no more than the whole
+pub record Joins (le : ℕ → ℕ → Bool) (h : ℕ → ℕ → ℕ) : Type 0 where
+  pub above : (x t s : ℕ) → T (le t s) → h x t ≤ h x s
+  pub parts : (x y k m : ℕ) → T (le k (k + m)) → h x k + h y m ≤ h (x + y) (k + m)
+
+-- so a longer side gives no less
+pub more-along : (le : ℕ → ℕ → Bool) → Order le → (h : ℕ → ℕ → ℕ) → Joins le h → (x y s : ℕ) → x ≤ y → h x s ≤ h y s
+more-along le order h joins x y s l =
+    let e : x + (y - x) ≡ y = omega arith in
+    let f : s + 0 ≡ s = omega arith in
+    omega (arith, rw (e, f) at (joins .parts x (y - x) s 0 (rw f (order .same s))))
+
 -- values along one side: a state above gives no less, two entries together no more than one that is as long; two entries that are
 -- shorter than one together are not longer than the one before it
 pub record Along (le : ℕ → ℕ → Bool) (positions : List ℕ) (count : ℕ) (h : ℕ → ℕ → ℕ) : Type 0 where

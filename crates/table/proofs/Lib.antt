@@ -7,3 +7,4 @@ pub mod Weighed
 pub mod Across
 pub mod Covered
 pub mod Complete
+pub mod Staged

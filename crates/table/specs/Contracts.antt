@@ -6,11 +6,12 @@ use lib.ListN.{length, getD, take, drop}
 use Rattle.cutting.specs.declared.Direction.{Direction}
 use Rattle.cutting.specs.declared.Direction.the-variants.{Length, Width}
 use Rattle.cutting.specs.Tree.{side}
-use Rattle.cutting.specs.Limits.{most-capacity}
+use Rattle.cutting.specs.Limits.{most-capacity, most-limit}
 use Rattle.cutting.specs.Job.{Job, normal-positions, normal-floor}
 use Rattle.cutting.specs.Listed.{InTableRange, pieces-job}
 use Rattle.table.specs.declared.TableSize.{TableSize}
 use Rattle.table.specs.Table.{position-count, position, words-needed, Figures, Kept}
+use Rattle.table.specs.Staged.{staged-words, StagedFigures}
 
 -- a list holds the normal positions of a side
 abbrev pub Listed : Job → Direction → List ℕ → Type 0
@@ -43,3 +44,13 @@ pub record Fillable (size : TableSize) (pieces normal-lengths normal-widths floo
 -- what a fill leaves: the figures, and later words as they were
 abbrev pub FilledBy : Job → (ℕ → ℕ) → ℕ → List ℕ → List ℕ → Type 0
 FilledBy J weight q old new = Figures J weight q new × Kept (words-needed J q) old new
+
+-- what a staged fill asks besides: a limit in range, and room for all blocks
+pub record StagedFillable (size : TableSize) (limit : ℕ) (pieces normal-lengths normal-widths floors table : List ℕ) : Type 0 where
+  pub fillable : Fillable size pieces normal-lengths normal-widths floors table
+  pub within : (1 ≤ limit) × (limit ≤ most-limit)
+  pub all : staged-words (size-job size pieces) (size .capacity) limit ≤ length table
+
+-- what it leaves: the figures of every block, and later words as they were
+abbrev pub StagedBy : Job → (ℕ → ℕ) → ℕ → ℕ → List ℕ → List ℕ → Type 0
+StagedBy J weight n q old new = StagedFigures J weight n q new × Kept (staged-words J q n) old new

@@ -6,11 +6,13 @@ use mathlib.Core.Bool.{Bool, true, false, _&&_}
 use mathlib.Core.List.{map}
 use Prim.Native.Nat.{ℕ, zero, suc, _+_, _-_, _*_, _/_, _%_, _≤_, _<_}
 use lib.Dec.{T, leb, ltb, eqb}
+use Rattle.cutting.specs.declared.Direction.{Direction}
 use Rattle.cutting.specs.Lists.{range, filter}
 use Rattle.cutting.specs.Tree.{Shares}
 use Rattle.cutting.specs.Figure.{figure}
 use Rattle.cutting.specs.Pieces.{kind}
 use Rattle.cutting.specs.Saws.{saw}
+use Rattle.cutting.specs.Shares.{staged}
 use Rattle.cutting.specs.Job.{Job, pieces}
 
 -- no digit of t, up to digit d, is above that of s; the last digit has no bound here, so no t past all states is below a state
@@ -41,6 +43,10 @@ pub record Order (le : ℕ → ℕ → Bool) : Type 0 where
 -- the figure of a rectangle l by w and a state, where every kind has a state of its own (one past all states: it is not open)
 unfoldable pub figure-at : Job → (ℕ → ℕ → Bool) → (ℕ → ℕ) → ℕ → ℕ → ℕ → ℕ
 figure-at J le own l w s = figure (pieces J) (saw 0) (by-state le (λ p. own (kind p))) (l, w) s
+
+-- the same within k stages whose first cuts go in direction d
+unfoldable pub block-at : Job → (ℕ → ℕ → Bool) → (ℕ → ℕ) → ℕ → Direction → ℕ → ℕ → ℕ → ℕ
+block-at J le own k d l w s = figure (pieces J) (saw 0) (staged (by-state le (λ p. own (kind p)))) (l, w) (d, k, s)
 
 -- some states cover the values f over those of g: at each state s, f is not above g, or not above its own value at one of them below s
 abbrev pub Covers : (ℕ → ℕ → Bool) → ℕ → (ℕ → Type 0) → (ℕ → ℕ) → (ℕ → ℕ) → Type 0
