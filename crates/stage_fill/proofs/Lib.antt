@@ -1,0 +1,4 @@
+pub mod Steps
+pub mod Making
+pub mod Numbers
+pub mod Filling

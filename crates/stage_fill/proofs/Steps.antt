@@ -1,0 +1,46 @@
+-- The steps of a cell: a start from two cells, what it keeps through the inheritances, and which states are flagged.
+use mathlib.Core.Path.{_≡_, refl, _∙_, ap}
+use mathlib.Core.Logic.{_⊎_, inl, inr}
+use mathlib.Core.List.{List, [], _∷_}
+use Prim.Native.Nat.{ℕ, _+_, _≤_, _<_, max}
+use native.Mathlib.Omega.{arith}
+use lib.Dec.{leb, leb→le}
+use lib.ListN.{length, getD}
+use Rattle.table.specs.States.{below}
+use Rattle.table.specs.Words.{Run}
+use Rattle.state_fill.specs.Cells.{figure-in, note-in, held, under, Rises, Flagged, Growing, FlaggedBelow, Topped}
+use Rattle.state_fill.proofs.Noted.{figure-small, figure-plain, note-plain}
+use Rattle.state_fill.proofs.Ties.{one-digit}
+use Rattle.stage_fill.specs.Cells.{States}
+
+-- the order of states of one digit is that of numbers
+pub one-order : (blocks : List ℕ) → under blocks 0 ≡ leb
+unfolding below
+one-order blocks = refl
+
+-- figures that rise keep rising where they are the same
+pub rises-same : {words : ℕ} {f g : ℕ → ℕ} → ((s : ℕ) → s < words → g s ≡ f s) → Rises leb words f → Rises leb words g
+rises-same e r t s h l = omega (arith, e s h, e t (omega (arith, leb→le t s l)), r t s h l)
+
+-- a cell whose figures rise can grow
+pub growing : {words at : ℕ} {xs : List ℕ} → States words → at + words ≤ length xs → Rises leb words (held xs at) → Growing (words ∷ []) 0 words at xs
+growing {words} states room rises = record { digits = one-digit words (states .0) (states .1); room = room; rises = rw (one-order (words ∷ [])) rises }
+
+-- the start from two cells
+module _ (first second at words : ℕ) (old new : List ℕ) (run : Run (λ s. max (held old first s) (held old second s)) at words old new) where
+  low : (s : ℕ) → max (held old first s) (held old second s) < 2199023255552
+  low s = omega (arith, figure-small (getD old (first + s) 0), figure-small (getD old (second + s) 0))
+
+  pub started : (s : ℕ) → s < words → held new at s ≡ max (held old first s) (held old second s)
+  started s h = ap figure-in (run .here s h) ∙ figure-plain _ (low s)
+
+  pub start-rises : Rises leb words (held old first) → Rises leb words (held old second) → Rises leb words (held new at)
+  start-rises p q t s h l = omega (arith, started s h, started t (omega (arith, leb→le t s l)), p t s h l, q t s h l)
+
+  -- no state is flagged yet, so all that are flagged later lie below the number handed on
+  pub start-topped : {high : ℕ} {xs : List ℕ} → Topped at words 0 high new xs → FlaggedBelow at words high xs
+  start-topped {high} p = record { most = p .most (omega arith); flags = λ t h f. go t h (p .flags t h f) }
+    where
+      go : (t : ℕ) → t < words → Flagged new at t ⊎ (t < high) → t < high
+      go t h (inr l) = l
+      go t h (inl f) = absurd (omega (arith, ap note-in (run .here t h), note-plain _ (low t)))

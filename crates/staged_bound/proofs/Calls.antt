@@ -1,0 +1,120 @@
+-- What the staged bound call promises, from the verdicts of job, weights and limit and from the staged bound of an accepted job.
+use mathlib.Core.Path.{_≡_, refl, sym, _∙_, ap, subst}
+use mathlib.Core.Bool.{Bool, true, false, _||_}
+use mathlib.Core.List.{List, [], _∷_}
+use Prim.Native.Nat.{ℕ, _≤_}
+use native.Mathlib.Omega.{arith}
+use borrow.Author.Tests.{ltb-false}
+use lib.Dec.{ltb}
+use Rattle.cutting.specs.declared.Sides.{Sides}
+use Rattle.cutting.specs.Sides.{rect-of, sides-of}
+use Rattle.cutting.specs.Limits.{most-limit}
+use Rattle.cutting.specs.Job.{Job, InRange, widened, capacity}
+use Rattle.cutting.specs.Staged.{staged-bound}
+use Rattle.cutting.specs.Listed.{heavy-in, pieces-job, PieceArray}
+use Rattle.cutting.proofs.Members.{range-solid, widened-solid}
+use Rattle.cutting.proofs.Staged.{block-recursion, block-floor, staged-most, staged-holds, staged-ceiling}
+use Rattle.cutting.proofs.Promises.{normal-listed}
+use Rattle.refusal.specs.Refusals.{next, refuse-when, first-refusal, outcome-by}
+use Rattle.refusal.specs.declared.Refusal.{Refusal}
+use Rattle.refusal.specs.declared.Refusal.the-variants.{StageLimit}
+use Rattle.refusal.specs.declared.Checked.{Checked}
+use Rattle.refusal.specs.declared.Checked.the-variants.{Passed, Refused}
+use Rattle.job.specs.declared.Choices.{Choices}
+use Rattle.job.specs.declared.JobRecord.{JobRecord}
+use Rattle.job.specs.Block.{outside, job-of}
+use Rattle.job.specs.Weights.{block-job, weight-in, Accepted}
+use Rattle.job.proofs.Checks.{passed-both}
+use Rattle.job.proofs.Weights.{weights-passed, accepted-both, accepted-in-range}
+use Rattle.job.proofs.Taken.{Taken}
+use Rattle.bound.specs.Bound.{Memory, answer-by, wide-job, block-capacity, accept-verdict, report-values, bound-outcome}
+use Rattle.bound.specs.declared.BoundReport.{BoundReport}
+use Rattle.bound.specs.declared.BoundAnswer.{BoundAnswer}
+use Rattle.bound.specs.declared.BoundAnswer.the-variants as answer
+use Rattle.bound.proofs.Holds.{answered-behind}
+use Rattle.bound.proofs.Listed.{pieces-range}
+use Rattle.bound.proofs.Calls.{range-taken}
+use Rattle.staged_bound.specs.Staged.{limit-check, staged-checks, StagedLeaves, limit-verdict, staged-verdict, staged-block-report, staged-answer, StagedHolds, StagedPromises}
+use Rattle.staged_bound.specs.Contracts.{Stageable, Staged}
+use Rattle.staged_bound.proofs.Listed.{pieces-staged}
+
+-- the staged bound of a job in range holds at its capacity
+staged-held : (J : Job) (weight : ℕ → ℕ) (n : ℕ) → InRange J → StagedHolds J weight n (capacity J weight) (staged-bound J weight n)
+staged-held J weight n h = record {
+  most = staged-most J (range-solid J h) weight n;
+  demands = staged-holds J (range-solid J h) weight n;
+  ceiling = staged-ceiling J weight n h;
+  figure = refl;
+  capacity-is = refl;
+}
+
+said-by : (v : Checked) (b : BoundReport) → bound-outcome (answer-by v b) ≡ outcome-by v (report-values b)
+said-by Passed b = refl
+said-by (Refused r) b = refl
+
+-- the check of the limit
+limit-by : (n : ℕ) (b : Bool) → outside 1 most-limit n ≡ b → first-refusal (limit-check n ∷ []) ≡ next (refuse-when b StageLimit) Passed
+unfolding first-refusal
+limit-by n b e = ap (λ x. next (refuse-when x StageLimit) Passed) e
+
+or-false : (a b : Bool) → (a || b) ≡ false → (a ≡ false) × (b ≡ false)
+or-false true b e = (e, cc)
+or-false false b e = (refl, e)
+
+pub limit-inside : (n : ℕ) → outside 1 most-limit n ≡ false → (1 ≤ n) × (n ≤ most-limit)
+limit-inside n e = let f = or-false (ltb n 1) (ltb most-limit n) e in (ltb-false n 1 (f .0), ltb-false most-limit n (f .1))
+
+module _ (s : List ℕ) (choices : Choices) (ws : List ℕ) (n : ℕ) (old : Memory) where
+  -- the answer and the memory give the rest
+  promised : {new : Memory} (r : BoundAnswer) → r ≡ staged-answer s choices ws n old → StagedLeaves (limit-verdict s choices ws n) (wide-job s choices) (weight-in ws) n (block-capacity s choices ws) old new → StagedPromises s choices ws n old new r
+  promised r e l = record {
+    answers = e;
+    outcome = ap (λ x. bound-outcome x) e ∙ said-by (staged-verdict s choices ws n old) (staged-block-report s choices ws n);
+    memory = l;
+    exact = λ b f. held b (sym e ∙ f);
+    recursion = block-recursion (wide-job s choices) (weight-in ws);
+    normal = normal-listed (wide-job s choices);
+    floor = λ a. block-floor (wide-job s choices) (weight-in ws) (widened-solid (block-job s choices) (range-solid (block-job s choices) (accepted-in-range s choices ws a)));
+  }
+    where
+      held : (b : BoundReport) → staged-answer s choices ws n old ≡ answer.Answered b → StagedHolds (block-job s choices) (weight-in ws) n (b .capacity) (b .bound)
+      held b f =
+          let w = answered-behind (staged-verdict s choices ws n old) (staged-block-report s choices ws n) (sym f) in
+          let v = passed-both (limit-verdict s choices ws n) (first-refusal (staged-checks (wide-job s choices) n (block-capacity s choices ws) old)) (w .0) in
+          let u = passed-both (accept-verdict s choices ws) (first-refusal (limit-check n ∷ [])) (v .0) in
+          rw (w .1) (staged-held (block-job s choices) (weight-in ws) n (accepted-in-range s choices ws (u .0)))
+
+  -- a refusal before the storage checks changes nothing
+  refused : (r : Refusal) → limit-verdict s choices ws n ≡ Refused r → StagedPromises s choices ws n old old (answer.Refused r)
+  refused r v = promised (answer.Refused r) (sym (ap (λ v. answer-by (next v (first-refusal (staged-checks (wide-job s choices) n (block-capacity s choices ws) old))) (staged-block-report s choices ws n)) v))
+      (rw v (record { lengths = refl; widths = refl; table = refl }))
+
+  -- the job or its weights are refused
+  pub early : (r : Refusal) → accept-verdict s choices ws ≡ Refused r → StagedPromises s choices ws n old old (answer.Refused r)
+  early r v = refused r (ap (λ v. next v (first-refusal (limit-check n ∷ []))) v)
+
+  -- the limit is
+  pub limit-refused : Accepted s choices ws → outside 1 most-limit n ≡ true → StagedPromises s choices ws n old old (answer.Refused StageLimit)
+  limit-refused v e = refused StageLimit (ap (λ v. next v (first-refusal (limit-check n ∷ []))) v ∙ limit-by n true e)
+
+  -- all are accepted
+  pub accepted : Accepted s choices ws → outside 1 most-limit n ≡ false → {new : Memory} (r : BoundAnswer) → Staged (wide-job s choices) (weight-in ws) n (block-capacity s choices ws) old new r → StagedPromises s choices ws n old new r
+  accepted v e {new} r b =
+      let u : limit-verdict s choices ws n ≡ Passed = ap (λ v. next v (first-refusal (limit-check n ∷ []))) v ∙ limit-by n false e in
+      promised r (b .answer ∙ sym (ap (λ v. answer-by (next v (first-refusal (staged-checks (wide-job s choices) n (block-capacity s choices ws) old))) (staged-block-report s choices ws n)) u)) (rw u (b .memory))
+
+-- what the staged bound of the pieces asks, and what it says of the job's block
+module _ (s : List ℕ) (choices : Choices) (ws : List ℕ) {j : JobRecord} {q : ℕ} (t : Taken s choices ws j q) (n : ℕ) where
+  pub stageable : {plate : Sides} {count : ℕ} {pieces : List ℕ} → outside 1 most-limit n ≡ false → plate ≡ sides-of (widened (job-of j) .plate) → PieceArray (widened (job-of j)) (weight-in ws) count pieces → Stageable (pieces-job (rect-of plate) count pieces) q n
+  stageable {plate} {count} {pieces} l e a =
+      let k = weights-passed (block-job s choices) ws (accepted-both s choices ws (t .accepted) .1) in
+      let b : Stageable (pieces-job (widened (job-of j) .plate) count pieces) q n =
+      record { in-range = pieces-range (job-of j) (weight-in ws) count pieces a (range-taken s choices ws t); most = omega (arith, k .1, t .capacity-is); limit = limit-inside n l } in
+      subst (λ p. Stageable (pieces-job (rect-of p) count pieces) q n) (sym e) b
+
+  pub job-staged : {plate : Sides} {count : ℕ} {pieces : List ℕ} {old new : Memory} {r : BoundAnswer} → plate ≡ sides-of (widened (job-of j) .plate) → PieceArray (widened (job-of j)) (weight-in ws) count pieces
+      → Staged (pieces-job (rect-of plate) count pieces) (heavy-in pieces) n q old new r → Staged (wide-job s choices) (weight-in ws) n (block-capacity s choices ws) old new r
+  job-staged {plate} {count} {pieces} {old} {new} {r} e a b =
+      let c = pieces-staged (widened (job-of j)) (weight-in ws) count pieces a n q old new r (subst (λ p. Staged (pieces-job (rect-of p) count pieces) (heavy-in pieces) n q old new r) e b) in
+      let d : Staged (widened (job-of j)) (weight-in ws) n (block-capacity s choices ws) old new r = subst (λ q. Staged (widened (job-of j)) (weight-in ws) n q old new r) (t .capacity-is) c in
+      subst (λ j. Staged (widened (job-of j)) (weight-in ws) n (block-capacity s choices ws) old new r) (t .record-is) d

@@ -1,0 +1,95 @@
+-- The staged bound call: its checks in the table's order, its answer with number and values, what it leaves in lists and table, and what
+-- the answered bound is. Where it says what the bound call says, it cites that call's definitions.
+use mathlib.Core.Path.{_≡_}
+use mathlib.Core.List.{List, [], _∷_}
+use Prim.Native.Nat.{ℕ, _≤_, max}
+use lib.Dec.{ltb}
+use lib.ListN.{length}
+use Rattle.cutting.specs.declared.Direction.the-variants.{Length, Width}
+use Rattle.cutting.specs.Limits.{most-limit, most-figure}
+use Rattle.cutting.specs.Job.{Job, capacity, normal-positions}
+use Rattle.cutting.specs.Promises.{NormalSums}
+use Rattle.cutting.specs.Staged.{block, staged-under, MostStaged, NoneStaged, StagedRecursion, StagedFloors}
+use Rattle.refusal.specs.Refusals.{Check, Outcome, next, first-refusal, by-check, outcome-by}
+use Rattle.refusal.specs.declared.Checked.{Checked}
+use Rattle.refusal.specs.declared.Refusal.the-variants.{StageLimit, TableShort}
+use Rattle.job.specs.declared.Choices.{Choices}
+use Rattle.job.specs.Block.{outside}
+use Rattle.job.specs.Weights.{block-job, weight-in, Accepted}
+use Rattle.table.specs.Table.{position-count, Kept}
+use Rattle.table.specs.Staged.{staged-words, StagedFigures}
+use Rattle.bound.specs.declared.BoundReport.{BoundReport}
+use Rattle.bound.specs.declared.BoundAnswer.{BoundAnswer}
+use Rattle.bound.specs.declared.BoundAnswer.the-variants as answer
+use Rattle.bound.specs.Bound.{Memory, list-check, list-after, answer-by, wide-job, block-capacity, accept-verdict, report-values, bound-outcome}
+
+-- check 22: a limit outside 1 to 8
+abbrev pub limit-check : ℕ → Check
+limit-check n = (outside 1 most-limit n, StageLimit)
+
+-- check 20: a table shorter than (2n + 1) · p · r · (Q + 1), with the words needed
+abbrev pub staged-check : Job → ℕ → ℕ → ℕ → Check
+staged-check J n q k = (ltb k (staged-words J q n), TableShort (staged-words J q n))
+
+-- the storage checks of lent memory
+abbrev pub staged-checks : Job → ℕ → ℕ → Memory → List Check
+staged-checks J n q m = list-check J (length (m .lengths)) (length (m .widths)) ∷ staged-check J n q (length (m .table)) ∷ []
+
+-- what the call reports of a job, weights, a limit and a capacity: the greater of length first and width first at the limit, Q, p and r
+abbrev pub staged-report : Job → (ℕ → ℕ) → ℕ → ℕ → BoundReport
+staged-report J weight n q = record {
+  bound = max (block J weight n Length (J .plate .0) (J .plate .1) q) (block J weight n Width (J .plate .0) (J .plate .1) q);
+  capacity = q;
+  «length_count» = position-count J Length;
+  columns = position-count J Width;
+}
+
+-- the table after the call: the figures of every block, and later words as they were; on a refusal all as it was
+abbrev pub StagedAfter : Checked → Job → (ℕ → ℕ) → ℕ → ℕ → List ℕ → List ℕ → Type 0
+StagedAfter v J weight n q old new = by-check v (StagedFigures J weight n q new × Kept (staged-words J q n) old new) (λ r. new ≡ old)
+
+-- what the call leaves in lent memory, where `before` is the verdict of the checks before the storage's
+pub record StagedLeaves (before : Checked) (J : Job) (weight : ℕ → ℕ) (n q : ℕ) (old new : Memory) : Type 0 where
+  pub lengths : new .lengths ≡ list-after (next before (first-refusal (list-check J (length (old .lengths)) (length (old .widths)) ∷ []))) (normal-positions J Length) (old .lengths)
+  pub widths : new .widths ≡ list-after (next before (first-refusal (list-check J (length (old .lengths)) (length (old .widths)) ∷ []))) (normal-positions J Width) (old .widths)
+  pub table : StagedAfter (next before (first-refusal (staged-checks J n q old))) J weight n q (old .table) (new .table)
+
+-- the verdict of the checks that stand before the storage's: 1 to 9 and 27, and 22
+abbrev pub limit-verdict : List ℕ → Choices → List ℕ → ℕ → Checked
+limit-verdict s choices ws n = next (accept-verdict s choices ws) (first-refusal (limit-check n ∷ []))
+
+-- the verdict of the staged bound call: 1 to 9 and 27, 22, 19, 20
+abbrev pub staged-verdict : List ℕ → Choices → List ℕ → ℕ → Memory → Checked
+staged-verdict s choices ws n m = next (limit-verdict s choices ws n) (first-refusal (staged-checks (wide-job s choices) n (block-capacity s choices ws) m))
+
+-- what it reports of a job block, weights and a limit
+abbrev pub staged-block-report : List ℕ → Choices → List ℕ → ℕ → BoundReport
+staged-block-report s choices ws n = staged-report (wide-job s choices) (weight-in ws) n (block-capacity s choices ws)
+
+-- what it answers
+abbrev pub staged-answer : List ℕ → Choices → List ℕ → ℕ → Memory → BoundAnswer
+staged-answer s choices ws n m = answer-by (staged-verdict s choices ws n m) (staged-block-report s choices ws n)
+
+-- the number and values that it answers
+abbrev pub staged-said : List ℕ → Choices → List ℕ → ℕ → Memory → Outcome
+staged-said s choices ws n m = outcome-by (staged-verdict s choices ws n m) (report-values (staged-block-report s choices ws n))
+
+-- what a staged bound m at the limit n and the capacity q is: the most that a guillotine tree of at most n stages and of weight at most q
+-- earns; no less than any tree of at most n stages that keeps the demands earns; at most 1,000,000,000,000; the greater of the two blocks
+-- of the limit, the kerf added to every side, at the plate and q. The capacity is the job's
+pub record StagedHolds (J : Job) (weight : ℕ → ℕ) (n q m : ℕ) : Type 0 where
+  pub most : MostStaged J weight n q m
+  pub demands : NoneStaged J n m
+  pub ceiling : m ≤ most-figure
+  pub figure : m ≡ staged-under J weight n q
+  pub capacity-is : q ≡ capacity J weight
+
+-- what the staged bound call promises of its answer and of the memory that it is lent
+pub record StagedPromises (s : List ℕ) (choices : Choices) (ws : List ℕ) (n : ℕ) (old new : Memory) (r : BoundAnswer) : Type 0 where
+  pub answers : r ≡ staged-answer s choices ws n old
+  pub outcome : bound-outcome r ≡ staged-said s choices ws n old
+  pub memory : StagedLeaves (limit-verdict s choices ws n) (wide-job s choices) (weight-in ws) n (block-capacity s choices ws) old new
+  pub exact : (b : BoundReport) → r ≡ answer.Answered b → StagedHolds (block-job s choices) (weight-in ws) n (b .capacity) (b .bound)
+  pub recursion : StagedRecursion (wide-job s choices) (weight-in ws)
+  pub normal : NormalSums (wide-job s choices)
+  pub floor : Accepted s choices ws → StagedFloors (wide-job s choices) (weight-in ws)

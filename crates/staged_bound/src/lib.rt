@@ -1,0 +1,134 @@
+// The staged bound call: the bound within a limit on the stages of a plan, the greater of length first and width first at the limit.
+// Refusals 1 to 9, 27, 22, 19 and 20.
+use bound::BoundAnswer;
+use bound::BoundReport;
+use bound::lists_short;
+use bound::map_sides;
+use bound::words;
+use cutting::Sides;
+use job::Choices;
+use pieces::list_pieces;
+use pieces::plate_of;
+use positions::normal_positions;
+use refusal::Checked;
+use refusal::Refusal;
+use table::TableSize;
+use table::greater;
+ghost use mathlib.Core.Path.{_≡_};
+ghost use lib.ListN.{length};
+ghost use Rattle.cutting.specs.Limits.{most-limit};
+ghost use Rattle.cutting.specs.Sides.{rect-of};
+ghost use Rattle.cutting.specs.Listed.{heavy-in, pieces-job};
+ghost use Rattle.job.specs.Block.{outside};
+ghost use Rattle.bound.specs.Bound.{lent};
+ghost use Rattle.staged_bound.specs.Staged.{StagedPromises};
+ghost use Rattle.staged_bound.specs.Contracts.{Stageable, Staged};
+
+// Whether a limit is outside 1 to 8.
+fn limit_outside(limit: u32) -> bool
+    ensures { λ r. ⌜ r ≡ outside 1 most-limit limit ⌝ }
+{
+    if limit < 1 {
+        return true;
+    }
+    8 < limit
+}
+
+// The staged bound of pieces on a plate at a capacity and a limit: refusals 19 and 20, then the lists, the floors of both sides, the
+// table and the report.
+fn bound_of_pieces(
+    plate: Sides,
+    count: u16,
+    pieces: &[u32; 640],
+    q: u16,
+    limit: usize,
+    normal_lengths: &mut [u16],
+    normal_widths: &mut [u16],
+    floors: &mut [u16],
+    table: &mut [u64],
+) -> BoundAnswer
+    requires { ⌜ Stageable (pieces-job (rect-of plate) count (now pieces)) q limit × (length (now floors) ≡ 2042) ⌝ }
+    ensures { λ r. ⌜ Staged (pieces-job (rect-of plate) count (now (pieces .entry))) (heavy-in (now (pieces .entry))) limit q
+        (lent (now («normal_lengths» .entry)) (now («normal_widths» .entry)) (now (table .entry)))
+        (lent (now («normal_lengths» .exit)) (now («normal_widths» .exit)) (now (table .exit))) r ⌝ }
+{
+    let length = plate.length;
+    let width = plate.width;
+    if lists_short(normal_lengths.len(), normal_widths.len(), length, width) {
+        return BoundAnswer::Refused(Refusal::ListShort);
+    }
+    let p = normal_positions(pieces, 0, count, length, width, normal_lengths);
+    let r = normal_positions(pieces, 1, count, width, length, normal_widths);
+    let one = words(p, r, q);
+    let needed = (2 * (limit as u64) + 1) * one;
+    if (table.len() as u64) < needed {
+        return BoundAnswer::Refused(Refusal::TableShort(needed));
+    }
+    let size = TableSize {
+        length: length,
+        width: width,
+        count: count,
+        rows: p,
+        columns: r,
+        capacity: q,
+    };
+    map_sides(size, &normal_lengths[..], &normal_widths[..], floors);
+    stage_fill::fill(
+        size,
+        limit,
+        pieces,
+        &normal_lengths[..],
+        &normal_widths[..],
+        &floors[..],
+        table,
+    );
+    let last = needed as usize - 1;
+    let before = last - one as usize;
+    BoundAnswer::Answered(BoundReport {
+        bound: greater(table[before], table[last]),
+        capacity: q,
+        length_count: p,
+        columns: r,
+    })
+}
+
+// The staged bound of a job block, weights and a limit. An answered bound is exact: the most that a guillotine tree within the limit and
+// the answered capacity earns, and no tree within the limit that keeps the demands earns more.
+pub fn bound_staged(
+    block: &[u8],
+    choices: Choices,
+    weights: &[u8],
+    limit: u32,
+    lengths: &mut [u16],
+    widths: &mut [u16],
+    table: &mut [u64],
+) -> BoundAnswer
+    ensures { λ r. ⌜ StagedPromises (now (block .entry)) choices (now (weights .entry)) limit (lent (now (lengths .entry)) (now (widths .entry)) (now (table .entry)))
+        (lent (now (lengths .exit)) (now (widths .exit)) (now (table .exit))) r ⌝ }
+{
+    let accepted = job::accept(block, choices, weights);
+    let verdict = accepted.verdict;
+    if let Checked::Refused(r) = verdict {
+        return BoundAnswer::Refused(r);
+    }
+    if limit_outside(limit) {
+        return BoundAnswer::Refused(Refusal::StageLimit);
+    }
+    let record = accepted.job;
+    let q = accepted.capacity;
+    let plate = plate_of(record);
+    let listing = list_pieces(record, weights);
+    let pieces = listing.pieces;
+    let mut floors = [0u16; 2042];
+    bound_of_pieces(
+        plate,
+        listing.count,
+        &pieces,
+        q,
+        limit as usize,
+        lengths,
+        widths,
+        &mut floors[..],
+        table,
+    )
+}
