@@ -25,6 +25,9 @@ pub const LEFT: usize = 9007;
 
 pub const STATE: usize = 9008;
 
+// The greatest number of stages of a plan, and 0 where there is no limit.
+pub const LIMIT: usize = 9009;
+
 // A number of each kind: its length, and 70 further on its width.
 pub const KIND_LENGTH: usize = 9010;
 

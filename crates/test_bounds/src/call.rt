@@ -1,9 +1,11 @@
-// The bound call on the job at hand, with a part of marked memory lent; its answer and what it left there go into words.
+// The bound call on the job at hand, or within a limit of stages the staged one, with a part of marked memory lent; its answer and what
+// it left there go into words.
 use bound::BoundAnswer;
 use bound::BoundReport;
 use every_unit::BLOCK;
 use every_unit::FIGURES;
 use every_unit::LENGTH_COUNT;
+use every_unit::LIMIT;
 use every_unit::NORMAL_LENGTHS;
 use every_unit::NORMAL_WIDTHS;
 use every_unit::WEIGHTS;
@@ -12,6 +14,7 @@ use every_unit::WORD_COUNT;
 use every_unit::write_block;
 use job::Choices;
 use refusal::Refusal;
+use staged_bound::bound_staged;
 use test_tools::Words;
 use test_tools::bytes;
 use test_tools::different_entries;
@@ -101,6 +104,23 @@ fn choose_call(
     bound::bound(block, choices, weights, lengths, widths, table)
 }
 
+// The call without a limit, or the one within the limit that is set.
+fn call_within(
+    t: &Words,
+    way: Choices,
+    block: &[u8],
+    weights: &[u8],
+    lengths: &mut [u16],
+    widths: &mut [u16],
+    table: &mut [u64],
+) -> BoundAnswer {
+    let limit = (word(t, LIMIT, 0) % 4294967296) as u32;
+    if limit == 0 {
+        return choose_call(block, way, weights, lengths, widths, table);
+    }
+    bound_staged(block, way, weights, limit, lengths, widths, table)
+}
+
 // The call on the job's block and weights.
 fn call_bound(
     t: &Words,
@@ -111,9 +131,10 @@ fn call_bound(
 ) -> BoundAnswer {
     let block = bytes(t, BLOCK);
     let weights = bytes(t, WEIGHTS);
-    choose_call(
-        first_bytes(&block, word(t, BLOCK, 0)),
+    call_within(
+        t,
         way,
+        first_bytes(&block, word(t, BLOCK, 0)),
         first_bytes(&weights, word(t, WEIGHTS, 0)),
         lengths,
         widths,

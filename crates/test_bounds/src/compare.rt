@@ -1,6 +1,6 @@
 // Generated jobs of one shape: the second computation, the bound call, and what differs. Each job is compared in three ways: 0 with upright
 // pieces alone, 1 with pieces that may be turned, 2 with the capacity of the full demands, every second job with pieces that may be turned.
-// Half of the jobs that lose no kerf are given as old blocks.
+// Half of the jobs that lose no kerf are given as old blocks. Without a limit of stages, or within the limits 1 to 8 in turn.
 use crate::call::ANSWER;
 use crate::call::LENT_LENGTHS;
 use crate::call::LENT_WIDTHS;
@@ -12,6 +12,7 @@ use crate::call::try_bound;
 use every_unit::BOUND;
 use every_unit::CAPACITY;
 use every_unit::KERF;
+use every_unit::LIMIT;
 use every_unit::PLATE;
 use every_unit::WORD_COUNT;
 use every_unit::compute;
@@ -169,25 +170,32 @@ fn compare_way(t: &mut Words, way: usize) {
     note_difference(t, way);
 }
 
+// Sets the next limit of stages, where there is one.
+fn next_limit(t: &mut Words, staged: bool) {
+    let limit = times(staged as usize, plus(word(t, ALL_DRAWN, 0) % 8, 1));
+    put(t, LIMIT, 0, limit);
+}
+
 // Draws the next job, and compares it in all ways.
-fn compare_job(t: &mut Words) {
+fn compare_job(t: &mut Words, staged: bool) {
     add(t, ALL_DRAWN, 1);
+    next_limit(t, staged);
     draw_job(t);
     compare_way(t, 0);
     compare_way(t, 1);
     compare_way(t, 2);
 }
 
-fn compare_jobs(t: &mut Words, n: usize) {
+fn compare_jobs(t: &mut Words, n: usize, staged: bool) {
     for i in 0..n {
-        compare_job(t);
+        compare_job(t, staged);
     }
 }
 
-// Compares the jobs of the shape in the row.
-pub fn compare_shape(t: &mut Words) {
+// Compares the jobs of the shape in the row, by the call without or with a limit of stages.
+pub fn compare_shape(t: &mut Words, staged: bool) {
     clear(t, AGREED, 11);
-    compare_jobs(t, JOBS);
+    compare_jobs(t, JOBS, staged);
     print_shape(t);
 }
 

@@ -1,13 +1,14 @@
 // A case at the limits: the job in the row, in which all kinds but the last are alike, and the memory that it is lent. The row has plate
 // length and width; number of kinds; kerf; kind length, width, price, demand and weight; the last kind's price; entries of the two lists
 // and words of the table that are lent; and, 1 for yes and 0 for no, whether pieces may be turned, whether the capacity is that of the
-// full demands, whether the block is written as an old one and whether it is read as an old one.
+// full demands, whether the block is written as an old one and whether it is read as an old one; then the limit of stages, 0 for none.
 use crate::call::ANSWER;
 use crate::call::LENT_LENGTHS;
 use crate::call::OTHER_LENGTHS;
 use crate::call::try_bound;
 use every_unit::KIND_LENGTH;
 use every_unit::LENGTH_COUNT;
+use every_unit::LIMIT;
 use every_unit::PLATE;
 use every_unit::PRICE;
 use job::Choices;
@@ -37,6 +38,7 @@ fn price_last(t: &mut Words) {
 
 fn make_job(t: &mut Words) {
     copy(t, PLATE, ROW, 4);
+    copy(t, LIMIT, plus(ROW, 17), 1);
     copy(t, LENT_LENGTHS, plus(ROW, 10), 3);
     copy_kinds(t);
     price_last(t);

@@ -1,9 +1,10 @@
-// Runs the bound call on the jobs of a script (its standard input).
+// Runs the bound calls on the jobs of a script (its standard input).
 // A command `Shape` compares it with a second computation that cuts at every whole unit and shares no code with it (crate every_unit), on
 // 70 generated jobs of a shape, each with upright pieces alone, with pieces that may be turned, and by the call of the full demands: the
 // bound, the capacity, the numbers of normal lengths and widths, both lists and every word of the table; all later words of lists and
 // table must keep what they held before the call. It prints, for each of the three ways, how many jobs agreed, the table words compared
-// and the sum of the expected bounds, and the greatest capacity and kerf. `Total` sums up, and names the first job that does not agree.
+// and the sum of the expected bounds, and the greatest capacity and kerf. `Within` does the same with the staged bound, within the limits 1
+// to 8 in turn. `Total` sums up, and names the first job that does not agree.
 // A command `Limit` runs one job and prints the answer, or the refusal's number and place, and then how many entries of the two lists
 // and how many words of the table the call changed.
 mod call;
@@ -17,11 +18,12 @@ use limits::run_limit;
 use test_tools::Words;
 use test_tools::next_command;
 
-const COMMANDS: usize = 120;
+const COMMANDS: usize = 140;
 
 fn run(t: &mut Words, letter: u8) {
     match letter {
-        b'S' => compare_shape(t),
+        b'S' => compare_shape(t, false),
+        b'W' => compare_shape(t, true),
         b'T' => print_total(t),
         b'L' => run_limit(t),
         _ => {}
