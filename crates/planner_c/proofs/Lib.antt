@@ -3,3 +3,4 @@ mod Exports
 mod Trees
 mod Calls
 mod Saw
+mod Within

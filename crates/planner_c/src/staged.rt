@@ -1,0 +1,45 @@
+// The calls within a limit on the stages of a plan.
+use crate::choices;
+use crate::words;
+ghost use mathlib.Core.Path.{_≡_};
+ghost use Rattle.job.specs.Weights.{weight-in};
+ghost use Rattle.bound.specs.Bound.{lent};
+ghost use Rattle.staged_bound.specs.Staged.{staged-said};
+ghost use Rattle.planner_c.specs.Exports.{choices-of, job-with, returned, answered, Left};
+ghost use Rattle.planner_c.specs.Within.{StagedBoundLeaves, StagedGiven};
+
+// The staged bound of a job block, weights and a limit. The answer has 4 words: bound, capacity, and the numbers of normal lengths and
+// widths.
+#[no_mangle]
+pub extern "C" fn planner_bound_staged(
+    block: &[u8],
+    choices: u32,
+    weights: &[u8],
+    limit: u32,
+    lengths: &mut [u16],
+    widths: &mut [u16],
+    table: &mut [u64],
+    answer: &mut [u64],
+) -> u32
+    ensures number { λ n. ⌜ n ≡ returned 4 (now (answer .entry)) choices (staged-said (now (block .entry)) (choices-of choices) (now (weights .entry)) limit (lent (now (lengths .entry)) (now (widths .entry)) (now (table .entry)))) ⌝ }
+    ensures words { λ _. ⌜ now (answer .exit) ≡ answered 4 (now (answer .entry)) choices (staged-said (now (block .entry)) (choices-of choices) (now (weights .entry)) limit (lent (now (lengths .entry)) (now (widths .entry)) (now (table .entry)))) ⌝ }
+    ensures memory { λ _. ⌜ Left 4 (now (answer .entry)) choices
+        (StagedBoundLeaves (now (block .entry)) (choices-of choices) (now (weights .entry)) limit)
+        (lent (now (lengths .entry)) (now (widths .entry)) (now (table .entry))) (lent (now (lengths .exit)) (now (widths .exit)) (now (table .exit))) ⌝ }
+    ensures trees { λ n. ⌜ StagedGiven (job-with (now (block .entry)) choices) (weight-in (now (weights .entry))) limit (now (answer .exit)) n ⌝ }
+{
+    let stop = choices::early(answer.len(), 4, choices);
+    if 0 < stop {
+        return stop;
+    }
+    let a = staged_bound::bound_staged(
+        block,
+        choices::choices_of(choices),
+        weights,
+        limit,
+        lengths,
+        widths,
+        table,
+    );
+    words::put_bound(a, answer)
+}
