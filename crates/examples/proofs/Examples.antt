@@ -23,10 +23,11 @@ use Rattle.job.specs.Block.{price-at, demand-at, each-kind, job-checks, entries
 use Rattle.job.specs.Weights.{block-job, Accepted}
 use Rattle.idle.specs.Idle.{pieceless, idle-checks}
 use Rattle.plan.specs.Plan.{walk, walk-answer, plan-answer}
+use Rattle.plan.specs.Trees.{trees-in}
 use Rattle.plan.specs.Calls.{JobPasses}
 use Rattle.saw.specs.Saw.{saw-checks}
 use Rattle.saw.specs.Parts.{extent}
-use Rattle.neat.specs.Neat.{trees-in, block-neat}
+use Rattle.neat.specs.Neat.{block-neat}
 use Rattle.writer.specs.Write.{block-plan}
 use Rattle.examples.specs.Examples as line
 use Rattle.examples.specs.Examples.{Example, old-block, RefusedAs, PassedTo, ExampleHolds, misfit-job, marked}

@@ -1,7 +1,7 @@
 -- The neat plan of a plan that passes: what holds of it, what the scan writes, and the answers of the call one by one.
-use mathlib.Core.Path.{_≡_, refl, sym, _∙_, ap, ap₂, subst}
+use mathlib.Core.Path.{_≡_, refl, sym, _∙_, ap, subst}
 use mathlib.Core.List.{List, [], _∷_, _++_, map, append-nil}
-use Prim.Native.Nat.{ℕ, zero, suc, _+_, _-_, _≤_, _<_}
+use Prim.Native.Nat.{ℕ, zero, suc, _+_, _≤_, _<_}
 use native.Mathlib.Omega.{arith}
 use lib.ListN.{length, set}
 use borrow.Author.Tests.{lt-ltb, le-ltb}
@@ -21,19 +21,20 @@ use Rattle.refusal.specs.declared.Checked.the-variants.{Passed, Refused}
 use Rattle.job.specs.declared.Choices.{Choices}
 use Rattle.job.specs.declared.JobRecord.{JobRecord}
 use Rattle.job.specs.declared.JobAnswer.{JobAnswer}
-use Rattle.job.specs.Block.{job-checks, read-of, job-of}
+use Rattle.job.specs.Block.{read-of, job-of}
 use Rattle.job.specs.Weights.{block-job}
 use Rattle.job.proofs.Read as read
 use Rattle.plan.specs.Plan.{nodes-in, plan-answer}
 use Rattle.plan.specs.Walk.{Walkable}
-use Rattle.plan.specs.Trees.{DrawnAs, PlanOf}
-use Rattle.plan.proofs.Preorder.{written, arrays-written, kinds-length, operands-length}
+use Rattle.plan.specs.Trees.{trees-in, tree-in, DrawnAs, PlanOf}
+use Rattle.plan.proofs.Preorder.{kinds-length, operands-length}
 use Rattle.plan.proofs.Plans.{plans-checked}
+use Rattle.plan.proofs.Drawn.{nodes-are, trees-are, drawn-is, plan-is}
 use Rattle.neat.specs.declared.NeatAnswer.{NeatAnswer}
 use Rattle.neat.specs.declared.NeatAnswer.the-variants as answer
-use Rattle.neat.specs.Neat.{trees-in, first-tree, tree-in, neat-tree, room-check, neat-checked, neat-verdict, block-neat, neat-answer-by, neat-outcome, NeatPlan, NeatJudged, NeatPromises}
+use Rattle.neat.specs.Neat.{neat-tree, room-check, neat-checked, neat-verdict, block-neat, neat-answer-by, neat-outcome, NeatPlan, NeatJudged, NeatPromises}
 use Rattle.neat.specs.Scan.{unless-none, neat-nodes as nodes-written, pieces-in, nodes-for, AllFit, Scannable, Neatened}
-use Rattle.neat.proofs.Trees.{trees-tree, pieces-tree, tree-fits}
+use Rattle.neat.proofs.Trees.{pieces-tree, tree-fits}
 
 -- the number of nodes by the number of pieces
 module _ (J : Job) (t : Tree laid.Piece) where
@@ -50,18 +51,6 @@ module _ (J : Job) (t : Tree laid.Piece) where
       go : (n : ℕ) → piece-count t ≡ n → nodes-for (piece-count t) ≡ node-count (neat-of J t)
       go zero e = no-piece e
       go (suc n) e = some-pieces n e
-
--- the arrays of a tree draw it
-module _ (J : Job) (kinds operands : List ℕ) (t : Tree laid.Piece) (drawn : DrawnAs J t kinds operands) where
-  nodes-are : nodes-in kinds operands ≡ written t ++ []
-  nodes-are = ap₂ nodes-in (drawn .kinds-are) (drawn .operands-are) ∙ arrays-written t ∙ sym (append-nil (written t))
-
-  trees-are : trees-in (nodes-in kinds operands) ≡ t ∷ []
-  unfolding trees-in
-  trees-are = ap trees-in nodes-are ∙ trees-tree t []
-
-  drawn-is : t ≡ tree-in kinds operands
-  drawn-is = sym (ap first-tree trees-are)
 
 module _ (J : Job) (range : InRange J) (kinds operands : List ℕ) where
   -- what the scan is given of them
@@ -82,19 +71,11 @@ module _ (J : Job) (range : InRange J) (kinds operands : List ℕ) where
     written-are n e = ap (nodes-written J) (trees-are J kinds operands t drawn) ∙ ap (λ m. unless-none m (preorder (neat-of J t)) ++ []) e ∙ append-nil (preorder (neat-of J t))
 
   module _ (p : plan-answer J kinds operands .verdict ≡ Passed) where
-    t₀ : Tree laid.Piece
-    t₀ = plans-checked J (range .kinds .1) kinds operands .tree p .0
-
-    plan₀ : PlanOf J t₀ kinds operands
-    unfolding t₀
-    plan₀ = plans-checked J (range .kinds .1) kinds operands .tree p .1
-
     abbrev t : Tree laid.Piece
     t = tree-in kinds operands
 
-    -- the arrays draw the tree of the plan
-    pub plan-is : PlanOf J t kinds operands
-    plan-is = subst (λ u. PlanOf J u kinds operands) (drawn-is J kinds operands t₀ (plan₀ .drawn)) plan₀
+    is-plan : PlanOf J t kinds operands
+    is-plan = plan-is J (range .kinds .1) kinds operands p
 
     same-copies : (i : ℕ) → copies-of i (neat-of J t) ≡ copies-of i t
     same-copies i = neat-total (J .kerf) (laid J) _ t
@@ -104,9 +85,9 @@ module _ (J : Job) (range : InRange J) (kinds operands : List ℕ) where
     neat-passes =
         record {
           drawn = record {
-            on-plate = neat-on J (range-solid J range) t (J .plate .0) (J .plate .1) (plan-is .drawn .on-plate);
-            demands = λ i h. omega (arith, same-copies i, plan-is .drawn .demands i h);
-            nodes = omega (arith, neat-nodes J t, plan-is .drawn .nodes);
+            on-plate = neat-on J (range-solid J range) t (J .plate .0) (J .plate .1) (is-plan .drawn .on-plate);
+            demands = λ i h. omega (arith, same-copies i, is-plan .drawn .demands i h);
+            nodes = omega (arith, neat-nodes J t, is-plan .drawn .nodes);
             kinds-are = refl;
             operands-are = refl;
           };
@@ -117,7 +98,7 @@ module _ (J : Job) (range : InRange J) (kinds operands : List ℕ) where
     pub neat-plan : NeatPlan J t kinds operands
     neat-plan =
         record {
-          drawn = plan-is;
+          drawn = is-plan;
           only = λ u d. drawn-is J kinds operands u d;
           passes = neat-passes;
           checked = plans-checked J (range .kinds .1) (kinds-of (neat-of J t)) (operands-of (neat-of J t)) .passes tt (neat-of J t) neat-passes;
@@ -130,15 +111,15 @@ module _ (J : Job) (range : InRange J) (kinds operands : List ℕ) where
         }
 
     pub plan-most : length kinds ≤ 4095
-    plan-most = walkable t (plan-is .drawn) .1
+    plan-most = walkable t (is-plan .drawn) .1
 
     -- the nodes needed
     pub needed : {m n : ℕ} → m ≡ pieces-in kinds → n ≡ nodes-for m → n ≡ node-count (neat-of J t)
-    needed e f = f ∙ ap nodes-for (e ∙ pieces-are t (plan-is .drawn)) ∙ by-pieces J t
+    needed e f = f ∙ ap nodes-for (e ∙ pieces-are t (is-plan .drawn)) ∙ by-pieces J t
 
     -- where there is no piece, the neat plan is waste
     none-waste : {m : ℕ} → m ≡ pieces-in kinds → m ≡ 0 → neat-of J t ≡ waste
-    none-waste e z = neat-waste (J .kerf) (laid J) t (sym (e ∙ pieces-are t (plan-is .drawn)) ∙ z)
+    none-waste e z = neat-waste (J .kerf) (laid J) t (sym (e ∙ pieces-are t (is-plan .drawn)) ∙ z)
 
     pub waste-one : {m : ℕ} → m ≡ pieces-in kinds → m ≡ 0 → 1 ≡ node-count (neat-of J t)
     unfolding node-count preorder
@@ -158,12 +139,12 @@ module _ (J : Job) (range : InRange J) (kinds operands : List ℕ) where
       all-written = go (piece-count t) refl
         where
           go : (i : ℕ) → piece-count t ≡ i → nodes-written J (trees-in (nodes-in kinds operands)) ≡ preorder (neat-of J t)
-          go zero q = absurd (z (e ∙ pieces-are t (plan-is .drawn) ∙ q))
-          go (suc i) q = written-are t (plan-is .drawn) i q
+          go zero q = absurd (z (e ∙ pieces-are t (is-plan .drawn) ∙ q))
+          go (suc i) q = written-are t (is-plan .drawn) i q
 
       pub scannable : {old-kinds old-operands : List ℕ} → n ≤ length old-kinds → n ≤ length old-operands → Scannable J kinds operands old-kinds old-operands n
       unfolding node-count
-      scannable h i = record { range = range; walkable = walkable t (plan-is .drawn); fits = all-fit t (plan-is .drawn); counts = needed e f ∙ sym (ap length all-written); kinds-room = h; operands-room = i }
+      scannable h i = record { range = range; walkable = walkable t (is-plan .drawn); fits = all-fit t (is-plan .drawn); counts = needed e f ∙ sym (ap length all-written); kinds-room = h; operands-room = i }
 
       pub kinds-written : map (λ x. kind-of x) (nodes-written J (trees-in (nodes-in kinds operands))) ≡ kinds-of (neat-of J t)
       unfolding kinds-of

@@ -18,9 +18,9 @@ use Rattle.cutting.specs.Preorder.{kind-of, operand-of}
 use Rattle.node.specs.Nodes.{of-piece}
 use Rattle.plan.specs.Plan.{node-of, nodes-in}
 use Rattle.plan.specs.Walk.{waiting, Held}
+use Rattle.plan.specs.Trees.{with-node, trees-in}
 use Rattle.plan.proofs.Walk.{nodes-length, nodes-suc, stored-past}
 use Rattle.neat.specs.declared.Step.{Step}
-use Rattle.neat.specs.Neat.{with-node, trees-in}
 use Rattle.neat.specs.Scan.{used-with, becomes, Ready, Stepped, remains, put-when, neat-nodes, pieces-in, Fits, AllFit, Scannable}
 use Rattle.neat.proofs.Trees.{node-ready, node-used, node-written}
 

@@ -1,5 +1,5 @@
--- The trees that a plan's nodes draw: one step of the scan is one node in front of them, and a tree's own nodes draw the tree.
-use mathlib.Core.Path.{_≡_, refl, sym, _∙_, ap, ap₂, subst}
+-- The trees that a plan's nodes draw: one step of the scan is one node in front of them, and the nodes of a tree on the plate all fit.
+use mathlib.Core.Path.{_≡_, refl, sym, _∙_, ap, subst}
 use mathlib.Core.List.{List, [], _∷_, _++_, map, append-assoc}
 use Prim.Native.Nat.{ℕ, zero, suc, _+_, _-_, _<_}
 use native.Mathlib.Omega.{arith}
@@ -11,34 +11,17 @@ use Rattle.cutting.specs.Lists.{keep}
 use Rattle.cutting.specs.Tree.{Rect, side, Tree, waste, piece, cut, total, piece-count}
 use Rattle.cutting.specs.Pieces as laid
 use Rattle.cutting.specs.Pieces.{_⊑_}
-use Rattle.cutting.specs.Preorder.{preorder, kind-of, operand-of, kinds-of}
+use Rattle.cutting.specs.Preorder.{preorder, kinds-of}
 use Rattle.cutting.specs.Job.{Job, laid, InRange}
 use Rattle.cutting.specs.Neat.{joined, remaining, used, neat, used-of, neat-of}
 use Rattle.cutting.proofs.Members.{range-solid}
 use Rattle.cutting.proofs.Preorder.{kinds-cut}
 use Rattle.cutting.proofs.Neat.{used-none, used-on, used-piece}
-use Rattle.plan.specs.Plan.{node-of}
+use Rattle.node.proofs.Nodes.{node-back}
+use Rattle.plan.specs.Trees.{with-node}
 use Rattle.plan.proofs.Preorder.{written, written-cut}
-use Rattle.neat.specs.Neat.{with-node, trees-in}
+use Rattle.plan.proofs.Drawn.{trees-tree}
 use Rattle.neat.specs.Scan.{most-sides, moved, used-with, becomes, Ready, remains, unless-none, neat-nodes, pieces-in, Lies, Fits, AllFit}
-
--- a node by its kind and operand
-node-again : (n : Node) → node-of (kind-of n) (operand-of n) ≡ n
-node-again Waste = refl
-node-again (Piece i) = refl
-node-again (Turned i) = refl
-node-again (Cut Length x) = refl
-node-again (Cut Width x) = refl
-
--- a tree's nodes in front of others draw the tree in front of theirs
-pub trees-tree : (t : Tree laid.Piece) (ns : List (ℕ × ℕ)) → trees-in (written t ++ ns) ≡ t ∷ trees-in ns
-unfolding trees-in preorder
-trees-tree waste ns = refl
-trees-tree (piece (laid.upright i)) ns = refl
-trees-tree (piece (laid.turned i)) ns = refl
-trees-tree (cut d x a b) ns =
-    ap trees-in (written-cut d x a b ns)
-    ∙ ap₂ with-node (node-again (Cut d x)) (trees-tree a (written b ++ ns) ∙ ap (λ ts. a ∷ ts) (trees-tree b ns))
 
 -- the pieces of a tree's kinds in front of others
 pub pieces-tree : (t : Tree laid.Piece) (ks : List ℕ) → pieces-in (kinds-of t ++ ks) ≡ piece-count t + pieces-in ks
@@ -142,4 +125,4 @@ module _ (J : Job) (range : InRange J) where
       let p = parts-lie d x a b h in
       let ts = trees-tree a (written b ++ ns) ∙ ap (λ ts. a ∷ ts) (trees-tree b ns) in
       subst (AllFit J) (sym (written-cut d x a b ns))
-      (subst (λ (z : Node × List (Tree laid.Piece)). Fits J (z .0) (z .1)) (λ i. (sym (node-again (Cut d x)) i, sym ts i)) h, tree-fits a (written b ++ ns) (p .0) (tree-fits b ns (p .1) f))
+      (subst (λ (z : Node × List (Tree laid.Piece)). Fits J (z .0) (z .1)) (λ i. (sym (node-back (Cut d x)) i, sym ts i)) h, tree-fits a (written b ++ ns) (p .0) (tree-fits b ns (p .1) f))

@@ -1,15 +1,13 @@
--- The neat call: the tree that a plan's arrays draw, check 21 over the output arrays, the answer with its number and values, what is left
--- in the output arrays, and what the call promises of the neat plan.
+-- The neat call: check 21 over the output arrays, the answer with its number and values, what is left in the output arrays, and what the
+-- call promises of the neat plan.
 use mathlib.Core.Path.{_≡_}
 use mathlib.Core.Bool.{_||_}
 use mathlib.Core.List.{List, [], _∷_}
 use Prim.Native.Nat.{ℕ, _≤_}
 use lib.Dec.{ltb}
 use lib.ListN.{length}
-use Rattle.cutting.specs.declared.Node.{Node}
-use Rattle.cutting.specs.declared.Node.the-variants.{Waste, Piece, Turned, Cut}
 use Rattle.cutting.specs.Lists.{over}
-use Rattle.cutting.specs.Tree.{Tree, waste, piece, cut}
+use Rattle.cutting.specs.Tree.{Tree}
 use Rattle.cutting.specs.Pieces as laid
 use Rattle.cutting.specs.Preorder.{kinds-of, operands-of, node-count}
 use Rattle.cutting.specs.Shares.{stages}
@@ -22,34 +20,11 @@ use Rattle.refusal.specs.declared.Refusal.the-variants.{PlanLong}
 use Rattle.job.specs.declared.Choices.{Choices}
 use Rattle.job.specs.Block.{job-checks}
 use Rattle.job.specs.Weights.{block-job}
-use Rattle.plan.specs.Plan.{node-of, nodes-in, plan-answer}
-use Rattle.plan.specs.Trees.{DrawnAs, PlanOf}
+use Rattle.plan.specs.Plan.{plan-answer}
+use Rattle.plan.specs.Trees.{tree-in, DrawnAs, PlanOf}
 use Rattle.plan.specs.Calls.{JobPasses}
 use Rattle.neat.specs.declared.NeatAnswer.{NeatAnswer}
 use Rattle.neat.specs.declared.NeatAnswer.the-variants as answer
-
--- a node in front of trees: a cut takes the first two as its parts, where they are there
-abbrev pub with-node : Node → List (Tree laid.Piece) → List (Tree laid.Piece)
-with-node Waste ts = waste ∷ ts
-with-node (Piece i) ts = piece (laid.upright i) ∷ ts
-with-node (Turned i) ts = piece (laid.turned i) ∷ ts
-with-node (Cut d x) [] = []
-with-node (Cut d x) (a ∷ []) = a ∷ []
-with-node (Cut d x) (a ∷ b ∷ ts) = cut d x a b ∷ ts
-
--- the trees that a list of nodes draws one after another, read from the last node to the first
-unfoldable pub trees-in : List (ℕ × ℕ) → List (Tree laid.Piece)
-trees-in [] = []
-trees-in (n ∷ ns) = with-node (node-of (n .0) (n .1)) (trees-in ns)
-
--- the first of some trees
-abbrev pub first-tree : List (Tree laid.Piece) → Tree laid.Piece
-first-tree [] = waste
-first-tree (t ∷ ts) = t
-
--- the tree that a plan's arrays draw: that of the plan where it passes (`drawn` of NeatPlan)
-abbrev pub tree-in : List ℕ → List ℕ → Tree laid.Piece
-tree-in kinds operands = first-tree (trees-in (nodes-in kinds operands))
 
 -- the neat plan of a plan's arrays
 abbrev pub neat-tree : Job → List ℕ → List ℕ → Tree laid.Piece

@@ -20,9 +20,10 @@ use Rattle.refusal.specs.declared.Checked.{Checked}
 use Rattle.node.specs.Nodes.{of-piece}
 use Rattle.plan.specs.Plan.{node-of, nodes-in}
 use Rattle.plan.specs.Walk.{waiting, Walkable}
+use Rattle.plan.specs.Trees.{trees-in}
 use Rattle.neat.specs.declared.Step.{Step}
 use Rattle.neat.specs.declared.NeatAnswer.{NeatAnswer}
-use Rattle.neat.specs.Neat.{trees-in, neat-answer-by, NeatLeaves}
+use Rattle.neat.specs.Neat.{neat-answer-by, NeatLeaves}
 
 -- the greatest side of 16 bits
 abbrev pub most-sides : Rect

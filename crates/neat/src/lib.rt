@@ -33,7 +33,8 @@ ghost use Rattle.node.specs.Nodes.{of-piece};
 ghost use Rattle.job.specs.Block.{job-of};
 ghost use Rattle.plan.specs.Plan.{nodes-in};
 ghost use Rattle.plan.specs.Walk.{waiting};
-ghost use Rattle.neat.specs.Neat.{trees-in, neat-tree, neat-checked, NeatPromises};
+ghost use Rattle.plan.specs.Trees.{trees-in};
+ghost use Rattle.neat.specs.Neat.{neat-tree, neat-checked, NeatPromises};
 ghost use Rattle.neat.specs.Scan.{most-sides, moved, sizes-in, Ready, Stepped, remains, put-when, neat-nodes, pieces-in, nodes-for, Scannable, Neatened};
 
 // What the call answers: the number of the neat plan's nodes, which it has written.

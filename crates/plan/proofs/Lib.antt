@@ -5,5 +5,6 @@ pub mod Preorder
 pub mod Trees
 pub mod Parse
 pub mod Plans
+pub mod Drawn
 pub mod Operands
 pub mod Calls

@@ -19,9 +19,9 @@ use Rattle.job.specs.declared.Choices.{Choices}
 use Rattle.job.specs.Weights.{block-job, weight-in}
 use Rattle.idle.specs.Idle.{tree-checks}
 use Rattle.plan.specs.Calls.{plan-values}
-use Rattle.plan.specs.Trees.{DrawnAs, PlanOf, tree-report, Reports}
+use Rattle.plan.specs.Trees.{tree-in, DrawnAs, PlanOf, tree-report, Reports}
 use Rattle.bound.specs.Bound.{Memory, Leaves, BoundHolds, wide-job, block-capacity}
-use Rattle.neat.specs.Neat.{tree-in, neat-tree, neat-verdict, block-neat, NeatLeaves, NeatPlan}
+use Rattle.neat.specs.Neat.{neat-tree, neat-verdict, block-neat, NeatLeaves, NeatPlan}
 use Rattle.writer.specs.Write.{array-after, block-plan}
 use Rattle.certificate.specs.Certificate.{plan-verdict}
 use Rattle.certificate.specs.Promises.{Earns}
