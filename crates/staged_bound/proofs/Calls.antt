@@ -1,11 +1,9 @@
 -- What the staged bound call promises, from the verdicts of job, weights and limit and from the staged bound of an accepted job.
 use mathlib.Core.Path.{_≡_, refl, sym, _∙_, ap, subst}
-use mathlib.Core.Bool.{Bool, true, false, _||_}
+use mathlib.Core.Bool.{true, false}
 use mathlib.Core.List.{List, [], _∷_}
-use Prim.Native.Nat.{ℕ, _≤_}
+use Prim.Native.Nat.{ℕ}
 use native.Mathlib.Omega.{arith}
-use borrow.Author.Tests.{ltb-false}
-use lib.Dec.{ltb}
 use Rattle.cutting.specs.declared.Sides.{Sides}
 use Rattle.cutting.specs.Sides.{rect-of, sides-of}
 use Rattle.cutting.specs.Limits.{most-limit}
@@ -15,7 +13,7 @@ use Rattle.cutting.specs.Listed.{heavy-in, pieces-job, PieceArray}
 use Rattle.cutting.proofs.Members.{range-solid, widened-solid}
 use Rattle.cutting.proofs.Staged.{block-recursion, block-floor, staged-most, staged-holds, staged-ceiling}
 use Rattle.cutting.proofs.Promises.{normal-listed}
-use Rattle.refusal.specs.Refusals.{next, refuse-when, first-refusal, outcome-by}
+use Rattle.refusal.specs.Refusals.{next, first-refusal, outcome-by}
 use Rattle.refusal.specs.declared.Refusal.{Refusal}
 use Rattle.refusal.specs.declared.Refusal.the-variants.{StageLimit}
 use Rattle.refusal.specs.declared.Checked.{Checked}
@@ -27,6 +25,8 @@ use Rattle.job.specs.Weights.{block-job, weight-in, Accepted}
 use Rattle.job.proofs.Checks.{passed-both}
 use Rattle.job.proofs.Weights.{weights-passed, accepted-both, accepted-in-range}
 use Rattle.job.proofs.Taken.{Taken}
+use Rattle.stages.specs.Stages.{limit-check}
+use Rattle.stages.proofs.Limit.{limit-by, limit-inside}
 use Rattle.bound.specs.Bound.{Memory, answer-by, wide-job, block-capacity, accept-verdict, report-values, bound-outcome}
 use Rattle.bound.specs.declared.BoundReport.{BoundReport}
 use Rattle.bound.specs.declared.BoundAnswer.{BoundAnswer}
@@ -34,7 +34,7 @@ use Rattle.bound.specs.declared.BoundAnswer.the-variants as answer
 use Rattle.bound.proofs.Holds.{answered-behind}
 use Rattle.bound.proofs.Listed.{pieces-range}
 use Rattle.bound.proofs.Calls.{range-taken}
-use Rattle.staged_bound.specs.Staged.{limit-check, staged-checks, StagedLeaves, limit-verdict, staged-verdict, staged-block-report, staged-answer, StagedHolds, StagedPromises}
+use Rattle.staged_bound.specs.Staged.{staged-checks, StagedLeaves, limit-verdict, staged-verdict, staged-block-report, staged-answer, StagedHolds, StagedPromises}
 use Rattle.staged_bound.specs.Contracts.{Stageable, Staged}
 use Rattle.staged_bound.proofs.Listed.{pieces-staged}
 
@@ -51,18 +51,6 @@ staged-held J weight n h = record {
 said-by : (v : Checked) (b : BoundReport) → bound-outcome (answer-by v b) ≡ outcome-by v (report-values b)
 said-by Passed b = refl
 said-by (Refused r) b = refl
-
--- the check of the limit
-limit-by : (n : ℕ) (b : Bool) → outside 1 most-limit n ≡ b → first-refusal (limit-check n ∷ []) ≡ next (refuse-when b StageLimit) Passed
-unfolding first-refusal
-limit-by n b e = ap (λ x. next (refuse-when x StageLimit) Passed) e
-
-or-false : (a b : Bool) → (a || b) ≡ false → (a ≡ false) × (b ≡ false)
-or-false true b e = (e, cc)
-or-false false b e = (refl, e)
-
-pub limit-inside : (n : ℕ) → outside 1 most-limit n ≡ false → (1 ≤ n) × (n ≤ most-limit)
-limit-inside n e = let f = or-false (ltb n 1) (ltb most-limit n) e in (ltb-false n 1 (f .0), ltb-false most-limit n (f .1))
 
 module _ (s : List ℕ) (choices : Choices) (ws : List ℕ) (n : ℕ) (old : Memory) where
   -- the answer and the memory give the rest

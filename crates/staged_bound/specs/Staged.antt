@@ -6,26 +6,22 @@ use Prim.Native.Nat.{ℕ, _≤_, max}
 use lib.Dec.{ltb}
 use lib.ListN.{length}
 use Rattle.cutting.specs.declared.Direction.the-variants.{Length, Width}
-use Rattle.cutting.specs.Limits.{most-limit, most-figure}
+use Rattle.cutting.specs.Limits.{most-figure}
 use Rattle.cutting.specs.Job.{Job, capacity, normal-positions}
 use Rattle.cutting.specs.Promises.{NormalSums}
 use Rattle.cutting.specs.Staged.{block, staged-under, MostStaged, NoneStaged, StagedRecursion, StagedFloors}
 use Rattle.refusal.specs.Refusals.{Check, Outcome, next, first-refusal, by-check, outcome-by}
 use Rattle.refusal.specs.declared.Checked.{Checked}
-use Rattle.refusal.specs.declared.Refusal.the-variants.{StageLimit, TableShort}
+use Rattle.refusal.specs.declared.Refusal.the-variants.{TableShort}
 use Rattle.job.specs.declared.Choices.{Choices}
-use Rattle.job.specs.Block.{outside}
 use Rattle.job.specs.Weights.{block-job, weight-in, Accepted}
+use Rattle.stages.specs.Stages.{limit-check}
 use Rattle.table.specs.Table.{position-count, Kept}
 use Rattle.table.specs.Staged.{staged-words, StagedFigures}
 use Rattle.bound.specs.declared.BoundReport.{BoundReport}
 use Rattle.bound.specs.declared.BoundAnswer.{BoundAnswer}
 use Rattle.bound.specs.declared.BoundAnswer.the-variants as answer
 use Rattle.bound.specs.Bound.{Memory, list-check, list-after, answer-by, wide-job, block-capacity, accept-verdict, report-values, bound-outcome}
-
--- check 22: a limit outside 1 to 8
-abbrev pub limit-check : ℕ → Check
-limit-check n = (outside 1 most-limit n, StageLimit)
 
 -- check 20: a table shorter than (2n + 1) · p · r · (Q + 1), with the words needed
 abbrev pub staged-check : Job → ℕ → ℕ → ℕ → Check

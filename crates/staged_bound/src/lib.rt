@@ -12,27 +12,16 @@ use pieces::plate_of;
 use positions::normal_positions;
 use refusal::Checked;
 use refusal::Refusal;
+use stages::limit_outside;
 use table::TableSize;
 use table::greater;
 ghost use mathlib.Core.Path.{_≡_};
 ghost use lib.ListN.{length};
-ghost use Rattle.cutting.specs.Limits.{most-limit};
 ghost use Rattle.cutting.specs.Sides.{rect-of};
 ghost use Rattle.cutting.specs.Listed.{heavy-in, pieces-job};
-ghost use Rattle.job.specs.Block.{outside};
 ghost use Rattle.bound.specs.Bound.{lent};
 ghost use Rattle.staged_bound.specs.Staged.{StagedPromises};
 ghost use Rattle.staged_bound.specs.Contracts.{Stageable, Staged};
-
-// Whether a limit is outside 1 to 8.
-fn limit_outside(limit: u32) -> bool
-    ensures { λ r. ⌜ r ≡ outside 1 most-limit limit ⌝ }
-{
-    if limit < 1 {
-        return true;
-    }
-    8 < limit
-}
 
 // The staged bound of pieces on a plate at a capacity and a limit: refusals 19 and 20, then the lists, the floors of both sides, the
 // table and the report.

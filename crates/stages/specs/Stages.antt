@@ -1,21 +1,28 @@
--- Check 23: a cut whose own path passes the limit of stages, over the nodes of a tree; and how the walks over a plan's kinds end.
+-- Check 22, of the limit on the stages of a plan; check 23, a cut whose own path passes it, over the nodes of a tree; and how the walks over
+-- a plan's kinds end.
 use mathlib.Core.Path.{_≡_}
 use mathlib.Core.List.{List, [], _∷_, _++_}
 use Prim.Native.Nat.{ℕ, _+_, _-_, _≤_, max}
 use lib.Dec.{leb}
 use lib.ListN.{length, drop}
 use Rattle.cutting.specs.declared.Direction.{Direction}
+use Rattle.cutting.specs.Limits.{most-limit}
 use Rattle.cutting.specs.Tree.{Tree, waste, piece, cut}
 use Rattle.cutting.specs.Pieces as laid
 use Rattle.cutting.specs.Shares.{turn, stages-below, root, stages}
 use Rattle.cutting.specs.Preorder.{node-count, kinds-of}
-use Rattle.refusal.specs.declared.Refusal.the-variants.{ManyStages}
+use Rattle.refusal.specs.declared.Refusal.the-variants.{StageLimit, ManyStages}
 use Rattle.refusal.specs.declared.Checked.{Checked}
 use Rattle.refusal.specs.Refusals.{Check, by-check, place-of, first-refusal}
+use Rattle.job.specs.Block.{outside}
 use Rattle.stages.specs.declared.Walk.{Walk}
 use Rattle.stages.specs.declared.Walk.the-variants.{Next, Past}
 use Rattle.stages.specs.declared.Staged.{Staged}
 use Rattle.stages.specs.declared.Staged.the-variants as answer
+
+-- check 22: a limit outside 1 to 8
+abbrev pub limit-check : ℕ → Check
+limit-check n = (outside 1 most-limit n, StageLimit)
 
 -- check 23 of a tree's cuts in preorder, its own node numbered n, below cuts in direction d with k stages left: a cut passes the limit
 -- where no stage is left for it

@@ -1,10 +1,11 @@
-// Check 23 and the stages of a plan that passed: a walk below length cuts and a walk below width cuts that call each other where the
+// Check 22, check 23 and the stages of a plan that passed: a walk below length cuts and a walk below width cuts that call each other where the
 // direction changes. Cuts that keep the direction only add to the trees that wait, so that the walks nest no deeper than the limit.
 ghost use mathlib.Core.Path.{_≡_};
 ghost use Prim.Native.Nat.{_≤_, max};
 ghost use lib.ListN.{length};
 ghost use Rattle.cutting.specs.declared.Direction.the-variants.{Length, Width};
 ghost use Rattle.cutting.specs.Limits.{most-nodes, most-limit};
+ghost use Rattle.job.specs.Block.{outside};
 ghost use Rattle.stages.specs.Stages.{Walked, StagesOf, answer-of};
 
 // How a walk ends: before the node after its trees, with the stages that they need; or at the first cut that passes the limit.
@@ -17,6 +18,16 @@ enum Walk {
 pub enum Staged {
     Within(u8),
     Past(u16),
+}
+
+// Whether a limit is outside 1 to 8.
+pub fn limit_outside(limit: u32) -> bool
+    ensures { λ r. ⌜ r ≡ outside 1 most-limit limit ⌝ }
+{
+    if limit < 1 {
+        return true;
+    }
+    8 < limit
 }
 
 fn more(a: u8, b: u8) -> u8

@@ -1,9 +1,9 @@
--- `staged_bound::limit_outside` meets its contract.
+-- `stages::limit_outside` meets its contract.
 use mathlib.Core.Path.{refl}
 use borrow.Author.Tests.{lt-ltb, le-ltb}
 use native.Mathlib.Omega.{arith}
-use Rattle.staged_bound.proofs.limit_outside.Statement.{statement}
-use Rattle.staged_bound.proofs.limit_outside.Tie as tie
+use Rattle.stages.proofs.limit_outside.Statement.{statement}
+use Rattle.stages.proofs.limit_outside.Tie as tie
 
 returns : tie.Need-returns
 returns c = rw (lt-ltb (c .before .args .limit) 1 (c .if1 .taken)) refl
