@@ -1,5 +1,5 @@
--- The check of a limit; and the checks of a tree pass exactly where its stages are within the limit.
-use mathlib.Core.Path.{_≡_, refl, ap}
+-- The check of a limit; the checks of a tree, which pass exactly where its stages are within the limit and else name a cut.
+use mathlib.Core.Path.{_≡_, refl, sym, _∙_, ap, subst}
 use mathlib.Core.Bool.{Bool, true, false, _||_}
 use mathlib.Core.List.{[], _∷_}
 use Prim.Native.Nat.{ℕ, _+_, _-_, _≤_}
@@ -13,12 +13,15 @@ use Rattle.cutting.specs.Pieces as laid
 use Rattle.cutting.specs.Shares.{turn, stages-below, root, stages}
 use Rattle.cutting.specs.Preorder.{node-count}
 use Rattle.cutting.proofs.Stages.{root-stages}
-use Rattle.refusal.specs.declared.Refusal.the-variants.{StageLimit}
-use Rattle.refusal.specs.declared.Checked.the-variants.{Passed}
-use Rattle.refusal.specs.Refusals.{next, refuse-when, first-refusal}
+use Rattle.refusal.specs.declared.Refusal.{Refusal}
+use Rattle.refusal.specs.declared.Refusal.the-variants.{StageLimit, ManyStages}
+use Rattle.refusal.specs.declared.Checked.{Checked}
+use Rattle.refusal.specs.declared.Checked.the-variants.{Passed, Refused}
+use Rattle.refusal.specs.Refusals.{next, refuse-when, by-check, place-of, first-refusal}
 use Rattle.job.specs.Block.{outside}
-use Rattle.job.proofs.Checks.{cons-passed, append-passed, passed-append}
-use Rattle.stages.specs.Stages.{limit-check, stage-checks, limit-checks}
+use Rattle.job.proofs.Checks.{first-append, cons-passed, append-passed, passed-append}
+use Rattle.stages.specs.declared.Staged.the-variants as answer
+use Rattle.stages.specs.Stages.{limit-check, stage-checks, limit-checks, staged-as}
 
 -- the check of the limit
 pub limit-by : (n : ℕ) (b : Bool) → outside 1 most-limit n ≡ b → first-refusal (limit-check n ∷ []) ≡ next (refuse-when b StageLimit) Passed
@@ -58,3 +61,41 @@ passed-within t k h = omega (arith, passed-below t (root t) k 0 h, root-stages t
 -- and the other way
 pub within-passed : (t : Tree laid.Piece) (k : ℕ) → stages t ≤ k → first-refusal (limit-checks k t) ≡ Passed
 within-passed t k h = below-passed t (root t) k 0 (omega (arith, root-stages t))
+
+-- a check whose refusals name a cut
+abbrev Named : Checked → Type 0
+Named v = (r : Refusal) → v ≡ Refused r → r ≡ ManyStages (place-of r)
+
+named-next : (a b : Checked) → Named a → Named b → Named (next a b)
+named-next Passed b f g = g
+named-next (Refused r) b f g = f
+
+named-when : (t : Bool) (n : ℕ) → Named (refuse-when t (ManyStages n))
+named-when true n r e = let i : ManyStages n ≡ r = cc in sym i ∙ ap (λ x. ManyStages (place-of x)) i
+named-when false n r e = cc
+
+-- so does check 23
+named-below : (t : Tree laid.Piece) (d : Direction) (k n : ℕ) → Named (first-refusal (stage-checks d k n t))
+unfolding stage-checks first-refusal
+named-below waste d k n = λ r e. cc
+named-below (piece p) d k n = λ r e. cc
+named-below (cut e x a b) d k n =
+    named-next (refuse-when (leb k (turn d e)) (ManyStages n)) _ (named-when (leb k (turn d e)) n)
+    (subst Named (sym (first-append (stage-checks e (k - turn d e) (n + 1) a) (stage-checks e (k - turn d e) (n + 1 + node-count a) b)))
+    (named-next _ _ (named-below a e (k - turn d e) (n + 1)) (named-below b e (k - turn d e) (n + 1 + node-count a))))
+
+-- what the answer for a tree decides: its stages are within the limit, or check 23 names the cut
+module _ (k : ℕ) (t : Tree laid.Piece) where
+  pub staged-within : {s : ℕ} → answer.Within s ≡ staged-as k t → (first-refusal (limit-checks k t) ≡ Passed) × (s ≡ stages t)
+  staged-within {s} e = go (first-refusal (limit-checks k t)) refl e
+    where
+      go : (v : Checked) → first-refusal (limit-checks k t) ≡ v → answer.Within s ≡ by-check v (answer.Within (stages t)) (λ r. answer.Past (place-of r)) → (first-refusal (limit-checks k t) ≡ Passed) × (s ≡ stages t)
+      go Passed h e = (h, cc)
+      go (Refused r) h e = (cc, cc)
+
+  pub staged-past : {p : ℕ} → answer.Past p ≡ staged-as k t → first-refusal (limit-checks k t) ≡ Refused (ManyStages p)
+  staged-past {p} e = go (first-refusal (limit-checks k t)) refl e
+    where
+      go : (v : Checked) → first-refusal (limit-checks k t) ≡ v → answer.Past p ≡ by-check v (answer.Within (stages t)) (λ r. answer.Past (place-of r)) → first-refusal (limit-checks k t) ≡ Refused (ManyStages p)
+      go Passed h e = cc
+      go (Refused r) h e = let i : place-of r ≡ p = cc in h ∙ ap Refused (named-below t (root t) k 0 r h ∙ ap ManyStages i)
