@@ -6,9 +6,9 @@ use Prim.Native.Nat.{ℕ, suc, _+_, _≤_, _<_}
 use native.Mathlib.Numerals.{add-one}
 use native.Mathlib.Omega.{arith}
 use lib.Dec.{ltb}
-use lib.ListN.{length, getD, set, take, drop}
+use lib.ListN.{length, getD, set, take, drop, length-append}
 use lib.Seq.{sets, length-sets, sets-eq, paste, paste-suc, take-length}
-use borrow.Author.Tests.{ltb-false}
+use borrow.Author.Tests.{ltb-false, le-ltb}
 use Rattle.cutting.specs.Lists.{over}
 use Rattle.cutting.proofs.Lists.{over-sets}
 use Rattle.refusal.specs.Refusals.{Outcome, number-of, place-of, refused-as}
@@ -75,6 +75,10 @@ module _ (n choices : ℕ) (old : List ℕ) {before : ℕ} (e : before ≡ early
   pub words-enough : before ≤ 0 → n ≤ length old
   words-enough h = ltb-false (length old) n (goes-on (ltb (length old) n) (unknown choices) e h .0)
 
+  -- a call with words enough and known choices is not stopped
+  pub going : n ≤ length old → unknown choices ≡ false → before ≡ 0
+  going k u = e ∙ ap₂ (λ x y. returned-by x y (0, [])) (le-ltb (length old) n k) u
+
   pub enough : (o : Outcome) {said : Outcome} {number : ℕ} {new : List ℕ} → before ≤ 0 → said ≡ o → Gives said number old new → Answers o number new
   enough o h s g =
       let t = goes-on (ltb (length old) n) (unknown choices) e h in (
@@ -95,3 +99,12 @@ module _ (n choices : ℕ) (old : List ℕ) {before : ℕ} (e : before ≡ early
 pub sets-append : (xs zs old : List ℕ) (i : ℕ) → sets old i (xs ++ zs) ≡ sets (sets old i xs) (i + length xs) zs
 sets-append [] zs old i = let e : i ≡ i + 0 = omega arith in ap (λ k. sets old k zs) e
 sets-append (x ∷ xs) zs old i = let e : suc i + length xs ≡ i + suc (length xs) = omega arith in sets-append xs zs (set old i x) (suc i) ∙ ap (λ k. sets (sets (set old i x) (suc i) xs) k zs) e
+
+-- one value more behind the values at the front
+pub over-more : (values old : List ℕ) (at k : ℕ) → length values ≡ at → at < length old → set (over values old) at k ≡ over (values ++ (k ∷ [])) old
+over-more values old at k e h =
+    let f : at ≡ 0 + length values = omega (arith, e) in
+    ap (λ xs. set xs at k) (sym (over-sets values old (omega (arith, e, h))))
+    ∙ ap (λ i. set (sets old 0 values) i k) f
+    ∙ sym (sets-append values (k ∷ []) old 0)
+    ∙ over-sets (values ++ (k ∷ [])) old (omega (arith, e, h, length-append values (k ∷ [])))

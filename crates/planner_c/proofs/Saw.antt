@@ -1,11 +1,9 @@
 -- The saw's exported functions, stopped and called: what their words say of trees and of a node's part, and that no price is in them.
-use mathlib.Core.Path.{_≡_, refl, sym, _∙_, ap, ap₂, subst}
-use mathlib.Core.Bool.{false}
+use mathlib.Core.Path.{_≡_, refl, sym, _∙_, ap, subst}
 use mathlib.Core.List.{List, [], _∷_}
 use Prim.Native.Nat.{ℕ, _+_, _-_, _≤_, _<_}
 use native.Mathlib.Omega.{arith}
 use lib.ListN.{length, take, drop}
-use borrow.Author.Tests.{le-ltb}
 use Rattle.cutting.specs.declared.Node.{Node}
 use Rattle.cutting.specs.Lists.{over}
 use Rattle.cutting.specs.Tree.{Tree}
@@ -26,9 +24,9 @@ use Rattle.saw.specs.Parts.{tree-at, part-by, node-part, part-said}
 use Rattle.saw.proofs.Prices.{same-answer}
 use Rattle.saw.proofs.Calls.{check-met}
 use Rattle.saw.proofs.Parts.{part-tree, listed, listed-length, own-entries}
-use Rattle.planner_c.specs.Exports.{unknown, choices-of, returned-by, returned, early, answered, Gives}
+use Rattle.planner_c.specs.Exports.{choices-of, returned, early, answered, Gives}
 use Rattle.planner_c.specs.Saw.{saw-job-with, PriceBlind, SawChecked, PartGiven}
-use Rattle.planner_c.proofs.Exports.{stops, enough}
+use Rattle.planner_c.proofs.Exports.{stops, going, enough}
 
 module _ (s : List ℕ) (choices : ℕ) (kinds operands old : List ℕ) where
   -- what the saw says is what it says at any prices
@@ -56,17 +54,13 @@ module _ (s : List ℕ) (choices : ℕ) (kinds operands old : List ℕ) where
             a .1,
             record {
               tree = λ z. absurd (omega (arith, z, h));
-              passes = λ k u b t p. none k u;
-              idle = λ k u b t d i p. absurd (omega (arith, h, none k u));
+              passes = λ k u b t p. going 68 choices old e k u;
+              idle = λ k u b t d i p. absurd (omega (arith, h, going 68 choices old e k u));
               office = λ f. (a .0 ∙ ap (λ x. returned 68 old choices x) (beside-said f), a .1 ∙ ap (λ x. answered 68 old choices x) (beside-said f));
               blind = blind 68 (λ z. saw-said z (choices-of choices) kinds operands) same-said (a .0, a .1);
             },
           ),
         )
-      where
-        -- a call with words enough and known choices is not stopped
-        none : 68 ≤ length old → unknown choices ≡ false → before ≡ 0
-        none k u = e ∙ ap₂ (λ x y. returned-by x y (0, [])) (le-ltb (length old) 68 k) u
 
     pub saw-called : {n : ℕ} {new : List ℕ} {r : SawAnswer} → before ≤ 0 → saw-outcome r ≡ saw-said s (choices-of choices) kinds operands → SawChecks s (choices-of choices) kinds operands r → Gives (saw-outcome r) n old new → SawAnswers n new
     saw-called {n} {new} {r} h o checks g =

@@ -1,11 +1,9 @@
 -- What an answer's words say of trees: from the proved call's promise about its answer and the words that the answer gives.
-use mathlib.Core.Path.{_≡_, refl, sym, _∙_, ap, ap₂, subst}
-use mathlib.Core.Bool.{false}
+use mathlib.Core.Path.{_≡_, refl, sym, _∙_, ap, subst}
 use mathlib.Core.List.{List, [], _∷_}
 use Prim.Native.Nat.{ℕ, _≤_, _<_}
 use native.Mathlib.Omega.{arith}
 use lib.ListN.{length}
-use borrow.Author.Tests.{le-ltb}
 use Rattle.cutting.specs.Lists.{over}
 use Rattle.cutting.specs.Job.{Job}
 use Rattle.cutting.specs.Promises.{FiguresMost}
@@ -36,8 +34,8 @@ use Rattle.certificate.specs.declared.Certificate.the-variants as certificate
 use Rattle.certificate.specs.Certificate.{certificate-outcome}
 use Rattle.certificate.specs.Promises.{BestSaid, GapSaid}
 use Rattle.plan.specs.Calls.{plan-values, plan-outcome}
-use Rattle.planner_c.specs.Exports.{Gives, answer-word, PlanGiven, NeatGiven, BoundGiven, TreeChecked, Certified, CertificateGiven, unknown, job-with, returned-by, returned, early, answered}
-use Rattle.planner_c.proofs.Exports.{stops, enough}
+use Rattle.planner_c.specs.Exports.{Gives, answer-word, PlanGiven, NeatGiven, BoundGiven, TreeChecked, Certified, CertificateGiven, job-with, returned, early, answered}
+use Rattle.planner_c.proofs.Exports.{stops, going, enough}
 
 -- a bound
 pub bound-given : (s : List ℕ) (choices : Choices) (ws : List ℕ) {n : ℕ} (old : List ℕ) {new : List ℕ} (a : BoundAnswer) → BoundSaid s choices ws a → Gives (bound-outcome a) n old new
@@ -118,15 +116,11 @@ module _ (Before : Type 0) (s : List ℕ) (choices : ℕ) (kinds operands : List
             a .1,
             record {
               tree = λ z. absurd (omega (arith, z, h));
-              passes = λ k u b t p. none k u;
-              idle = λ k u b t d i p. absurd (omega (arith, h, none k u));
+              passes = λ k u b t p. going 69 choices old e k u;
+              idle = λ k u b t d i p. absurd (omega (arith, h, going 69 choices old e k u));
             },
           ),
         )
-      where
-        -- a call with words enough and known choices is not stopped
-        none : 69 ≤ length old → unknown choices ≡ false → before ≡ 0
-        none k u = e ∙ ap₂ (λ x y. returned-by x y (0, [])) (le-ltb (length old) 69 k) u
 
     pub check-called : {n : ℕ} {new : List ℕ} {old-answer r : PlanAnswer} → before ≤ 0 → plan-outcome r ≡ said → ChecksPlan Before (job-with s choices) kinds operands old-answer r → Gives (plan-outcome r) n old new → ChecksAnswer n new
     check-called {r = r} h o checks g =

@@ -1,17 +1,66 @@
 -- What the words of the staged calls say of trees: from the proved calls' promises about their answers.
-use mathlib.Core.Path.{_≡_, refl, sym, subst}
+use mathlib.Core.Path.{_≡_, refl, sym, _∙_, ap, ap₂, subst}
 use mathlib.Core.List.{List}
-use Prim.Native.Nat.{ℕ}
+use Prim.Native.Nat.{ℕ, _≤_, _<_}
 use native.Mathlib.Omega.{arith}
-use Rattle.refusal.proofs.Numbers.{number-some}
+use lib.ListN.{length}
+use Rattle.cutting.specs.Lists.{over}
 use Rattle.cutting.specs.Job.{Job}
+use Rattle.refusal.specs.Refusals.{outcome-by}
+use Rattle.refusal.proofs.Numbers.{number-some}
+use Rattle.refusal.specs.declared.Checked.{Checked}
+use Rattle.refusal.specs.declared.Checked.the-variants.{Passed, Refused}
+use Rattle.plan.specs.Trees.{Reports}
 use Rattle.bound.specs.declared.BoundReport.{BoundReport}
 use Rattle.bound.specs.declared.BoundAnswer.{BoundAnswer}
 use Rattle.bound.specs.declared.BoundAnswer.the-variants as bound
 use Rattle.bound.specs.Bound.{bound-outcome}
+use Rattle.staged_plan.specs.declared.StagedAnswer.{StagedAnswer}
+use Rattle.staged_plan.specs.Check.{LimitPasses, staged-values, staged-check-outcome, ChecksStaged}
 use Rattle.staged_bound.specs.Staged.{StagedHolds}
-use Rattle.planner_c.specs.Exports.{Gives, answer-word}
-use Rattle.planner_c.specs.Within.{StagedGiven}
+use Rattle.planner_c.specs.Exports.{Gives, answer-word, choices-of, job-with, returned, early, answered}
+use Rattle.planner_c.specs.Within.{StagedChecked, StagedGiven}
+use Rattle.planner_c.proofs.Exports.{stops, going, enough}
+
+module _ (s : List ℕ) (choices limit : ℕ) (kinds operands old : List ℕ) where
+  -- a plan checked within a limit: 0 is returned exactly where the verdict is that it passes
+  within-given : {n : ℕ} {new : List ℕ} (a : StagedAnswer) → ChecksStaged (LimitPasses s (choices-of choices) limit) (job-with s choices) limit kinds operands a → Gives (staged-check-outcome a) n old new → StagedChecked s choices limit kinds operands old new n
+  within-given {n} a checks g = record {
+    tree = λ e. (let p = passed (a .verdict) refl e in let t = checks .tree p in (t .0, t .1, g .1 ∙ ap (λ v. over (outcome-by v (staged-values (a .report) (a .stages)) .1) old) p ∙ ap₂ (λ r k. over (staged-values r k) old) (t .2 .own) (t .3), subst (λ r. Reports (job-with s choices) (t .0) r) (t .2 .own) (t .2)));
+    passes = λ h u b t k. number-by (checks .passes b t k);
+    past = λ h u b t d k e. (let v = checks .past b t d ∙ e in (number-by v, g .1 ∙ ap (λ v. over (outcome-by v (staged-values (a .report) (a .stages)) .1) old) v));
+  }
+    where
+      number-by : {v : Checked} → a .verdict ≡ v → n ≡ outcome-by v (staged-values (a .report) (a .stages)) .0
+      number-by e = g .0 ∙ ap (λ v. outcome-by v (staged-values (a .report) (a .stages)) .0) e
+
+      passed : (v : Checked) → a .verdict ≡ v → n ≡ 0 → a .verdict ≡ Passed
+      passed Passed p e = p
+      passed (Refused r) p e = absurd (omega (arith, number-some r, e, number-by p))
+
+  -- both cases of the exported check
+  module _ (said : ℕ × List ℕ) {before : ℕ} (e : before ≡ early 70 (length old) choices) where
+    abbrev pub StagedChecksAnswer : ℕ → List ℕ → Type 0
+    StagedChecksAnswer n new = (n ≡ returned 70 old choices said) × ((new ≡ answered 70 old choices said) × StagedChecked s choices limit kinds operands old new n)
+
+    pub staged-check-stops : 0 < before → StagedChecksAnswer before old
+    staged-check-stops h =
+        let a = stops 70 choices old e said h in (
+          a .0,
+          (
+            a .1,
+            record {
+              tree = λ z. absurd (omega (arith, z, h));
+              passes = λ k u b t p. going 70 choices old e k u;
+              past = λ k u b t d i p. absurd (omega (arith, h, going 70 choices old e k u));
+            },
+          ),
+        )
+
+    pub staged-check-called : {n : ℕ} {new : List ℕ} {r : StagedAnswer} → before ≤ 0 → staged-check-outcome r ≡ said → ChecksStaged (LimitPasses s (choices-of choices) limit) (job-with s choices) limit kinds operands r → Gives (staged-check-outcome r) n old new → StagedChecksAnswer n new
+    staged-check-called {r = r} h o checks g =
+        let a = enough 70 choices old e said h o g in
+        (a .0, (a .1, within-given r checks g))
 
 -- a staged bound
 pub staged-given : (J : Job) (weight : ℕ → ℕ) (limit : ℕ) {n : ℕ} (old : List ℕ) {new : List ℕ} (a : BoundAnswer) → ((b : BoundReport) → a ≡ bound.Answered b → StagedHolds J weight limit (b .capacity) (b .bound))

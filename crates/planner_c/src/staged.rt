@@ -4,9 +4,38 @@ use crate::words;
 ghost use mathlib.Core.Path.{_≡_};
 ghost use Rattle.job.specs.Weights.{weight-in};
 ghost use Rattle.bound.specs.Bound.{lent};
+ghost use Rattle.staged_plan.specs.Check.{staged-check-said};
 ghost use Rattle.staged_bound.specs.Staged.{staged-said};
 ghost use Rattle.planner_c.specs.Exports.{choices-of, job-with, returned, answered, Left};
-ghost use Rattle.planner_c.specs.Within.{StagedBoundLeaves, StagedGiven};
+ghost use Rattle.planner_c.specs.Within.{StagedChecked, StagedBoundLeaves, StagedGiven};
+
+// The check of a plan's arrays for a job block within a limit. The answer has 70 words: the plan check's, then the plan's stages.
+#[no_mangle]
+pub extern "C" fn planner_check_plan_staged(
+    block: &[u8],
+    choices: u32,
+    limit: u32,
+    kinds: &[u8],
+    operands: &[u16],
+    answer: &mut [u64],
+) -> u32
+    ensures number { λ n. ⌜ n ≡ returned 70 (now (answer .entry)) choices (staged-check-said (now (block .entry)) (choices-of choices) limit (now (kinds .entry)) (now (operands .entry))) ⌝ }
+    ensures words { λ _. ⌜ now (answer .exit) ≡ answered 70 (now (answer .entry)) choices (staged-check-said (now (block .entry)) (choices-of choices) limit (now (kinds .entry)) (now (operands .entry))) ⌝ }
+    ensures trees { λ n. ⌜ StagedChecked (now (block .entry)) choices limit (now (kinds .entry)) (now (operands .entry)) (now (answer .entry)) (now (answer .exit)) n ⌝ }
+{
+    let stop = choices::early(answer.len(), 70, choices);
+    if 0 < stop {
+        return stop;
+    }
+    let a = staged_plan::check_plan_staged(
+        block,
+        choices::choices_of(choices),
+        limit,
+        kinds,
+        operands,
+    );
+    words::put_staged(a, answer)
+}
 
 // The staged bound of a job block, weights and a limit. The answer has 4 words: bound, capacity, and the numbers of normal lengths and
 // widths.

@@ -10,6 +10,7 @@ use refusal::Refusal;
 use saw::Part;
 use saw::SawAnswer;
 use saw::SawReport;
+use staged_plan::StagedAnswer;
 use writer::WriteAnswer;
 use writer::WriteReport;
 ghost use mathlib.Core.Path.{_≡_};
@@ -27,6 +28,7 @@ ghost use Rattle.certificate.specs.Certificate.{certificate-outcome};
 ghost use Rattle.writer.specs.Write.{write-values, write-outcome};
 ghost use Rattle.saw.specs.Saw.{saw-values, saw-outcome};
 ghost use Rattle.saw.specs.Parts.{part-said};
+ghost use Rattle.staged_plan.specs.Check.{staged-check-outcome};
 ghost use Rattle.planner_c.specs.Exports.{Gives, GapWithin};
 
 // A refusal: its number is returned, its place put in the first word.
@@ -157,23 +159,24 @@ fn put_copies(copies: [u16; 64], from: usize, answer: &mut [u64])
     }
 }
 
-// The area of the sawdust, into the word behind the copies.
-fn put_sawdust(sawdust: u64, at: usize, answer: &mut [u64])
+// One value more, into the word behind others.
+fn put_word(value: u64, at: usize, answer: &mut [u64])
     requires { ⌜ at < length (now answer) ⌝ }
-    ensures { λ _. ⌜ now (answer .exit) ≡ set (now (answer .entry)) at sawdust ⌝ }
+    ensures { λ _. ⌜ now (answer .exit) ≡ set (now (answer .entry)) at value ⌝ }
 {
-    answer[at] = sawdust;
+    answer[at] = value;
 }
 
-// What a passed plan reports: profit, the areas of pieces, waste nodes and trim, the copies, and the area of the sawdust.
+// What a passed plan reports: profit, the areas of pieces, waste nodes and trim, the copies, and the area of the sawdust. That these are 69
+// words is handed on.
 fn put_report(r: Report, answer: &mut [u64])
     requires { ⌜ 69 ≤ length (now answer) ⌝ }
-    ensures { λ _. ⌜ now (answer .exit) ≡ over (plan-values r) (now (answer .entry)) ⌝ }
+    ensures { λ _. ⌜ (now (answer .exit) ≡ over (plan-values r) (now (answer .entry))) × (length (plan-values r) ≡ 69) ⌝ }
 {
     put_four(r.profit, r.pieces, r.waste, r.trim, answer);
     let copies = r.copies;
     put_copies(copies, 4, answer);
-    put_sawdust(r.sawdust, 68, answer);
+    put_word(r.sawdust, 68, answer);
 }
 
 // What the check of a plan answers.
@@ -192,6 +195,23 @@ pub fn put_plan(a: PlanAnswer, answer: &mut [u64]) -> u32
     }
 }
 
+// What the staged check answers: what the check of a plan does, and the stages.
+pub fn put_staged(a: StagedAnswer, answer: &mut [u64]) -> u32
+    requires { ⌜ 70 ≤ length (now answer) ⌝ }
+    ensures { λ n. ⌜ Gives (staged-check-outcome a) n (now (answer .entry)) (now (answer .exit)) ⌝ }
+{
+    let verdict = a.verdict;
+    match verdict {
+        Checked::Refused(r) => refuse(r, answer),
+        Checked::Passed => {
+            let report = a.report;
+            put_report(report, answer);
+            put_word(a.stages as u64, 69, answer);
+            0
+        }
+    }
+}
+
 // What the saw reports of a passed plan: the areas of pieces, waste nodes and trim, the copies, and the area of the sawdust.
 fn put_saw_report(r: SawReport, answer: &mut [u64])
     requires { ⌜ 68 ≤ length (now answer) ⌝ }
@@ -200,7 +220,7 @@ fn put_saw_report(r: SawReport, answer: &mut [u64])
     put_three(r.pieces, r.waste, r.trim, answer);
     let copies = r.copies;
     put_copies(copies, 3, answer);
-    put_sawdust(r.sawdust, 67, answer);
+    put_word(r.sawdust, 67, answer);
 }
 
 // What the saw's check of a plan answers.

@@ -12,7 +12,7 @@ returns : tie.Need-returns
 returns c = let a = c .before .before .before .before .before .before .before .before .args in given (λ v. outcome-by v (plan-values (a .a .report))) (now (a .answer)) (c .before .before .before .before .before .verdict .given .1) (c .before .before .refuse .ensures)
 
 returns-2 : tie.Need-returns-2
-returns-2 c = let a = c .before .before .before .before .before .before .before .before .args in given (λ v. outcome-by v (plan-values (a .a .report))) (now (a .answer)) (c .before .before .before .before .before .enum-told .given .1) (refl, c .before .before .put-report .ensures)
+returns-2 c = let a = c .before .before .before .before .before .before .before .before .args in given (λ v. outcome-by v (plan-values (a .a .report))) (now (a .answer)) (c .before .before .before .before .before .enum-told .given .1) (refl, c .before .before .put-report .ensures .0)
 
 pub put-plan-spec : {M : Type 1} → statement M
 put-plan-spec = tie.close (tie.spec (search needs) (search needs) (search needs) (search needs) (search needs) returns (search needs) returns-2)

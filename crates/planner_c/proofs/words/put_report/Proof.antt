@@ -23,9 +23,12 @@ returns c =
     let e = copied .put-copies .ensures in
     let four = sets old 0 (r .profit ∷ r .pieces ∷ r .waste ∷ r .trim ∷ []) in
     let k : 68 ≡ 4 + length (r .copies) = omega (arith, e .1) in
-    c .before .before .put-sawdust .ensures ∙ ap (λ xs. set xs 68 (r .sawdust)) (e .0 ∙ ap (λ xs. sets xs 4 (r .copies)) (put .put-four .ensures))
-    ∙ ap (λ k. set (sets four 4 (r .copies)) k (r .sawdust)) k ∙ sym (sets-append (r .copies) (r .sawdust ∷ []) four 4)
-    ∙ over-sets (plan-values r) old (omega (arith, e .1, length-append (r .copies) (r .sawdust ∷ []), start .pre))
+    let all : length (plan-values r) ≡ 69 = omega (arith, e .1, length-append (r .copies) (r .sawdust ∷ [])) in (
+      c .before .before .put-word .ensures ∙ ap (λ xs. set xs 68 (r .sawdust)) (e .0 ∙ ap (λ xs. sets xs 4 (r .copies)) (put .put-four .ensures))
+          ∙ ap (λ k. set (sets four 4 (r .copies)) k (r .sawdust)) k ∙ sym (sets-append (r .copies) (r .sawdust ∷ []) four 4)
+          ∙ over-sets (plan-values r) old (omega (arith, all, start .pre)),
+      all,
+    )
 
 pub put-report-spec : {M : Type 1} → statement M
 put-report-spec = tie.close (tie.spec (search needs) (search needs) (search needs) (search needs) returns)

@@ -23,7 +23,7 @@ returns c =
     let e = copied .put-copies .ensures in
     let three = sets old 0 (r .pieces ∷ r .waste ∷ r .trim ∷ []) in
     let k : 67 ≡ 3 + length (r .copies) = omega (arith, e .1) in
-    c .before .before .put-sawdust .ensures ∙ ap (λ xs. set xs 67 (r .sawdust)) (e .0 ∙ ap (λ xs. sets xs 3 (r .copies)) (put .put-three .ensures))
+    c .before .before .put-word .ensures ∙ ap (λ xs. set xs 67 (r .sawdust)) (e .0 ∙ ap (λ xs. sets xs 3 (r .copies)) (put .put-three .ensures))
     ∙ ap (λ k. set (sets three 3 (r .copies)) k (r .sawdust)) k ∙ sym (sets-append (r .copies) (r .sawdust ∷ []) three 3)
     ∙ over-sets (saw-values r) old (omega (arith, e .1, length-append (r .copies) (r .sawdust ∷ []), start .pre))
 
