@@ -1,13 +1,10 @@
 -- What certify promises, from the verdicts of the job, the weights and the plan and from the bound of an accepted job.
 use mathlib.Core.Path.{_≡_, refl, sym, _∙_, ap, ap₂}
-use mathlib.Core.Bool.{Bool, true, false}
-use mathlib.Core.List.{List, [], _∷_}
-use Prim.Native.Nat.{ℕ, _+_, _-_, _≤_}
+use mathlib.Core.List.{List}
+use Prim.Native.Nat.{ℕ, _≤_}
 use native.Mathlib.Omega.{arith}
-use lib.Dec.{eqb}
-use borrow.Author.Tests.{eqb-true}
 use Rattle.cutting.specs.Job.{bound-of}
-use Rattle.refusal.specs.Refusals.{next, first-refusal, outcome-by}
+use Rattle.refusal.specs.Refusals.{next, first-refusal}
 use Rattle.refusal.specs.declared.Refusal.{Refusal}
 use Rattle.refusal.specs.declared.Checked.{Checked}
 use Rattle.refusal.specs.declared.Checked.the-variants.{Passed, Refused}
@@ -26,33 +23,17 @@ use Rattle.plan.specs.Plan.{plan-answer}
 use Rattle.bound.specs.Bound.{Memory, Leaves, memory-checks, wide-job, block-capacity, block-report, accept-verdict}
 use Rattle.bound.specs.Contracts.{Bounded}
 use Rattle.bound.proofs.Holds.{answered-behind, refused-behind}
-use Rattle.bound.proofs.Calls.{refused-before}
 use Rattle.bound.specs.declared.BoundReport.{BoundReport}
 use Rattle.bound.specs.declared.BoundAnswer.{BoundAnswer}
 use Rattle.bound.specs.declared.BoundAnswer.the-variants as bound
-use Rattle.certificate.specs.Certificate.{plan-verdict, certify-verdict, certificate-of, compared, compared-by, handed-on, certificate-values, certificate-outcome}
+use Rattle.certificate.specs.Certificate.{plan-verdict, certify-verdict, certificate-of, compared, handed-on, certificate-outcome}
 use Rattle.certificate.specs.Contracts.{weights-verdict, storage-verdict}
 use Rattle.certificate.specs.Promises.{CertifyPromises}
 use Rattle.certificate.specs.declared.Certificate.{Certificate}
-use Rattle.certificate.specs.declared.Certificate.the-variants as certificate
-use Rattle.certificate.proofs.Promises.{behind, drawn-most, plans-judged, certificates-hold}
-
--- a comparison's number and values: the bound less the profit, the bound and the profit
-compared-said : (p b : ℕ) → p ≤ b → certificate-outcome (compared p b) ≡ (0, certificate-values p b)
-compared-said p b h = go (eqb p b) refl
-  where
-    go : (x : Bool) → eqb p b ≡ x → certificate-outcome (compared-by x p b) ≡ (0, certificate-values p b)
-    go true e = let f = eqb-true p b e in ap₂ (λ x y. (0, x ∷ y ∷ p ∷ [])) (omega (arith, f)) f
-    go false e = let f : p + (b - p) ≡ b = omega arith in ap (λ y. (0, (b - p) ∷ y ∷ p ∷ [])) f
-
-said-by : (v : Checked) (p b : ℕ) → (v ≡ Passed → p ≤ b) → certificate-outcome (handed-on v (compared p b)) ≡ outcome-by v (certificate-values p b)
-said-by Passed p b h = compared-said p b (h refl)
-said-by (Refused r) p b h = refl
+use Rattle.certificate.proofs.Comparison.{said-by, handed-before, handed-after, handed-whole}
+use Rattle.certificate.proofs.Promises.{drawn-most, compares, plans-judged, certificates-hold}
 
 module _ (s : List ℕ) (choices : Choices) (ws kinds operands : List ℕ) (old : Memory) where
-  most : certify-verdict s choices ws kinds operands old ≡ Passed → plan-answer (block-job s choices) kinds operands .report .profit ≤ bound-of (block-job s choices) (weight-in ws)
-  most h = let b = behind s choices ws kinds operands old h in drawn-most s choices ws kinds operands (b .0) (b .1)
-
   -- the certificate where no check refuses
   abbrev unrefused : Certificate
   unrefused = compared (plan-answer (block-job s choices) kinds operands .report .profit) (bound-of (block-job s choices) (weight-in ws))
@@ -64,7 +45,7 @@ module _ (s : List ℕ) (choices : Choices) (ws kinds operands : List ℕ) (old 
       let hold = certificates-hold s choices ws kinds operands old in
       record {
         answers = e;
-        outcome = ap (λ x. certificate-outcome x) e ∙ said-by (certify-verdict s choices ws kinds operands old) _ _ most;
+        outcome = ap (λ x. certificate-outcome x) e ∙ said-by (certify-verdict s choices ws kinds operands old) _ _ (λ p. compares s choices ws kinds operands old p .1);
         memory = l;
         judged = plans-judged s choices kinds operands;
         best = λ n f. hold .0 n (sym e ∙ f);
@@ -73,7 +54,7 @@ module _ (s : List ℕ) (choices : Choices) (ws kinds operands : List ℕ) (old 
 
   -- a refusal before the storage checks, handed on
   early : {v : Checked} (r : Refusal) {c : Certificate} → plan-verdict s choices ws kinds operands ≡ Refused r → v ≡ Refused r → c ≡ handed-on v (compared 0 0) → CertifyPromises s choices ws kinds operands old old c
-  early r {c} e v h = let p = refused-before (wide-job s choices) (weight-in ws) (block-capacity s choices ws) old unrefused certificate.Refused e in promised c (h ∙ ap (λ v. handed-on v (compared 0 0)) v ∙ p .0) (p .1)
+  early r {c} e v h = promised c (handed-before (first-refusal (memory-checks (wide-job s choices) (block-capacity s choices ws) old)) unrefused e v h) (rw e (record { lengths = refl; widths = refl; table = refl }))
 
   -- the plan's verdict after that of job and weights
   after : {v : Checked} → accept-verdict s choices ws ≡ v → plan-verdict s choices ws kinds operands ≡ next v (plan-answer (block-job s choices) kinds operands .verdict)
@@ -104,12 +85,8 @@ module _ (s : List ℕ) (choices : Choices) (ws kinds operands : List ℕ) (old 
       left : Leaves (plan-verdict s choices ws kinds operands) (wide-job s choices) (weight-in ws) (block-capacity s choices ws) old new
       left = rw (walked ∙ passed) (whole .memory)
 
-      answer : {v : Checked} → first-refusal (memory-checks (wide-job s choices) (block-capacity s choices ws) old) ≡ v → certificate-of s choices ws kinds operands old ≡ handed-on v unrefused
-      answer e = ap (λ v. handed-on v unrefused) (ap₂ next (walked ∙ passed) e)
-
       pub storage-refused : {v : Checked} (r : Refusal) {c : Certificate} → found ≡ bound.Refused r → v ≡ storage-verdict found → c ≡ handed-on v (compared 0 0) → CertifyPromises s choices ws kinds operands old new c
-      storage-refused r {c} e u h = promised c (h ∙ ap (λ v. handed-on v (compared 0 0)) (u ∙ ap (λ f. storage-verdict f) e)
-          ∙ sym (answer (refused-behind _ (block-report s choices ws) (sym e ∙ whole .answer)))) left
+      storage-refused r {c} e u h = promised c (handed-after _ unrefused (walked ∙ passed) (refused-behind _ (block-report s choices ws) (sym e ∙ whole .answer)) e u h) left
 
       module _ (x : BoundReport) (e : found ≡ bound.Answered x) where
         -- the report behind a bound that was answered
@@ -117,7 +94,7 @@ module _ (s : List ℕ) (choices : Choices) (ws kinds operands : List ℕ) (old 
         reported = let v = answered-behind _ (block-report s choices ws) (sym e ∙ whole .answer) in (v .0, ap (λ (y : BoundReport). y .bound) (v .1))
 
         pub certified : {c : Certificate} → c ≡ compared (a .report .profit) (x .bound) → CertifyPromises s choices ws kinds operands old new c
-        certified {c} h = promised c (h ∙ ap₂ compared (ap (λ (x : PlanAnswer). x .report .profit) drawn-is) (reported .1) ∙ sym (answer (reported .0))) left
+        certified {c} h = promised c (handed-whole _ unrefused (walked ∙ passed) (reported .0) (h ∙ ap₂ compared (ap (λ (x : PlanAnswer). x .report .profit) drawn-is) (reported .1))) left
 
         -- the profit is at most the bound answered
         pub profit-most : a .report .profit ≤ x .bound

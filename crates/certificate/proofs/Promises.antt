@@ -1,9 +1,10 @@
 -- Parts 2 and 3 of specs/Promises, proved. Part 1 is in proofs/Refusals.
-use mathlib.Core.Path.{_≡_, sym, _∙_, ap}
+use mathlib.Core.Path.{_≡_, sym, ap}
 use mathlib.Core.List.{List}
 use Prim.Native.Nat.{ℕ, _≤_}
 use native.Mathlib.Omega.{arith}
 use Rattle.cutting.specs.Job.{Job, bound-of}
+use Rattle.cutting.specs.Promises.{NoneAbove}
 use Rattle.cutting.proofs.Members.{range-solid}
 use Rattle.cutting.proofs.Plan.{plan-bound, plan-idle}
 use Rattle.cutting.proofs.Promises as trees
@@ -21,9 +22,9 @@ use Rattle.plan.proofs.Plans.{plans-checked}
 use Rattle.bound.specs.Bound.{Memory, memory-checks, wide-job, block-capacity, accept-verdict}
 use Rattle.bound.proofs.Holds.{bound-held}
 use Rattle.bound.proofs.Calls.{exact-by}
-use Rattle.certificate.specs.Certificate.{certify-verdict, plan-verdict, certificate-of}
-use Rattle.certificate.specs.Promises.{PlansJudged, BoundsHold, PlansEarn, Earns, BestSaid, GapSaid, CertificatesHold, BoundExact}
-use Rattle.certificate.proofs.Comparison.{best-passed, gap-passed, best-equal, gap-differs}
+use Rattle.certificate.specs.Certificate.{certify-verdict, plan-verdict}
+use Rattle.certificate.specs.Promises.{PlansJudged, BoundsHold, PlansEarn, Earns, CertificatesHold, BoundExact}
+use Rattle.certificate.proofs.Comparison.{best-among, gap-among}
 
 -- a passed plan's report is its tree's own, and it earns at most the bound
 module _ (s : List ℕ) (choices : Choices) (ws kinds operands : List ℕ) (good : first-refusal (job-checks s choices) ≡ Passed) (walked : plan-answer (block-job s choices) kinds operands .verdict ≡ Passed) where
@@ -59,22 +60,15 @@ pub bound-exact : BoundExact
 bound-exact s choices ws accepted = bound-held (block-job s choices) (weight-in ws) (accepted-in-range s choices ws accepted)
 
 module _ (s : List ℕ) (choices : Choices) (ws kinds operands : List ℕ) (m : Memory) where
-  best-holds : BestSaid (block-job s choices) (weight-in ws) kinds operands (certificate-of s choices ws kinds operands m)
-  best-holds n e =
-      let a = best-passed _ _ n e in
-      let b = behind s choices ws kinds operands m (a .0) in
-      let f = best-equal _ _ n (a .1) in
-      let d = drawn s choices ws kinds operands (b .0) (b .1) in
-      ((d .0, d .1, d .2 ∙ f .0), sym (f .1), λ t g k. omega (arith, f .1, trees.none-above (block-job s choices) (weight-in ws) (read-in-range s choices (b .0)) t g k))
-
-  gap-holds : GapSaid (block-job s choices) (weight-in ws) kinds operands (certificate-of s choices ws kinds operands m)
-  gap-holds n gap e =
-      let a = gap-passed _ _ n gap e in
-      let b = behind s choices ws kinds operands m (a .0) in
-      let f = gap-differs _ _ n gap (a .1) in
-      let d = drawn s choices ws kinds operands (b .0) (b .1) in
-      let most = drawn-most s choices ws kinds operands (b .0) (b .1) in
-      ((d .0, d .1, d .2 ∙ f .0), omega (arith, f .1, most, f .2), omega (arith, f .0, f .1, most), λ t g k. omega (arith, f .0, f .1, most, trees.none-above (block-job s choices) (weight-in ws) (read-in-range s choices (b .0)) t g k))
+  -- where no check refuses, the plan earns its profit, at most the bound, which no tree that keeps every demand passes
+  pub compares : certify-verdict s choices ws kinds operands m ≡ Passed → Earns (block-job s choices) kinds operands (plan-answer (block-job s choices) kinds operands .report .profit)
+      × (plan-answer (block-job s choices) kinds operands .report .profit ≤ bound-of (block-job s choices) (weight-in ws)) × NoneAbove (block-job s choices) (bound-of (block-job s choices) (weight-in ws))
+  compares p =
+      let b = behind s choices ws kinds operands m p in
+      (drawn s choices ws kinds operands (b .0) (b .1), drawn-most s choices ws kinds operands (b .0) (b .1), trees.none-above (block-job s choices) (weight-in ws) (read-in-range s choices (b .0)))
 
 pub certificates-hold : CertificatesHold
-certificates-hold s choices ws kinds operands m = (best-holds s choices ws kinds operands m, gap-holds s choices ws kinds operands m)
+certificates-hold s choices ws kinds operands m =
+    let J = block-job s choices in
+    let passed = compares s choices ws kinds operands m in
+    (best-among (Earns J kinds operands) (NoneAbove J) _ _ _ passed, gap-among (Earns J kinds operands) (NoneAbove J) _ _ _ passed)

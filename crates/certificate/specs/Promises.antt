@@ -69,15 +69,24 @@ PlansEarn = (s : List ℕ) (choices : Choices) (ws : List ℕ) → Accepted s ch
 abbrev pub Earns : Job → List ℕ → List ℕ → ℕ → Type 0
 Earns J kinds operands n = (t : Tree Piece) × PlanOf J t kinds operands × (profit J t ≡ n)
 
--- what "best" says: the plan's arrays are those of a tree that keeps every demand and earns the profit named, which is the bound, and
--- none earns more
-abbrev pub BestSaid : Job → (ℕ → ℕ) → List ℕ → List ℕ → Certificate → Type 0
-BestSaid J weight kinds operands r = (n : ℕ) → r ≡ Best n → Earns J kinds operands n × (n ≡ bound-of J weight) × NoneAbove J n
+-- what "best" says of a plan's profit, a bound, and the trees that the plan is compared with: the plan earns the profit named, which is
+-- the bound, and none of those trees earns more
+abbrev pub BestAmong : (ℕ → Type 0) → (ℕ → Type 0) → ℕ → Certificate → Type 0
+BestAmong Earned None bound r = (n : ℕ) → r ≡ Best n → Earned n × (n ≡ bound) × None n
 
--- what a gap says: the same of the plan, the gap is positive, profit and gap sum to the bound, and no tree that keeps every demand
--- earns more than that
+-- what a gap says: the plan earns the profit named, the gap is positive, profit and gap sum to the bound, and none of those trees earns
+-- more than that
+abbrev pub GapAmong : (ℕ → Type 0) → (ℕ → Type 0) → ℕ → Certificate → Type 0
+GapAmong Earned None bound r = (n gap : ℕ) → r ≡ Gap n gap → Earned n × (0 < gap) × (n + gap ≡ bound) × None (n + gap)
+
+-- what certify's "best" says: the plan's arrays are those of a tree that keeps every demand and earns the profit named, which is the
+-- bound, and no tree that keeps every demand earns more
+abbrev pub BestSaid : Job → (ℕ → ℕ) → List ℕ → List ℕ → Certificate → Type 0
+BestSaid J weight kinds operands r = BestAmong (Earns J kinds operands) (NoneAbove J) (bound-of J weight) r
+
+-- and its gap, of the same plan and the same trees
 abbrev pub GapSaid : Job → (ℕ → ℕ) → List ℕ → List ℕ → Certificate → Type 0
-GapSaid J weight kinds operands r = (n gap : ℕ) → r ≡ Gap n gap → Earns J kinds operands n × (0 < gap) × (n + gap ≡ bound-of J weight) × NoneAbove J (n + gap)
+GapSaid J weight kinds operands r = GapAmong (Earns J kinds operands) (NoneAbove J) (bound-of J weight) r
 
 -- what certify promises of its answer and of the memory that it is lent: both are the definitions', number and values too; the plan is
 -- judged by its tree; "best" and a gap say what they say of every tree

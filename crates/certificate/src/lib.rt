@@ -35,7 +35,7 @@ fn weights_verdict(a: WeightsAnswer) -> Checked
 }
 
 // The verdict behind the bound's answer.
-fn storage_verdict(a: BoundAnswer) -> Checked
+pub fn storage_verdict(a: BoundAnswer) -> Checked
     ensures { λ r. ⌜ r ≡ storage-verdict a ⌝ }
 {
     match a {
@@ -56,7 +56,7 @@ fn compare(profit: u64, bound: u64) -> Certificate
 }
 
 // The verdict's refusal handed on; where it passes, the profit against the bound.
-fn conclude(verdict: Checked, profit: u64, bound: u64) -> Certificate
+pub fn conclude(verdict: Checked, profit: u64, bound: u64) -> Certificate
     requires { ⌜ (verdict ≡ Passed → profit ≤ bound) ⌝ }
     ensures { λ r. ⌜ r ≡ handed-on verdict (compared profit bound) ⌝ }
 {
