@@ -25,7 +25,7 @@ ghost use Rattle.staged_bound.specs.Contracts.{Stageable, Staged};
 
 // The staged bound of pieces on a plate at a capacity and a limit: refusals 19 and 20, then the lists, the floors of both sides, the
 // table and the report.
-fn bound_of_pieces(
+pub fn bound_of_pieces(
     plate: Sides,
     count: u16,
     pieces: &[u32; 640],

@@ -30,7 +30,7 @@ use Rattle.staged_plan.specs.declared.StagedAnswer.{StagedAnswer}
 use Rattle.staged_plan.specs.Check.{stage-verdict, within-verdict, staged-refused, staged-by, within-answer, StagedPlanOf, ChecksStaged}
 
 -- the verdict of an answer, and zeros where it refuses
-verdict-by : (v : Checked) (s : Report) (k : ℕ) → staged-by v s k .verdict ≡ v
+pub verdict-by : (v : Checked) (s : Report) (k : ℕ) → staged-by v s k .verdict ≡ v
 verdict-by Passed s k = refl
 verdict-by (Refused r) s k = refl
 
@@ -78,7 +78,7 @@ module _ (J : Job) (few : J .count ≤ 64) (n : ℕ) (kinds operands : List ℕ)
   judged : (t : Tree Piece) → PlanOf J t kinds operands → within-verdict J n kinds operands ≡ first-refusal (limit-checks n t)
   judged t h = ap₂ next (plans-checked J few kinds operands .passes tt t h) (ap (λ u. first-refusal (limit-checks n u)) (sym (drawn-is J kinds operands t (h .drawn))))
 
-  staged-tree : within-verdict J n kinds operands ≡ Passed → (t : Tree Piece) × StagedPlanOf J n t kinds operands × Reports J t (checked .report) × (stages tree ≡ stages t)
+  pub staged-tree : within-verdict J n kinds operands ≡ Passed → (t : Tree Piece) × StagedPlanOf J n t kinds operands × Reports J t (checked .report) × (stages tree ≡ stages t)
   staged-tree p =
       let v = passed-both (checked .verdict) (stage-verdict n kinds operands) p in
       let t = plans-checked J few kinds operands .tree (v .0) in

@@ -1,0 +1,67 @@
+// The staged certificate: a checked plan's profit against the staged bound. "Best" is a statement about every guillotine tree within the
+// limit that keeps the demands (specs/Certificate). The call hands on the first refusal met, 1 to 20, 22, 23, 26 or 27, and leaves lists
+// and table as the staged bound call does.
+use bound::BoundAnswer;
+use certificate::Certificate;
+use certificate::conclude;
+use certificate::storage_verdict;
+use job::Choices;
+use pieces::list_pieces;
+use pieces::plate_of;
+use refusal::Checked;
+use refusal::Refusal;
+use staged_plan::check_within;
+use stages::limit_outside;
+ghost use Rattle.bound.specs.Bound.{lent};
+ghost use Rattle.staged_certificate.specs.Certificate.{CertifyStagedPromises};
+
+// Certifies a plan for a job block, weights and a limit: "best" exactly when the checked profit equals the staged bound, otherwise the
+// gap.
+pub fn certify_staged(
+    block: &[u8],
+    choices: Choices,
+    weights: &[u8],
+    limit: u32,
+    kinds: &[u8],
+    operands: &[u16],
+    lengths: &mut [u16],
+    widths: &mut [u16],
+    table: &mut [u64],
+) -> Certificate
+    ensures { λ r. ⌜ CertifyStagedPromises (now (block .entry)) choices (now (weights .entry)) limit (now (kinds .entry)) (now (operands .entry)) (lent (now (lengths .entry)) (now (widths .entry)) (now (table .entry)))
+        (lent (now (lengths .exit)) (now (widths .exit)) (now (table .exit))) r ⌝ }
+{
+    let accepted = job::accept(block, choices, weights);
+    let read = accepted.verdict;
+    let Checked::Passed = read else {
+        return conclude(read, 0, 0);
+    };
+    if limit_outside(limit) {
+        return Certificate::Refused(Refusal::StageLimit);
+    }
+    let record = accepted.job;
+    let drawn = check_within(record, limit as u8, kinds, operands);
+    let walked = drawn.verdict;
+    let Checked::Passed = walked else {
+        return conclude(walked, 0, 0);
+    };
+    let report = drawn.report;
+    let listing = list_pieces(record, weights);
+    let pieces = listing.pieces;
+    let mut floors = [0u16; 2042];
+    let found = staged_bound::bound_of_pieces(
+        plate_of(record),
+        listing.count,
+        &pieces,
+        accepted.capacity,
+        limit as usize,
+        lengths,
+        widths,
+        &mut floors[..],
+        table,
+    );
+    let BoundAnswer::Answered(b) = found else {
+        return conclude(storage_verdict(found), 0, 0);
+    };
+    conclude(Checked::Passed, report.profit, b.bound)
+}
