@@ -16,7 +16,7 @@ extern "C" {
  *
  * Stack. Every function runs on a thread with a stack of 128 KiB, whatever it is given. The proof
  * does not see the stack: this is an assumption, tested from outside on the deepest and longest
- * inputs.
+ * inputs. Only the staged check and the staged certificate recurse, no deeper than the limit.
  *
  * Job block. Plate length, plate width, number n of kinds, kerf k; then n sizes (length, width); all
  * of two bytes, lowest byte first. Then n pairs of price (four bytes) and demand (two bytes).
@@ -65,9 +65,17 @@ extern "C" {
  * share c, all counted from 0: the most that a tree of weight at most c earns on the rectangle whose
  * sides are these less k, and 0 where a or b is 0. All later words keep what they held.
  *
+ * Stages. Those of a tree are the most changes of direction on a path down through its cuts, plus
+ * one; a tree without a cut has none. A limit is from 1 to 8.
+ *
+ * Storage within a limit n on stages. `table` needs (2n + 1) * p * r * (capacity + 1) words, blocks of
+ * the layout above one after another: block 0 has the figures without a cut, block 2k - 1 those of at
+ * most k stages whose first cuts go across the length, block 2k those whose first cuts go across the
+ * width. All else is as above.
+ *
  * Return value.
  *   0    done; `answer` holds the words that the function names; its later words are kept
- *   1 to 21, 26, 27
+ *   1 to 23, 26, 27
  *        refused, see below; answer[0] is the place; the other words of `answer` are kept
  *   100  `answer` has fewer words than the function names; nothing was changed
  *   101  `choices` has a bit that is no choice, `answer` is long enough; nothing was changed
@@ -83,6 +91,7 @@ extern "C" {
  *    7  demand above 255                                       kind
  *    8  not n weights                                          0
  *    9  capacity above 4095                                    0
+ *   22  limit on stages outside 1 to 8                         0
  *   10  plan arrays differ in length, or plan block under      0
  *       2 bytes or not 2 + 3 * count bytes
  *   11  no node, or above 4095                                 0
@@ -94,11 +103,12 @@ extern "C" {
  *   17  a node is wanted and none is left                      node count
  *   18  nodes left over                                        first of them
  *   26  an idle cut: neither of its parts holds a piece        first of them
+ *   23  a cut whose path passes the limit on stages            first of them
  *   19  a list too short                                       0
  *   20  table too short                                        words needed
  *   21  plan needs above 4095 nodes, or more than an array     nodes needed
  *       of the plan holds
- * Numbers 1 to 19, 26 and 27 change no lent memory but answer[0]. On 20 the lists are filled and the
+ * Numbers 1 to 19, 22, 23, 26 and 27 change no lent memory but answer[0]. On 20 the lists are filled and the
  * table is untouched. On 21 lists and table are filled and the plan arrays untouched. */
 
 enum {
@@ -121,6 +131,7 @@ enum {
     PLANNER_PLAN_WORDS = 5,
     PLANNER_CERTIFICATE_WORDS = 3,
     PLANNER_NEAT_WORDS = 1,
+    PLANNER_STAGED_REPORT_WORDS = 70,
     PLANNER_SAW_WORDS = 68,
     PLANNER_PART_WORDS = 2
 };
@@ -201,6 +212,49 @@ uint32_t planner_certify(
     const uint8_t *job, size_t job_len,
     uint32_t choices,
     const uint8_t *weights, size_t weights_len,
+    const uint8_t *kinds, size_t kinds_len,
+    const uint16_t *operands, size_t operands_len,
+    uint16_t *lengths, size_t lengths_len,
+    uint16_t *widths, size_t widths_len,
+    uint64_t *table, size_t table_len,
+    uint64_t *answer, size_t answer_len);
+
+/* Checks a plan within a limit on stages (refusals 1 to 7, 27, 22, 10 to 18, 26, 23). It returns 0 exactly
+ * where planner_check_plan does and the tree has at most that many stages.
+ * answer[0] to answer[68] as planner_check_plan; answer[69] the tree's stages. */
+uint32_t planner_check_plan_staged(
+    const uint8_t *job, size_t job_len,
+    uint32_t choices,
+    uint32_t limit,
+    const uint8_t *kinds, size_t kinds_len,
+    const uint16_t *operands, size_t operands_len,
+    uint64_t *answer, size_t answer_len);
+
+/* Computes the staged bound (refusals 1 to 9, 27, 22, 19, 20) and fills the storage within the limit. The
+ * bound is exactly the most that a guillotine tree on the plate of at most that many stages and of
+ * weight at most the capacity earns, and no tree of at most that many stages that keeps every demand
+ * earns more.
+ * answer[0] bound, answer[1] capacity, answer[2] p, answer[3] r. */
+uint32_t planner_bound_staged(
+    const uint8_t *job, size_t job_len,
+    uint32_t choices,
+    const uint8_t *weights, size_t weights_len,
+    uint32_t limit,
+    uint16_t *lengths, size_t lengths_len,
+    uint16_t *widths, size_t widths_len,
+    uint64_t *table, size_t table_len,
+    uint64_t *answer, size_t answer_len);
+
+/* Certifies a plan within a limit on stages (refusals 1 to 9, 27, 22, 10 to 18, 26, 23, 19, 20) and fills the
+ * storage within the limit. The gap is 0 exactly if the checked profit equals the staged bound, and
+ * then no guillotine tree on the plate of at most that many stages that keeps every demand earns more;
+ * in any case none earns more than profit and gap together.
+ * answer[0] gap, bound less profit; answer[1] bound, answer[2] profit. */
+uint32_t planner_certify_staged(
+    const uint8_t *job, size_t job_len,
+    uint32_t choices,
+    const uint8_t *weights, size_t weights_len,
+    uint32_t limit,
     const uint8_t *kinds, size_t kinds_len,
     const uint16_t *operands, size_t operands_len,
     uint16_t *lengths, size_t lengths_len,

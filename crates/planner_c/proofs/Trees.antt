@@ -5,7 +5,6 @@ use Prim.Native.Nat.{ℕ, _≤_, _<_}
 use native.Mathlib.Omega.{arith}
 use lib.ListN.{length}
 use Rattle.cutting.specs.Lists.{over}
-use Rattle.cutting.specs.Job.{Job}
 use Rattle.cutting.specs.Promises.{FiguresMost}
 use Rattle.cutting.proofs.Promises.{figures-most}
 use Rattle.cutting.specs.Preorder.{node-count, kinds-of, operands-of}
@@ -32,9 +31,9 @@ use Rattle.writer.specs.Write.{write-outcome, block-plan, PlanWritten, BoundWri
 use Rattle.certificate.specs.declared.Certificate.{Certificate}
 use Rattle.certificate.specs.declared.Certificate.the-variants as certificate
 use Rattle.certificate.specs.Certificate.{certificate-outcome}
-use Rattle.certificate.specs.Promises.{BestSaid, GapSaid}
+use Rattle.certificate.specs.Promises.{BestAmong, GapAmong}
 use Rattle.plan.specs.Calls.{plan-values, plan-outcome}
-use Rattle.planner_c.specs.Exports.{Gives, answer-word, PlanGiven, NeatGiven, BoundGiven, TreeChecked, Certified, CertificateGiven, job-with, returned, early, answered}
+use Rattle.planner_c.specs.Exports.{Gives, answer-word, PlanGiven, NeatGiven, BoundGiven, TreeChecked, Certified, GivenAmong, job-with, returned, early, answered}
 use Rattle.planner_c.proofs.Exports.{stops, going, enough}
 
 -- a bound
@@ -78,17 +77,16 @@ neat-given s choices kinds operands old-kinds old-operands new-kinds new-operand
         }
     go (Refused r) e = absurd (omega (arith, number-some r, g .0 ∙ ap (λ (o : Outcome). o .0) (said (Refused r) e), z))
 
-module _ (J : Job) (kinds operands : List ℕ) {n : ℕ} (old : List ℕ) {new : List ℕ} where
-  -- a certificate
-  pub certificate-given : (weight : ℕ → ℕ) (a : Certificate) → BestSaid J weight kinds operands a → GapSaid J weight kinds operands a → Gives (certificate-outcome a) n old new
-      → CertificateGiven J weight kinds operands new n
-  certificate-given weight (certificate.Best profit) best gap g e =
-      let b = best profit refl in
-      subst (λ w. Certified J weight kinds operands (answer-word w 2) (answer-word w 1) (answer-word w 0)) (sym (g .1)) (record { earns = b .0; sum = omega arith; bound-is = b .1; none-above = b .2 })
-  certificate-given weight (certificate.Gap profit more) best gap g e =
-      let b = gap profit more refl in
-      subst (λ w. Certified J weight kinds operands (answer-word w 2) (answer-word w 1) (answer-word w 0)) (sym (g .1)) (record { earns = b .0; sum = refl; bound-is = b .2; none-above = b .3 })
-  certificate-given weight (certificate.Refused r) best gap g e = absurd (omega (arith, number-some r, g .0, e))
+-- a certificate, whatever the trees that it compares with
+pub certificate-given : (Earned None : ℕ → Type 0) (most : ℕ) {n : ℕ} (old : List ℕ) {new : List ℕ} (a : Certificate) → BestAmong Earned None most a → GapAmong Earned None most a → Gives (certificate-outcome a) n old new
+    → GivenAmong Earned None most new n
+certificate-given Earned None most old (certificate.Best profit) best gap g e =
+    let b = best profit refl in
+    subst (λ w. Certified Earned None most (answer-word w 2) (answer-word w 1) (answer-word w 0)) (sym (g .1)) (record { earns = b .0; sum = omega arith; bound-is = b .1; none-above = b .2 })
+certificate-given Earned None most old (certificate.Gap profit more) best gap g e =
+    let b = gap profit more refl in
+    subst (λ w. Certified Earned None most (answer-word w 2) (answer-word w 1) (answer-word w 0)) (sym (g .1)) (record { earns = b .0; sum = refl; bound-is = b .2; none-above = b .3 })
+certificate-given Earned None most old (certificate.Refused r) best gap g e = absurd (omega (arith, number-some r, g .0, e))
 
 module _ (Before : Type 0) (s : List ℕ) (choices : ℕ) (kinds operands : List ℕ) (old : List ℕ) where
   -- a checked plan: 0 is returned exactly where the verdict is that it passes

@@ -117,17 +117,21 @@ pub record TreeChecked (Before : Type 0) (s : List ℕ) (choices : ℕ) (kinds o
   pub idle : 69 ≤ length old → unknown choices ≡ false → Before → (t : Tree Piece) → DrawnAs (job-with s choices) t kinds operands
       → (k : ℕ) → first-refusal (tree-checks 0 t) ≡ Refused (IdleCut k) → (n ≡ 26) × (new ≡ over (k ∷ []) old)
 
--- a certificate where 0 is returned: the plan is that of a tree that keeps every demand and earns the profit, profit and gap sum to the
--- bound, and no tree that keeps every demand earns more than it; so a gap of 0 says that none earns more than the plan
-pub record Certified (J : Job) (weight : ℕ → ℕ) (kinds operands : List ℕ) (profit bound gap : ℕ) : Type 0 where
-  pub earns : Earns J kinds operands profit
+-- a certificate where 0 is returned, by what the plan earns, the trees that it is compared with and their bound: the plan earns the profit,
+-- profit and gap sum to the bound, and none of those trees earns more than it; so a gap of 0 says that none earns more than the plan
+pub record Certified (Earned None : ℕ → Type 0) (most profit bound gap : ℕ) : Type 0 where
+  pub earns : Earned profit
   pub sum : profit + gap ≡ bound
-  pub bound-is : bound ≡ bound-of J weight
-  pub none-above : NoneAbove J bound
+  pub bound-is : bound ≡ most
+  pub none-above : None bound
 
 -- the certificate's words: gap, bound, profit
+abbrev pub GivenAmong : (Earned None : ℕ → Type 0) → ℕ → (answer : List ℕ) → ℕ → Type 0
+GivenAmong Earned None most answer n = n ≡ 0 → Certified Earned None most (answer-word answer 2) (answer-word answer 1) (answer-word answer 0)
+
+-- certify's words: the plan is that of a tree that keeps every demand, and no tree that keeps every demand earns more than the bound
 abbrev pub CertificateGiven : Job → (ℕ → ℕ) → (kinds operands answer : List ℕ) → ℕ → Type 0
-CertificateGiven J weight kinds operands answer n = n ≡ 0 → Certified J weight kinds operands (answer-word answer 2) (answer-word answer 1) (answer-word answer 0)
+CertificateGiven J weight kinds operands answer n = GivenAmong (Earns J kinds operands) (NoneAbove J) (bound-of J weight) answer n
 
 -- a bound's words where 0 is returned: the bound, word 0, holds at the capacity, word 1
 abbrev pub BoundGiven : Job → (ℕ → ℕ) → (answer : List ℕ) → ℕ → Type 0

@@ -9,6 +9,7 @@ use Rattle.cutting.specs.Tree.{Tree}
 use Rattle.cutting.specs.Pieces.{Piece}
 use Rattle.cutting.specs.Shares.{stages}
 use Rattle.cutting.specs.Job.{Job}
+use Rattle.cutting.specs.Staged.{staged-bound, NoneStaged}
 use Rattle.refusal.specs.Refusals.{first-refusal}
 use Rattle.refusal.specs.declared.Refusal.the-variants.{ManyStages}
 use Rattle.refusal.specs.declared.Checked.the-variants.{Refused}
@@ -19,7 +20,8 @@ use Rattle.plan.specs.Trees.{PlanOf, tree-report, Reports}
 use Rattle.bound.specs.Bound.{Memory, wide-job, block-capacity}
 use Rattle.staged_plan.specs.Check.{LimitPasses, staged-values, StagedPlanOf}
 use Rattle.staged_bound.specs.Staged.{limit-verdict, StagedLeaves, StagedHolds}
-use Rattle.planner_c.specs.Exports.{unknown, choices-of, job-with, answer-word}
+use Rattle.staged_certificate.specs.Certificate.{staged-plan-verdict, EarnsStaged}
+use Rattle.planner_c.specs.Exports.{unknown, choices-of, job-with, answer-word, GivenAmong}
 
 -- the staged check returns 0 only for the plan of a tree of at most so many stages, and its words are then that tree's own report and its
 -- stages; where the answer has words enough, the choices are known and no check of job block and limit refuses them, it returns 0 for every
@@ -37,3 +39,12 @@ StagedBoundLeaves s choices ws limit old new = StagedLeaves (limit-verdict s cho
 -- a staged bound's words where 0 is returned: the bound, word 0, holds within the limit at the capacity, word 1
 abbrev pub StagedGiven : Job → (ℕ → ℕ) → ℕ → (answer : List ℕ) → ℕ → Type 0
 StagedGiven J weight limit answer n = n ≡ 0 → StagedHolds J weight limit (answer-word answer 1) (answer-word answer 0)
+
+-- what the staged certificate leaves in lent memory
+abbrev pub StagedCertificateLeaves : List ℕ → Choices → List ℕ → ℕ → (kinds operands : List ℕ) → Memory → Memory → Type 0
+StagedCertificateLeaves s choices ws limit kinds operands old new = StagedLeaves (staged-plan-verdict s choices ws limit kinds operands) (wide-job s choices) (weight-in ws) limit (block-capacity s choices ws) old new
+
+-- the staged certificate's words: the plan is that of a tree within the limit that keeps every demand, and no tree within the limit that
+-- keeps every demand earns more than the bound
+abbrev pub StagedCertificateGiven : Job → (ℕ → ℕ) → ℕ → (kinds operands answer : List ℕ) → ℕ → Type 0
+StagedCertificateGiven J weight limit kinds operands answer n = GivenAmong (EarnsStaged J limit kinds operands) (NoneStaged J limit) (staged-bound J weight limit) answer n

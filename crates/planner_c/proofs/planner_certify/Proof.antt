@@ -1,9 +1,12 @@
 -- `planner_c::planner_certify` meets its contract: stopped, or the certificate's outcome.
 use native.Mathlib.Omega.{arith}
 use denote.Ref.{now}
+use Rattle.cutting.specs.Job.{bound-of}
+use Rattle.cutting.specs.Promises.{NoneAbove}
 use Rattle.job.specs.Weights.{weight-in}
 use Rattle.bound.specs.Bound.{lent}
 use Rattle.certificate.specs.Certificate.{certificate-said}
+use Rattle.certificate.specs.Promises.{Earns}
 use Rattle.certificate.proofs.Promises.{plans-judged}
 use Rattle.planner_c.specs.Exports.{choices-of, job-with, CertificateLeaves}
 use Rattle.planner_c.proofs.Exports.{stops, words-enough, enough, untouched, called}
@@ -25,7 +28,7 @@ returns c =
 put-certificate-requires : tie.Need-put-certificate-requires
 put-certificate-requires c κs =
     let a = c .before .before .before .before .before .before .before .before .before .before .before .before .before .before .before .before .before .before .before .before .before .before .args in
-    (words-enough 3 (a .choices) (now (a .answer)) (c .before .before .before .before .before .before .before .before .before .before .before .before .before .early .ensures) (c .before .before .before .before .before .before .before .before .before .before .before .before .if1 .left), certificate-sums (now (a .block)) _ (now (a .weights)) (now (a .kinds)) (now (a .operands)) (lent (now (a .lengths)) (now (a .widths)) (now (a .table))) (c .before .before .before .before .before .before .before .certify .ensures .answers))
+    (words-enough 3 (a .choices) (now (a .answer)) (c .before .before .before .before .before .before .before .before .before .before .before .before .before .early .ensures) (c .before .before .before .before .before .before .before .before .before .before .before .before .if1 .left), certificate-sums (now (a .block)) _ (now (a .weights)) (now (a .kinds)) (now (a .operands)) (c .before .before .before .before .before .before .before .certify .ensures))
 
 returns-2 : tie.Need-returns-2
 returns-2 c =
@@ -43,7 +46,7 @@ returns-2 c =
           called 3 (a .choices) (now (a .answer)) f (CertificateLeaves (now (a .block)) (choices-of (a .choices)) (now (a .weights)) (now (a .kinds)) (now (a .operands))) h
               (e .memory),
           (
-            certificate-given (job-with (now (a .block)) (a .choices)) (now (a .kinds)) (now (a .operands)) (now (a .answer)) (weight-in (now (a .weights))) _
+            certificate-given (Earns (job-with (now (a .block)) (a .choices)) (now (a .kinds)) (now (a .operands))) (NoneAbove (job-with (now (a .block)) (a .choices))) (bound-of (job-with (now (a .block)) (a .choices)) (weight-in (now (a .weights)))) (now (a .answer)) _
                 (e .best)
                 (e .gap) g,
             plans-judged (now (a .block)) (choices-of (a .choices)) (now (a .kinds)) (now (a .operands)),
