@@ -1,4 +1,4 @@
-// Certificates, with marked memory lent.
+// Certificates, without a limit of stages or within the limit that is set, with marked memory lent.
 use crate::lent::JOB;
 use crate::lent::KINDS;
 use crate::lent::LENT_LENGTHS;
@@ -8,6 +8,7 @@ use crate::lent::OPERANDS;
 use crate::lent::WEIGHTS;
 use crate::lent::choices;
 use crate::lent::count;
+use crate::lent::limit;
 use crate::lent::other_choices;
 use crate::lent::print_refusal;
 use certificate::Certificate;
@@ -15,6 +16,7 @@ use certificate::certify;
 use certificate::certify_full_demand;
 use job::Choices;
 use refusal::Refusal;
+use staged_certificate::certify_staged;
 use test_tools::Words;
 use test_tools::bytes;
 use test_tools::different_entries;
@@ -90,14 +92,59 @@ fn certify_lent(
     )
 }
 
+// The certificate within the limit, or the one without.
+fn certify_within(
+    t: &Words,
+    staged: bool,
+    block: &[u8],
+    weights: &[u8],
+    kinds: &[u8],
+    operands: &[u16],
+    lengths: &mut [u16],
+    widths: &mut [u16],
+    table: &mut [u64],
+) -> Certificate {
+    if staged {
+        return certify_staged(
+            block,
+            choices(t),
+            weights,
+            limit(t),
+            kinds,
+            operands,
+            lengths,
+            widths,
+            table,
+        );
+    }
+    certify_lent(
+        block,
+        choices(t),
+        weights,
+        kinds,
+        operands,
+        lengths,
+        widths,
+        table,
+    )
+}
+
 // The certificate of a plan, with the parts of lists and table that are lent.
-fn certify_plan(t: &Words, block: &[u8], weights: &[u8], kinds: &[u8], operands: &[u16]) {
+fn certify_plan(
+    t: &Words,
+    staged: bool,
+    block: &[u8],
+    weights: &[u8],
+    kinds: &[u8],
+    operands: &[u16],
+) {
     let mut lengths = marked_list();
     let mut widths = marked_list();
     let mut table = marked_table();
-    print_certificate(certify_lent(
+    print_certificate(certify_within(
+        t,
+        staged,
         block,
-        choices(t),
         weights,
         kinds,
         operands,
@@ -108,11 +155,12 @@ fn certify_plan(t: &Words, block: &[u8], weights: &[u8], kinds: &[u8], operands:
     print_changed(t, &lengths, &widths, &table);
 }
 
-fn certify_arrays(t: &Words, block: &[u8], weights: &[u8]) {
+fn certify_arrays(t: &Words, staged: bool, block: &[u8], weights: &[u8]) {
     let kinds = bytes(t, KINDS);
     let operands = numbers(t, OPERANDS);
     certify_plan(
         t,
+        staged,
         block,
         weights,
         first_bytes(&kinds, count(t, KINDS)),
@@ -120,11 +168,12 @@ fn certify_arrays(t: &Words, block: &[u8], weights: &[u8]) {
     );
 }
 
-pub fn run_certify(t: &Words) {
+pub fn run_certify(t: &Words, staged: bool) {
     let block = bytes(t, JOB);
     let weights = bytes(t, WEIGHTS);
     certify_arrays(
         t,
+        staged,
         first_bytes(&block, count(t, JOB)),
         first_bytes(&weights, count(t, WEIGHTS)),
     );

@@ -1,10 +1,11 @@
-// The check of plans.
+// The check of plans, without a limit of stages and within one.
 use crate::lent::JOB;
 use crate::lent::KINDS;
 use crate::lent::OPERANDS;
 use crate::lent::PLAN;
 use crate::lent::choices;
 use crate::lent::count;
+use crate::lent::limit;
 use crate::lent::print_refusal;
 use crate::lent::widen;
 use plan::PlanAnswer;
@@ -12,6 +13,8 @@ use plan::Report;
 use plan::check_plan;
 use plan::check_plan_block;
 use refusal::Checked;
+use staged_plan::StagedAnswer;
+use staged_plan::check_plan_staged;
 use test_tools::Words;
 use test_tools::bytes;
 use test_tools::first_bytes;
@@ -28,11 +31,21 @@ pub fn print_copies(copies: [u16; 64]) {
     );
 }
 
-fn print_report(r: Report) {
+fn print_figures(r: Report) {
     print_numbers(b" profit #", &[r.profit]);
     let copies = r.copies;
     print_copies(copies);
-    print_numbers(b" areas # # # #;", &[r.pieces, r.waste, r.trim, r.sawdust]);
+    print_numbers(b" areas # # # #", &[r.pieces, r.waste, r.trim, r.sawdust]);
+}
+
+fn print_report(r: Report) {
+    print_figures(r);
+    print_numbers(b";", &[]);
+}
+
+fn print_staged(r: Report, stages: u8) {
+    print_figures(r);
+    print_numbers(b" stages #;", &[stages as u64]);
 }
 
 fn print_answer(a: PlanAnswer) {
@@ -42,6 +55,29 @@ fn print_answer(a: PlanAnswer) {
         Checked::Passed => print_report(report),
         Checked::Refused(r) => print_refusal(b" # at #;", r),
     }
+}
+
+fn print_staged_answer(a: StagedAnswer) {
+    let verdict = a.verdict;
+    let report = a.report;
+    match verdict {
+        Checked::Passed => print_staged(report, a.stages),
+        Checked::Refused(r) => print_refusal(b" # at #;", r),
+    }
+}
+
+// The check of the two arrays within the limit.
+pub fn run_staged(t: &Words) {
+    let block = bytes(t, JOB);
+    let kinds = bytes(t, KINDS);
+    let operands = numbers(t, OPERANDS);
+    print_staged_answer(check_plan_staged(
+        first_bytes(&block, count(t, JOB)),
+        choices(t),
+        limit(t),
+        first_bytes(&kinds, count(t, KINDS)),
+        first_numbers(&operands, count(t, OPERANDS)),
+    ));
 }
 
 pub fn run_arrays(t: &Words) {

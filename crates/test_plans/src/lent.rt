@@ -38,6 +38,9 @@ pub const OUTPUT_OPERANDS: usize = 12802;
 // The node whose part of the arrays is printed.
 pub const NODE: usize = 12900;
 
+// The limit of stages.
+pub const LIMIT: usize = 12950;
+
 pub const REMARK: usize = 13000;
 
 pub const KINDS: usize = 20000;
@@ -63,6 +66,11 @@ pub fn other_choices(choices: Choices) -> Choices {
         full_demand: false,
         old_block: choices.old_block,
     }
+}
+
+// The limit of stages that is set.
+pub fn limit(t: &Words) -> u32 {
+    (word(t, LIMIT, 1) % 4294967296) as u32
 }
 
 pub fn widen(n: u16) -> u64 {

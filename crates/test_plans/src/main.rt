@@ -1,13 +1,15 @@
-// Runs the calls on plans by a script (its standard input): the check of plans, the writing of plans, neat plans, certificates, the saw.
+// Runs the calls on plans by a script (its standard input): the check of plans, the writing of plans, neat plans, certificates, both
+// within a limit of stages too, the saw.
 // `job`, `weights`, `kinds`, `operands` and `plan` set the bytes of the job block, the weights, the plan's two arrays and the plan block;
 // `lend` sets how many entries of the two lists and words of the table a certificate is lent, `neat` how many entries of the two output
-// arrays a neat plan is lent; `turning` sets whether pieces may be turned
+// arrays a neat plan is lent, `most` the limit of stages; `turning` sets whether pieces may be turned
 // from here on, 1 or 0, `full` whether the capacity is that of the full demands (a plan is then written, or certified, by the call of that name), and
 // `before` whether job blocks are old ones, from before the kerf. Then a call runs on what is set:
 // `Arrays` checks the two arrays, `Block` the plan block, `Jobs` and `Plans` every truncation of the job block and of the plan block;
 // `Write` writes a plan into the arrays and prints arrays of seven entries as kind.operand; `Neat` writes the neat plan of the arrays into
 // the output arrays and prints seven entries of them; `Certify` certifies the arrays and prints how
-// many entries of the lists and words of the table it changed; `Saw` checks the two arrays as the saw does, and `Entries` prints the part of
+// many entries of the lists and words of the table it changed; `Depth` checks the two arrays within the limit of stages, and `Limited`
+// certifies them within it; `Saw` checks the two arrays as the saw does, and `Entries` prints the part of
 // them that belongs to the node which `entry` sets;
 // `Old` reads the job block by the call for old ones. An answer is printed as its values, a refusal as number and place.
 mod certify;
@@ -21,11 +23,13 @@ mod write;
 use certify::run_certify;
 use check::run_arrays;
 use check::run_block;
+use check::run_staged;
 use check::run_truncations;
 use lent::FULL_DEMAND;
 use lent::JOB;
 use lent::KINDS;
 use lent::LENT;
+use lent::LIMIT;
 use lent::NODE;
 use lent::OLD_BLOCK;
 use lent::OPERANDS;
@@ -59,6 +63,7 @@ fn place(letter: u8) -> usize {
         b'b' => OLD_BLOCK,
         b'n' => OUTPUT,
         b'e' => NODE,
+        b'm' => LIMIT,
         _ => REMARK,
     }
 }
@@ -71,7 +76,9 @@ fn run(t: &mut Words, letter: u8) {
         b'P' => run_truncations(t, PLAN),
         b'W' => run_write(t),
         b'N' => run_neat(t),
-        b'C' => run_certify(t),
+        b'C' => run_certify(t, false),
+        b'D' => run_staged(t),
+        b'L' => run_certify(t, true),
         b'S' => run_saw(t),
         b'E' => run_entries(t),
         b'O' => run_old_job(t),
