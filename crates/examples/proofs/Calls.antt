@@ -1,4 +1,4 @@
--- What the bound, writing and certificate calls answer on an accepted job block and weights, and the neat call on a plan that passes, where
+-- What the bound calls, the writing and certificate calls answer on an accepted job block and weights, and the neat call on a plan that passes, where
 -- the lengths of what is lent are known.
 -- The bound comes from cuts at normal positions, which are quick to compute; cuts at every unit take long.
 use mathlib.Core.Path.{_≡_}
@@ -10,6 +10,7 @@ use lib.Dec.{ltb}
 use lib.ListN.{length}
 use borrow.Author.Tests.{lt-ltb, le-ltb}
 use Rattle.cutting.specs.declared.Direction.the-variants.{Length, Width}
+use Rattle.cutting.specs.Limits.{most-limit}
 use Rattle.cutting.specs.Figure.{figure}
 use Rattle.cutting.specs.Saws.{saw-normal}
 use Rattle.cutting.specs.Preorder.{node-count}
@@ -20,13 +21,16 @@ use Rattle.refusal.specs.Refusals.{first-refusal}
 use Rattle.refusal.specs.declared.Checked.the-variants.{Passed, Refused}
 use Rattle.refusal.specs.declared.Refusal.the-variants.{TableShort}
 use Rattle.job.specs.declared.Choices.{Choices}
+use Rattle.job.specs.Block.{outside}
 use Rattle.job.specs.Weights.{block-job, weight-in, Accepted}
 use Rattle.job.proofs.Weights.{accepted-in-range}
 use Rattle.plan.specs.Plan.{plan-answer}
 use Rattle.plan.specs.Calls.{JobPasses}
 use Rattle.neat.specs.Neat.{block-neat, neat-said}
 use Rattle.table.specs.Table.{position-count, words-needed}
-use Rattle.bound.specs.Bound.{Memory, wide-job, memory-checks, bound-said}
+use Rattle.table.specs.Staged.{staged-words}
+use Rattle.bound.specs.Bound.{Memory, wide-job, memory-checks, bound-said, report-values}
+use Rattle.staged_bound.specs.Staged.{staged-block-report, staged-said}
 use Rattle.writer.specs.Write.{block-plan, write-said}
 use Rattle.certificate.specs.Certificate.{certificate-said}
 use Rattle.examples.specs.Examples.{old-block, LongLists, Enough, TooShort}
@@ -95,3 +99,10 @@ pub neatened : (s : List ℕ) → JobPasses s old-block → (kinds operands : Li
     → neat-said s old-block kinds operands ks os ≡ (0, node-count (block-neat s old-block kinds operands) ∷ [])
 unfolding first-refusal
 neatened s good kinds operands e ks os k o = simp (good, e, le-ltb (length ks) (node-count (block-neat s old-block kinds operands)) k, le-ltb (length os) (node-count (block-neat s old-block kinds operands)) o)
+
+-- the staged bound call, where its limit is within its range
+pub staged-answered : (s ws : List ℕ) (limit : ℕ) → Accepted s old-block ws → outside 1 most-limit limit ≡ false → (m : Memory) → Enough s old-block (staged-words (wide-job s old-block) (capacity-in old-block s ws) limit) m
+    → staged-said s old-block ws limit m ≡ (0, report-values (staged-block-report s old-block ws limit))
+unfolding first-refusal
+staged-answered s ws limit good inside m h =
+    simp (good, inside, lists-pass old-block s ws good m (h .0), le-ltb (length (m .table)) (staged-words (wide-job s old-block) (capacity-in old-block s ws) limit) (h .1))

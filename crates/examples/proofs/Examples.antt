@@ -1,17 +1,20 @@
 -- The table of marked examples holds: what is left to compute of each line, the law that a line so computed holds, and the computations.
 use mathlib.Core.Path.{_≡_, refl, _∙_, ap}
+use mathlib.Core.Bool.{false}
 use mathlib.Core.Logic.{_⊎_, inl, inr}
 use mathlib.Core.List.{List, [], _∷_, List·Memᴰ, List·Memᴰ·not-nil, List·Memᴰ·cases-cons}
 use Prim.Native.Nat.{ℕ, _≤_}
 use native.Mathlib.Omega.{arith}
 use borrow.Author.Tests.{le-ltb}
 use Rattle.cutting.specs.declared.Direction.the-variants.{Length, Width}
+use Rattle.cutting.specs.Limits.{most-limit}
 use Rattle.cutting.specs.Lists.{range, sum, filter, each, any, greatest}
 use Rattle.cutting.specs.Tree.{total}
 use Rattle.cutting.specs.Figure.{leaf, best, step, after, figure}
 use Rattle.cutting.specs.Pieces.{sized}
 use Rattle.cutting.specs.Saws.{floor, saw-normal, saw-written}
-use Rattle.cutting.specs.Shares.{by-weight}
+use Rattle.cutting.specs.Shares.{by-weight, root, stages, stages-below}
+use Rattle.cutting.specs.Staged.{along, block}
 use Rattle.cutting.specs.Normal.{summed, normal?, sides}
 use Rattle.cutting.specs.Choice.{choice, plan-within, written, sawn}
 use Rattle.cutting.specs.Preorder.{preorder, kinds-of, operands-of, node-count}
@@ -19,7 +22,10 @@ use Rattle.cutting.specs.Neat.{used, neat}
 use Rattle.cutting.specs.Job.{ordered, members, pieces, normal-positions, lossless-plan, plan-of}
 use Rattle.refusal.specs.Refusals.{first-refusal}
 use Rattle.refusal.specs.declared.Checked.the-variants.{Passed}
-use Rattle.job.specs.Block.{price-at, demand-at, each-kind, job-checks, entries, record-of}
+use Rattle.table.specs.Staged.{staged-words}
+use Rattle.bound.specs.Bound.{wide-job, report-values}
+use Rattle.staged_bound.specs.Staged.{staged-block-report}
+use Rattle.job.specs.Block.{outside, price-at, demand-at, each-kind, job-checks, entries, record-of}
 use Rattle.job.specs.Weights.{block-job, Accepted}
 use Rattle.idle.specs.Idle.{pieceless, idle-checks}
 use Rattle.plan.specs.Plan.{walk, walk-answer, plan-answer}
@@ -27,12 +33,13 @@ use Rattle.plan.specs.Trees.{trees-in}
 use Rattle.plan.specs.Calls.{JobPasses}
 use Rattle.saw.specs.Saw.{saw-checks}
 use Rattle.saw.specs.Parts.{extent}
+use Rattle.stages.specs.Stages.{stage-checks}
 use Rattle.neat.specs.Neat.{block-neat}
 use Rattle.writer.specs.Write.{block-plan}
 use Rattle.examples.specs.Examples as line
 use Rattle.examples.specs.Examples.{Example, old-block, RefusedAs, PassedTo, ExampleHolds, misfit-job, marked}
 use Rattle.examples.proofs.Calls as call
-use Rattle.examples.proofs.Calls.{words-in, values-in, certificate-in}
+use Rattle.examples.proofs.Calls.{capacity-in, words-in, values-in, certificate-in}
 use Rattle.examples.proofs.Plans.{first-verdict, begins-refused, begins-passed}
 use Rattle.examples.proofs.Misfit as misfit
 
@@ -54,6 +61,10 @@ Computed (line.neatens s kinds operands nodes neat-kinds neat-operands) =
     × (kinds-of (block-neat s old-block kinds operands) ≡ neat-kinds) × (operands-of (block-neat s old-block kinds operands) ≡ neat-operands)
 Computed (line.saw-passes s kinds operands pieces waste trim copies sawdust) = ExampleHolds (line.saw-passes s kinds operands pieces waste trim copies sawdust)
 Computed (line.part s kinds operands node first entries) = ExampleHolds (line.part s kinds operands node first entries)
+Computed (line.stages-pass s limit kinds operands profit pieces waste trim copies sawdust stages) = ExampleHolds (line.stages-pass s limit kinds operands profit pieces waste trim copies sawdust stages)
+Computed (line.stages-refused s limit kinds operands number place) = ExampleHolds (line.stages-refused s limit kinds operands number place)
+Computed (line.stages-bound s ws limit words bound q p r) =
+    Accepted s old-block ws × (outside 1 most-limit limit ≡ false) × (staged-words (wide-job s old-block) (capacity-in old-block s ws) limit ≡ words) × (report-values (staged-block-report s old-block ws limit) ≡ bound ∷ q ∷ p ∷ r ∷ [])
 
 -- a line holds from what is computed of it
 holds : (e : Example) → Computed e → ExampleHolds e
@@ -72,6 +83,9 @@ holds (line.certifies choices s ws kinds operands words gap bound profit) c = λ
 holds (line.neatens s kinds operands nodes neat-kinds neat-operands) c = (λ ks os k o. call.neatened s (c .0) kinds operands (c .1) ks os (rw (c .2) k) (rw (c .2) o) ∙ ap (λ n. (0, n ∷ [])) (c .2), c .3, c .4)
 holds (line.saw-passes s kinds operands pieces waste trim copies sawdust) c = c
 holds (line.part s kinds operands node first entries) c = c
+holds (line.stages-pass s limit kinds operands profit pieces waste trim copies sawdust stages) c = c
+holds (line.stages-refused s limit kinds operands number place) c = c
+holds (line.stages-bound s ws limit words bound q p r) c = λ m h. call.staged-answered s ws limit (c .0) (c .1) m (rw (c .2) h) ∙ ap (λ vs. (0, vs)) (c .3)
 
 -- the computations of lines, in their order
 data AllComputed : List Example → Type 0 where
@@ -105,7 +119,7 @@ module _ (a b c d e f weight : ℕ) where
 module _ (pair ws : List ℕ) (good : Accepted (misfit-job pair) old-block ws) where
   -- the table's computations, line by line
   computed : AllComputed (marked pair ws)
-  unfolding marked range sum filter each any greatest leaf best step after figure sized floor saw-normal saw-written by-weight summed normal? sides choice plan-within written sawn lossless-plan preorder kinds-of operands-of node-count ordered members pieces normal-positions plan-of first-refusal each-kind job-checks entries record-of walk walk-answer pieceless idle-checks plan-answer total trees-in used neat saw-checks extent
+  unfolding marked range sum filter each any greatest leaf best step after figure sized floor saw-normal saw-written by-weight summed normal? sides choice plan-within written sawn lossless-plan preorder kinds-of operands-of node-count ordered members pieces normal-positions plan-of first-refusal each-kind job-checks entries record-of walk walk-answer pieceless idle-checks plan-answer total trees-in used neat saw-checks extent root stages stages-below stage-checks along block
   computed =
       refl
       and refl
@@ -142,6 +156,10 @@ module _ (pair ws : List ℕ) (good : Accepted (misfit-job pair) old-block ws) w
       and refl
       and (refl, refl)
       and (refl, refl)
+      and refl
+      and refl
+      and (refl, refl, refl, refl)
+      and (refl, refl, refl, refl)
       and done
 
   -- every marked example holds

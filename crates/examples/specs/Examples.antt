@@ -19,7 +19,9 @@ use Rattle.plan.specs.Calls.{arrays-answer}
 use Rattle.saw.specs.Saw.{saw-said}
 use Rattle.saw.specs.Parts.{node-part, part-said}
 use Rattle.neat.specs.Neat.{block-neat, neat-said}
+use Rattle.staged_plan.specs.Check.{staged-check-said}
 use Rattle.bound.specs.Bound.{Memory, wide-job, bound-said}
+use Rattle.staged_bound.specs.Staged.{staged-said}
 use Rattle.writer.specs.Write.{block-plan, write-said}
 use Rattle.certificate.specs.Certificate.{certificate-said}
 
@@ -47,6 +49,12 @@ pub data Example : Type 0 where
   saw-passes : (job kinds operands : List ℕ) (pieces waste trim : ℕ) (copies : List ℕ) (sawdust : ℕ) → Example
   -- the part of a node, in a plan's kinds as in its operands, has a first entry and a number of entries
   part : (job kinds operands : List ℕ) (node first entries : ℕ) → Example
+  -- the staged check of a plan within a limit passes with a profit, areas of pieces, waste nodes and trim, copies, sawdust and stages
+  stages-pass : (job : List ℕ) (limit : ℕ) (kinds operands : List ℕ) (profit pieces waste trim : ℕ) (copies : List ℕ) (sawdust stages : ℕ) → Example
+  -- or it refuses the plan, with a number and a place
+  stages-refused : (job : List ℕ) (limit : ℕ) (kinds operands : List ℕ) (number place : ℕ) → Example
+  -- the staged bound call answers the bound, Q, p and r
+  stages-bound : (job weights : List ℕ) (limit words bound q p r : ℕ) → Example
 
 -- the marked examples' jobs are old blocks, and make no other choice
 abbrev pub old-block : Choices
@@ -111,6 +119,10 @@ ExampleHolds (neatens s kinds operands nodes neat-kinds neat-operands) =
 ExampleHolds (saw-passes s kinds operands pieces waste trim copies sawdust) = saw-said s old-block kinds operands ≡ (0, pieces ∷ waste ∷ trim ∷ (padded copies ++ (sawdust ∷ [])))
 ExampleHolds (part s kinds operands node first entries) =
     (part-said (node-part s old-block kinds operands kinds node) ≡ (0, first ∷ entries ∷ [])) × (part-said (node-part s old-block kinds operands operands node) ≡ (0, first ∷ entries ∷ []))
+ExampleHolds (stages-pass s limit kinds operands profit pieces waste trim copies sawdust stages) =
+    staged-check-said s old-block limit kinds operands ≡ (0, profit ∷ pieces ∷ waste ∷ trim ∷ ((padded copies ++ (sawdust ∷ [])) ++ (stages ∷ [])))
+ExampleHolds (stages-refused s limit kinds operands number place) = staged-check-said s old-block limit kinds operands ≡ (number, place ∷ [])
+ExampleHolds (stages-bound s ws limit words bound q p r) = (m : Memory) → Enough s old-block words m → staged-said s old-block ws limit m ≡ (0, bound ∷ q ∷ p ∷ r ∷ [])
 
 -- job S: plate 5 by 3, three kinds; sizes 2 by 3, 3 by 1, 2 by 2; price 7, demand 1; price 4, demand 2; price 5, demand 1
 abbrev pub job-s : List ℕ
@@ -216,4 +228,9 @@ marked pair ws =
     -- The part of node 2 has the three entries from 2 on, that of node 5 none, at 5.
     ∷ part job-s (2 ∷ 1 ∷ 3 ∷ 1 ∷ 1 ∷ []) (2 ∷ 0 ∷ 1 ∷ 1 ∷ 2 ∷ []) 2 2 3
     ∷ part job-s (2 ∷ 1 ∷ 3 ∷ 1 ∷ 1 ∷ []) (2 ∷ 0 ∷ 1 ∷ 1 ∷ 2 ∷ []) 5 5 0
+    -- Its stages are 2: within 2 it passes, within 1 it is 23 at node 2. Weights 0 1 0: the staged bound is 14 within 1 stage, 16 within 2.
+    ∷ stages-pass job-s 2 (2 ∷ 1 ∷ 3 ∷ 1 ∷ 1 ∷ []) (2 ∷ 0 ∷ 1 ∷ 1 ∷ 2 ∷ []) 16 13 0 2 (1 ∷ 1 ∷ 1 ∷ []) 0 2
+    ∷ stages-refused job-s 1 (2 ∷ 1 ∷ 3 ∷ 1 ∷ 1 ∷ []) (2 ∷ 0 ∷ 1 ∷ 1 ∷ 2 ∷ []) 23 2
+    ∷ stages-bound job-s (0 ∷ 1 ∷ 0 ∷ []) 1 180 14 2 5 4
+    ∷ stages-bound job-s (0 ∷ 1 ∷ 0 ∷ []) 2 300 16 2 5 4
     ∷ []
