@@ -9,7 +9,7 @@ use Rattle.cutting.specs.declared.Direction.the-variants.{Length, Width}
 use Rattle.cutting.specs.Tree.{Rect, side, part, Tree, waste, piece, cut, beyond, total, piece-count, IdleFree, Guillotine}
 use Rattle.cutting.specs.Pieces.{Piece, upright, turned, _⊑_, sized, Solid}
 use Rattle.cutting.specs.Saws.{saw}
-use Rattle.cutting.specs.Shares.{turn, stages-below, stages}
+use Rattle.cutting.specs.Shares.{change, stages-below, stages}
 use Rattle.cutting.specs.Preorder.{preorder, node-count}
 use Rattle.cutting.specs.Job.{Job, laid, GuillotineTree, pieces, SolidKinds}
 use Rattle.cutting.specs.Neat.{joined, remaining, used, neat, used-of, neat-of}
@@ -17,14 +17,10 @@ use Rattle.cutting.proofs.Preorder.{count-cut}
 use Rattle.cutting.proofs.Saws.{saw-cut, cut-saw}
 use Rattle.cutting.proofs.Enlarge.{enlarge}
 use Rattle.cutting.proofs.Pieces.{fits-in-true, true-fits-in, units-enlarge}
-use Rattle.cutting.proofs.Stages.{change, stages-below-ge}
+use Rattle.cutting.proofs.Stages.{change-same, change-below, stages-below-ge}
 use Rattle.cutting.proofs.Idle.{pieceless-total}
 use Rattle.cutting.proofs.Members.{members-solid}
 use Rattle.cutting.proofs.Job.{guillotine-plain, plain-guillotine}
-
-turn-same : (d : Direction) → turn d d ≡ 0
-turn-same Length = refl
-turn-same Width = refl
 
 -- what holds of the parts of a cut holds of what remains of it
 module _ {P : Type 0} (d : Direction) (x : ℕ) (a b : Tree P) where
@@ -34,10 +30,10 @@ module _ {P : Type 0} (d : Direction) (x : ℕ) (a b : Tree P) where
   remaining-total f (suc m) zero i j = omega (arith, j refl)
   remaining-total f (suc m) (suc n) i j = refl
 
-  remaining-stages : (c : Direction) (m n : ℕ) → stages-below c (remaining d m n x a b) ≤ turn c d + max 1 (max (stages-below d a) (stages-below d b))
+  remaining-stages : (c : Direction) (m n : ℕ) → stages-below c (remaining d m n x a b) ≤ change c d + max 1 (max (stages-below d a) (stages-below d b))
   unfolding stages-below
-  remaining-stages c zero n = omega (arith, change c d b)
-  remaining-stages c (suc m) zero = omega (arith, change c d a)
+  remaining-stages c zero n = omega (arith, change-below c d b)
+  remaining-stages c (suc m) zero = omega (arith, change-below c d a)
   remaining-stages c (suc m) (suc n) = omega arith
 
   remaining-idle : (m n : ℕ) → piece-count a ≡ m → IdleFree a → IdleFree b → IdleFree (remaining d m n x a b)
@@ -84,7 +80,7 @@ module _ {P : Type 0} (k : ℕ) (size : P → Rect) where
   unfolding stages stages-below neat
   neat-stages waste = omega arith
   neat-stages (piece p) = omega arith
-  neat-stages (cut d x a b) = omega (arith, stages-below-ge (neat k size (cut d x a b)) d, neat-below (cut d x a b) d, turn-same d)
+  neat-stages (cut d x a b) = omega (arith, stages-below-ge (neat k size (cut d x a b)) d, neat-below (cut d x a b) d, change-same d)
 
   -- no idle cut
   pub neat-idle : (t : Tree P) → IdleFree (neat k size t)

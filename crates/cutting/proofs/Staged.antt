@@ -14,7 +14,7 @@ use Rattle.cutting.specs.Tree.{Rect, side, Tree, waste, piece, cut, Mono
 use Rattle.cutting.specs.Figure.{leaf, best, figure}
 use Rattle.cutting.specs.Pieces.{Piece, kind, sized}
 use Rattle.cutting.specs.Saws.{saw, saw-half}
-use Rattle.cutting.specs.Shares.{by-weight, other, turn, staged, stages, stages-below}
+use Rattle.cutting.specs.Shares.{by-weight, other, change, staged, stages, stages-below}
 use Rattle.cutting.specs.Job.{Job, laid, OnPlate, profit, weight-of, KeepsDemands, widened, capacity, members, pieces, by-kind, bound-of, normal-side, normal-floor, SolidKinds, InRange}
 use Rattle.cutting.specs.Listed.{plain, Listing}
 use Rattle.cutting.specs.Staged.{paths, changes, path-stages, no-cut, cuts-between, along, block, staged-under, staged-bound, WithinStages, NoneStaged, MostStaged, StagedRecursion, StagedFloors}
@@ -46,7 +46,7 @@ cuts-none Width F l w c h = greatest-zero _ (range 1 (w - 1)) (λ x m. (let k = 
 -- the stages of a path below a cut
 abbrev below-cut : Direction → List Direction → ℕ
 below-cut d [] = 0
-below-cut d (e ∷ p) = turn d e + path-stages (e ∷ p)
+below-cut d (e ∷ p) = change d e + path-stages (e ∷ p)
 
 path-more : (d : Direction) (p : List Direction) → path-stages (d ∷ p) ≡ max 1 (below-cut d p)
 unfolding changes
@@ -82,8 +82,8 @@ module _ {P : Type 0} where
   unfolding stages-below paths greatest
   below-paths waste d = refl
   below-paths (piece p) d = refl
-  below-paths (cut e x a b) d = ap (λ n. turn d e + max 1 n) (ap₂ max (below-paths a e) (below-paths b e))
-      ∙ sym (greatest-map (below-cut d) (λ p. e ∷ p) (paths a ++ paths b) ∙ through-cut (turn d e) e a b)
+  below-paths (cut e x a b) d = ap (λ n. change d e + max 1 n) (ap₂ max (below-paths a e) (below-paths b e))
+      ∙ sym (greatest-map (below-cut d) (λ p. e ∷ p) (paths a ++ paths b) ∙ through-cut (change d e) e a b)
 
   pub stages-paths : (t : Tree P) → stages t ≡ greatest path-stages (paths t)
   unfolding stages paths greatest

@@ -10,7 +10,7 @@ use Rattle.cutting.specs.declared.Direction.the-variants.{Length, Width}
 use Rattle.cutting.specs.Lists.{range, only, greatest}
 use Rattle.cutting.specs.Tree.{side, Tree, waste, piece, cut}
 use Rattle.cutting.specs.Pieces.{Piece, kind, fits-in}
-use Rattle.cutting.specs.Shares.{turn, other, stages}
+use Rattle.cutting.specs.Shares.{change, other, stages}
 use Rattle.cutting.specs.Job.{Job, laid, OnPlate, profit, weight-of, KeepsDemands, widened, capacity, members, normal-floor}
 
 -- the directions of the cuts on each path down through a tree's cuts
@@ -22,7 +22,7 @@ paths (cut d x a b) = map (λ p. d ∷ p) (paths a ++ paths b)
 -- the changes of direction on a path that goes on below a cut
 unfoldable pub changes : Direction → List Direction → ℕ
 changes d [] = 0
-changes d (e ∷ p) = turn d e + changes e p
+changes d (e ∷ p) = change d e + changes e p
 
 -- the stages of a path: its changes of direction plus one, and none without a cut (stages-paths of proofs/Staged: a tree has its paths' most)
 abbrev pub path-stages : List Direction → ℕ

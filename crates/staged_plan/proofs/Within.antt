@@ -16,7 +16,8 @@ use Rattle.refusal.specs.Refusals.{next, first-refusal}
 use Rattle.job.proofs.Checks.{passed-both}
 use Rattle.stages.specs.declared.Staged.{Staged}
 use Rattle.stages.specs.declared.Staged.the-variants as found
-use Rattle.stages.specs.Stages.{limit-checks, staged-as, StagesOf}
+use Rattle.stages.specs.Stages.{limit-checks}
+use Rattle.stages.specs.Walks.{staged-as, StagesOf}
 use Rattle.stages.proofs.Limit.{passed-within, within-passed, staged-within, staged-past}
 use Rattle.plan.specs.declared.Report.{Report}
 use Rattle.plan.specs.declared.PlanAnswer.{PlanAnswer}

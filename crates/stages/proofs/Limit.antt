@@ -10,7 +10,7 @@ use Rattle.cutting.specs.declared.Direction.{Direction}
 use Rattle.cutting.specs.Limits.{most-limit}
 use Rattle.cutting.specs.Tree.{Tree, waste, piece, cut}
 use Rattle.cutting.specs.Pieces as laid
-use Rattle.cutting.specs.Shares.{turn, stages-below, root, stages}
+use Rattle.cutting.specs.Shares.{change, stages-below, root, stages}
 use Rattle.cutting.specs.Preorder.{node-count}
 use Rattle.cutting.proofs.Stages.{root-stages}
 use Rattle.refusal.specs.declared.Refusal.{Refusal}
@@ -21,7 +21,8 @@ use Rattle.refusal.specs.Refusals.{next, refuse-when, by-check, place-of, first
 use Rattle.job.specs.Block.{outside}
 use Rattle.job.proofs.Checks.{first-append, cons-passed, append-passed, passed-append}
 use Rattle.stages.specs.declared.Staged.the-variants as answer
-use Rattle.stages.specs.Stages.{limit-check, stage-checks, limit-checks, staged-as}
+use Rattle.stages.specs.Stages.{limit-check, stage-checks, limit-checks}
+use Rattle.stages.specs.Walks.{staged-as}
 
 -- the check of the limit
 pub limit-by : (n : ℕ) (b : Bool) → outside 1 most-limit n ≡ b → first-refusal (limit-check n ∷ []) ≡ next (refuse-when b StageLimit) Passed
@@ -42,17 +43,17 @@ passed-below waste d k n h = omega arith
 passed-below (piece p) d k n h = omega arith
 passed-below (cut e x a b) d k n h =
     let u = cons-passed _ _ _ h in
-    let v = append-passed (stage-checks e (k - turn d e) (n + 1) a) (stage-checks e (k - turn d e) (n + 1 + node-count a) b) (u .1) in
-    omega (arith, leb-false k (turn d e) (u .0), passed-below a e (k - turn d e) (n + 1) (v .0), passed-below b e (k - turn d e) (n + 1 + node-count a) (v .1))
+    let v = append-passed (stage-checks e (k - change d e) (n + 1) a) (stage-checks e (k - change d e) (n + 1 + node-count a) b) (u .1) in
+    omega (arith, leb-false k (change d e) (u .0), passed-below a e (k - change d e) (n + 1) (v .0), passed-below b e (k - change d e) (n + 1 + node-count a) (v .1))
 
 below-passed : (t : Tree laid.Piece) (d : Direction) (k n : ℕ) → stages-below d t ≤ k → first-refusal (stage-checks d k n t) ≡ Passed
 unfolding stage-checks stages-below first-refusal
 below-passed waste d k n h = refl
 below-passed (piece p) d k n h = refl
 below-passed (cut e x a b) d k n h =
-    let l : leb k (turn d e) ≡ false = lt-leb k (turn d e) (omega arith) in
-    rw l (passed-append (stage-checks e (k - turn d e) (n + 1) a) (stage-checks e (k - turn d e) (n + 1 + node-count a) b)
-    (below-passed a e (k - turn d e) (n + 1) (omega arith)) (below-passed b e (k - turn d e) (n + 1 + node-count a) (omega arith)))
+    let l : leb k (change d e) ≡ false = lt-leb k (change d e) (omega arith) in
+    rw l (passed-append (stage-checks e (k - change d e) (n + 1) a) (stage-checks e (k - change d e) (n + 1 + node-count a) b)
+    (below-passed a e (k - change d e) (n + 1) (omega arith)) (below-passed b e (k - change d e) (n + 1 + node-count a) (omega arith)))
 
 -- where check 23 passes, the plan's stages are within the limit
 pub passed-within : (t : Tree laid.Piece) (k : ℕ) → first-refusal (limit-checks k t) ≡ Passed → stages t ≤ k
@@ -80,9 +81,9 @@ unfolding stage-checks first-refusal
 named-below waste d k n = λ r e. cc
 named-below (piece p) d k n = λ r e. cc
 named-below (cut e x a b) d k n =
-    named-next (refuse-when (leb k (turn d e)) (ManyStages n)) _ (named-when (leb k (turn d e)) n)
-    (subst Named (sym (first-append (stage-checks e (k - turn d e) (n + 1) a) (stage-checks e (k - turn d e) (n + 1 + node-count a) b)))
-    (named-next _ _ (named-below a e (k - turn d e) (n + 1)) (named-below b e (k - turn d e) (n + 1 + node-count a))))
+    named-next (refuse-when (leb k (change d e)) (ManyStages n)) _ (named-when (leb k (change d e)) n)
+    (subst Named (sym (first-append (stage-checks e (k - change d e) (n + 1) a) (stage-checks e (k - change d e) (n + 1 + node-count a) b)))
+    (named-next _ _ (named-below a e (k - change d e) (n + 1)) (named-below b e (k - change d e) (n + 1 + node-count a))))
 
 -- what the answer for a tree decides: its stages are within the limit, or check 23 names the cut
 module _ (k : ℕ) (t : Tree laid.Piece) where

@@ -14,7 +14,8 @@ use Rattle.cutting.specs.declared.Direction.the-variants.{Length, Width}
 use Rattle.cutting.specs.declared.Node.the-variants.{Cut}
 use Rattle.cutting.specs.Tree.{Tree, waste, piece, cut}
 use Rattle.cutting.specs.Pieces as laid
-use Rattle.cutting.specs.Shares.{other, turn, stages-below, root, stages}
+use Rattle.cutting.specs.Shares.{other, change, stages-below, root, stages}
+use Rattle.cutting.proofs.Stages.{change-same, change-other}
 use Rattle.cutting.specs.Preorder.{preorder, kind-of, node-count, kinds-of}
 use Rattle.refusal.specs.declared.Refusal.{Refusal}
 use Rattle.refusal.specs.declared.Refusal.the-variants.{ManyStages}
@@ -26,7 +27,8 @@ use Rattle.cutting.proofs.Preorder.{kinds-cut, count-cut}
 use Rattle.stages.specs.declared.Walk.{Walk}
 use Rattle.stages.specs.declared.Walk.the-variants.{Next, Past}
 use Rattle.stages.specs.declared.Staged.the-variants as answer
-use Rattle.stages.specs.Stages.{stage-checks, limit-checks, staged-as, StagesOf, kinds-all, count-all, most-below, checks-all, ended-as, Walked, answer-of}
+use Rattle.stages.specs.Stages.{stage-checks, limit-checks}
+use Rattle.stages.specs.Walks.{staged-as, StagesOf, kinds-all, count-all, most-below, checks-all, ended-as, Walked, answer-of}
 
 -- a plan's trees
 abbrev Trees : Type 0
@@ -94,36 +96,27 @@ ended-next : (v : Checked) (n s m u : ℕ) → Next m u ≡ ended-as v n s → (
 ended-next Passed n s m u e = let k = next-is e in (refl, k .0, k .1)
 ended-next (Refused r) n s m u e = no-next (sym e)
 
--- a cut's turn, by its direction
-turn-same : (d : Direction) → turn d d ≡ 0
-turn-same Length = refl
-turn-same Width = refl
-
-turn-other : (d : Direction) → turn d (other d) ≡ 1
-turn-other Length = refl
-turn-other Width = refl
-
 -- the checks where a cut stands first: its own, those of its parts, and those of the trees after it
-checks-cut : (d e : Direction) (left l n x : ℕ) (a b : Tree laid.Piece) (vs : Trees) → turn d e < left → l ≡ left - turn d e
+checks-cut : (d e : Direction) (left l n x : ℕ) (a b : Tree laid.Piece) (vs : Trees) → change d e < left → l ≡ left - change d e
     → first-refusal (checks-all d left n (cut e x a b ∷ vs)) ≡ next (first-refusal (checks-all e l (n + 1) (a ∷ b ∷ []))) (first-refusal (checks-all d left (n + 1 + count-all (a ∷ b ∷ [])) vs))
 unfolding checks-all stage-checks count-all first-refusal
 checks-cut d e left l n x a b vs room less =
-    let t : leb left (turn d e) ≡ false = lt-leb left (turn d e) room in
+    let t : leb left (change d e) ≡ false = lt-leb left (change d e) room in
     let c : n + node-count (cut e x a b) ≡ n + 1 + (node-count a + (node-count b + 0)) = omega (arith, count-cut e x a b) in
     rw (t, c, ← less) (first-append (stage-checks e l (n + 1) a ++ stage-checks e l (n + 1 + node-count a) b) (checks-all d left (n + 1 + (node-count a + (node-count b + 0))) vs)
     ∙ ap (λ cs. next (first-refusal (stage-checks e l (n + 1) a ++ cs)) (first-refusal (checks-all d left (n + 1 + (node-count a + (node-count b + 0))) vs))) (sym (append-nil (stage-checks e l (n + 1 + node-count a) b))))
 
-checks-none : (d e : Direction) (left n x : ℕ) (a b : Tree laid.Piece) (vs : Trees) → left ≤ turn d e → first-refusal (checks-all d left n (cut e x a b ∷ vs)) ≡ Refused (ManyStages n)
+checks-none : (d e : Direction) (left n x : ℕ) (a b : Tree laid.Piece) (vs : Trees) → left ≤ change d e → first-refusal (checks-all d left n (cut e x a b ∷ vs)) ≡ Refused (ManyStages n)
 unfolding checks-all stage-checks first-refusal
-checks-none d e left n x a b vs h = let t : leb left (turn d e) ≡ true = le-leb left (turn d e) h in rw t refl
+checks-none d e left n x a b vs h = let t : leb left (change d e) ≡ true = le-leb left (change d e) h in rw t refl
 
 assoc : (a b c : ℕ) → max a (max b c) ≡ max (max a b) c
 assoc a b c = omega arith
 
 -- a cut needs what its parts need, and one more where it changes the direction
-most-cut : (d e : Direction) (x : ℕ) (a b : Tree laid.Piece) (vs : Trees) → most-below d (cut e x a b ∷ vs) ≡ max (turn d e + max 1 (most-below e (a ∷ b ∷ []))) (most-below d vs)
+most-cut : (d e : Direction) (x : ℕ) (a b : Tree laid.Piece) (vs : Trees) → most-below d (cut e x a b ∷ vs) ≡ max (change d e + max 1 (most-below e (a ∷ b ∷ []))) (most-below d vs)
 unfolding most-below stages-below
-most-cut d e x a b vs = ap (λ m. max (turn d e + max 1 (max (stages-below e a) m)) (most-below d vs)) (alone (stages-below e b))
+most-cut d e x a b vs = ap (λ m. max (change d e + max 1 (max (stages-below e a) m)) (most-below d vs)) (alone (stages-below e b))
   where
     alone : (m : ℕ) → m ≡ max m 0
     alone m = omega arith
@@ -257,8 +250,8 @@ module _ {d : Direction} {ks : List ℕ} {left at n waiting most : ℕ} (w : Wal
           number = omega (arith, u .number, ap length q);
           kinds = parts d x a b vs q ∙ sym (append-assoc (kinds-of a ++ (kinds-of b ++ [])) (kinds-all vs) rest) ∙ ap (λ l. l ++ rest) (append-assoc (kinds-of a) (kinds-of b ++ []) (kinds-all vs) ∙ ap (λ l. kinds-of a ++ (l ++ kinds-all vs)) (append-nil (kinds-of b)));
           nodes = omega (arith, u .nodes, ap count-all q, count-first d x a b vs);
-          checks = u .checks ∙ ap (λ us. first-refusal (checks-all d left n us)) q ∙ checks-cut d d left left n x a b vs (omega (arith, turn-same d)) (omega (arith, turn-same d)) ∙ joined x a b vs;
-          stages = u .stages ∙ ap (λ us. max most (most-below d us)) q ∙ ap (max most) (most-cut d d x a b vs ∙ ap (λ k. max (k + max 1 (most-below d (a ∷ b ∷ []))) (most-below d vs)) (turn-same d)
+          checks = u .checks ∙ ap (λ us. first-refusal (checks-all d left n us)) q ∙ checks-cut d d left left n x a b vs (omega (arith, change-same d)) (omega (arith, change-same d)) ∙ joined x a b vs;
+          stages = u .stages ∙ ap (λ us. max most (most-below d us)) q ∙ ap (max most) (most-cut d d x a b vs ∙ ap (λ k. max (k + max 1 (most-below d (a ∷ b ∷ []))) (most-below d vs)) (change-same d)
               ∙ (let z : 0 + max 1 (most-below d (a ∷ b ∷ [])) ≡ max 1 (most-below d (a ∷ b ∷ [])) = omega arith in ap (λ k. max k (most-below d vs)) z) ∙ sym (assoc 1 (most-below d (a ∷ b ∷ [])) (most-below d vs)) ∙ ap (max 1) (most-parts d a b vs))
               ∙ assoc most 1 (most-below d (a ∷ b ∷ vs));
         }) (u .us) refl
@@ -272,14 +265,14 @@ module _ {d : Direction} {ks : List ℕ} {left at n waiting most : ℕ} (w : Wal
 
         -- a cut that changes it and passes the limit
         none-left : kind ≡ cut-kind (other d) → left ≤ 1 → first-refusal (checks-all d left at ts) ≡ Refused (ManyStages n)
-        none-left k l = at-cut (other d) k (λ x a b vs q. u .checks ∙ ap (λ us. first-refusal (checks-all d left n us)) q ∙ checks-none d (other d) left n x a b vs (omega (arith, turn-other d))) (u .us) refl
+        none-left k l = at-cut (other d) k (λ x a b vs q. u .checks ∙ ap (λ us. first-refusal (checks-all d left n us)) q ∙ checks-none d (other d) left n x a b vs (omega (arith, change-other d))) (u .us) refl
 
         -- one that changes it and whose parts pass the limit
         parts-past : kind ≡ cut-kind (other d) → 2 ≤ left → (r : Walk) (p : ℕ) → r ≡ Past p → Walked (other d) ks (n + 1) (left - 1) r → (e : Refusal) × (first-refusal (checks-all d left at ts) ≡ Refused e) × (p ≡ place-of e)
         parts-past k l r p is f = at-cut (other d) k (λ x a b vs q.
             (let v = ended-past (first-refusal (checks-all (other d) (left - 1) (n + 1) (a ∷ b ∷ []))) _ _ p (sym is ∙ f .trees a b (kinds-all vs ++ rest) (parts (other d) x a b vs q)) in (
               v .0,
-              u .checks ∙ ap (λ us. first-refusal (checks-all d left n us)) q ∙ checks-cut d (other d) left (left - 1) n x a b vs (omega (arith, turn-other d)) (omega (arith, turn-other d))
+              u .checks ∙ ap (λ us. first-refusal (checks-all d left n us)) q ∙ checks-cut d (other d) left (left - 1) n x a b vs (omega (arith, change-other d)) (omega (arith, change-other d))
                   ∙ ap (λ c. next c (first-refusal (checks-all d left (n + 1 + count-all (a ∷ b ∷ [])) vs))) (v .1),
               v .2,
             ))) (u .us) refl
@@ -295,13 +288,13 @@ module _ {d : Direction} {ks : List ℕ} {left at n waiting most : ℕ} (w : Wal
               number = omega (arith, u .number, ap length q);
               kinds = ap (λ m. drop m ks) (v .1) ∙ drop-past a b vs e;
               nodes = omega (arith, u .nodes, ap count-all q, count-first (other d) x a b vs, v .1);
-              checks = u .checks ∙ ap (λ us. first-refusal (checks-all d left n us)) q ∙ checks-cut d (other d) left (left - 1) n x a b vs (omega (arith, turn-other d)) (omega (arith, turn-other d))
+              checks = u .checks ∙ ap (λ us. first-refusal (checks-all d left n us)) q ∙ checks-cut d (other d) left (left - 1) n x a b vs (omega (arith, change-other d)) (omega (arith, change-other d))
                   ∙ (λ i. next (v .0 i) (first-refusal (checks-all d left (sym (v .1) i) vs)));
               stages = u .stages ∙ ap (λ us. max most (most-below d us)) q ∙ ap (max most) (most-cut d (other d) x a b vs ∙ ap (λ k. max k (most-below d vs)) (needs (v .2))) ∙ assoc most (max 1 s + 1) (most-below d vs);
             })) (u .us) refl
           where
-            needs : {m : ℕ} → s ≡ m → turn d (other d) + max 1 m ≡ max 1 s + 1
-            needs e = rw (turn-other d, e) (omega arith)
+            needs : {m : ℕ} → s ≡ m → change d (other d) + max 1 m ≡ max 1 s + 1
+            needs e = rw (change-other d, e) (omega arith)
 
             drop-past : (a b : Tree laid.Piece) (vs : Trees) → drop (n + 1) ks ≡ kinds-all (a ∷ b ∷ []) ++ (kinds-all vs ++ rest) → drop (n + 1 + count-all (a ∷ b ∷ [])) ks ≡ kinds-all vs ++ rest
             drop-past a b vs e = ap (λ m. drop (n + 1 + m) ks) (sym (kinds-count (a ∷ b ∷ []))) ∙ sym (drop-drop (length (kinds-all (a ∷ b ∷ []))) (n + 1) ks)
@@ -370,7 +363,7 @@ module _ (ks : List ℕ) (limit kind : ℕ) (some : 1 ≤ length ks) (read : kin
 
     first-checks : (x : ℕ) (a b : Tree laid.Piece) → first-refusal (limit-checks limit (cut d x a b)) ≡ first-refusal (checks-all d limit 1 (a ∷ b ∷ []))
     unfolding root checks-all first-refusal
-    first-checks x a b = ap first-refusal (sym (append-nil (stage-checks d limit 0 (cut d x a b)))) ∙ checks-cut d d limit limit 0 x a b [] (omega (arith, turn-same d)) (omega (arith, turn-same d)) ∙ sym (next-passed _)
+    first-checks x a b = ap first-refusal (sym (append-nil (stage-checks d limit 0 (cut d x a b)))) ∙ checks-cut d d limit limit 0 x a b [] (omega (arith, change-same d)) (omega (arith, change-same d)) ∙ sym (next-passed _)
 
     first-stages : (x : ℕ) (a b : Tree laid.Piece) → stages (cut d x a b) ≡ max 1 (most-below d (a ∷ b ∷ []))
     unfolding stages most-below

@@ -1,24 +1,16 @@
--- Check 22, of the limit on the stages of a plan; check 23, a cut whose own path passes it, over the nodes of a tree; and how the walks over
--- a plan's kinds end.
-use mathlib.Core.Path.{_≡_}
+-- Check 22, of the limit on the stages of a plan; and check 23, a cut whose own path passes it, over the nodes of a tree.
 use mathlib.Core.List.{List, [], _∷_, _++_}
-use Prim.Native.Nat.{ℕ, _+_, _-_, _≤_, max}
+use Prim.Native.Nat.{ℕ, _+_, _-_}
 use lib.Dec.{leb}
-use lib.ListN.{length, drop}
 use Rattle.cutting.specs.declared.Direction.{Direction}
 use Rattle.cutting.specs.Limits.{most-limit}
 use Rattle.cutting.specs.Tree.{Tree, waste, piece, cut}
 use Rattle.cutting.specs.Pieces as laid
-use Rattle.cutting.specs.Shares.{turn, stages-below, root, stages}
-use Rattle.cutting.specs.Preorder.{node-count, kinds-of}
+use Rattle.cutting.specs.Shares.{change, root}
+use Rattle.cutting.specs.Preorder.{node-count}
 use Rattle.refusal.specs.declared.Refusal.the-variants.{StageLimit, ManyStages}
-use Rattle.refusal.specs.declared.Checked.{Checked}
-use Rattle.refusal.specs.Refusals.{Check, by-check, place-of, first-refusal}
+use Rattle.refusal.specs.Refusals.{Check}
 use Rattle.job.specs.Block.{outside}
-use Rattle.stages.specs.declared.Walk.{Walk}
-use Rattle.stages.specs.declared.Walk.the-variants.{Next, Past}
-use Rattle.stages.specs.declared.Staged.{Staged}
-use Rattle.stages.specs.declared.Staged.the-variants as answer
 
 -- check 22: a limit outside 1 to 8
 abbrev pub limit-check : ℕ → Check
@@ -29,48 +21,8 @@ limit-check n = (outside 1 most-limit n, StageLimit)
 unfoldable pub stage-checks : Direction → ℕ → ℕ → Tree laid.Piece → List Check
 stage-checks d k n waste = []
 stage-checks d k n (piece p) = []
-stage-checks d k n (cut e x a b) = (leb k (turn d e), ManyStages n) ∷ (stage-checks e (k - turn d e) (n + 1) a ++ stage-checks e (k - turn d e) (n + 1 + node-count a) b)
+stage-checks d k n (cut e x a b) = (leb k (change d e), ManyStages n) ∷ (stage-checks e (k - change d e) (n + 1) a ++ stage-checks e (k - change d e) (n + 1 + node-count a) b)
 
 -- check 23 of a whole plan: its first cut begins the first stage
 abbrev pub limit-checks : ℕ → Tree laid.Piece → List Check
 limit-checks k t = stage-checks (root t) k 0 t
-
--- the answer for a tree: its stages, or the first cut that passes the limit
-abbrev pub staged-as : ℕ → Tree laid.Piece → Staged
-staged-as k t = by-check (first-refusal (limit-checks k t)) (answer.Within (stages t)) (λ r. answer.Past (place-of r))
-
--- the answer for the kinds of a tree
-abbrev pub StagesOf : List ℕ → ℕ → Staged → Type 0
-StagesOf ks k r = (t : Tree laid.Piece) → ks ≡ kinds-of t → r ≡ staged-as k t
-
--- several trees, one after another: their kinds, their nodes, the stages that they need below cuts in direction d, and check 23
-unfoldable pub kinds-all : List (Tree laid.Piece) → List ℕ
-kinds-all [] = []
-kinds-all (t ∷ ts) = kinds-of t ++ kinds-all ts
-
-unfoldable pub count-all : List (Tree laid.Piece) → ℕ
-count-all [] = 0
-count-all (t ∷ ts) = node-count t + count-all ts
-
-unfoldable pub most-below : Direction → List (Tree laid.Piece) → ℕ
-most-below d [] = 0
-most-below d (t ∷ ts) = max (stages-below d t) (most-below d ts)
-
-unfoldable pub checks-all : Direction → ℕ → ℕ → List (Tree laid.Piece) → List Check
-checks-all d k n [] = []
-checks-all d k n (t ∷ ts) = stage-checks d k n t ++ checks-all d k (n + node-count t) ts
-
--- how a walk ends: past its trees with the stages that they need, or at the cut that passes the limit
-abbrev pub ended-as : Checked → ℕ → ℕ → Walk
-ended-as v n s = by-check v (Next n s) (λ r. Past (place-of r))
-
--- the walk of the two parts of a cut from node `at` on, if they are there; and where it ends in any case
-pub record Walked (d : Direction) (ks : List ℕ) (at left : ℕ) (r : Walk) : Type 0 where
-  pub trees : (a b : Tree laid.Piece) (rest : List ℕ) → drop at ks ≡ kinds-all (a ∷ b ∷ []) ++ rest
-      → r ≡ ended-as (first-refusal (checks-all d left at (a ∷ b ∷ []))) (at + count-all (a ∷ b ∷ [])) (most-below d (a ∷ b ∷ []))
-  pub inside : (n s : ℕ) → r ≡ Next n s → (at ≤ n) × (n ≤ length ks) × (s ≤ left)
-
--- what the walk of the first cut's parts says of the plan: the cut itself begins the first stage
-abbrev pub answer-of : Walk → Staged
-answer-of (Next n s) = answer.Within (max 1 s)
-answer-of (Past p) = answer.Past p

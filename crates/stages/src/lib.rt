@@ -6,7 +6,7 @@ ghost use lib.ListN.{length};
 ghost use Rattle.cutting.specs.declared.Direction.the-variants.{Length, Width};
 ghost use Rattle.cutting.specs.Limits.{most-nodes, most-limit};
 ghost use Rattle.job.specs.Block.{outside};
-ghost use Rattle.stages.specs.Stages.{Walked, StagesOf, answer-of};
+ghost use Rattle.stages.specs.Walks.{Walked, StagesOf, answer-of};
 
 // How a walk ends: before the node after its trees, with the stages that they need; or at the first cut that passes the limit.
 enum Walk {

@@ -1,0 +1,57 @@
+-- What only inner contracts cite: the answer for the kinds of a tree, and how the walks over a plan's kinds end.
+use mathlib.Core.Path.{_≡_}
+use mathlib.Core.List.{List, [], _∷_, _++_}
+use Prim.Native.Nat.{ℕ, _+_, _≤_, max}
+use lib.ListN.{length, drop}
+use Rattle.cutting.specs.declared.Direction.{Direction}
+use Rattle.cutting.specs.Tree.{Tree}
+use Rattle.cutting.specs.Pieces as laid
+use Rattle.cutting.specs.Shares.{stages-below, stages}
+use Rattle.cutting.specs.Preorder.{node-count, kinds-of}
+use Rattle.refusal.specs.declared.Checked.{Checked}
+use Rattle.refusal.specs.Refusals.{Check, by-check, place-of, first-refusal}
+use Rattle.stages.specs.Stages.{stage-checks, limit-checks}
+use Rattle.stages.specs.declared.Walk.{Walk}
+use Rattle.stages.specs.declared.Walk.the-variants.{Next, Past}
+use Rattle.stages.specs.declared.Staged.{Staged}
+use Rattle.stages.specs.declared.Staged.the-variants as answer
+
+-- the answer for a tree: its stages, or the first cut that passes the limit
+abbrev pub staged-as : ℕ → Tree laid.Piece → Staged
+staged-as k t = by-check (first-refusal (limit-checks k t)) (answer.Within (stages t)) (λ r. answer.Past (place-of r))
+
+-- the answer for the kinds of a tree
+abbrev pub StagesOf : List ℕ → ℕ → Staged → Type 0
+StagesOf ks k r = (t : Tree laid.Piece) → ks ≡ kinds-of t → r ≡ staged-as k t
+
+-- several trees, one after another: their kinds, their nodes, the stages that they need below cuts in direction d, and check 23
+unfoldable pub kinds-all : List (Tree laid.Piece) → List ℕ
+kinds-all [] = []
+kinds-all (t ∷ ts) = kinds-of t ++ kinds-all ts
+
+unfoldable pub count-all : List (Tree laid.Piece) → ℕ
+count-all [] = 0
+count-all (t ∷ ts) = node-count t + count-all ts
+
+unfoldable pub most-below : Direction → List (Tree laid.Piece) → ℕ
+most-below d [] = 0
+most-below d (t ∷ ts) = max (stages-below d t) (most-below d ts)
+
+unfoldable pub checks-all : Direction → ℕ → ℕ → List (Tree laid.Piece) → List Check
+checks-all d k n [] = []
+checks-all d k n (t ∷ ts) = stage-checks d k n t ++ checks-all d k (n + node-count t) ts
+
+-- how a walk ends: past its trees with the stages that they need, or at the cut that passes the limit
+abbrev pub ended-as : Checked → ℕ → ℕ → Walk
+ended-as v n s = by-check v (Next n s) (λ r. Past (place-of r))
+
+-- the walk of the two parts of a cut from node `at` on, if they are there; and where it ends in any case
+pub record Walked (d : Direction) (ks : List ℕ) (at left : ℕ) (r : Walk) : Type 0 where
+  pub trees : (a b : Tree laid.Piece) (rest : List ℕ) → drop at ks ≡ kinds-all (a ∷ b ∷ []) ++ rest
+      → r ≡ ended-as (first-refusal (checks-all d left at (a ∷ b ∷ []))) (at + count-all (a ∷ b ∷ [])) (most-below d (a ∷ b ∷ []))
+  pub inside : (n s : ℕ) → r ≡ Next n s → (at ≤ n) × (n ≤ length ks) × (s ≤ left)
+
+-- what the walk of the first cut's parts says of the plan: the cut itself begins the first stage
+abbrev pub answer-of : Walk → Staged
+answer-of (Next n s) = answer.Within (max 1 s)
+answer-of (Past p) = answer.Past p
