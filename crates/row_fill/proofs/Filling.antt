@@ -1,91 +1,33 @@
 -- A row that began as the row before it, took its length cuts, its kinds and its width cuts holds its figures; and the fill row after row.
 use mathlib.Core.Path.{_≡_, refl, sym, _∙_, ap, ap₂}
-use mathlib.Core.Logic.{_⊎_, inl, inr}
 use mathlib.Core.List.{List}
-use Prim.Native.Nat.{ℕ, zero, suc, _+_, _-_, _*_, _≤_, _<_}
+use Prim.Native.Nat.{ℕ, _+_, _-_, _*_, _≤_, _<_}
 use native.Mathlib.Nat.{mul-le-mul-right}
 use native.Mathlib.Decide.{ℕ-discrete, decLe}
 use native.Mathlib.Omega.{arith}
 use lib.Dec.{T, leb, leb→le, le→leb}
 use lib.ListN.{length, getD, drop, replicate, length-replicate, getD-replicate, List·getD-eq-default}
-use Rattle.cutting.specs.declared.Direction.{Direction}
 use Rattle.cutting.specs.declared.Direction.the-variants.{Length, Width}
-use Rattle.cutting.specs.Tree.{side}
 use Rattle.cutting.specs.Pieces.{upright}
 use Rattle.cutting.specs.Job.{Job, figure-of}
 use Rattle.cutting.specs.Listed.{InTableRange, heavy-in}
 use Rattle.cutting.proofs.Members.{table-lies}
-use Rattle.cutting.proofs.Table.{positions-first, positions-some, positions-length}
+use Rattle.cutting.proofs.Table.{positions-some, positions-length}
 use Rattle.table.specs.declared.TableSize.{TableSize}
 use Rattle.table.specs.Table.{words-needed, Figures, Kept}
-use Rattle.table.specs.Contracts.{size-job, Positions, Fillable, FilledBy}
+use Rattle.table.specs.Contracts.{size-job, Fillable, FilledBy}
 use Rattle.table.specs.Words.{Run, HalfReady, Half, remainder, Axis}
-use Rattle.table.specs.States.{Covers, figure-at}
+use Rattle.table.specs.States.{figure-at}
 use Rattle.table.proofs.Words.{cell-before, words-past}
-use Rattle.table.proofs.Halves.{half-below, half-more, half-cuts, half-parts, half-ready, half-next}
-use Rattle.table.proofs.Figures.{entry-is, entry-side, positions-axis}
+use Rattle.table.proofs.Halves.{half-cuts, half-ready, half-next}
+use Rattle.table.proofs.Figures.{entry-is, positions-axis}
 use Rattle.table.proofs.Weighed.{plain-order, figure-one}
 use Rattle.table.proofs.Across.{across, across-joins, no-side, two-parts, more-side, piece-most, state-low}
-use Rattle.table.proofs.Complete.{side-covered, complete}
+use Rattle.table.proofs.Complete.{complete}
 use Rattle.row_fill.specs.Raised.{Pieces}
 use Rattle.row_fill.specs.Rows.{Entries, LengthsTaken, WidthsTaken, Rows}
 use Rattle.row_fill.specs.Ready.{ceiling, Capped, LengthsReady, RowReady}
-
--- every entry but the first has a half
-pub half-found : (positions : List ℕ) (b : ℕ) → 1 ≤ b → 0 < getD positions b 0 → (half-end : ℕ) × Half positions b half-end
-half-found positions b h p = go b 1 (omega arith) h (omega arith) (λ i l m. absurd (omega arith))
-  where
-    go : (n k : ℕ) → 1 ≤ k → k ≤ b → b < k + n → ((i : ℕ) → 1 ≤ i → i < k → 2 * getD positions i 0 ≤ getD positions b 0) → (half-end : ℕ) × Half positions b half-end
-    go zero k l m z w = absurd (omega arith)
-    go (suc n) k l m z w = at (decLe (2 * getD positions k 0) (getD positions b 0)) (λ q. go n (k + 1) (omega arith) (omega (arith, half-below positions b k m p q)) (omega arith) (half-more positions b k w q))
-      where
-        at : Dec (2 * getD positions k 0 ≤ getD positions b 0) → (2 * getD positions k 0 ≤ getD positions b 0 → (half-end : ℕ) × Half positions b half-end) → (half-end : ℕ) × Half positions b half-end
-        at (yes q) next = next q
-        at (no q) next = (k, record { least = l; most = m; within = w; past = omega arith })
-
-module _ (J : Job) (weight : ℕ → ℕ) (fit : InTableRange J) (d : Direction) (count : ℕ) (positions floors : List ℕ) (given : Positions J d count positions floors) where
-  axis : Axis positions floors count
-  axis = positions-axis J d count positions floors fit given
-
-  -- a side's entries, from 0 up to the side
-  pub positions-entries : Entries positions count (side d (J .plate))
-  positions-entries = record {
-    some = omega (arith, given .counted, positions-some J d);
-    listed = axis .listed;
-    first = entry-is J d count positions floors fit given 0 (omega (arith, given .counted, positions-some J d)) ∙ positions-first J d;
-    rise = axis .rise;
-    within = entry-side J d count positions floors fit given;
-  }
-
-  module _ (o : ℕ) where
-    -- the figure of entry i
-    abbrev worth : ℕ → ℕ → ℕ
-    worth i c = across J leb weight d o (getD positions i 0) c
-
-    -- share 0 covers the entries that are worth more than the entry before
-    abbrev Up : ℕ → ℕ → Type 0
-    Up i c = worth (i - 1) 0 < worth i 0
-
-    rises : (i : ℕ) → Covers leb 1 (Up i) (worth i) (worth (i - 1))
-    rises i s h = go (decLe (worth i 0) (worth (i - 1) 0))
-      where
-        zero-is : s ≡ 0
-        zero-is = omega arith
-
-        go : Dec (worth i 0 ≤ worth (i - 1) 0) → (worth i s ≤ worth (i - 1) s) ⊎ ((t : ℕ) × (t < 1) × T (leb t s) × Up i t × (worth i s ≤ worth i t))
-        go (yes k) = inl (rw zero-is k)
-        go (no k) = inr (0, omega arith, plain-order .least s, omega arith, rw zero-is (omega arith))
-
-    -- no cut up to half of entry a gives more than g, if those whose parts make up the whole and whose larger part rises do not
-    pub side-taken : (a half-end g : ℕ) → a < count → Half positions a half-end → worth (a - 1) 0 ≤ g
-        → ((i j : ℕ) → 1 ≤ i → i < half-end → j ≡ remainder positions floors a i → j < a → i ≤ j → getD positions i 0 + getD positions j 0 ≡ getD positions a 0 → worth (j - 1) 0 < worth j 0 → worth i 0 + worth j 0 ≤ g)
-        → (i : ℕ) → 1 ≤ i → i < half-end → (e m : ℕ) → T (leb e (e + m)) → e + m ≡ 0 → worth i e + worth (remainder positions floors a i) m ≤ g
-    side-taken a half-end g ha half before taken = side-covered J leb plain-order fit d count positions floors given (across J leb weight d o) (across-joins J leb weight plain-order fit d o) a half-end 0 g 1 Up ha half (omega arith) before (λ i h. rises i)
-        (λ i j l m e h x t u ht hu f y b v. (let y0 : t ≡ 0 = omega arith in let z0 : u ≡ 0 = omega arith in rw (y0, z0) (taken i j l m e h (larger i j l m x (decLe i j)) x y)))
-      where
-        larger : (i j : ℕ) → 1 ≤ i → i < half-end → getD positions i 0 + getD positions j 0 ≡ getD positions a 0 → Dec (i ≤ j) → i ≤ j
-        larger i j l m x (yes u) = u
-        larger i j l m x (no u) = absurd (omega (arith, half .within i l m, axis .rise j i (omega arith) (omega (arith, half .most))))
+use Rattle.row_fill.proofs.Taken.{half-found, positions-entries, side-taken, cut-low, cut-taken, push-taken, each}
 
 -- the fill before row a: the rows below it hold their figures, every word past the last row is as it was, and no unit is more than two
 -- figures together
@@ -99,7 +41,7 @@ pub record Filling (J : Job) (weight : ℕ → ℕ) (length-count : ℕ) (normal
   pub same : length table ≡ length old
   pub units : length unit ≡ 1021
   pub capped : Capped unit
-  pub rows : Rows J weight normal-lengths normal-widths columns a table
+  pub rows : Rows (λ l w. figure-at J leb weight l w 0) normal-lengths normal-widths 0 columns a table
   pub kept : (i : ℕ) → length-count * columns ≤ i → getD table i 0 ≡ getD old i 0
 
 module _ {size : TableSize} {pieces normal-lengths normal-widths floors lent : List ℕ} (asked : Fillable size pieces normal-lengths normal-widths floors lent × (size .capacity ≡ 0)) where
@@ -132,7 +74,7 @@ module _ {size : TableSize} {pieces normal-lengths normal-widths floors lent : L
   width-axis = positions-axis J Width columns normal-widths width-floors fit (given .widths)
 
   pub width-entries : Entries normal-widths columns (J .plate .1)
-  width-entries = positions-entries J weight fit Width columns normal-widths width-floors (given .widths)
+  width-entries = positions-entries J fit Width columns normal-widths width-floors (given .widths)
 
   -- the figure of entry i of the lengths and entry b of the widths, with no share
   abbrev cell : ℕ → ℕ → ℕ
@@ -176,10 +118,10 @@ module _ {size : TableSize} {pieces normal-lengths normal-widths floors lent : L
     kept = λ i h. refl;
   }
     where
-      first : (i b : ℕ) → i ≡ 0 → b < columns → getD new (i * columns + b) 0 ≡ cell i b
+      first : (i b : ℕ) → i ≡ 0 → b < columns → getD new (0 + i * columns + b) 0 ≡ cell i b
       first i b z l =
-          let e : 0 + b ≡ i * columns + b = rw z (omega arith) in
-          let f : getD normal-lengths i 0 ≡ 0 = rw z (positions-entries J weight fit Length length-count normal-lengths floors (given .lengths) .first) in
+          let e : 0 + b ≡ 0 + i * columns + b = rw z (omega arith) in
+          let f : getD normal-lengths i 0 ≡ 0 = rw z (positions-entries J fit Length length-count normal-lengths floors (given .lengths) .first) in
           rw e at (cleared .here b l) ∙ sym (rw f (no-side J leb weight plain-order fit Length (getD normal-widths b 0) 0))
 
   -- all rows are the table
@@ -188,7 +130,7 @@ module _ {size : TableSize} {pieces normal-lengths normal-widths floors lent : L
       let i : a < length-count = omega (arith, given .lengths .counted) in
       let j : b < columns = omega (arith, given .widths .counted) in
       let z : c ≡ 0 = omega arith in
-      let e : a * columns + b ≡ (a * columns + b) * (0 + 1) + 0 = omega arith in
+      let e : 0 + a * columns + b ≡ (a * columns + b) * (0 + 1) + 0 = omega arith in
       rw (z, ← given .widths .counted) (rw e at (fill .rows a b (omega arith) j) ∙ (figure-one J weight (getD normal-lengths a 0) (getD normal-widths b 0) 0
       ∙ ap₂ (λ u v. figure-of J weight u v 0) (entry-is J Length length-count normal-lengths floors fit (given .lengths) a i) (entry-is J Width columns normal-widths width-floors fit (given .widths) b j)))
 
@@ -206,6 +148,10 @@ module _ {size : TableSize} {pieces normal-lengths normal-widths floors lent : L
     pub row-end : start + columns ≤ length-count * columns
     row-end = omega (arith, fill .place, cell-before a length-count columns ha)
 
+    -- the row before lies before it
+    pub row-above : columns ≤ start
+    row-above = omega (arith, fill .place, cell-before 0 a columns (fill .from))
+
     pub end-few : start + columns ≤ 1042441
     end-few = omega (arith, row-end, mul-le-mul-right {m = length-count} {n = 1021} columns few-rows, few-columns)
 
@@ -213,48 +159,48 @@ module _ {size : TableSize} {pieces normal-lengths normal-widths floors lent : L
     pub row-half : HalfReady normal-lengths from a
     row-half = half-ready normal-lengths floors length-count length-axis from a (fill .half-from) (fill .half-to) ha (fill .halves)
 
-    module _ {half-end : ℕ} (half : Half normal-lengths a half-end) where
-      pub lengths-ready : length old ≡ length lent → LengthsReady normal-lengths floors a half-end start columns t0
+    -- the row starts as the row before it
+    module _ {half-end : ℕ} {tc : List ℕ} (half : Half normal-lengths a half-end) (copied : Run (λ j. getD t0 (start - columns + j) 0) start columns t0 tc) where
+      rows-copied : Rows (λ l w. figure-at J leb weight l w 0) normal-lengths normal-widths 0 columns a tc
+      rows-copied i b h l = copied .rest .before (0 + i * columns + b) (omega (arith, fill .place, cell-before i a columns h)) ∙ fill .rows i b h l
+
+      above-is : (b : ℕ) → b < columns → getD tc (start + b) 0 ≡ cell (a - 1) b
+      above-is b h =
+          let back : a ≡ a - 1 + 1 = omega (arith, fill .from) in
+          let e : start - columns + b ≡ 0 + (a - 1) * columns + b = omega (arith, fill .place, ap (λ x. x * columns) back) in
+          copied .here b h ∙ ap (λ i. getD t0 i 0) e ∙ fill .rows (a - 1) b (omega (arith, fill .from)) h
+
+      pub lengths-ready : length tc ≡ length lent → LengthsReady normal-lengths floors a half-end 0 start columns tc
       lengths-ready same = record {
         cuts = half-cuts normal-lengths floors length-count length-axis a half-end ha half;
-        place = fill .place;
-        room = omega (arith, row-end, all-room, fill .same);
-        rows-low = λ i b l m. omega (arith, fill .rows i b l m, cell-low i b (omega arith), width-axis .side b m .0);
+        place = omega (arith, fill .place);
+        room = omega (arith, row-end, all-room);
+        rows-low = λ i b l m. low i b l m (ℕ-discrete i a);
       }
+        where
+          low : (i b : ℕ) → i ≤ a → b < columns → Dec (i ≡ a) → getD tc (0 + i * columns + b) 0 ≤ ceiling
+          low i b l m (yes e) =
+              let k : 0 + i * columns + b ≡ start + b = rw e (omega (arith, fill .place)) in
+              rw k (omega (arith, above-is b m, cell-low (a - 1) b (omega arith), width-axis .side b m .0))
+          low i b l m (no e) = omega (arith, rows-copied i b (omega arith) m, cell-low i b (omega arith), width-axis .side b m .0)
 
-      module _ {t1 : List ℕ} (lengths : LengthsTaken normal-lengths floors a half-end start columns t0 t1) where
-        -- the row before
-        above-is : (b : ℕ) → b < columns → getD t0 (start - columns + b) 0 ≡ cell (a - 1) b
-        above-is b h =
-            let back : a ≡ a - 1 + 1 = omega (arith, fill .from) in
-            let e : start - columns + b ≡ (a - 1) * columns + b = omega (arith, fill .place, ap (λ x. x * columns) back) in
-            ap (λ i. getD t0 i 0) e ∙ fill .rows (a - 1) b (omega (arith, fill .from)) h
-
+      module _ {t1 : List ℕ} (lengths : LengthsTaken normal-lengths floors a half-end 0 start columns tc t1) where
         -- no word is above its figure after the length cuts
-        cut-low : (b : ℕ) → b < columns → getD t1 (start + b) 0 ≤ cell a b
-        cut-low b h = lengths .low b (cell a b) h
+        row-cut-low : (b : ℕ) → b < columns → getD t1 (start + b) 0 ≤ cell a b
+        row-cut-low b h = cut-low length-axis ha half lengths (λ x. figure-at J leb weight x (getD normal-widths b 0) 0) (λ x y. two-parts J leb weight plain-order fit Length (getD normal-widths b 0) x y 0 0 (plain-order .least 0)) b h
+            (λ i l. omega (arith, rows-copied i b l h))
             (omega (arith, above-is b h, more-side J leb weight plain-order fit Length (getD normal-widths b 0) (getD normal-lengths (a - 1) 0) (getD normal-lengths a 0) 0 (omega (arith, length-axis .rise (a - 1) a (omega (arith, fill .from)) ha))))
-            (λ i l m e.
-            (let j = remainder normal-lengths floors a i in
-            let q = half-parts normal-lengths floors length-count length-axis a half-end i ha half l m in
-            omega (
-              arith,
-              fill .rows i b (omega (arith, half .most)) h,
-              fill .rows j b (q .0) h,
-              two-parts J leb weight plain-order fit Length (getD normal-widths b 0) (getD normal-lengths i 0) (getD normal-lengths j 0) 0 0 (plain-order .least 0),
-              ap (λ x. figure-at J leb weight x (getD normal-widths b 0) 0) e,
-            )))
 
         pub row-ready : length t1 ≡ length lent → RowReady pieces (J .count) normal-widths columns (J .plate .1) start unit t1
         row-ready same = record {
           laid = record { entries = width-entries; side-low = fit .plate-width .1; units = omega (arith, fit .plate-width .1, fill .units); room = omega (arith, row-end, all-room); capped = fill .capped };
           lying = record { counted = fit .kinds; wide = λ i h. fit .widths i h .0; priced = fit .prices; units = omega (arith, fit .plate-width .1, fill .units) };
-          words-low = λ b h. omega (arith, cut-low b h, cell-low a b ha);
+          words-low = λ b h. omega (arith, row-cut-low b h, cell-low a b ha);
         }
 
         module _ {t2 : List ℕ} (taken : WidthsTaken (Pieces (getD normal-lengths a 0) (J .plate .1) pieces (J .count)) normal-widths columns start t1 t2) where
           row-low : (b : ℕ) → b < columns → getD t2 (start + b) 0 ≤ cell a b
-          row-low = taken .low (λ x. figure-at J leb weight (getD normal-lengths a 0) x 0) (λ x y. two-parts J leb weight plain-order fit Width (getD normal-lengths a 0) x y 0 0 (plain-order .least 0)) cut-low
+          row-low = taken .low (λ x. figure-at J leb weight (getD normal-lengths a 0) x 0) (λ x y. two-parts J leb weight plain-order fit Width (getD normal-lengths a 0) x y 0 0 (plain-order .least 0)) row-cut-low
               (λ x v s. omega (
                 arith,
                 s .alone .value,
@@ -279,51 +225,45 @@ module _ {size : TableSize} {pieces normal-lengths normal-widths floors lent : L
             length-taken : (i j : ℕ) → 1 ≤ i → i < half-end → j ≡ remainder normal-lengths floors a i → j < a → getD normal-lengths i 0 + getD normal-lengths j 0 ≡ getD normal-lengths a 0 → cell i b + cell j b ≤ g
             length-taken i j l m e h x = omega (
               arith,
-              fill .rows i b (omega (arith, half .most)) hb,
-              fill .rows j b h hb,
-              rw (← e) at (lengths .sums i b l m hb (rw (← e) x)),
+              rows-copied i b (omega (arith, half .most)) hb,
+              rows-copied j b h hb,
+              cut-taken length-axis ha half lengths i j b l m hb e x,
               taken .grown b hb,
-            )
-
-            width-taken : (i j : ℕ) → 1 ≤ i → j < b → i ≤ j → getD normal-widths i 0 + getD normal-widths j 0 ≡ getD normal-widths b 0 → cell a (j - 1) < cell a j → cell a i + cell a j ≤ g
-            width-taken i j l h m x u = omega (
-              arith,
-              done i (omega arith),
-              done j h,
-              taken .cuts .sums j i b l m (omega arith) hb (omega arith) (omega (arith, done j h, done (j - 1) (omega arith))),
             )
 
             cell-is : g ≡ cell a b
             cell-is =
                 let f = half-found normal-widths b lb (omega (arith, width-axis .rise 0 b (omega arith) hb)) in
+                let over = getD normal-widths b 0 in
+                let along = getD normal-lengths a 0 in
                 omega (
                   arith,
                   row-low b hb,
                   complete J leb weight plain-order fit length-count columns normal-lengths floors normal-widths width-floors (given .lengths) (given .widths) a b 0 g ha hb above before kind-taken half-end (f .0) half (f .1)
-                      (side-taken J weight fit Length length-count normal-lengths floors (given .lengths) (getD normal-widths b 0) a half-end g ha half above (λ i j l m e h n x u. length-taken i j l m e h x))
-                      (side-taken J weight fit Width columns normal-widths width-floors (given .widths) (getD normal-lengths a 0) b (f .0) g hb (f .1) before (λ i j l m e h n x u. width-taken i j l h n x u)),
+                      (side-taken J fit Length length-count normal-lengths floors (given .lengths) (across J leb weight Length over) (across-joins J leb weight plain-order fit Length over) a half-end g ha half above (λ i j l m e h n x u. length-taken i j l m e h x))
+                      (side-taken J fit Width columns normal-widths width-floors (given .widths) (across J leb weight Width along) (across-joins J leb weight plain-order fit Width along) b (f .0) g hb (f .1) before
+                      (λ i j l m e h n x u. push-taken (taken .cuts) (λ x. figure-at J leb weight along x 0) b hb done i j l h n x u)),
                 )
 
-          row-below : (m b : ℕ) → b < m → b < columns → getD t2 (start + b) 0 ≡ cell a b
-          row-below zero b k h = absurd (omega arith)
-          row-below (suc m) b k h = go (ℕ-discrete b 0) (λ i l. row-below m i (omega arith) (omega arith))
+          row-is : (b : ℕ) → b < columns → getD t2 (start + b) 0 ≡ cell a b
+          row-is = each (λ b. getD t2 (start + b) 0 ≡ cell a b) (λ b h w. go b h w (ℕ-discrete b 0))
             where
               nothing : cell a 0 ≡ 0
               nothing = let e = width-entries .first in rw e (no-side J leb weight plain-order fit Width (getD normal-lengths a 0) 0)
 
-              go : Dec (b ≡ 0) → ((i : ℕ) → i < b → getD t2 (start + i) 0 ≡ cell a i) → getD t2 (start + b) 0 ≡ cell a b
-              go (yes e) w = omega (arith, row-low b h, ap (λ b. cell a b) e, nothing)
-              go (no e) w = cell-is b (omega arith) h w
+              go : (b : ℕ) → b < columns → ((i : ℕ) → i < b → getD t2 (start + i) 0 ≡ cell a i) → Dec (b ≡ 0) → getD t2 (start + b) 0 ≡ cell a b
+              go b h w (yes e) = omega (arith, row-low b h, ap (λ b. cell a b) e, nothing)
+              go b h w (no e) = cell-is b (omega arith) h w
 
           -- one row more holds its figures
-          rows-more : Rows J weight normal-lengths normal-widths columns (a + 1) t2
+          rows-more : Rows (λ l w. figure-at J leb weight l w 0) normal-lengths normal-widths 0 columns (a + 1) t2
           rows-more i b h l = go (ℕ-discrete i a)
             where
-              go : Dec (i ≡ a) → getD t2 (i * columns + b) 0 ≡ cell i b
-              go (yes e) = rw e (rw (fill .place) at (row-below (suc b) b (omega arith) l))
+              go : Dec (i ≡ a) → getD t2 (0 + i * columns + b) 0 ≡ cell i b
+              go (yes e) = let k : start + b ≡ 0 + a * columns + b = omega (arith, fill .place) in rw e (rw k at (row-is b l))
               go (no e) =
-                  let k : i * columns + b < start = omega (arith, fill .place, cell-before i a columns (omega arith)) in
-                  taken .rest .before (i * columns + b) k ∙ lengths .rest .before (i * columns + b) k ∙ fill .rows i b (omega arith) l
+                  let k : 0 + i * columns + b < start = omega (arith, fill .place, cell-before i a columns (omega arith)) in
+                  taken .rest .before (0 + i * columns + b) k ∙ lengths .rest .before (0 + i * columns + b) k ∙ rows-copied i b (omega arith) l
 
           pub fill-more : {next : List ℕ} → length t2 ≡ length t0 → length next ≡ length unit → Capped next
               → Filling J weight length-count normal-lengths columns normal-widths (a + 1) (start + columns) half-end next old t2
@@ -338,7 +278,7 @@ module _ {size : TableSize} {pieces normal-lengths normal-widths floors lent : L
             units = units ∙ fill .units;
             capped = capped;
             rows = rows-more;
-            kept = λ i h. taken .rest .after i (omega (arith, row-end)) ∙ lengths .rest .after i (omega (arith, row-end)) ∙ fill .kept i h;
+            kept = λ i h. taken .rest .after i (omega (arith, row-end)) ∙ lengths .rest .after i (omega (arith, row-end)) ∙ copied .rest .after i (omega (arith, row-end)) ∙ fill .kept i h;
           }
 
 -- units that were never written hold 0

@@ -1,3 +1,4 @@
 pub mod Raising
 pub mod Pushing
+pub mod Taken
 pub mod Filling

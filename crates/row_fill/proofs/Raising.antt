@@ -155,47 +155,46 @@ pieces-next {l} {w} {j} {pieces} p q = raised-more
     last i v s (no e) = inl (record { index = s .index; inside = omega (arith, s .inside); alone = s .alone })
 
 -- no length cut yet
-pub cuts-none : {a start columns : ℕ} {normal-lengths length-floors xs : List ℕ} → Raised (LengthCuts xs normal-lengths length-floors a 1 start columns) xs xs
+pub cuts-none : {a base start columns : ℕ} {normal-lengths length-floors xs : List ℕ} → Raised (LengthCuts xs normal-lengths length-floors a 1 base start columns) xs xs
 cuts-none = raised-none (λ i v s. omega (arith, s .from, s .to))
 
-module _ {a i start columns : ℕ} {normal-lengths length-floors old mid : List ℕ} (p : Raised (LengthCuts old normal-lengths length-floors a i start columns) old mid) where
+module _ {a i base start columns : ℕ} {normal-lengths length-floors old mid : List ℕ} (p : Raised (LengthCuts old normal-lengths length-floors a i base start columns) old mid) where
   -- the words before the row are as they were
   pub cuts-same : (j : ℕ) → j < start → getD mid j 0 ≡ getD old j 0
   cuts-same j h = raised-same p j (λ v s. omega (arith, s .sums .place))
 
   -- a cut at entry i
-  wider : (j v : ℕ) → LengthCuts old normal-lengths length-floors a i start columns j v → LengthCuts old normal-lengths length-floors a (i + 1) start columns j v
+  wider : (j v : ℕ) → LengthCuts old normal-lengths length-floors a i base start columns j v → LengthCuts old normal-lengths length-floors a (i + 1) base start columns j v
   wider j v s = record { part = s .part; from = s .from; to = omega (arith, s .to); exact = s .exact; sums = s .sums }
 
   -- one cut more whose parts make up the whole
-  pub cuts-next : {y : ℕ} {new : List ℕ} → 1 ≤ i → i < a → y ≡ remainder normal-lengths length-floors a i → y < a → start ≡ a * columns → getD normal-lengths i 0 + getD normal-lengths y 0 ≡ getD normal-lengths a 0
-      → Raised (Sums mid start (i * columns) (y * columns) columns) mid new → Raised (LengthCuts old normal-lengths length-floors a (i + 1) start columns) old new
+  pub cuts-next : {y : ℕ} {new : List ℕ} → 1 ≤ i → i < a → y ≡ remainder normal-lengths length-floors a i → y < a → start ≡ base + a * columns → getD normal-lengths i 0 + getD normal-lengths y 0 ≡ getD normal-lengths a 0
+      → Raised (Sums mid start (base + i * columns) (base + y * columns) columns) mid new → Raised (LengthCuts old normal-lengths length-floors a (i + 1) base start columns) old new
   cuts-next {y} hi ha e hy f exact q = raised-more wider
       (λ j v s.
-      (let t : Sums old start (i * columns) (y * columns) columns j v = record { index = s .index; inside = s .inside; place = s .place; value = s .value ∙ same (s .index) (s .inside) } in
+      (let t : Sums old start (base + i * columns) (base + y * columns) columns j v = record { index = s .index; inside = s .inside; place = s .place; value = s .value ∙ same (s .index) (s .inside) } in
       record { part = i; from = hi; to = omega arith; exact = rw e at exact; sums = rw e at t }))
       (λ j v s. last j v s (ℕ-discrete (s .part) i)) p q
     where
-      same : (j : ℕ) → j < columns → getD mid (i * columns + j) 0 + getD mid (y * columns + j) 0 ≡ getD old (i * columns + j) 0 + getD old (y * columns + j) 0
-      same j h = ap₂ (λ a b. a + b) (cuts-same (i * columns + j) (omega (arith, cell-before i a columns ha))) (cuts-same (y * columns + j) (omega (arith, cell-before y a columns hy)))
+      same : (j : ℕ) → j < columns → getD mid (base + i * columns + j) 0 + getD mid (base + y * columns + j) 0 ≡ getD old (base + i * columns + j) 0 + getD old (base + y * columns + j) 0
+      same j h = ap₂ (λ a b. a + b) (cuts-same (base + i * columns + j) (omega (arith, cell-before i a columns ha))) (cuts-same (base + y * columns + j) (omega (arith, cell-before y a columns hy)))
 
-      last : (j v : ℕ) (s : LengthCuts old normal-lengths length-floors a (i + 1) start columns j v) → Dec (s .part ≡ i)
-          → LengthCuts old normal-lengths length-floors a i start columns j v ⊎ Sums mid start (i * columns) (y * columns) columns j v
+      last : (j v : ℕ) (s : LengthCuts old normal-lengths length-floors a (i + 1) base start columns j v) → Dec (s .part ≡ i)
+          → LengthCuts old normal-lengths length-floors a i base start columns j v ⊎ Sums mid start (base + i * columns) (base + y * columns) columns j v
       last j v s (no n) = inl (record { part = s .part; from = s .from; to = omega (arith, s .to); exact = s .exact; sums = s .sums })
-      last j v s (yes n) = inr (let t : Sums old start (i * columns) (y * columns) columns j v = rw e (rw n at (s .sums)) in record { index = t .index; inside = t .inside; place = t .place; value = t .value ∙ sym (same (t .index) (t .inside)) })
+      last j v s (yes n) = inr (let t : Sums old start (base + i * columns) (base + y * columns) columns j v = rw e (rw n at (s .sums)) in record { index = t .index; inside = t .inside; place = t .place; value = t .value ∙ sym (same (t .index) (t .inside)) })
 
   -- one whose parts do not
   pub cuts-pass : (getD normal-lengths i 0 + getD normal-lengths (remainder normal-lengths length-floors a i) 0 ≡ getD normal-lengths a 0 → ⊥)
-      → Raised (LengthCuts old normal-lengths length-floors a (i + 1) start columns) old mid
+      → Raised (LengthCuts old normal-lengths length-floors a (i + 1) base start columns) old mid
   cuts-pass n = raised-cong wider (λ j v s. last j v s (ℕ-discrete (s .part) i)) p
     where
-      last : (j v : ℕ) (s : LengthCuts old normal-lengths length-floors a (i + 1) start columns j v) → Dec (s .part ≡ i) → LengthCuts old normal-lengths length-floors a i start columns j v
+      last : (j v : ℕ) (s : LengthCuts old normal-lengths length-floors a (i + 1) base start columns j v) → Dec (s .part ≡ i) → LengthCuts old normal-lengths length-floors a i base start columns j v
       last j v s (yes e) = absurd (n (rw e at (s .exact)))
       last j v s (no e) = record { part = s .part; from = s .from; to = omega (arith, s .to); exact = s .exact; sums = s .sums }
 
--- a row that was copied, and then takes its length cuts
-module _ {normal-lengths length-floors : List ℕ} {a half-end start columns : ℕ} {old mid : List ℕ} (ready : LengthsReady normal-lengths length-floors a half-end start columns old)
-    (copied : Run (λ j. getD old (start - columns + j) 0) start columns old mid) where
+-- a row that takes its length cuts
+module _ {normal-lengths length-floors : List ℕ} {a half-end base start columns : ℕ} {old : List ℕ} (ready : LengthsReady normal-lengths length-floors a half-end base start columns old) where
   abbrev other : ℕ → ℕ
   other i = remainder normal-lengths length-floors a i
 
@@ -206,63 +205,47 @@ module _ {normal-lengths length-floors : List ℕ} {a half-end start columns : �
   earlier : (i : ℕ) → 1 ≤ i → i < half-end → (i < a) × (other i < a)
   earlier i l m = (omega (arith, ready .cuts .most), ready .cuts .earlier i l m)
 
-  -- the rows before are as they were, and the row is the one before
-  kept : (i b : ℕ) → i < a → b < columns → getD mid (i * columns + b) 0 ≡ getD old (i * columns + b) 0
-  kept i b h l = copied .rest .before (i * columns + b) (omega (arith, ready .place, cell-before i a columns h))
+  -- the words of an earlier row end where this row begins or before
+  pub row-before : (i : ℕ) → i < a → base + i * columns + columns ≤ start
+  row-before i h = omega (arith, ready .place, cell-before i a columns h)
 
-  rows-low : (i b : ℕ) → i < a → b < columns → getD mid (i * columns + b) 0 ≤ ceiling
-  rows-low i b h l = omega (arith, kept i b h l, ready .rows-low i b h l)
-
-  row-low : (b : ℕ) → b < columns → getD mid (start + b) 0 ≤ ceiling
-  row-low b h =
-      let back : a ≡ a - 1 + 1 = omega (arith, ready .cuts .least, ready .cuts .most) in
-      let e : start - columns + b ≡ (a - 1) * columns + b = omega (arith, ready .place, ap (λ x. x * columns) back) in
-      omega (arith, copied .here b h, ap (λ i. getD old i 0) e, ready .rows-low (a - 1) b (omega arith) h)
-
-  module _ {i : ℕ} {new : List ℕ} (raised : Raised (LengthCuts mid normal-lengths length-floors a i start columns) mid new) where
+  module _ {i : ℕ} {new : List ℕ} (raised : Raised (LengthCuts old normal-lengths length-floors a i base start columns) old new) where
     -- after some cuts, the sums of one more can be taken
-    pub sums-ready : {y : ℕ} → length new ≡ length old → 1 ≤ i → i < half-end → y < a → SumsReady new start (i * columns) (y * columns) columns
+    pub sums-ready : {y : ℕ} → length new ≡ length old → 1 ≤ i → i < half-end → y < a → SumsReady new start (base + i * columns) (base + y * columns) columns
     sums-ready {y} same l m h = record {
-      first-before = omega (arith, ready .place, cell-before i a columns (earlier i l m .0));
-      second-before = omega (arith, ready .place, cell-before y a columns h);
+      first-before = row-before i (earlier i l m .0);
+      second-before = row-before y h;
       room = omega (arith, ready .room);
       first-low = low i (earlier i l m .0);
       second-low = low y h;
-      target-low = λ j k. raised .low (start + j) (2 * ceiling) (λ v s. offered v s) (omega (arith, row-low j k));
+      target-low = λ j k. raised .low (start + j) (2 * ceiling) (λ v s. offered v s) (omega (arith, rw (← ready .place) at (ready .rows-low a j (omega arith) k)));
     }
       where
-        low : (q : ℕ) → q < a → (j : ℕ) → j < columns → getD new (q * columns + j) 0 ≤ ceiling
-        low q h j k = omega (arith, cuts-same raised (q * columns + j) (omega (arith, ready .place, cell-before q a columns h)), rows-low q j h k)
+        low : (q : ℕ) → q < a → (j : ℕ) → j < columns → getD new (base + q * columns + j) 0 ≤ ceiling
+        low q h j k = omega (arith, cuts-same raised (base + q * columns + j) (omega (arith, row-before q h)), ready .rows-low q j (omega arith) k)
 
-        offered : {j : ℕ} (v : ℕ) → LengthCuts mid normal-lengths length-floors a i start columns j v → v ≤ 2 * ceiling
+        offered : {j : ℕ} (v : ℕ) → LengthCuts old normal-lengths length-floors a i base start columns j v → v ≤ 2 * ceiling
         offered v s =
             let q = earlier (s .part) (s .from) (omega (arith, s .to)) in
-            omega (arith, s .sums .value, rows-low (s .part) (s .sums .index) (q .0) (s .sums .inside), rows-low (other (s .part)) (s .sums .index) (q .1) (s .sums .inside))
+            omega (arith, s .sums .value, ready .rows-low (s .part) (s .sums .index) (omega (arith, q .0)) (s .sums .inside), ready .rows-low (other (s .part)) (s .sums .index) (omega (arith, q .1)) (s .sums .inside))
 
   -- after all of them
-  pub lengths-taken : {new : List ℕ} → Raised (LengthCuts mid normal-lengths length-floors a half-end start columns) mid new → LengthsTaken normal-lengths length-floors a half-end start columns old new
+  pub lengths-taken : {new : List ℕ} → Raised (LengthCuts old normal-lengths length-floors a half-end base start columns) old new → LengthsTaken normal-lengths length-floors a half-end base start columns old new
   lengths-taken raised = record {
-    grown = λ b h. omega (arith, copied .here b h, raised .grown (start + b));
-    sums = λ i b l m h e. (let q = earlier i l m in omega (arith, kept i b (q .0) h, kept (other i) b (q .1) h, raised .taken (start + b) (sum i b) (offered i b l m h e)));
-    low = λ b bound h k f. raised .low (start + b) bound (λ v s. below b bound h f v s) (omega (arith, copied .here b h));
-    rest = record {
-      before = λ i h. raised-same raised i (λ v s. omega (arith, s .sums .place)) ∙ copied .rest .before i h;
-      after = λ i h. raised-same raised i (λ v s. omega (arith, s .sums .place, s .sums .inside)) ∙ copied .rest .after i h;
-    };
+    grown = λ b h. raised .grown (start + b);
+    sums = λ i b l m h e. raised .taken (start + b) (sum i b) (record { part = i; from = l; to = m; exact = e; sums = record { index = b; inside = h; place = refl; value = refl } });
+    low = λ b bound h k f. raised .low (start + b) bound (λ v s. below b bound h f v s) k;
+    rest = record { before = λ i h. raised-same raised i (λ v s. omega (arith, s .sums .place)); after = λ i h. raised-same raised i (λ v s. omega (arith, s .sums .place, s .sums .inside)) };
   }
     where
       sum : ℕ → ℕ → ℕ
-      sum i b = getD mid (i * columns + b) 0 + getD mid (other i * columns + b) 0
+      sum i b = getD old (base + i * columns + b) 0 + getD old (base + other i * columns + b) 0
 
-      offered : (i b : ℕ) → 1 ≤ i → i < half-end → b < columns → Exact i → LengthCuts mid normal-lengths length-floors a half-end start columns (start + b) (sum i b)
-      offered i b l m h e = record { part = i; from = l; to = m; exact = e; sums = record { index = b; inside = h; place = refl; value = refl } }
-
-      below : (b bound : ℕ) → b < columns → ((i : ℕ) → 1 ≤ i → i < half-end → Exact i → getD old (i * columns + b) 0 + getD old (other i * columns + b) 0 ≤ bound)
-          → (v : ℕ) → LengthCuts mid normal-lengths length-floors a half-end start columns (start + b) v → v ≤ bound
+      below : (b bound : ℕ) → b < columns → ((i : ℕ) → 1 ≤ i → i < half-end → Exact i → sum i b ≤ bound)
+          → (v : ℕ) → LengthCuts old normal-lengths length-floors a half-end base start columns (start + b) v → v ≤ bound
       below b bound h f v s =
           let e : s .sums .index ≡ b = omega (arith, s .sums .place) in
-          let q = earlier (s .part) (s .from) (s .to) in
-          omega (arith, s .sums .value, ap (λ b. sum (s .part) b) e, kept (s .part) b (q .0) h, kept (other (s .part)) b (q .1) h, f (s .part) (s .from) (s .to) (s .exact))
+          omega (arith, s .sums .value, ap (λ b. sum (s .part) b) e, f (s .part) (s .from) (s .to) (s .exact))
 
 -- no unit between two entries yet, and one more
 pub level-none : (from v : ℕ) (xs : List ℕ) → Run (λ j. v) from (from - from) xs xs

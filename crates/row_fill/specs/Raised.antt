@@ -25,13 +25,13 @@ pub record Sums (xs : List ℕ) (target first second columns i v : ℕ) : Type 0
   pub place : i ≡ target + index
   pub value : v ≡ getD xs (first + index) 0 + getD xs (second + index) 0
 
--- a row is offered the cuts of entry a at the entries from 1 to the half's end less 1 whose parts make up the whole
-pub record LengthCuts (xs normal-lengths length-floors : List ℕ) (a half-end start columns i v : ℕ) : Type 0 where
+-- a row is offered the cuts of entry a at the entries from 1 to the half's end less 1 whose parts make up the whole; the rows begin at `base`
+pub record LengthCuts (xs normal-lengths length-floors : List ℕ) (a half-end base start columns i v : ℕ) : Type 0 where
   pub part : ℕ
   pub from : 1 ≤ part
   pub to : part < half-end
   pub exact : getD normal-lengths part 0 + getD normal-lengths (remainder normal-lengths length-floors a part) 0 ≡ getD normal-lengths a 0
-  pub sums : Sums xs start (part * columns) (remainder normal-lengths length-floors a part * columns) columns i v
+  pub sums : Sums xs start (base + part * columns) (base + remainder normal-lengths length-floors a part * columns) columns i v
 
 -- the unit of a piece's width is offered its price, if the piece has length l, fits in width w and has no weight
 pub record Alone (l w piece-length piece-width weight price i v : ℕ) : Type 0 where

@@ -26,12 +26,12 @@ pub record SumsReady (table : List ℕ) (target first second columns : ℕ) : Ty
   pub second-low : (j : ℕ) → j < columns → getD table (second + j) 0 ≤ ceiling
   pub target-low : (j : ℕ) → j < columns → getD table (target + j) 0 ≤ 2 * ceiling
 
--- row a can start as the row before it and take its length cuts
-pub record LengthsReady (normal-lengths length-floors : List ℕ) (a half-end start columns : ℕ) (table : List ℕ) : Type 0 where
+-- row a can take its length cuts: no word of it or of a row before it is more than a figure
+pub record LengthsReady (normal-lengths length-floors : List ℕ) (a half-end base start columns : ℕ) (table : List ℕ) : Type 0 where
   pub cuts : Cuts normal-lengths length-floors a half-end
-  pub place : start ≡ a * columns
+  pub place : start ≡ base + a * columns
   pub room : start + columns ≤ length table
-  pub rows-low : (i j : ℕ) → i < a → j < columns → getD table (i * columns + j) 0 ≤ ceiling
+  pub rows-low : (i j : ℕ) → i ≤ a → j < columns → getD table (base + i * columns + j) 0 ≤ ceiling
 
 -- pieces can be placed on the units of a width: each has a width and a price in range
 pub record PiecesReady (pieces : List ℕ) (count width : ℕ) (unit : List ℕ) : Type 0 where

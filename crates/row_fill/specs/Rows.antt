@@ -2,11 +2,8 @@
 use mathlib.Core.Path.{_≡_}
 use mathlib.Core.List.{List}
 use Prim.Native.Nat.{ℕ, _+_, _-_, _*_, _≤_, _<_}
-use lib.Dec.{leb}
 use lib.ListN.{length, getD}
-use Rattle.cutting.specs.Job.{Job}
 use Rattle.table.specs.Words.{Outside, remainder}
-use Rattle.table.specs.States.{figure-at}
 
 -- a rising list of entries from 0 on, none above a side
 pub record Entries (normal-widths : List ℕ) (columns side : ℕ) : Type 0 where
@@ -16,14 +13,14 @@ pub record Entries (normal-widths : List ℕ) (columns side : ℕ) : Type 0 wher
   pub rise : (i j : ℕ) → i < j → j < columns → getD normal-widths i 0 < getD normal-widths j 0
   pub within : (i : ℕ) → i < columns → getD normal-widths i 0 ≤ side
 
--- row a has become the greatest of the row before it and the cuts of its length up to the half whose parts make up the whole
-pub record LengthsTaken (normal-lengths length-floors : List ℕ) (a half-end start columns : ℕ) (old new : List ℕ) : Type 0 where
-  pub grown : (b : ℕ) → b < columns → getD old (start - columns + b) 0 ≤ getD new (start + b) 0
+-- row a has become the greatest of what it was and the cuts of its length up to the half whose parts make up the whole
+pub record LengthsTaken (normal-lengths length-floors : List ℕ) (a half-end base start columns : ℕ) (old new : List ℕ) : Type 0 where
+  pub grown : (b : ℕ) → b < columns → getD old (start + b) 0 ≤ getD new (start + b) 0
   pub sums : (i b : ℕ) → 1 ≤ i → i < half-end → b < columns → getD normal-lengths i 0 + getD normal-lengths (remainder normal-lengths length-floors a i) 0 ≡ getD normal-lengths a 0
-      → getD old (i * columns + b) 0 + getD old (remainder normal-lengths length-floors a i * columns + b) 0 ≤ getD new (start + b) 0
-  pub low : (b bound : ℕ) → b < columns → getD old (start - columns + b) 0 ≤ bound
+      → getD old (base + i * columns + b) 0 + getD old (base + remainder normal-lengths length-floors a i * columns + b) 0 ≤ getD new (start + b) 0
+  pub low : (b bound : ℕ) → b < columns → getD old (start + b) 0 ≤ bound
       → ((i : ℕ) → 1 ≤ i → i < half-end → getD normal-lengths i 0 + getD normal-lengths (remainder normal-lengths length-floors a i) 0 ≡ getD normal-lengths a 0
-      → getD old (i * columns + b) 0 + getD old (remainder normal-lengths length-floors a i * columns + b) 0 ≤ bound)
+      → getD old (base + i * columns + b) 0 + getD old (base + remainder normal-lengths length-floors a i * columns + b) 0 ≤ bound)
       → getD new (start + b) 0 ≤ bound
   pub rest : Outside start (start + columns) old new
 
@@ -60,7 +57,6 @@ pub record WidthsTaken (offered : ℕ → ℕ → Type 0) (normal-widths : List 
       → (b : ℕ) → b < columns → getD new (start + b) 0 ≤ f (getD normal-widths b 0)
   pub rest : Outside start (start + columns) old new
 
--- the rows below a hold the figures of their lengths and widths with no share
-abbrev pub Rows : Job → (ℕ → ℕ) → List ℕ → List ℕ → ℕ → ℕ → List ℕ → Type 0
-Rows J weight normal-lengths normal-widths columns a xs =
-    (i b : ℕ) → i < a → b < columns → getD xs (i * columns + b) 0 ≡ figure-at J leb weight (getD normal-lengths i 0) (getD normal-widths b 0) 0
+-- the rows below a, from word `base` on, hold the figures F of their lengths and widths
+abbrev pub Rows : (ℕ → ℕ → ℕ) → List ℕ → List ℕ → ℕ → ℕ → ℕ → List ℕ → Type 0
+Rows F normal-lengths normal-widths base columns a xs = (i b : ℕ) → i < a → b < columns → getD xs (base + i * columns + b) 0 ≡ F (getD normal-lengths i 0) (getD normal-widths b 0)

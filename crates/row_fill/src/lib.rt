@@ -20,12 +20,12 @@ ghost use Rattle.row_fill.specs.Rows.{Entries, Spread, LengthsTaken, Wid
 ghost use Rattle.row_fill.specs.Ready.{Capped, SumsReady, LengthsReady, PiecesReady, PushReady, CellReady, WidthsReady, RowReady};
 
 // A row over the units of its width: its first word and its number of cells, its length, the plate's width and the number of pieces.
-struct Row {
-    start: usize,
-    columns: usize,
-    length: u16,
-    width: u16,
-    count: u16,
+pub struct Row {
+    pub start: usize,
+    pub columns: usize,
+    pub length: u16,
+    pub width: u16,
+    pub count: u16,
 }
 
 // The smaller of two.
@@ -45,34 +45,34 @@ fn combine(table: &mut [u64], target: usize, first: usize, second: usize, column
     }
 }
 
-// Row a starts as the row before it and takes its cuts up to the half whose parts make up the whole.
-fn cut_lengths(
+// Row a, from word `start` on, takes its cuts up to the half whose parts make up the whole. The first of the rows begins at word `base`.
+pub fn cut_lengths(
     table: &mut [u64],
     normal_lengths: &[u16],
     length_floors: &[u16],
     a: usize,
     half_end: usize,
+    base: usize,
     start: usize,
     columns: usize,
 )
-    requires { ⌜ LengthsReady (now «normal_lengths») (now «length_floors») a «half_end» start columns (now table) ⌝ }
-    ensures { λ _. ⌜ LengthsTaken (now («normal_lengths» .entry)) (now («length_floors» .entry)) a «half_end» start columns (now (table .entry)) (now (table .exit)) ⌝ }
+    requires { ⌜ LengthsReady (now «normal_lengths») (now «length_floors») a «half_end» base start columns (now table) ⌝ }
+    ensures { λ _. ⌜ LengthsTaken (now («normal_lengths» .entry)) (now («length_floors» .entry)) a «half_end» base start columns (now (table .entry)) (now (table .exit)) ⌝ }
 {
-    copy(table, start - columns, start, columns);
     let whole = entry(normal_lengths, a);
-    let mut first = columns;
+    let mut first = base + columns;
     for i in 1..half_end {
         let left = whole - entry(normal_lengths, i);
         let rest = entry(length_floors, left);
         if entry(normal_lengths, rest) == left {
-            combine(table, start, first, rest * columns, columns);
+            combine(table, start, first, base + rest * columns, columns);
         }
         first = first + columns;
     }
 }
 
 // The row's words, each at the unit of its width.
-fn spread(
+pub fn spread(
     unit: &mut [u64],
     table: &[u64],
     start: usize,
@@ -117,7 +117,7 @@ fn place_piece(
 }
 
 // All pieces of the row's length and no weight.
-fn place_pieces(unit: &mut [u64], pieces: &[u32; 640], row: Row)
+pub fn place_pieces(unit: &mut [u64], pieces: &[u32; 640], row: Row)
     requires { ⌜ PiecesReady (now pieces) (row .count) (row .width) (now unit) ⌝ }
     ensures { λ _. ⌜ Raised (Pieces (row .length) (row .width) (now (pieces .entry)) (row .count)) (now (unit .entry)) (now (unit .exit)) ⌝ }
 {
@@ -173,7 +173,7 @@ fn push_cell(unit: &mut [u64], x: usize, least: usize, side: usize, before: u64)
 }
 
 // The cells of a row take their width cuts, from the units of their widths.
-fn push_widths(
+pub fn push_widths(
     table: &mut [u64],
     unit: &mut [u64],
     start: usize,
@@ -238,7 +238,17 @@ pub fn fill(
     let mut half_end: usize = 1;
     for a in 1..rows {
         half_end = half(normal_lengths, half_end, a);
-        cut_lengths(table, normal_lengths, floors, a, half_end, start, columns);
+        copy(table, start - columns, start, columns);
+        cut_lengths(
+            table,
+            normal_lengths,
+            floors,
+            a,
+            half_end,
+            0,
+            start,
+            columns,
+        );
         let row = Row {
             start: start,
             columns: columns,

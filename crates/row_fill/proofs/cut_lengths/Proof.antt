@@ -1,83 +1,72 @@
 -- `row_fill::cut_lengths` meets its contract. The loop's invariant: the row has taken the cuts passed whose parts make up the whole, every
--- other word is as after the copy.
+-- other word is as it was.
 use borrow.Author.Needs.{needs}
 use native.Mathlib.Omega.{arith}
 use mathlib.Core.Path.{_≡_, _∙_, refl, ap}
 use mathlib.Core.Logic.{⊎-elim}
-use Prim.Native.Nat.{ℕ, _+_, _-_, _*_, _≤_, _<_}
+use Prim.Native.Nat.{_+_, _-_, _*_, _≤_, _<_}
 use lib.ListN.{length, getD}
 use denote.Ref.{now}
 use Rattle.table.specs.Words.{remainder}
-use Rattle.table.proofs.Words.{cell-before}
 use Rattle.table.proofs.Halves.{remainder-is}
 use Rattle.row_fill.specs.Raised.{Raised, LengthCuts}
-use Rattle.row_fill.proofs.Raising.{cuts-none, cuts-next, cuts-pass, sums-ready, lengths-taken}
+use Rattle.row_fill.proofs.Raising.{cuts-none, cuts-next, cuts-pass, row-before, sums-ready, lengths-taken}
 use Rattle.row_fill.proofs.cut_lengths.Statement.{statement}
 use Rattle.row_fill.proofs.cut_lengths.Tie as tie
 
 abbrev Inv-loop : tie.InvT-loop
-Inv-loop table₀ normal-lengths length-floors a half-end start columns whole first₀ i₀ table first i =
-    (1 ≤ i) × (i ≤ half-end) × (first ≡ i * columns) × (whole ≡ getD normal-lengths a 0) × (length table ≡ length table₀)
-    × Raised (LengthCuts table₀ normal-lengths length-floors a i start columns) table₀ table
+Inv-loop table₀ normal-lengths length-floors a half-end base start columns whole first₀ i₀ table first i =
+    (1 ≤ i) × (i ≤ half-end) × (first ≡ base + i * columns) × (whole ≡ getD normal-lengths a 0) × (length table ≡ length table₀)
+    × Raised (LengthCuts table₀ normal-lengths length-floors a i base start columns) table₀ table
 
 abbrev μ-loop : tie.MeasureT-loop
-μ-loop table₀ normal-lengths length-floors a half-end start columns whole first₀ i₀ table first i = half-end - i
-
--- the words of an earlier row end where this row begins or before
-row-before : (s : tie.Start Inv-loop μ-loop) (i : ℕ) → i < s .args .a → i * s .args .columns + s .args .columns ≤ s .args .start
-row-before s i h = omega (arith, s .pre .place, cell-before i (s .args .a) (s .args .columns) h)
-
-first-before : (s : tie.Start Inv-loop μ-loop) → s .args .columns ≤ s .args .start
-first-before s = omega (arith, row-before s 0 (omega (arith, s .pre .cuts .least, s .pre .cuts .most)))
+μ-loop table₀ normal-lengths length-floors a half-end base start columns whole first₀ i₀ table first i = half-end - i
 
 -- the remainder's index, an earlier entry
-rest-is : (c : tie.After-entry3 Inv-loop μ-loop) → c .entry3 .result ≡ remainder (now (c .before .before .before .before .before .before .before .before .before .before .before .before .args .normal-lengths)) (now (c .before .before .before .before .before .before .before .before .before .before .before .before .args .length-floors)) (c .before .before .before .before .before .before .before .before .before .before .before .before .args .a) (c .before .before .before .loop .i)
+rest-is : (c : tie.After-entry3 Inv-loop μ-loop) → c .entry3 .result ≡ remainder (now (c .before .before .before .before .before .before .before .before .args .normal-lengths)) (now (c .before .before .before .before .before .before .before .before .args .length-floors)) (c .before .before .before .before .before .before .before .before .args .a) (c .before .before .before .loop .i)
 rest-is c =
-    let a = c .before .before .before .before .before .before .before .before .before .before .before .before .args in
+    let a = c .before .before .before .before .before .before .before .before .args in
     remainder-is (now (a .normal-lengths)) (now (a .length-floors)) (a .a) (c .before .before .before .loop .i) (c .before .before .before .before .entry .result) (c .before .entry2 .result) (c .entry3 .result) (c .before .before .before .before .entry .ensures .0) (c .before .entry2 .ensures .0) (c .entry3 .ensures .0)
 
-rest-earlier : (c : tie.After-entry3 Inv-loop μ-loop) → c .entry3 .result < c .before .before .before .before .before .before .before .before .before .before .before .before .args .a
-rest-earlier c = rw (rest-is c) (c .before .before .before .before .before .before .before .before .before .before .before .before .pre .cuts .earlier (c .before .before .before .loop .i) (omega arith) (omega arith))
-
-sub-copy : tie.Need-sub-copy Inv-loop μ-loop
-sub-copy c = first-before (c .before .before .before .before)
-
-copy-requires : tie.Need-copy-requires Inv-loop μ-loop
-copy-requires c κs = (omega (arith, first-before (c .before .before .before .before)), c .before .before .before .before .pre .room)
+rest-earlier : (c : tie.After-entry3 Inv-loop μ-loop) → c .entry3 .result < c .before .before .before .before .before .before .before .before .args .a
+rest-earlier c = rw (rest-is c) (c .before .before .before .before .before .before .before .before .pre .cuts .earlier (c .before .before .before .loop .i) (omega arith) (omega arith))
 
 entry-requires : tie.Need-entry-requires Inv-loop μ-loop
-entry-requires c κs = c .before .before .before .before .before .before .before .pre .cuts .listed
-
-loop-holds : tie.Need-loop-holds Inv-loop μ-loop
-loop-holds c = (omega arith, c .before .before .before .before .before .before .before .before .pre .cuts .least, omega arith, c .entry .ensures .0, refl, cuts-none)
-
-entry-requires-2 : tie.Need-entry-requires-2 Inv-loop μ-loop
-entry-requires-2 c κs = let cuts = c .before .before .before .before .before .before .before .before .before .before .pre .cuts in omega (arith, cuts .most, cuts .listed)
-
-sub-left : tie.Need-sub-left Inv-loop μ-loop
-sub-left c = omega (arith, c .before .before .loop .inv .3, c .entry2 .ensures .0, c .before .before .before .before .before .before .before .before .before .before .before .pre .cuts .part (c .before .before .loop .i) (omega arith) (omega arith))
-
-entry-requires-3 : tie.Need-entry-requires-3 Inv-loop μ-loop
-entry-requires-3 c κs = omega (arith, c .before .before .loop .inv .3, c .before .before .before .before .before .before .before .before .before .before .before .pre .cuts .mapped)
-
-entry-requires-4 : tie.Need-entry-requires-4 Inv-loop μ-loop
-entry-requires-4 c κs = omega (arith, rest-earlier c, c .before .before .before .before .before .before .before .before .before .before .before .before .pre .cuts .listed)
-
-mul-combine : tie.Need-mul-combine Inv-loop μ-loop
-mul-combine c = omega (arith, row-before (c .before .before .before .before .before .before .before .before .before .before .before .before .before .before .before) (c .before .before .before .entry3 .result) (rest-earlier (c .before .before .before)))
-
-combine-requires : tie.Need-combine-requires Inv-loop μ-loop
-combine-requires c κs =
-    let l = c .before .before .before .before .before .before .loop in
-    let copied = c .before .before .before .before .before .before .before .before .before .before .copy in
-    rw (l .inv .2) (sums-ready (c .before .before .before .before .before .before .before .before .before .before .before .before .before .before .before .pre) (copied .ensures) (l .inv .5) (l .inv .4 ∙ copied .kept .0) (l .inv .0) (omega arith) (rest-earlier (c .before .before .before)))
+entry-requires c κs = c .before .before .before .pre .cuts .listed
 
 add-first : tie.Need-add-first Inv-loop μ-loop
-add-first c = omega (arith, c .before .before .before .before .before .loop .inv .2, row-before (c .before .before .before .before .before .before .before .before .before .before .before .before .before .before) (c .before .before .before .before .before .loop .i) (omega (arith, c .before .before .before .before .before .before .before .before .before .before .before .before .before .before .pre .cuts .most)))
+add-first c = let ready = c .before .before .before .before .pre in omega (arith, ready .room, row-before ready 0 (omega (arith, ready .cuts .least, ready .cuts .most)))
+
+loop-holds : tie.Need-loop-holds Inv-loop μ-loop
+loop-holds c = (omega arith, c .before .before .before .before .pre .cuts .least, omega arith, c .entry .ensures .0, refl, cuts-none)
+
+entry-requires-2 : tie.Need-entry-requires-2 Inv-loop μ-loop
+entry-requires-2 c κs = let cuts = c .before .before .before .before .before .before .pre .cuts in omega (arith, cuts .most, cuts .listed)
+
+sub-left : tie.Need-sub-left Inv-loop μ-loop
+sub-left c = omega (arith, c .before .before .loop .inv .3, c .entry2 .ensures .0, c .before .before .before .before .before .before .before .pre .cuts .part (c .before .before .loop .i) (omega arith) (omega arith))
+
+entry-requires-3 : tie.Need-entry-requires-3 Inv-loop μ-loop
+entry-requires-3 c κs = omega (arith, c .before .before .loop .inv .3, c .before .before .before .before .before .before .before .pre .cuts .mapped)
+
+entry-requires-4 : tie.Need-entry-requires-4 Inv-loop μ-loop
+entry-requires-4 c κs = omega (arith, rest-earlier c, c .before .before .before .before .before .before .before .before .pre .cuts .listed)
+
+mul-combine : tie.Need-mul-combine Inv-loop μ-loop
+mul-combine c = let ready = c .before .before .before .before .before .before .before .before .before .before .before .pre in omega (arith, ready .room, row-before ready (c .before .before .before .entry3 .result) (rest-earlier (c .before .before .before)))
+
+add-combine : tie.Need-add-combine Inv-loop μ-loop
+add-combine c = let ready = c .before .before .before .before .before .before .before .before .before .before .before .pre in omega (arith, ready .room, row-before ready (c .before .before .before .entry3 .result) (rest-earlier (c .before .before .before)))
+
+combine-requires : tie.Need-combine-requires Inv-loop μ-loop
+combine-requires c κs = let l = c .before .before .before .before .before .before .loop in rw (l .inv .2) (sums-ready (c .before .before .before .before .before .before .before .before .before .before .before .pre) (l .inv .5) (l .inv .4) (l .inv .0) (omega arith) (rest-earlier (c .before .before .before)))
+
+add-first-2 : tie.Need-add-first-2 Inv-loop μ-loop
+add-first-2 c = let ready = c .before .before .before .before .before .before .before .before .before .before .pre in omega (arith, c .before .before .before .before .before .loop .inv .2, ready .room, row-before ready (c .before .before .before .before .before .loop .i) (omega (arith, ready .cuts .most)))
 
 loop-again : tie.Need-loop-again Inv-loop μ-loop
 loop-again c =
-    let e = c .before .before .before .before .before .before .before .before .before .before .before .before .before .before in
+    let e = c .before .before .before .before .before .before .before .before .before .before in
     let l = c .before .before .before .before .before .loop in
     ⊎-elim
     (λ w. rw (w .5) (
@@ -100,17 +89,17 @@ loop-again c =
     (c .if1 .came)
 
 same-length : tie.Need-same-length Inv-loop μ-loop
-same-length c = c .before .loop .inv .4 ∙ c .before .before .before .before .before .copy .kept .0
+same-length c = c .before .loop .inv .4
 
 returns : tie.Need-returns Inv-loop μ-loop
 returns c =
-    let s = c .before .before .before .before .before .before .before .before .before .before in
+    let s = c .before .before .before .before .before .before in
     let e : c .before .loop .i ≡ s .args .half-end = omega (arith, s .pre .cuts .least) in
-    lengths-taken (s .pre) (c .before .before .before .before .before .copy .ensures) (rw e at (c .before .loop .inv .5))
+    lengths-taken (s .pre) (rw e at (c .before .loop .inv .5))
 
 pub cut-lengths-spec : {M : Type 1} → statement M
 cut-lengths-spec =
     tie.close
-    (tie.spec Inv-loop μ-loop sub-copy copy-requires entry-requires loop-holds entry-requires-2 sub-left
-    entry-requires-3 entry-requires-4 mul-combine combine-requires add-first (λ c. search needs) (λ c. search needs)
+    (tie.spec Inv-loop μ-loop entry-requires add-first loop-holds entry-requires-2 sub-left entry-requires-3
+    entry-requires-4 mul-combine add-combine combine-requires add-first-2 (λ c. search needs) (λ c. search needs)
     loop-again same-length returns)
