@@ -90,7 +90,7 @@ module _ {size : TableSize} {pieces normal-lengths normal-widths floors lent : L
   pub few-rows : length-count ≤ 1021
   few-rows = omega (arith, given .lengths .counted, positions-length J Length, fit .plate-length .1)
 
-  few-columns : columns ≤ 1021
+  pub few-columns : columns ≤ 1021
   few-columns = omega (arith, given .widths .counted, positions-length J Width, fit .plate-width .1)
 
   pub words-are : words-needed J 0 ≡ length-count * columns

@@ -27,8 +27,8 @@ pub record Widening (normal-widths : List ℕ) (columns start b : ℕ) (units un
   pub rest : Outside start (start + b) old new
 
 -- a wider width is worth no less
-more : (f : ℕ → ℕ) → Joins f → (x y : ℕ) → x ≤ y → f x ≤ f y
-more f j x y h = let e : x + (y - x) ≡ y = omega arith in omega (arith, rw e at (j x (y - x)))
+pub joins-more : (f : ℕ → ℕ) → Joins f → (x y : ℕ) → x ≤ y → f x ≤ f y
+joins-more f j x y h = let e : x + (y - x) ≡ y = omega arith in omega (arith, rw e at (j x (y - x)))
 
 module _ {normal-widths : List ℕ} {columns side : ℕ} (entries : Entries normal-widths columns side) where
   rising : (i j : ℕ) → i ≤ j → j < columns → getD normal-widths i 0 ≤ getD normal-widths j 0
@@ -85,7 +85,7 @@ module _ {normal-widths : List ℕ} {columns side : ℕ} (entries : Entries norm
             go : Dec (y ≤ getD normal-widths (b - 1) 0) → Dec (y ≡ x) → getD flat y 0 ≤ f y
             go (yes q) z = omega (arith, flat-earlier y q, w .low f joins base .0 y q)
             go (no q) (yes z) = rw z (omega (arith, flat-entry b hb, w .low f joins base .1 b hb))
-            go (no q) (no z) = omega (arith, flat-between y (omega arith) (omega arith), last-low, more f joins (getD normal-widths (b - 1) 0) y (omega arith))
+            go (no q) (no z) = omega (arith, flat-between y (omega arith) (omega arith), last-low, joins-more f joins (getD normal-widths (b - 1) 0) y (omega arith))
 
       -- so the units up to this entry can be added
       pub flat-small : side ≤ 1020 → ((i : ℕ) → i < columns → getD units (getD normal-widths i 0) 0 ≤ getD normal-widths i 0 * 1020000000) → (y : ℕ) → y ≤ x → getD flat y 0 ≤ ceiling
@@ -171,7 +171,7 @@ module _ {normal-widths : List ℕ} {columns side : ℕ} (entries : Entries norm
 
         low : (f : ℕ → ℕ) → Joins f → ((i : ℕ) → i < columns → getD units (getD normal-widths i 0) 0 ≤ f (getD normal-widths i 0)) → (i : ℕ) → i < columns → getD next (getD normal-widths i 0) 0 ≤ f (getD normal-widths i 0)
         low f joins base i h = push .low (getD normal-widths i 0) (f (getD normal-widths i 0))
-            (λ u s. ⊎-elim (λ t. omega (arith, t .1, last-low f joins base, more f joins (getD normal-widths (b - 1) 0) (getD normal-widths i 0) (omega (arith, t .0, after-last))))
+            (λ u s. ⊎-elim (λ t. omega (arith, t .1, last-low f joins base, joins-more f joins (getD normal-widths (b - 1) 0) (getD normal-widths i 0) (omega (arith, t .0, after-last))))
             (λ t. omega (arith, t .1 .value, flat-low f joins base x (omega arith), flat-low f joins base (t .1 .index) (omega (arith, t .1 .to)), joins x (t .1 .index), ap f (t .1 .place))) s)
             (omega (arith, flat-entry i h, w .low f joins base .1 i h))
 

@@ -19,9 +19,46 @@ ghost use mathlib.Core.Path.{_≡_};
 ghost use lib.ListN.{length};
 ghost use Rattle.cutting.specs.Sides.{rect-of};
 ghost use Rattle.cutting.specs.Listed.{heavy-in, pieces-job};
+ghost use Rattle.table.specs.Contracts.{size-job, StagedFillable, StagedBy};
 ghost use Rattle.bound.specs.Bound.{lent};
 ghost use Rattle.staged_bound.specs.Staged.{StagedPromises};
 ghost use Rattle.staged_bound.specs.Contracts.{Stageable, Staged};
+
+// The figures of pieces in every block up to a limit, into a table that is long enough: the fill for one share or for many.
+fn fill_table(
+    size: TableSize,
+    limit: usize,
+    pieces: &[u32; 640],
+    normal_lengths: &[u16],
+    normal_widths: &[u16],
+    floors: &[u16],
+    table: &mut [u64],
+)
+    requires { ⌜ StagedFillable size limit (now pieces) (now «normal_lengths») (now «normal_widths») (now floors) (now table) ⌝ }
+    ensures { λ _. ⌜ StagedBy (size-job size (now (pieces .entry))) (heavy-in (now (pieces .entry))) limit (size .capacity) (now (table .entry)) (now (table .exit)) ⌝ }
+{
+    if size.capacity == 0 {
+        stage_rows::fill(
+            size,
+            limit,
+            pieces,
+            normal_lengths,
+            normal_widths,
+            floors,
+            table,
+        );
+        return;
+    }
+    stage_fill::fill(
+        size,
+        limit,
+        pieces,
+        normal_lengths,
+        normal_widths,
+        floors,
+        table,
+    );
+}
 
 // The staged bound of pieces on a plate at a capacity and a limit: refusals 19 and 20, then the lists, the floors of both sides, the
 // table and the report.
@@ -62,7 +99,7 @@ pub fn bound_of_pieces(
         capacity: q,
     };
     map_sides(size, &normal_lengths[..], &normal_widths[..], floors);
-    stage_fill::fill(
+    fill_table(
         size,
         limit,
         pieces,

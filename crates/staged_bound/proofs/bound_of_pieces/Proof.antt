@@ -82,8 +82,8 @@ map-sides-requires c κs =
     let given = start k .pre .0 in
     (map-ready (J k) Length (lengths-hold k) (given .in-range), map-ready (J k) Width (widths-hold k) (given .in-range), start k .pre .1)
 
-fill-requires : tie.Need-fill-requires
-fill-requires c κs =
+fill-table-requires : tie.Need-fill-table-requires
+fill-table-requires c κs =
     let w = c .before .before .before .before .before .before .before .before .before .before .before in
     let k = w .before in
     let given = start k .pre .0 in
@@ -121,7 +121,7 @@ slice-read-greater c =
     let k = w .before in
     let given = start k .pre .0 in
     let one = one-less (J k) (given .in-range) (start k .args .limit) (start k .args .q) (given .limit .0) (given .limit .1) (given .most) (counted w) in
-    omega (arith, c .before .before .before .fill .ensures .1 .0, c .before .before .before .before .before .before .before .before .before .before .before .before .before .before .if2 .left, one, counted w, words-some (J k) (start k .args .q))
+    omega (arith, c .before .before .before .fill-table .ensures .1 .0, c .before .before .before .before .before .before .before .before .before .before .before .before .before .before .if2 .left, one, counted w, words-some (J k) (start k .args .q))
 
 mul-greater-2 : tie.Need-mul-greater-2
 mul-greater-2 c =
@@ -136,7 +136,7 @@ slice-read-greater-2 c =
     let k = w .before in
     let given = start k .pre .0 in
     let one = one-less (J k) (given .in-range) (start k .args .limit) (start k .args .q) (given .limit .0) (given .limit .1) (given .most) (counted w) in
-    omega (arith, c .before .before .before .before .fill .ensures .1 .0, c .before .before .before .before .before .before .before .before .before .before .before .before .before .before .before .if2 .left, one)
+    omega (arith, c .before .before .before .before .fill-table .ensures .1 .0, c .before .before .before .before .before .before .before .before .before .before .before .before .before .before .before .if2 .left, one)
 
 greater-requires : tie.Need-greater-requires
 greater-requires c κs =
@@ -144,8 +144,8 @@ greater-requires c κs =
     let k = w .before in
     let given = start k .pre .0 in
     let n = start k .args .limit in
-    let table = c .before .before .before .before .fill .last .1 .1 .1 .1 .1 .1 .0 in
-    let f = c .before .before .before .before .fill .ensures .0 in
+    let table = c .before .before .before .before .fill-table .last .1 .1 .1 .1 .1 .1 .0 in
+    let f = c .before .before .before .before .fill-table .ensures .0 in
     let last = ap (λ i. getD table i 0) (last-word (J k) (given .in-range) (start k .args .limit) (start k .args .q) (given .limit .0) (given .limit .1) (given .most) (counted w)) ∙ block-last (J k) (heavy-in (now (start k .args .pieces))) (given .in-range) n (start k .args .q) table f Width in
     let before = ap (λ i. getD table i 0) (before-word (J k) (given .in-range) (start k .args .limit) (start k .args .q) (given .limit .0) (given .limit .1) (given .most) (counted w)) ∙ block-last (J k) (heavy-in (now (start k .args .pieces))) (given .in-range) n (start k .args .q) table f Length in
     (omega (arith, before, block-small (J k) (heavy-in (now (start k .args .pieces))) (given .in-range) n Length (start k .args .q)), omega (arith, last, block-small (J k) (heavy-in (now (start k .args .pieces))) (given .in-range) n Width (start k .args .q)))
@@ -156,8 +156,8 @@ returns-3 c =
     let k = w .before in
     let given = start k .pre .0 in
     let n = start k .args .limit in
-    let table = c .before .before .before .before .before .fill .last .1 .1 .1 .1 .1 .1 .0 in
-    let f = c .before .before .before .before .before .fill .ensures in
+    let table = c .before .before .before .before .before .fill-table .last .1 .1 .1 .1 .1 .1 .0 in
+    let f = c .before .before .before .before .before .fill-table .ensures in
     let last = ap (λ i. getD table i 0) (last-word (J k) (given .in-range) (start k .args .limit) (start k .args .q) (given .limit .0) (given .limit .1) (given .most) (counted w)) ∙ block-last (J k) (heavy-in (now (start k .args .pieces))) (given .in-range) n (start k .args .q) table (f .0) Width in
     let before = ap (λ i. getD table i 0) (before-word (J k) (given .in-range) (start k .args .limit) (start k .args .q) (given .limit .0) (given .limit .1) (given .most) (counted w)) ∙ block-last (J k) (heavy-in (now (start k .args .pieces))) (given .in-range) n (start k .args .q) table (f .0) Length in
     reported _ _ _ _ _ _ (sym (k .before .before .before .before .before .before .before .before .before .lists-short .ensures) ∙ k .before .before .before .before .before .before .before .before .if1 .left) (lengths-hold k .contents) (widths-hold k .contents) _
@@ -169,5 +169,5 @@ bound-of-pieces-spec =
     tie.close
     (tie.spec
     (λ c κs. search needs) returns normal-positions-requires normal-positions-requires-2 words-requires (λ c. search needs) (λ c. search needs) mul-needed-2 (λ c. search needs) (λ c. search needs)
-    returns-2 map-sides-requires fill-requires sub-last sub-before mul-greater slice-read-greater mul-greater-2 slice-read-greater-2 greater-requires (λ c. search needs) (λ c. search needs) (λ c. search needs)
+    returns-2 map-sides-requires fill-table-requires sub-last sub-before mul-greater slice-read-greater mul-greater-2 slice-read-greater-2 greater-requires (λ c. search needs) (λ c. search needs) (λ c. search needs)
     (λ c. search needs) returns-3)

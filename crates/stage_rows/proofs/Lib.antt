@@ -1,0 +1,4 @@
+pub mod Uncut
+pub mod Lengths
+pub mod Widths
+pub mod Filling
