@@ -51,7 +51,14 @@ typedef struct {
 void read_plate(Plate *plate, const uint8_t *job, uint32_t choices, const uint8_t *weights);
 void fill_row_fill(const Plate *plate, uint64_t *table);
 void fill_states(const Plate *plate, uint64_t *table);
+void fill_staged_rows(const Plate *plate, int limit, uint64_t *table);
+void fill_staged_states(const Plate *plate, int limit, uint64_t *table);
 size_t write_nodes(const Plate *plate, const uint64_t *table, uint8_t *kinds, uint16_t *operands);
+
+/* The steps of a row where the capacity is 0. */
+void lay_in_row(const Plate *plate, int length, uint64_t *row);
+void cut_lengths(const Positions *lengths, int a, uint64_t *table, size_t r);
+void cut_widths(const Positions *widths, uint64_t *row, uint64_t *unit);
 
 static inline int fits(Size piece, Size rectangle)
 {

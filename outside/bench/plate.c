@@ -1,5 +1,5 @@
 /* Reading a job, its capacity and its normal positions.
- * The two exported calls of the baseline stand at the end. */
+ * The exported calls of the baseline stand at the end. */
 #include "baseline.h"
 #include <string.h>
 
@@ -90,28 +90,41 @@ void read_plate(Plate *plate, const uint8_t *block, uint32_t choices, const uint
     find_positions(&plate->on[WIDTH], job->plate.width, widths, count);
 }
 
-static void fill(const uint8_t *job, uint32_t choices, const uint8_t *weights, Plate *plate,
-                 uint16_t *lengths, uint16_t *widths, uint64_t *table, uint64_t *answer)
+/* Reads the plate, lists its positions and answers all but the bound. */
+static void list(const uint8_t *job, uint32_t choices, const uint8_t *weights, Plate *plate,
+                 uint16_t *lengths, uint16_t *widths, uint64_t *answer)
 {
     read_plate(plate, job, choices, weights);
-    int p = plate->on[LENGTH].count, r = plate->on[WIDTH].count, capacity = plate->job.capacity;
-    memcpy(lengths, plate->on[LENGTH].at, (size_t)p * sizeof *lengths);
-    memcpy(widths, plate->on[WIDTH].at, (size_t)r * sizeof *widths);
-    if (capacity == 0)
+    const Positions *on = plate->on;
+    memcpy(lengths, on[LENGTH].at, (size_t)on[LENGTH].count * sizeof *lengths);
+    memcpy(widths, on[WIDTH].at, (size_t)on[WIDTH].count * sizeof *widths);
+    answer[1] = (uint64_t)plate->job.capacity;
+    answer[2] = (uint64_t)on[LENGTH].count;
+    answer[3] = (uint64_t)on[WIDTH].count;
+}
+
+/* The words of a table, or of a block of it. */
+static size_t words(const Plate *plate)
+{
+    size_t cells = (size_t)plate->on[LENGTH].count * (size_t)plate->on[WIDTH].count;
+    return cells * (size_t)(plate->job.capacity + 1);
+}
+
+static void fill(const Plate *plate, uint64_t *table, uint64_t *answer)
+{
+    if (plate->job.capacity == 0)
         fill_row_fill(plate, table);
     else
         fill_states(plate, table);
-    answer[0] = table[(size_t)p * r * (capacity + 1) - 1];
-    answer[1] = (uint64_t)capacity;
-    answer[2] = (uint64_t)p;
-    answer[3] = (uint64_t)r;
+    answer[0] = table[words(plate) - 1];
 }
 
 void baseline_bound(const uint8_t *job, uint32_t choices, const uint8_t *weights,
                     uint16_t *lengths, uint16_t *widths, uint64_t *table, uint64_t *answer)
 {
     Plate plate;
-    fill(job, choices, weights, &plate, lengths, widths, table, answer);
+    list(job, choices, weights, &plate, lengths, widths, answer);
+    fill(&plate, table, answer);
 }
 
 void baseline_write_plan(const uint8_t *job, uint32_t choices, const uint8_t *weights,
@@ -119,6 +132,21 @@ void baseline_write_plan(const uint8_t *job, uint32_t choices, const uint8_t *we
                          uint8_t *kinds, uint16_t *operands, uint64_t *answer)
 {
     Plate plate;
-    fill(job, choices, weights, &plate, lengths, widths, table, answer);
+    list(job, choices, weights, &plate, lengths, widths, answer);
+    fill(&plate, table, answer);
     answer[4] = write_nodes(&plate, table, kinds, operands);
+}
+
+void baseline_bound_staged(const uint8_t *job, uint32_t choices, const uint8_t *weights,
+                           uint32_t limit, uint16_t *lengths, uint16_t *widths, uint64_t *table,
+                           uint64_t *answer)
+{
+    Plate plate;
+    list(job, choices, weights, &plate, lengths, widths, answer);
+    if (plate.job.capacity == 0)
+        fill_staged_rows(&plate, (int)limit, table);
+    else
+        fill_staged_states(&plate, (int)limit, table);
+    size_t end = (2 * limit + 1) * words(&plate);
+    answer[0] = greater(table[end - 1], table[end - 1 - words(&plate)]);
 }

@@ -4,7 +4,7 @@
 #include <string.h>
 
 /* Pieces of exactly this length and no weight; shorter ones came with the row before. */
-static void lay_pieces(const Plate *plate, int length, uint64_t *restrict row)
+void lay_in_row(const Plate *plate, int length, uint64_t *row)
 {
     const Job *job = &plate->job;
     for (int i = 0; i < job->pieces; i++)
@@ -23,7 +23,7 @@ static void add_rows(uint64_t *restrict row, const uint64_t *restrict first,
 }
 
 /* Cuts up to the half whose remainder is normal itself; any other is worth a shorter row. */
-static void cut_lengths(const Positions *lengths, int a, uint64_t *table, size_t r)
+void cut_lengths(const Positions *lengths, int a, uint64_t *table, size_t r)
 {
     int length = lengths->at[a];
     for (int i = 1; 2 * lengths->at[i] <= length && i < a; i++) {
@@ -41,7 +41,7 @@ static void spread(const Positions *widths, const uint64_t *row, uint64_t *unit)
 }
 
 /* Over units: a cell that is not above the one before it earns nothing new as a first part. */
-static void cut_widths(const Positions *widths, uint64_t *row, uint64_t *unit)
+void cut_widths(const Positions *widths, uint64_t *row, uint64_t *unit)
 {
     int side = widths->side, least = widths->count > 1 ? widths->at[1] : side;
     spread(widths, row, unit);
@@ -67,7 +67,7 @@ void fill_row_fill(const Plate *plate, uint64_t *table)
     for (int a = 1; a < plate->on[LENGTH].count; a++) {
         uint64_t *row = table + a * r;
         memcpy(row, row - r, r * sizeof *row);
-        lay_pieces(plate, plate->on[LENGTH].at[a], row);
+        lay_in_row(plate, plate->on[LENGTH].at[a], row);
         cut_lengths(&plate->on[LENGTH], a, table, r);
         cut_widths(&plate->on[WIDTH], row, unit);
     }

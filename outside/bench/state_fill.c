@@ -1,14 +1,8 @@
-/* The table where the capacity is above 0: a cell is one figure for each state, a share from 0 up.
- * A finished cell has a list of the states at which it rises over a cell before it; a cut tries only
- * pairs of those. The lists stand in memory of their own. */
-#include "baseline.h"
+/* The table where the capacity is above 0. A finished cell has a list of the states at which it rises
+ * over a cell before it. The lists stand in memory of their own. */
+#include "cell.h"
 #include <stdlib.h>
 #include <string.h>
-
-enum { MOST_STATES = 4096, STATE_BITS = 16 };
-
-/* A figure above its state, so that one addition adds both. */
-typedef uint64_t Entry;
 
 /* Of a cell: its rising states in order, and a state from which on its figures are one constant. */
 typedef struct {
@@ -25,106 +19,30 @@ typedef struct {
     size_t step[2]; /* from a cell's number to that of its next neighbour in each direction */
 } Fill;
 
-/* The cell that is being made. Its figures never fall; those below `known` are set, and the rest are
- * equal to the last of these. Rising states are flagged, none of them above `top`. */
-typedef struct {
-    size_t number;
-    uint64_t *figure;
-    uint8_t *rises;
-    int states, known, top;
-} Cell;
-
 static uint64_t *figures(const Fill *fill, size_t number)
 {
     return fill->table + number * fill->states;
 }
 
-static int state(Entry entry)
+static const Entry *first_of(const Fill *fill, const List *list)
 {
-    return (int)(entry & ((1 << STATE_BITS) - 1));
+    return fill->entries + list->start;
 }
 
-static void reach(Cell *cell, int last)
+static const Entry *end_of(const Fill *fill, const List *list)
 {
-    int end = last < cell->states ? last + 1 : cell->states;
-    uint64_t constant = cell->figure[cell->known - 1];
-    for (; cell->known < end; cell->known++)
-        cell->figure[cell->known] = constant;
-}
-
-static void flag(Cell *cell, int state)
-{
-    cell->rises[state] = 1;
-    if (state > cell->top)
-        cell->top = state;
-}
-
-/* Raises a state, and those above it up to the first that has as much. */
-static void raise(Cell *cell, int state, uint64_t figure)
-{
-    uint64_t *figures = cell->figure;
-    uint8_t *rises = cell->rises;
-    for (int s = state, known = cell->known; s < known && figures[s] < figure; s++) {
-        figures[s] = figure;
-        rises[s] = 0;
-    }
-    flag(cell, state);
-}
-
-/* Flags the states of one cell before at which it is above the other. */
-static void inherit(const Fill *fill, Cell *cell, size_t from, size_t over)
-{
-    const List *list = &fill->lists[from];
-    const uint64_t *other = figures(fill, over);
-    for (const Entry *e = fill->entries + list->start, *end = e + list->count; e < end; e++)
-        if (other[state(*e)] < *e >> STATE_BITS)
-            flag(cell, state(*e));
+    return first_of(fill, list) + list->count;
 }
 
 /* Starts a cell from the two before it. */
-static void start(const Fill *fill, Cell *cell)
+static void start_cell(const Fill *fill, Cell *cell)
 {
     size_t above = cell->number - fill->step[LENGTH], before = cell->number - fill->step[WIDTH];
     const uint64_t *x = figures(fill, above), *y = figures(fill, before);
-    int last = fill->lists[above].last, other = fill->lists[before].last;
-    cell->known = (last > other ? last : other) + 1;
-    for (int s = 0; s < cell->known; s++)
-        cell->figure[s] = greater(x[s], y[s]);
-    inherit(fill, cell, above, before);
-    inherit(fill, cell, before, above);
-}
-
-/* Pieces of exactly this size; smaller ones came with the cells before. */
-static void lay_pieces(const Job *job, Cell *cell, Size size)
-{
-    for (int i = 0; i < job->pieces; i++) {
-        int s = job->weight[i];
-        if (job->size[i].length == size.length && job->size[i].width == size.width
-            && s < cell->states) {
-            reach(cell, s);
-            if (cell->figure[s] < job->price[i])
-                raise(cell, s, job->price[i]);
-        }
-    }
-}
-
-/* Adds the rising states of two parts. One of the first is passed over where even the greatest figure
- * of the second gives no more than its least state has already. */
-static void join(const Fill *fill, Cell *cell, const List *first, const List *second)
-{
-    const Entry *x = fill->entries + first->start, *x_end = x + first->count;
-    const Entry *y = fill->entries + second->start, *y_end = y + second->count;
-    const uint64_t *figures = cell->figure;
-    Entry most = y_end[-1];
-    int states = cell->states, least = state(*y);
-    reach(cell, state(x_end[-1]) + state(most));
-    for (; x < x_end && state(*x) + least < states; x++)
-        if (figures[state(*x) + least] < (*x + most) >> STATE_BITS)
-            for (const Entry *e = y; e < y_end && state(*x + *e) < states; e++) {
-                Entry sum = *x + *e;
-                if (figures[state(sum)] < sum >> STATE_BITS)
-                    raise(cell, state(sum), sum >> STATE_BITS);
-            }
+    const List *x_list = &fill->lists[above], *y_list = &fill->lists[before];
+    start(cell, x, x_list->last, y, y_list->last);
+    inherit(cell, first_of(fill, x_list), end_of(fill, x_list), y, OVER_BOTH);
+    inherit(cell, first_of(fill, y_list), end_of(fill, y_list), x, OVER_BOTH);
 }
 
 /* Cuts up to the half whose two parts are normal and rise; any other is worth a cell before. */
@@ -136,10 +54,9 @@ static void cut(const Fill *fill, Cell *cell, int direction, int index)
     int side = positions->at[index];
     for (int i = 1; i < index && 2 * positions->at[i] <= side; i++) {
         int rest = positions->index[side - positions->at[i]];
-        const List *first = origin + i * step, *second = origin + rest * step;
-        if (first->count > 0 && second->count > 0
-            && positions->at[i] + positions->at[rest] == side)
-            join(fill, cell, first, second);
+        const List *x = origin + i * step, *y = origin + rest * step;
+        if (x->count > 0 && y->count > 0 && positions->at[i] + positions->at[rest] == side)
+            join(cell, first_of(fill, x), end_of(fill, x), first_of(fill, y), end_of(fill, y));
     }
 }
 
@@ -165,7 +82,7 @@ static void make_cell(Fill *fill, uint8_t *rises, int a, int b)
     const Plate *plate = fill->plate;
     size_t number = a * fill->step[LENGTH] + b;
     Cell cell = {number, figures(fill, number), rises, (int)fill->states, 0, 0};
-    start(fill, &cell);
+    start_cell(fill, &cell);
     int last = cell.known - 1;
     lay_pieces(&plate->job, &cell, (Size){plate->on[LENGTH].at[a], plate->on[WIDTH].at[b]});
     cut(fill, &cell, LENGTH, a);

@@ -1,5 +1,6 @@
 /* Job S of the scope from C: the bound, the plan behind it, its check and its certificate, upright
- * and with pieces that may be turned; more copies than the plate can hold; a blade one unit wide.
+ * and with pieces that may be turned; within a limit on stages; more copies than the plate can hold; a
+ * blade one unit wide.
  * The script `run` compiles this file against planner.h and compares what it prints with sample.out. */
 #include "planner.h"
 #include <inttypes.h>
@@ -13,7 +14,7 @@ static uint8_t job[] = {
 static const uint8_t WEIGHTS[] = {0, 1, 0};
 
 enum { KERF = 6, DEMAND_OF_KIND_0 = 24, DEMAND_OF_KIND_1 = 30 }; /* bytes of the job */
-enum { LENGTHS = 7, WIDTHS = 5, TABLE_WORDS = 80, NODES = 16 };
+enum { LENGTHS = 7, WIDTHS = 5, TABLE_WORDS = 300, NODES = 16 };
 
 static uint16_t lengths[LENGTHS], widths[WIDTHS];
 static uint64_t table[TABLE_WORDS];
@@ -23,12 +24,8 @@ static void refused(uint32_t number, const uint64_t *answer)
     printf("refused %" PRIu32 " place %" PRIu64 "\n", number, answer[0]);
 }
 
-static void bound(uint32_t choices, size_t table_words)
+static void tell_bound(uint32_t number, const uint64_t *answer)
 {
-    uint64_t answer[PLANNER_BOUND_WORDS];
-    uint32_t number = planner_bound(job, sizeof job, choices, WEIGHTS, sizeof WEIGHTS, lengths,
-                                    LENGTHS, widths, WIDTHS, table, table_words, answer,
-                                    PLANNER_BOUND_WORDS);
     if (number == PLANNER_UNKNOWN_CHOICE)
         printf("no such choice\n");
     else if (number == PLANNER_DONE)
@@ -36,6 +33,23 @@ static void bound(uint32_t choices, size_t table_words)
                answer[1], answer[2], answer[3]);
     else
         refused(number, answer);
+}
+
+static void bound(uint32_t choices, size_t table_words)
+{
+    uint64_t answer[PLANNER_BOUND_WORDS];
+    tell_bound(planner_bound(job, sizeof job, choices, WEIGHTS, sizeof WEIGHTS, lengths, LENGTHS,
+                             widths, WIDTHS, table, table_words, answer, PLANNER_BOUND_WORDS),
+               answer);
+}
+
+static void bound_staged(uint32_t limit)
+{
+    uint64_t answer[PLANNER_BOUND_WORDS];
+    tell_bound(planner_bound_staged(job, sizeof job, 0, WEIGHTS, sizeof WEIGHTS, limit, lengths,
+                                    LENGTHS, widths, WIDTHS, table, TABLE_WORDS, answer,
+                                    PLANNER_BOUND_WORDS),
+               answer);
 }
 
 static size_t write_plan(uint32_t choices, uint8_t *kinds, uint16_t *operands)
@@ -76,17 +90,43 @@ static void check_block(const uint8_t *plan, size_t bytes)
         refused(number, answer);
 }
 
-static void certify(uint32_t choices, const uint8_t *kinds, const uint16_t *operands, size_t nodes)
+static void check_staged(uint32_t limit, const uint8_t *kinds, const uint16_t *operands, size_t nodes)
 {
-    uint64_t answer[PLANNER_CERTIFICATE_WORDS];
-    uint32_t number = planner_certify(job, sizeof job, choices, WEIGHTS, sizeof WEIGHTS, kinds,
-                                      nodes, operands, nodes, lengths, LENGTHS, widths, WIDTHS,
-                                      table, TABLE_WORDS, answer, PLANNER_CERTIFICATE_WORDS);
+    uint64_t answer[PLANNER_STAGED_REPORT_WORDS];
+    uint32_t number = planner_check_plan_staged(job, sizeof job, 0, limit, kinds, nodes, operands,
+                                                nodes, answer, PLANNER_STAGED_REPORT_WORDS);
+    if (number == PLANNER_DONE)
+        printf("profit %" PRIu64 " stages %" PRIu64 "\n", answer[0], answer[69]);
+    else
+        refused(number, answer);
+}
+
+static void tell_certificate(uint32_t number, const uint64_t *answer)
+{
     if (number == PLANNER_DONE)
         printf("gap %" PRIu64 " bound %" PRIu64 " profit %" PRIu64 "\n", answer[0], answer[1],
                answer[2]);
     else
         refused(number, answer);
+}
+
+static void certify(uint32_t choices, const uint8_t *kinds, const uint16_t *operands, size_t nodes)
+{
+    uint64_t answer[PLANNER_CERTIFICATE_WORDS];
+    tell_certificate(planner_certify(job, sizeof job, choices, WEIGHTS, sizeof WEIGHTS, kinds, nodes,
+                                     operands, nodes, lengths, LENGTHS, widths, WIDTHS, table,
+                                     TABLE_WORDS, answer, PLANNER_CERTIFICATE_WORDS),
+                     answer);
+}
+
+static void certify_staged(uint32_t limit, const uint8_t *kinds, const uint16_t *operands,
+                           size_t nodes)
+{
+    uint64_t answer[PLANNER_CERTIFICATE_WORDS];
+    tell_certificate(planner_certify_staged(job, sizeof job, 0, WEIGHTS, sizeof WEIGHTS, limit, kinds,
+                                            nodes, operands, nodes, lengths, LENGTHS, widths, WIDTHS,
+                                            table, TABLE_WORDS, answer, PLANNER_CERTIFICATE_WORDS),
+                     answer);
 }
 
 int main(void)
@@ -101,6 +141,12 @@ int main(void)
     check(0, kinds, operands, nodes - 1);
     check_block(waste, sizeof waste);
     certify(0, kinds, operands, nodes);
+    bound_staged(1);
+    bound_staged(2);
+    bound_staged(9);
+    check_staged(1, kinds, operands, nodes);
+    check_staged(2, kinds, operands, nodes);
+    certify_staged(2, kinds, operands, nodes);
     certify(PLANNER_TURNING, kinds, operands, nodes);
     nodes = write_plan(PLANNER_TURNING, kinds, operands);
     check(PLANNER_TURNING, kinds, operands, nodes);

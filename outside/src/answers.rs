@@ -13,6 +13,9 @@ pub const OLD_BLOCK: u32 = 4;
 /// Words of a report.
 pub const REPORT_WORDS: usize = 69;
 
+/// Words of a staged report.
+pub const STAGED_REPORT_WORDS: usize = 70;
+
 /// Words of a report of the saw.
 pub const SAW_WORDS: usize = 68;
 
@@ -38,6 +41,13 @@ pub struct Report {
     pub trim: u64,
     pub copies: [u64; 64],
     pub sawdust: u64,
+}
+
+/// What a passed plan reports, and its stages.
+#[derive(Clone, Copy, Debug, PartialEq, Eq)]
+pub struct StagedReport {
+    pub report: Report,
+    pub stages: u64,
 }
 
 /// What the saw reports of a passed plan: no profit.
@@ -118,6 +128,21 @@ impl Words<REPORT_WORDS> for Report {
     fn from_words(words: [u64; REPORT_WORDS]) -> Report {
         let [profit, pieces, waste, trim, copies @ .., sawdust] = words;
         Report { profit, pieces, waste, trim, copies, sawdust }
+    }
+}
+
+impl Words<STAGED_REPORT_WORDS> for StagedReport {
+    fn to_words(&self) -> [u64; STAGED_REPORT_WORDS] {
+        let mut words = [0; STAGED_REPORT_WORDS];
+        words[..REPORT_WORDS].copy_from_slice(&self.report.to_words());
+        words[REPORT_WORDS] = self.stages;
+        words
+    }
+
+    fn from_words(words: [u64; STAGED_REPORT_WORDS]) -> StagedReport {
+        let (report, stages) = words.split_at(REPORT_WORDS);
+        let report = Report::from_words(report.try_into().expect("the words of a report"));
+        StagedReport { report, stages: stages[0] }
     }
 }
 

@@ -1,5 +1,5 @@
-// The six calls of planner.h as one value, so that tests run the same cases on several
-// implementations.
+// The nine calls of planner.h that the tests share, as one value, so that they run the same
+// cases on several implementations.
 use crate::answers::{PlanArrays, Storage};
 
 pub struct Calls {
@@ -10,4 +10,8 @@ pub struct Calls {
     pub write_plan: fn(&[u8], u32, &[u8], Storage<'_>, PlanArrays<'_>, &mut [u64]) -> u32,
     pub neat_plan: fn(&[u8], u32, &[u8], &[u16], PlanArrays<'_>, &mut [u64]) -> u32,
     pub certify: fn(&[u8], u32, &[u8], &[u8], &[u16], Storage<'_>, &mut [u64]) -> u32,
+    pub check_plan_staged: fn(&[u8], u32, u32, &[u8], &[u16], &mut [u64]) -> u32,
+    pub bound_staged: fn(&[u8], u32, &[u8], u32, Storage<'_>, &mut [u64]) -> u32,
+    pub certify_staged:
+        fn(&[u8], u32, &[u8], u32, &[u8], &[u16], Storage<'_>, &mut [u64]) -> u32,
 }

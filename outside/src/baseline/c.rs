@@ -1,5 +1,5 @@
 // The C baseline of the folder bench/, on slices.
-// It trusts its caller, so both calls are unsafe.
+// It trusts its caller, so every call is unsafe.
 use crate::answers::{Bound, PlanArrays, Storage, Words, Written};
 
 extern "C" {
@@ -13,6 +13,12 @@ extern "C" {
         job: *const u8, choices: u32, weights: *const u8,
         lengths: *mut u16, widths: *mut u16, table: *mut u64,
         kinds: *mut u8, operands: *mut u16,
+        answer: *mut u64,
+    );
+
+    fn baseline_bound_staged(
+        job: *const u8, choices: u32, weights: *const u8, limit: u32,
+        lengths: *mut u16, widths: *mut u16, table: *mut u64,
         answer: *mut u64,
     );
 }
@@ -46,4 +52,22 @@ pub unsafe fn write_plan(
         answer.as_mut_ptr(),
     );
     Written::from_words(answer)
+}
+
+/// # Safety
+/// As for `bound`, with storage for the staged table; the limit is of 1 to 8.
+pub unsafe fn bound_staged(
+    job: &[u8],
+    choices: u32,
+    weights: &[u8],
+    limit: u32,
+    storage: Storage,
+) -> Bound {
+    let mut answer = [0; 4];
+    baseline_bound_staged(
+        job.as_ptr(), choices, weights.as_ptr(), limit,
+        storage.lengths.as_mut_ptr(), storage.widths.as_mut_ptr(), storage.table.as_mut_ptr(),
+        answer.as_mut_ptr(),
+    );
+    Bound::from_words(answer)
 }

@@ -4,8 +4,18 @@ use super::foreign;
 use crate::answers::{PlanArrays, Storage};
 use crate::calls::Calls;
 
-pub const CALLS: Calls =
-    Calls { name: "proved", check_plan, check_plan_block, bound, write_plan, neat_plan, certify };
+pub const CALLS: Calls = Calls {
+    name: "proved",
+    check_plan,
+    check_plan_block,
+    bound,
+    write_plan,
+    neat_plan,
+    certify,
+    check_plan_staged,
+    bound_staged,
+    certify_staged,
+};
 
 pub fn check_plan(
     job: &[u8],
@@ -177,6 +187,74 @@ pub fn saw_operands(
             kinds.as_ptr(), kinds.len(),
             operands.as_ptr(), operands.len(),
             node,
+            answer.as_mut_ptr(), answer.len(),
+        )
+    }
+}
+
+pub fn check_plan_staged(
+    job: &[u8],
+    choices: u32,
+    limit: u32,
+    kinds: &[u8],
+    operands: &[u16],
+    answer: &mut [u64],
+) -> u32 {
+    unsafe {
+        foreign::planner_check_plan_staged(
+            job.as_ptr(), job.len(),
+            choices,
+            limit,
+            kinds.as_ptr(), kinds.len(),
+            operands.as_ptr(), operands.len(),
+            answer.as_mut_ptr(), answer.len(),
+        )
+    }
+}
+
+pub fn bound_staged(
+    job: &[u8],
+    choices: u32,
+    weights: &[u8],
+    limit: u32,
+    storage: Storage,
+    answer: &mut [u64],
+) -> u32 {
+    unsafe {
+        foreign::planner_bound_staged(
+            job.as_ptr(), job.len(),
+            choices,
+            weights.as_ptr(), weights.len(),
+            limit,
+            storage.lengths.as_mut_ptr(), storage.lengths.len(),
+            storage.widths.as_mut_ptr(), storage.widths.len(),
+            storage.table.as_mut_ptr(), storage.table.len(),
+            answer.as_mut_ptr(), answer.len(),
+        )
+    }
+}
+
+pub fn certify_staged(
+    job: &[u8],
+    choices: u32,
+    weights: &[u8],
+    limit: u32,
+    kinds: &[u8],
+    operands: &[u16],
+    storage: Storage,
+    answer: &mut [u64],
+) -> u32 {
+    unsafe {
+        foreign::planner_certify_staged(
+            job.as_ptr(), job.len(),
+            choices,
+            weights.as_ptr(), weights.len(),
+            limit,
+            kinds.as_ptr(), kinds.len(),
+            operands.as_ptr(), operands.len(),
+            storage.lengths.as_mut_ptr(), storage.lengths.len(),
+            storage.widths.as_mut_ptr(), storage.widths.len(),
+            storage.table.as_mut_ptr(), storage.table.len(),
             answer.as_mut_ptr(), answer.len(),
         )
     }

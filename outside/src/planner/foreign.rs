@@ -85,4 +85,37 @@ extern "C" {
         table: *mut u64, table_len: usize,
         answer: *mut u64, answer_len: usize,
     ) -> u32;
+
+    pub fn planner_check_plan_staged(
+        job: *const u8, job_len: usize,
+        choices: u32,
+        limit: u32,
+        kinds: *const u8, kinds_len: usize,
+        operands: *const u16, operands_len: usize,
+        answer: *mut u64, answer_len: usize,
+    ) -> u32;
+
+    pub fn planner_bound_staged(
+        job: *const u8, job_len: usize,
+        choices: u32,
+        weights: *const u8, weights_len: usize,
+        limit: u32,
+        lengths: *mut u16, lengths_len: usize,
+        widths: *mut u16, widths_len: usize,
+        table: *mut u64, table_len: usize,
+        answer: *mut u64, answer_len: usize,
+    ) -> u32;
+
+    pub fn planner_certify_staged(
+        job: *const u8, job_len: usize,
+        choices: u32,
+        weights: *const u8, weights_len: usize,
+        limit: u32,
+        kinds: *const u8, kinds_len: usize,
+        operands: *const u16, operands_len: usize,
+        lengths: *mut u16, lengths_len: usize,
+        widths: *mut u16, widths_len: usize,
+        table: *mut u64, table_len: usize,
+        answer: *mut u64, answer_len: usize,
+    ) -> u32;
 }

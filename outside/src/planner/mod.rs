@@ -4,7 +4,8 @@ pub mod calls;
 mod foreign;
 
 use crate::answers::{
-    Bound, Certificate, Neat, Part, PlanArrays, Refusal, Report, SawReport, Storage, Words, Written,
+    Bound, Certificate, Neat, Part, PlanArrays, Refusal, Report, SawReport, StagedReport, Storage,
+    Words, Written,
 };
 
 /// Checks a plan given as two arrays.
@@ -98,6 +99,43 @@ pub fn saw_operands<'a>(
 ) -> Result<&'a [u16], Refusal> {
     let part = typed(|answer| calls::saw_operands(job, choices, kinds, operands, node, answer))?;
     Ok(part_of(operands, part))
+}
+
+/// Checks a plan against a limit on its stages.
+pub fn check_plan_staged(
+    job: &[u8],
+    choices: u32,
+    limit: u32,
+    kinds: &[u8],
+    operands: &[u16],
+) -> Result<StagedReport, Refusal> {
+    typed(|answer| calls::check_plan_staged(job, choices, limit, kinds, operands, answer))
+}
+
+/// Computes the bound within a limit on the stages and fills the storage.
+pub fn bound_staged(
+    job: &[u8],
+    choices: u32,
+    weights: &[u8],
+    limit: u32,
+    storage: Storage,
+) -> Result<Bound, Refusal> {
+    typed(|answer| calls::bound_staged(job, choices, weights, limit, storage, answer))
+}
+
+/// Certifies a plan within a limit on the stages and fills the storage.
+pub fn certify_staged(
+    job: &[u8],
+    choices: u32,
+    weights: &[u8],
+    limit: u32,
+    kinds: &[u8],
+    operands: &[u16],
+    storage: Storage,
+) -> Result<Certificate, Refusal> {
+    typed(|answer| {
+        calls::certify_staged(job, choices, weights, limit, kinds, operands, storage, answer)
+    })
 }
 
 fn part_of<T>(array: &[T], part: Part) -> &[T] {

@@ -6,8 +6,18 @@ use crate::answers::{
 };
 use crate::calls::Calls;
 
-pub const CALLS: Calls =
-    Calls { name: "reference", check_plan, check_plan_block, bound, write_plan, neat_plan, certify };
+pub const CALLS: Calls = Calls {
+    name: "reference",
+    check_plan,
+    check_plan_block,
+    bound,
+    write_plan,
+    neat_plan,
+    certify,
+    check_plan_staged,
+    bound_staged,
+    certify_staged,
+};
 
 pub fn check_plan(
     job: &[u8],
@@ -99,6 +109,43 @@ pub fn saw_operands(
 ) -> u32 {
     let part = || super::saw_part(job, choices, (kinds, operands), operands.len(), node);
     coded(choices, answer, || Ok(part()))
+}
+
+pub fn check_plan_staged(
+    job: &[u8],
+    choices: u32,
+    limit: u32,
+    kinds: &[u8],
+    operands: &[u16],
+    answer: &mut [u64],
+) -> u32 {
+    coded(choices, answer, || super::check_plan_staged(job, choices, limit, kinds, operands))
+}
+
+pub fn bound_staged(
+    job: &[u8],
+    choices: u32,
+    weights: &[u8],
+    limit: u32,
+    storage: Storage,
+    answer: &mut [u64],
+) -> u32 {
+    coded(choices, answer, || super::bound_staged(job, choices, weights, limit, storage))
+}
+
+pub fn certify_staged(
+    job: &[u8],
+    choices: u32,
+    weights: &[u8],
+    limit: u32,
+    kinds: &[u8],
+    operands: &[u16],
+    storage: Storage,
+    answer: &mut [u64],
+) -> u32 {
+    coded(choices, answer, || {
+        super::certify_staged(job, choices, weights, limit, kinds, operands, storage)
+    })
 }
 
 fn coded<const N: usize, A: Words<N>>(

@@ -9,6 +9,7 @@ mod neat;
 mod normal;
 mod plan;
 mod saw;
+mod staged;
 mod weights;
 mod writer;
 
@@ -20,6 +21,7 @@ pub use neat::neat_plan;
 pub use normal::normal_positions;
 pub use plan::{check_plan, check_plan_block};
 pub use saw::{saw_check, saw_part};
+pub use staged::{bound_staged, certify_staged, check_plan_staged};
 pub use weights::capacity;
 pub use writer::write_plan;
 

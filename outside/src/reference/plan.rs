@@ -46,7 +46,7 @@ pub fn check(job: &Job, kinds: &[u8], operands: &[u16]) -> Result<Report, Refusa
     Ok(walk.report)
 }
 
-fn is_cut(kind: u8) -> bool {
+pub fn is_cut(kind: u8) -> bool {
     kind == CUT_LENGTH || kind == CUT_WIDTH
 }
 

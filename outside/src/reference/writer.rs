@@ -80,12 +80,12 @@ fn choose(job: &Job, weights: &[u8], tabled: &Tabled, (length, width, share): Pa
     let second = |side, cut| job.second(side, cut).unwrap_or(0);
     let across =
         |cut| (figures.shares_of(cut, width), figures.shares_of(second(length, cut), width));
-    if let Some((cut, first)) = first_pair(&tabled.lengths, length, share, value, across) {
+    if let Some((cut, first)) = first_pair(&tabled.cells.lengths, length, share, value, across) {
         return Choice::CutLength(cut, first);
     }
     let along =
         |cut| (figures.shares_of(length, cut), figures.shares_of(length, second(width, cut)));
-    let (cut, first) = first_pair(&tabled.widths, width, share, value, along)
+    let (cut, first) = first_pair(&tabled.cells.widths, width, share, value, along)
         .expect("a figure that no piece and no length cut earns is earned by a width cut");
     Choice::CutWidth(cut, first)
 }

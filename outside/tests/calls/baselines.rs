@@ -9,6 +9,8 @@ use outside::{baseline, reference};
 
 const ROOM: Sizes = Sizes { lengths: 120, widths: 120, table: 1 << 18, answer: 5, ..AMPLE };
 
+const STAGED_ROOM: Sizes = Sizes { table: 1 << 20, answer: 4, ..ROOM };
+
 type WritePlan = fn(&[u8], u32, &[u8], Storage<'_>, PlanArrays<'_>) -> Written;
 
 fn in_c(job: &[u8], c: u32, weights: &[u8], storage: Storage, plan: PlanArrays) -> Written {
@@ -40,6 +42,38 @@ fn baselines_agree(seed: u64, jobs: usize, scale: Scale) {
     }
     println!("{compared} of {jobs} jobs compared");
     assert!(10 * compared >= 9 * jobs);
+}
+
+/// Compares the staged baseline on so many jobs, the limits and the words of choices taking turns.
+fn staged_baseline_agrees(seed: u64, jobs: usize, scale: Scale) {
+    let random = &mut Random::new(seed);
+    let mut compared = 0;
+    for i in 0..jobs {
+        let input = draw(random, scale, ALL_CHOICES[i % 4]).within((i / 4 % 8) as u32 + 1);
+        let (mut expected, mut lent) = (Lent::new(STAGED_ROOM), Lent::new(STAGED_ROOM));
+        if Call::BoundStaged.run(&reference::calls::CALLS, &input, &mut expected) == 0 {
+            compared += 1;
+            let (storage, _, answer) = lent.split();
+            let Input { job, choices, weights, limit, .. } = &input;
+            // The reference has found the storage enough.
+            let bound =
+                unsafe { baseline::c::bound_staged(job, *choices, weights, *limit, storage) };
+            answer.copy_from_slice(&bound.to_words());
+            assert_eq!(expected.differences(&lent), [""; 0], "{input:?}");
+        }
+    }
+    println!("{compared} of {jobs} jobs compared");
+    assert!(10 * compared >= 9 * jobs);
+}
+
+#[test]
+fn the_staged_baseline_agrees() {
+    let shares = Scale { plate: 12, kerf: 3, side: 7, kinds: 6, price: 30, weight: 3, ..SMALL };
+    staged_baseline_agrees(14, 2000, shares);
+    let many = Scale { plate: 5, side: 3, price: 50, demand: 6, weight: 40, ..SMALL };
+    staged_baseline_agrees(15, 400, many);
+    let none = Scale { plate: 40, kerf: 20, side: 25, kinds: 9, price: 400, weight: 0, ..SMALL };
+    staged_baseline_agrees(16, 400, none);
 }
 
 #[test]

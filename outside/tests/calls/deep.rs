@@ -11,10 +11,10 @@ use outside::random::Random;
 use outside::reference::{normal_positions, Job};
 use outside::{baseline, reference};
 
-const LARGE: Sizes = Sizes { table: 0, ..AMPLE };
+pub const LARGE: Sizes = Sizes { table: 0, ..AMPLE };
 
 /// Expects the reference's code and memory, in each form of the block.
-fn agrees(call: Call, input: &Input, sizes: Sizes) -> (u32, Lent) {
+pub fn agrees(call: Call, input: &Input, sizes: Sizes) -> (u32, Lent) {
     let mut expected = Lent::new(sizes);
     let code = call.run(&reference::calls::CALLS, input, &mut expected);
     for form in input.block_forms() {
@@ -44,7 +44,7 @@ impl Order {
 }
 
 /// The last part, where every plan has its only piece: no cut is idle.
-const UNIT: Node = (1, 0);
+pub const UNIT: Node = (1, 0);
 
 /// Each cut inside the second part of the one before.
 fn nested_in_second_parts(order: Order, kerf: u16) -> Vec<Node> {
@@ -316,7 +316,7 @@ fn is_filled(input: &Input, capacity: usize) -> (usize, usize) {
 }
 
 /// 64 kinds of sides from 1 up, the larger ones dearer by the unit.
-fn many_kinds(side: usize) -> Vec<Kind> {
+pub fn many_kinds(side: usize) -> Vec<Kind> {
     let random = &mut Random::new(21);
     let mut draw = || (random.from(1, side) as u32, random.from(1, side) as u32);
     let kind = |(l, w): (u32, u32)| (l as u16, w as u16, 1 + l * l * w * w / 16, 1);

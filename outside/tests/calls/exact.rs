@@ -4,14 +4,14 @@
 use outside::blocks::job_s;
 use outside::reference::Job;
 
-/// How the remaining copies are numbered.
-struct Copies {
+/// How amounts are numbered, the first of them lowest: remaining copies, or shares of a capacity.
+pub struct Amounts {
     radix: Vec<usize>,
-    states: usize,
+    pub states: usize,
 }
 
 pub fn optimum(job: &Job) -> u64 {
-    let copies = Copies::of(job);
+    let copies = Amounts::of_copies(job);
     let splits = copies.splits();
     let mut most = vec![vec![vec![0; copies.states]; job.width + 1]; job.length + 1];
     for length in 1..=job.length {
@@ -29,7 +29,7 @@ pub fn optimum(job: &Job) -> u64 {
     most[job.length][job.width][copies.states - 1]
 }
 
-fn single_pieces(job: &Job, copies: &Copies, length: usize, width: usize) -> Vec<u64> {
+fn single_pieces(job: &Job, copies: &Amounts, length: usize, width: usize) -> Vec<u64> {
     let mut best = vec![0; copies.states];
     for piece in job.pieces().filter(|piece| piece.fits(length, width)) {
         let price = job.kinds[piece.kind].price;
@@ -46,11 +46,29 @@ fn raise(best: &mut [u64], first: &[u64], second: &[u64], splits: &[(usize, usiz
     }
 }
 
-impl Copies {
-    fn of(job: &Job) -> Copies {
-        let radix: Vec<usize> = job.kinds.iter().map(|kind| kind.demand as usize + 1).collect();
+impl Amounts {
+    /// Amounts up to these.
+    pub fn up_to(most: impl Iterator<Item = usize>) -> Amounts {
+        let radix: Vec<usize> = most.map(|most| most + 1).collect();
         let states = radix.iter().product();
-        Copies { radix, states }
+        Amounts { radix, states }
+    }
+
+    pub fn of_copies(job: &Job) -> Amounts {
+        Amounts::up_to(job.kinds.iter().map(|kind| kind.demand as usize))
+    }
+
+    /// The number of these amounts; none where one is too great.
+    pub fn number(&self, digits: &[usize]) -> Option<usize> {
+        let within = digits.iter().zip(&self.radix).all(|(digit, radix)| digit < radix);
+        let lower = |number, (digit, radix): (&usize, &usize)| number * radix + digit;
+        within.then(|| digits.iter().zip(&self.radix).rev().fold(0, lower))
+    }
+
+    /// Of so many kinds the number of one copy.
+    pub fn copies_of_each(&self, kinds: usize) -> Vec<Option<usize>> {
+        let one = |kind| (0..kinds).map(|other| usize::from(other == kind)).collect::<Vec<usize>>();
+        (0..kinds).map(|kind| self.number(&one(kind))).collect()
     }
 
     fn digits(&self, mut state: usize) -> Vec<usize> {
@@ -62,8 +80,8 @@ impl Copies {
         self.radix.iter().map(&mut next).collect()
     }
 
-    /// The pairs of states whose copies together are within the demands.
-    fn splits(&self) -> Vec<(usize, usize)> {
+    /// The pairs of states whose amounts together are within the limits.
+    pub fn splits(&self) -> Vec<(usize, usize)> {
         let digits: Vec<Vec<usize>> = (0..self.states).map(|state| self.digits(state)).collect();
         let within = |a: usize, b: usize| {
             let sums = digits[a].iter().zip(&digits[b]).map(|(x, y)| x + y);

@@ -9,12 +9,12 @@ use outside::blocks::{job_block, job_s, plan_block};
 /// A node: kind and operand.
 pub type Node = (u8, u16);
 
-/// An input without a choice.
+/// An input without a choice, within the greatest limit.
 pub fn input(job: Vec<u8>, weights: &[u8], nodes: &[Node]) -> Input {
     let kinds: Vec<u8> = nodes.iter().map(|node| node.0).collect();
     let operands: Vec<u16> = nodes.iter().map(|node| node.1).collect();
     let plan = plan_block(&kinds, &operands);
-    Input { job, choices: 0, weights: weights.to_vec(), kinds, operands, plan }
+    Input { job, choices: 0, weights: weights.to_vec(), limit: 8, kinds, operands, plan }
 }
 
 /// Expects each implementation to answer these words.
@@ -27,20 +27,22 @@ pub fn refuses(call: Call, input: &Input, number: u32, place: u64) {
     begins(call, input, number, &[place]);
 }
 
-/// Expects a plan check, of arrays and block, to report profit, copies and the areas of pieces,
-/// waste, trim and sawdust.
+/// Expects a plan check, of arrays, of the block and within a limit, to report profit, copies and the
+/// areas of pieces, waste, trim and sawdust.
 pub fn reports(input: &Input, profit: u64, areas: [u64; 4], copies: &[u64]) {
     let mut words = vec![profit, areas[0], areas[1], areas[2]];
     words.extend(copies);
     words.resize(REPORT_WORDS, 0);
     words[68] = areas[3];
-    answers(Call::CheckPlan, input, &words);
-    answers(Call::CheckPlanBlock, input, &words);
+    for call in [Call::CheckPlan, Call::CheckPlanBlock, Call::CheckPlanStaged] {
+        answers(call, input, &words);
+    }
 }
 
-/// Expects a plan check, of arrays and block, and the certificate to refuse.
+/// Expects the plan checks and the certificates to refuse.
 pub fn plan_refused(input: &Input, number: u32, place: u64) {
-    for call in [Call::CheckPlan, Call::CheckPlanBlock, Call::Certify] {
+    let staged = [Call::CheckPlanStaged, Call::CertifyStaged];
+    for call in [Call::CheckPlan, Call::CheckPlanBlock, Call::Certify].into_iter().chain(staged) {
         refuses(call, input, number, place);
     }
 }

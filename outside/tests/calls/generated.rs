@@ -3,8 +3,8 @@
 use crate::damage::damage;
 use crate::inputs::{draw, Scale, SMALL};
 use crate::lent::{Lent, Sizes};
-use crate::run::{compare, Call, Input, ALL_CALLS, ALL_CHOICES};
-use outside::answers::{OLD_BLOCK, REPORT_WORDS};
+use crate::run::{compare, Call, Input, ALL_CALLS, ALL_CHOICES, STAGED_CALLS};
+use outside::answers::{OLD_BLOCK, STAGED_REPORT_WORDS};
 use outside::random::Random;
 use outside::reference::{capacity, normal_positions, Job};
 use std::collections::BTreeMap;
@@ -35,7 +35,8 @@ impl Tally {
 
     fn count(&mut self, call: Call, code: u32, lent: &Lent) {
         *self.codes.entry((call, code)).or_default() += 1;
-        if (call, code) == (Call::Certify, 0) && lent.answer.words()[2] > 0 {
+        let certifies = matches!(call, Call::Certify | Call::CertifyStaged);
+        if certifies && code == 0 && lent.answer.words()[2] > 0 {
             self.best += usize::from(lent.answer.words()[0] == 0);
             self.gaps += usize::from(lent.answer.words()[0] > 0);
         }
@@ -95,6 +96,11 @@ fn codes(call: Call) -> Vec<u32> {
         Call::WritePlan => &[8, 9, 19, 20, 21],
         Call::NeatPlan => &[10, 11, 12, 13, 14, 15, 16, 17, 18, 21, 26],
         Call::Certify => &[8, 9, 10, 11, 12, 13, 14, 15, 16, 17, 18, 19, 20, 26],
+        Call::CheckPlanStaged => &[10, 11, 12, 13, 14, 15, 16, 17, 18, 22, 23, 26],
+        Call::BoundStaged => &[8, 9, 19, 20, 22],
+        Call::CertifyStaged => {
+            &[8, 9, 10, 11, 12, 13, 14, 15, 16, 17, 18, 19, 20, 22, 23, 26]
+        }
     };
     (0..=7).chain(others.iter().copied()).chain([27, 100, 101]).collect()
 }
@@ -124,7 +130,7 @@ fn agree_with(random: &mut Random, inputs: usize, scale: Scale, choices: u32) ->
     }
     let (all, done) = tally.compared();
     println!("choices {choices}: {inputs} inputs, {all} calls compared, {done} of them done");
-    assert!(all >= 6 * inputs && 3 * done >= all);
+    assert!(all >= ALL_CALLS.len() * inputs && 3 * done >= all);
     tally
 }
 
@@ -144,7 +150,11 @@ fn written_plan_agrees(random: &mut Random, planned: &Input, sizes: Sizes, tally
     tally.compare(Call::WritePlan, planned, tight);
     if random.one_in(4) {
         for call in [Call::CheckPlan, Call::CheckPlanBlock, Call::Certify] {
-            tally.compare(call, planned, Sizes { answer: REPORT_WORDS, ..sizes });
+            tally.compare(call, planned, Sizes { answer: STAGED_REPORT_WORDS, ..sizes });
+        }
+        let table = blocks(planned) * sizes.table;
+        for call in [Call::CheckPlanStaged, Call::CertifyStaged] {
+            tally.compare(call, planned, Sizes { answer: STAGED_REPORT_WORDS, table, ..sizes });
         }
     }
 }
@@ -152,7 +162,7 @@ fn written_plan_agrees(random: &mut Random, planned: &Input, sizes: Sizes, tally
 /// Draws an input, damages it, and draws again where the reference would take too long.
 fn draw_affordable(random: &mut Random, scale: Scale, choices: u32) -> Input {
     loop {
-        let mut input = draw(random, scale, choices);
+        let mut input = draw(random, scale, choices).within(draw_limit(random));
         damage(random, &mut input);
         if work(&input) <= scale.work {
             return input;
@@ -160,20 +170,36 @@ fn draw_affordable(random: &mut Random, scale: Scale, choices: u32) -> Input {
     }
 }
 
+/// Mostly a limit that is accepted, the low ones more often, as few plans have many stages.
+fn draw_limit(random: &mut Random) -> u32 {
+    match random.from(0, 31) {
+        0 => random.pick(&[0, 9]),
+        1 => random.pick(&[10, 255, 256, 257, 1 << 16 | 1, 1 << 31 | 8, u32::MAX]),
+        2..=15 => random.from(1, 2) as u32,
+        _ => random.from(1, 8) as u32,
+    }
+}
+
+/// The blocks of the staged table; one where the limit is refused.
+fn blocks(input: &Input) -> usize {
+    if (1..=8).contains(&input.limit) { 2 * input.limit as usize + 1 } else { 1 }
+}
+
 /// The sums that the reference forms, about.
 fn work(input: &Input) -> usize {
     let Ok(job) = Job::read(&input.job, input.choices) else { return 0 };
     let Ok(capacity) = capacity(&job, &input.weights) else { return 0 };
     let cuts = job.length * job.width * (job.length + job.width) / 2;
-    cuts * (capacity + 1) * (capacity + 2) / 2
+    cuts * (capacity + 1) * (capacity + 2) / 2 * (blocks(input) + 1) / 2
 }
 
 fn draw_sizes(random: &mut Random, call: Call, input: &Input) -> Sizes {
     let (lengths, widths, table) = needs(input);
+    let blocks = if STAGED_CALLS.contains(&call) { blocks(input) } else { 1 };
     Sizes {
         lengths: near(random, lengths),
         widths: near(random, widths),
-        table: near(random, table),
+        table: near(random, blocks * table),
         kinds: 4095,
         operands: 4095,
         answer: near(random, call.answer_words()),
@@ -190,7 +216,7 @@ fn near(random: &mut Random, needed: usize) -> usize {
     }
 }
 
-/// The words that lists and table need; anything for a job that is refused.
+/// The words that lists and a block of the table need; anything for a job that is refused.
 fn needs(input: &Input) -> (usize, usize, usize) {
     let Ok(job) = Job::read(&input.job, input.choices) else { return (4, 4, 16) };
     let shares = capacity(&job, &input.weights).map_or(1, |q| q + 1);

@@ -1,6 +1,6 @@
 // Lent memory, filled with a pattern and fenced on both sides, so that every changed word is seen.
 // Two calls did the same where their whole memory is equal afterwards.
-use outside::answers::{PlanArrays, Storage, REPORT_WORDS};
+use outside::answers::{PlanArrays, Storage, STAGED_REPORT_WORDS};
 
 const FENCE: usize = 8;
 
@@ -22,7 +22,7 @@ pub const AMPLE: Sizes = Sizes {
     table: 1 << 15,
     kinds: 4095,
     operands: 4095,
-    answer: REPORT_WORDS,
+    answer: STAGED_REPORT_WORDS,
 };
 
 #[derive(PartialEq)]

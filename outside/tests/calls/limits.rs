@@ -6,7 +6,7 @@ use crate::run::{compare, Call, Input, ALL_CALLS, ALL_CHOICES};
 use outside::answers::{ANSWER_TOO_SHORT, UNKNOWN_CHOICE};
 use outside::blocks::{job_block, job_s, Kind};
 
-const ROOM: Sizes = Sizes { table: 1 << 17, ..AMPLE };
+const ROOM: Sizes = Sizes { table: 1 << 18, ..AMPLE };
 
 #[test]
 fn sides_up_to_1000() {

@@ -86,7 +86,7 @@ fn short_output_arrays_draw_21_with_the_nodes_needed() {
 }
 
 /// The most changes of direction on a path down through the cuts, plus one; and what is left.
-fn stages(nodes: &[Node], above: Option<u8>) -> (u64, &[Node]) {
+pub fn stages(nodes: &[Node], above: Option<u8>) -> (u64, &[Node]) {
     let (&(kind, _), rest) = nodes.split_first().expect("a node");
     if !matches!(kind, 2 | 3) {
         return (0, rest);
@@ -97,7 +97,7 @@ fn stages(nodes: &[Node], above: Option<u8>) -> (u64, &[Node]) {
     (own + first.max(second), rest)
 }
 
-fn nodes(input: &Input) -> Vec<Node> {
+pub fn nodes(input: &Input) -> Vec<Node> {
     input.kinds.iter().copied().zip(input.operands.iter().copied()).collect()
 }
 

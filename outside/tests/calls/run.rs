@@ -1,7 +1,7 @@
 // One call on one input with fresh memory, and the same call on two implementations, with the new
 // block and the old one.
 use crate::lent::{Lent, Sizes};
-use outside::answers::{FULL_DEMAND, OLD_BLOCK, REPORT_WORDS, TURNING};
+use outside::answers::{FULL_DEMAND, OLD_BLOCK, REPORT_WORDS, STAGED_REPORT_WORDS, TURNING};
 use outside::blocks::plan_block;
 use outside::calls::Calls;
 use outside::planner;
@@ -15,19 +15,28 @@ pub enum Call {
     WritePlan,
     NeatPlan,
     Certify,
+    CheckPlanStaged,
+    BoundStaged,
+    CertifyStaged,
 }
 
-pub const ALL_CALLS: [Call; 6] = [
+pub const ALL_CALLS: [Call; 9] = [
     Call::CheckPlan,
     Call::CheckPlanBlock,
     Call::Bound,
     Call::WritePlan,
     Call::NeatPlan,
     Call::Certify,
+    Call::CheckPlanStaged,
+    Call::BoundStaged,
+    Call::CertifyStaged,
 ];
 
-/// The calls that take weights.
+/// The calls that take weights and no limit.
 pub const WEIGHING_CALLS: [Call; 3] = [Call::Bound, Call::WritePlan, Call::Certify];
+
+/// The calls that take a limit.
+pub const STAGED_CALLS: [Call; 3] = [Call::CheckPlanStaged, Call::BoundStaged, Call::CertifyStaged];
 
 /// Every word of choices that has a meaning with the new block.
 pub const ALL_CHOICES: [u32; 4] = [0, TURNING, FULL_DEMAND, TURNING | FULL_DEMAND];
@@ -38,6 +47,7 @@ pub struct Input {
     pub job: Vec<u8>,
     pub choices: u32,
     pub weights: Vec<u8>,
+    pub limit: u32,
     pub kinds: Vec<u8>,
     pub operands: Vec<u16>,
     pub plan: Vec<u8>,
@@ -46,6 +56,10 @@ pub struct Input {
 impl Input {
     pub fn with(self, choices: u32) -> Input {
         Input { choices, ..self }
+    }
+
+    pub fn within(self, limit: u32) -> Input {
+        Input { limit, ..self }
     }
 
     /// This input; and where it is a new block with kerf 0, the same as an old block.
@@ -85,17 +99,18 @@ impl Call {
     pub fn answer_words(self) -> usize {
         match self {
             Call::CheckPlan | Call::CheckPlanBlock => REPORT_WORDS,
-            Call::Bound => 4,
+            Call::CheckPlanStaged => STAGED_REPORT_WORDS,
+            Call::Bound | Call::BoundStaged => 4,
             Call::WritePlan => 5,
             Call::NeatPlan => 1,
-            Call::Certify => 3,
+            Call::Certify | Call::CertifyStaged => 3,
         }
     }
 
     pub fn run(self, calls: &Calls, input: &Input, lent: &mut Lent) -> u32 {
         let (storage, plan, answer) = lent.split();
         let Input { job, weights, kinds, operands, plan: block, .. } = input;
-        let c = input.choices;
+        let (c, limit) = (input.choices, input.limit);
         match self {
             Call::CheckPlan => (calls.check_plan)(job, c, kinds, operands, answer),
             Call::CheckPlanBlock => (calls.check_plan_block)(job, c, block, answer),
@@ -103,6 +118,13 @@ impl Call {
             Call::WritePlan => (calls.write_plan)(job, c, weights, storage, plan, answer),
             Call::NeatPlan => (calls.neat_plan)(job, c, kinds, operands, plan, answer),
             Call::Certify => (calls.certify)(job, c, weights, kinds, operands, storage, answer),
+            Call::CheckPlanStaged => {
+                (calls.check_plan_staged)(job, c, limit, kinds, operands, answer)
+            }
+            Call::BoundStaged => (calls.bound_staged)(job, c, weights, limit, storage, answer),
+            Call::CertifyStaged => {
+                (calls.certify_staged)(job, c, weights, limit, kinds, operands, storage, answer)
+            }
         }
     }
 }
@@ -123,7 +145,7 @@ pub fn compare(call: Call, input: &Input, sizes: Sizes) -> (u32, Lent) {
              {form:?}\n{sizes:?}",
         );
     }
-    if code == 0 && matches!(call, Call::CheckPlan | Call::CheckPlanBlock) {
+    if code == 0 && matches!(call, Call::CheckPlan | Call::CheckPlanBlock | Call::CheckPlanStaged) {
         areas_make_up_the_plate(&input.job, expected.answer.words());
     }
     (code, expected)

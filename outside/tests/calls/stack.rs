@@ -1,7 +1,7 @@
 // The proved calls on a small stack: what each needs is measured, and then it runs on a thread that
 // has no more than planner.h promises to be enough.
 use crate::lent::{Lent, Sizes};
-use crate::run::{Call, Input};
+use crate::run::{Call, Input, STAGED_CALLS};
 use outside::planner::calls::CALLS;
 use std::ffi::c_void;
 use std::thread;
@@ -22,12 +22,21 @@ extern "C" {
 /// Runs one proved call on a thread with a small stack, having measured that it fits.
 pub fn on_small_stack(call: Call, input: &Input, sizes: Sizes) -> (u32, Lent) {
     let (choices, nodes) = (input.choices, input.kinds.len());
-    let what = format!("{call:?}, choices {choices}, {nodes} nodes");
+    let mut what = format!("{call:?}, choices {choices}, {nodes} nodes");
+    if STAGED_CALLS.contains(&call) {
+        what += &format!(", within {}", input.limit);
+    }
     fits_small_stack(&what, || {
         let mut lent = Lent::new(sizes);
         let code = call.run(&CALLS, input, &mut lent);
         (code, lent)
     })
+}
+
+/// The bytes of stack that a proved call needs.
+pub fn needed_by(call: Call, input: &Input, sizes: Sizes) -> usize {
+    let mut lent = Lent::new(sizes);
+    measured(|| _ = call.run(&CALLS, input, &mut lent))
 }
 
 /// Runs proved work on a thread with a small stack, having measured that it fits.

@@ -24,7 +24,7 @@ fn generated(seed: u64, count: usize, scale: Scale) -> impl Iterator<Item = (Inp
 }
 
 /// The block of a job with this kerf, other sides and other demands.
-fn changed(
+pub fn changed(
     job: &Job,
     kerf: usize,
     side: impl Fn(usize) -> usize,

@@ -1,12 +1,16 @@
 // The implementations that are measured, and the memory that they are lent.
 // The memory is touched before the first call and never cleared between calls.
-use crate::jobs::Job;
+use crate::jobs::{Job, StagedJob};
 use outside::answers::{Bound, PlanArrays, Storage, Written};
 use outside::{baseline, planner};
 
 pub struct Contender {
     pub bound: fn(&Job, &mut Memory) -> Bound,
     pub write_plan: fn(&Job, &mut Memory) -> Written,
+}
+
+pub struct StagedContender {
+    pub bound: fn(&StagedJob, &mut Memory) -> Bound,
 }
 
 pub struct Memory {
@@ -51,6 +55,24 @@ pub const CONTENDERS: [Contender; 3] = [
     },
 ];
 
+/// Ours and the baseline in C.
+pub const STAGED_CONTENDERS: [StagedContender; 2] = [
+    StagedContender {
+        bound: |StagedJob { job, limit }, memory| {
+            let storage = memory.split().0;
+            planner::bound_staged(&job.block, job.choices, &job.weights, *limit, storage)
+                .expect("an accepted job")
+        },
+    },
+    StagedContender {
+        // As above: the proved call has said that job and memory are accepted.
+        bound: |StagedJob { job, limit }, memory| unsafe {
+            let storage = memory.split().0;
+            baseline::c::bound_staged(&job.block, job.choices, &job.weights, *limit, storage)
+        },
+    },
+];
+
 impl Memory {
     pub fn new(words: usize) -> Memory {
         Memory {
@@ -66,6 +88,15 @@ impl Memory {
     pub fn enough_for(job: &Job) -> Memory {
         let mut none = Memory::new(0);
         let refusal = planner::bound(&job.block, job.choices, &job.weights, none.split().0);
+        Memory::new(refusal.expect_err("no table is lent").place as usize)
+    }
+
+    /// The memory that a job needs within its limit.
+    pub fn enough_for_staged(StagedJob { job, limit }: &StagedJob) -> Memory {
+        let mut none = Memory::new(0);
+        let storage = none.split().0;
+        let refusal =
+            planner::bound_staged(&job.block, job.choices, &job.weights, *limit, storage);
         Memory::new(refusal.expect_err("no table is lent").place as usize)
     }
 

@@ -13,7 +13,14 @@ pub struct Job {
     pub weights: Vec<u8>,
 }
 
+/// A job within a limit on the stages.
+pub struct StagedJob {
+    pub job: Job,
+    pub limit: u32,
+}
+
 /// What a generated job is drawn from.
+#[derive(Clone, Copy)]
 struct Draw {
     plate: u16,
     kerf: u16,
@@ -75,6 +82,24 @@ pub fn growing_capacities() -> Vec<Job> {
     let choices = FULL_DEMAND;
     let plate = Draw { plate: 80, kinds: 16, sides: (12, 40), weights, choices, ..SMALL };
     capacities.map(|capacity| draw(&Draw { capacity, ..plate })).into()
+}
+
+/// Staged bounds: without weights, with few shares, and with many within more and more stages.
+pub fn staged() -> Vec<StagedJob> {
+    let half = Draw { plate: 500, kinds: 40, sides: (30, 250), ..SMALL };
+    let quarter = Draw { plate: 250, kinds: 30, sides: (20, 60), ..SMALL };
+    let few = Draw { weights: &[0, 1], capacity: 18, ..SMALL };
+    let weights = &[1, 2, 3, 5, 8];
+    let many = Draw { plate: 80, kinds: 16, sides: (12, 40), weights, capacity: 136, ..SMALL };
+    let small = Draw { plate: 60, kinds: 10, sides: (3, 20), weights, capacity: 141, ..SMALL };
+    let one = [(SMALL, 8), (half, 4), (quarter, 8), (few, 2)];
+    let growing = [many, small].into_iter().flat_map(|from| [2, 4, 8].map(|limit| (from, limit)));
+    one.into_iter().chain(growing).map(|(from, limit)| within(draw(&from), limit)).collect()
+}
+
+fn within(job: Job, limit: u32) -> StagedJob {
+    let name = format!("staged {}, limit {limit}", job.name);
+    StagedJob { job: Job { name, ..job }, limit }
 }
 
 fn draw(from: &Draw) -> Job {

@@ -1,13 +1,12 @@
 // Medians of processor time: the contenders take turns, so that all meet the same machine.
 // Short calls are repeated within one sample.
-use crate::contender::{Contender, Memory};
-use crate::jobs::Job;
+use crate::contender::Memory;
 
 const ROUNDS: usize = 9;
 const SAMPLE_SECONDS: f64 = 0.002;
 
 /// Median seconds of one call, for each contender.
-pub fn medians<const N: usize>(
+pub fn medians<Contender, Job, const N: usize>(
     contenders: &[Contender; N],
     job: &Job,
     memory: &mut Memory,
