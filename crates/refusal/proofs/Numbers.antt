@@ -2,7 +2,7 @@
 use Prim.Native.Nat.{_<_}
 use native.Mathlib.Omega.{arith}
 use Rattle.refusal.specs.declared.Refusal.{Refusal}
-use Rattle.refusal.specs.declared.Refusal.the-variants.{ShortHeader, PlateSide, KindCount, BlockLength, KindSide, Price, Demand, WeightCount, Capacity, PlanLength, NodeCount, NodeKind, PieceNumber, Operand, Misfit, Excess, NodeMissing, NodeLeft, ListShort, TableShort, PlanLong, StageLimit, ManyStages, IdleCut, Kerf}
+use Rattle.refusal.specs.declared.Refusal.the-variants.{ShortHeader, PlateSide, KindCount, BlockLength, KindSide, Price, Demand, WeightCount, Capacity, PlanLength, NodeCount, NodeKind, PieceNumber, Operand, Misfit, Excess, NodeMissing, NodeLeft, ListShort, TableShort, PlanLong, StageLimit, ManyStages, SecondCount, CapacityProduct, IdleCut, Kerf}
 use Rattle.refusal.specs.Refusals.{number-of}
 
 pub number-some : (r : Refusal) → 0 < number-of r
@@ -29,5 +29,7 @@ number-some (TableShort n) = omega arith
 number-some (PlanLong n) = omega arith
 number-some StageLimit = omega arith
 number-some (ManyStages k) = omega arith
+number-some SecondCount = omega arith
+number-some CapacityProduct = omega arith
 number-some (IdleCut k) = omega arith
 number-some Kerf = omega arith

@@ -4,7 +4,7 @@ use mathlib.Core.Bool.{Bool, true, false}
 use mathlib.Core.List.{List, [], _∷_}
 use Prim.Native.Nat.{ℕ}
 use Rattle.refusal.specs.declared.Refusal.{Refusal}
-use Rattle.refusal.specs.declared.Refusal.the-variants.{ShortHeader, PlateSide, KindCount, BlockLength, KindSide, Price, Demand, WeightCount, Capacity, PlanLength, NodeCount, NodeKind, PieceNumber, Operand, Misfit, Excess, NodeMissing, NodeLeft, ListShort, TableShort, PlanLong, StageLimit, ManyStages, IdleCut, Kerf}
+use Rattle.refusal.specs.declared.Refusal.the-variants.{ShortHeader, PlateSide, KindCount, BlockLength, KindSide, Price, Demand, WeightCount, Capacity, PlanLength, NodeCount, NodeKind, PieceNumber, Operand, Misfit, Excess, NodeMissing, NodeLeft, ListShort, TableShort, PlanLong, StageLimit, ManyStages, SecondCount, CapacityProduct, IdleCut, Kerf}
 use Rattle.refusal.specs.declared.Checked.{Checked}
 use Rattle.refusal.specs.declared.Checked.the-variants.{Passed, Refused}
 
@@ -33,6 +33,8 @@ number-of (TableShort n) = 20
 number-of (PlanLong n) = 21
 number-of StageLimit = 22
 number-of (ManyStages k) = 23
+number-of SecondCount = 24
+number-of CapacityProduct = 25
 number-of (IdleCut k) = 26
 number-of Kerf = 27
 
@@ -61,6 +63,8 @@ place-of (TableShort n) = n
 place-of (PlanLong n) = n
 place-of StageLimit = 0
 place-of (ManyStages k) = k
+place-of SecondCount = 0
+place-of CapacityProduct = 0
 place-of (IdleCut k) = k
 place-of Kerf = 0
 

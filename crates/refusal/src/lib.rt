@@ -28,6 +28,8 @@ pub enum Refusal {
     PlanLong(u64),
     StageLimit,
     ManyStages(u16),
+    SecondCount,
+    CapacityProduct,
     IdleCut(u16),
     Kerf,
 }
@@ -66,6 +68,8 @@ pub fn number(r: Refusal) -> u16
         Refusal::PlanLong(_) => 21,
         Refusal::StageLimit => 22,
         Refusal::ManyStages(_) => 23,
+        Refusal::SecondCount => 24,
+        Refusal::CapacityProduct => 25,
         Refusal::IdleCut(_) => 26,
         Refusal::Kerf => 27,
     }
@@ -99,6 +103,8 @@ pub fn place(r: Refusal) -> u64
         Refusal::PlanLong(n) => n,
         Refusal::StageLimit => 0,
         Refusal::ManyStages(k) => k as u64,
+        Refusal::SecondCount => 0,
+        Refusal::CapacityProduct => 0,
         Refusal::IdleCut(k) => k as u64,
         Refusal::Kerf => 0,
     }
