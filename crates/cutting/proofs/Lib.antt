@@ -32,6 +32,7 @@ pub mod Laws
 pub mod Bound
 pub mod Listed
 pub mod Staged
+pub mod Two
 pub mod Plan
 pub mod Promises
 pub mod Sound

@@ -33,6 +33,10 @@ most-demand = 255
 abbrev pub most-capacity : ℕ
 most-capacity = 4095
 
+-- the most pairs of shares up to two capacities
+abbrev pub most-pairs : ℕ
+most-pairs = 65536
+
 -- the most nodes of a plan
 abbrev pub most-nodes : ℕ
 most-nodes = 4095

@@ -1,14 +1,14 @@
 -- The shares that states stand for: one weight, two weights, the remaining copies of each kind. A tree is within a state exactly if, at each
 -- digit, its pieces come to no more than the digit; so the figures over states are those over these shares.
-use mathlib.Core.Path.{_≡_, refl, sym, _∙_, ap}
-use mathlib.Core.Bool.{Bool, true, false}
+use mathlib.Core.Path.{_≡_, refl, sym, _∙_, ap, ap₂, subst}
+use mathlib.Core.Bool.{Bool, true, false, _&&_}
 use mathlib.Core.List.{List, [], _∷_}
 use Prim.Native.Nat.{ℕ, zero, suc, _+_, _-_, _*_, _/_, _%_, _≤_, _<_}
-use native.Mathlib.Nat.{mod-lt, div-add-mod'}
+use native.Mathlib.Nat.{mod-lt, div-add-mod', mul-le-mul-right}
 use native.Mathlib.Decide.{ℕ-discrete, decLe}
 use native.Mathlib.Omega.{arith}
 use borrow.Author.Tests.{lt-ltb, le-ltb, eq-eqb, ne-eqb}
-use lib.Dec.{T, ltb, eqb}
+use lib.Dec.{T, leb, ltb, eqb}
 use lib.ListN.{getD}
 use Rattle.cutting.specs.declared.Direction.the-variants.{Length, Width}
 use Rattle.cutting.specs.Lists.{only}
@@ -17,17 +17,21 @@ use Rattle.cutting.specs.Figure.{figure}
 use Rattle.cutting.specs.Saws.{saw}
 use Rattle.cutting.specs.Shares.{by-weight, paired, state, exact}
 use Rattle.cutting.specs.Pieces.{Piece, kind}
-use Rattle.cutting.specs.Job.{Job, pieces, by-kind}
+use Rattle.cutting.specs.Job.{Job, pieces, by-kind, figure-of}
+use Rattle.cutting.specs.Two as two
+use Rattle.cutting.proofs.Exact.{figure-within}
 use Rattle.cutting.proofs.Saws.{saw-proper}
 use Rattle.cutting.proofs.Weights.{within-weight, weight-within}
 use Rattle.cutting.proofs.Pairs.{paired-within, within-paired, exact-within, within-exact}
-use Rattle.table.specs.Table.{position, words-needed, Figures as Shared, Kept}
-use Rattle.table.specs.States.{below, Blocks, by-state, Order, figure-at, digit, own-state}
+use Rattle.table.specs.Table.{position-count, position, words-needed, word, Figures as Shared, Kept}
+use Rattle.table.specs.Two.{pair-count, two-words, two-word}
+use Rattle.table.specs.Contracts.{TwoBy}
+use Rattle.table.specs.States.{below, Blocks, by-state, Order, figure-at, digit, own-state, pair-blocks, figure-pair, two-weights, pair-state}
 use Rattle.state_fill.specs.Cells.{under, Digits}
 use Rattle.state_fill.specs.Tables.{Figures}
 use Rattle.state_fill.proofs.Digits.{quotient, rest, lower-blocks, below-parts, parts-below, below-less, below-adds, digits-order}
 use Rattle.table.proofs.Shares.{split-state, state-split}
-use Rattle.table.proofs.Weighed.{one-within, within-one, figure-within, figure-one}
+use Rattle.table.proofs.Weighed.{one-within, within-one, figure-one}
 
 -- the last digit, and those before
 digit-last : (B : ℕ → ℕ) (d s : ℕ) → digit B (suc d) (suc d) s ≡ s / B d
@@ -141,11 +145,11 @@ module _ (J : Job) (B : ℕ → ℕ) where
   unfolding figure-at
   kind-figure le v d l w s = ap (λ own. figure (pieces J) (saw 0) (by-state le own) (l, w) s) (λ i p. kind-state B v d p i)
 
-  -- two weights, the second running fastest
-  pub figure-two : (first second : ℕ → ℕ) (v : ℕ → ℕ → ℕ) → v 1 ≡ first → v 0 ≡ second → (l w s : ℕ) → Blocks B 1 → s < B 1
+  -- two weights by their digits
+  two-digits : (first second : ℕ → ℕ) (v : ℕ → ℕ → ℕ) → v 1 ≡ first → v 0 ≡ second → (l w s : ℕ) → Blocks B 1 → s < B 1
       → figure-at J (below B 1) (own-state B v 1) l w s ≡ figure (pieces J) (saw 0) (paired (by-kind first) (by-kind second)) (l, w) (s / B 0, s % B 0)
   unfolding digit
-  figure-two first second v e f l w s blocks h = rw (← e, ← f) (kind-figure (below B 1) v 1 l w s
+  two-digits first second v e f l w s blocks h = rw (← e, ← f) (kind-figure (below B 1) v 1 l w s
       ∙ figure-within (pieces J) (saw 0) (saw-proper 0) (by-state (below B 1) (own-state B u 1)) (paired (by-weight (u 1)) (by-weight (u 0))) (l, w) s (s / B 0, s % B 0)
       (λ t k. (let x = within-digits B u 1 t s blocks h k in within-paired (by-weight (u 1)) (by-weight (u 0)) t (s / B 0, s % B 0) (weight-within (u 1) t (s / B 0) (x 1 (omega arith))) (weight-within (u 0) t (s % B 0) (x 0 (omega arith)))))
       (λ t k. (let x = paired-within (by-weight (u 1)) (by-weight (u 0)) t (s / B 0, s % B 0) k in digits-within B u 1 t s blocks (both t (within-weight (u 1) t (s / B 0) (x .0)) (within-weight (u 0) t (s % B 0) (x .1))))))
@@ -171,6 +175,42 @@ module _ (J : Job) (B : ℕ → ℕ) where
       one : ℕ → Piece → ℕ
       one i p = only (eqb (kind p) i) 1
 
+-- two digits
+pub pair-blocked : (q q′ : ℕ) → Blocks (pair-blocks q q′) 1
+pair-blocked q q′ = record { some = λ i h. some i (ℕ-discrete i 0) h; whole = λ i h. (let e : i ≡ 0 = omega arith in (q + 1, rw e refl)) }
+  where
+    some : (i : ℕ) → Dec (i ≡ 0) → i ≤ 1 → 1 ≤ pair-blocks q q′ i
+    some i (yes e) h = rw e (omega arith)
+    some i (no e) h = let f : i ≡ 1 = omega arith in rw f (omega arith)
+
+pub two-digit : (q q′ : ℕ) → pair-count q q′ ≤ 65536 → Digits ((q′ + 1) ∷ (q + 1) * (q′ + 1) ∷ []) 1 ((q + 1) * (q′ + 1))
+two-digit q q′ most = record { digits = pair-blocked q q′; listed = omega arith; states = refl; most = most }
+
+module _ (J : Job) (q q′ : ℕ) where
+  -- the number of a pair of shares is a state
+  pair-below : (c c′ : ℕ) → c < q + 1 → c′ < q′ + 1 → c * (q′ + 1) + c′ < (q + 1) * (q′ + 1)
+  pair-below c c′ h h′ = omega (arith, mul-le-mul-right {m = c + 1} {n = q + 1} (q′ + 1) (omega arith))
+
+  -- the figure of a pair by its number is that of the two weights
+  pub figure-two : (first second : ℕ → ℕ) (l w c c′ : ℕ) → c < q + 1 → c′ < q′ + 1 → figure-pair J q q′ (pair-state q q′ first second) l w c c′ ≡ two.figure-two J first second l w c c′
+  unfolding two.figure-two
+  figure-two first second l w c c′ h h′ = two-digits J (pair-blocks q q′) first second (two-weights first second) refl refl l w (c * (q′ + 1) + c′) (pair-blocked q q′) (pair-below c c′ h h′)
+      ∙ ap₂ (λ x y. figure (pieces J) (saw 0) (paired (by-kind first) (by-kind second)) (l, w) (x, y)) (quotient (c * (q′ + 1) + c′) (q′ + 1) c c′ refl h′) (rest (c * (q′ + 1) + c′) (q′ + 1) c c′ refl h′)
+
+  -- a filled table of two digits is that of the pairs
+  pub figures-two : (own : ℕ → ℕ) (old new : List ℕ) → Figures J (below (pair-blocks q q′) 1) own ((q + 1) * (q′ + 1)) new × Kept (position-count J Length * position-count J Width * ((q + 1) * (q′ + 1))) old new
+      → TwoBy J (figure-pair J q q′ own) q q′ old new
+  figures-two own old new w = (
+    λ a b c c′ ha hb hc hc′. ap (λ i. getD new i 0) (at a b c c′) ∙ w .0 a b (c * (q′ + 1) + c′) ha hb (pair-below c c′ hc hc′),
+    subst (λ n. Kept n old new) all (w .1),
+  )
+    where
+      all : position-count J Length * position-count J Width * ((q + 1) * (q′ + 1)) ≡ two-words J q q′
+      all = omega arith
+
+      at : (a b c c′ : ℕ) → two-word J q q′ a b c c′ ≡ (a * position-count J Width + b) * ((q + 1) * (q′ + 1)) + (c * (q′ + 1) + c′)
+      at a b c c′ = omega arith
+
 -- one digit of n states
 one-block : (n : ℕ) → 1 ≤ n → Blocks (λ i. getD (n ∷ []) i 0) 0
 one-block n some = record { some = λ i h. (let e : i ≡ 0 = omega arith in rw e some); whole = λ i h. absurd (omega arith) }
@@ -183,3 +223,26 @@ pub figures-one : (J : Job) (weight : ℕ → ℕ) (old new : List ℕ) (q : ℕ
     → Figures J (under ((q + 1) ∷ []) 0) weight (q + 1) new × Kept (words-needed J q) old new → Shared J weight q new × Kept (words-needed J q) old new
 unfolding below
 figures-one J weight old new q w = (λ a b c ha hb hc. w .0 a b c ha hb hc ∙ figure-one J weight (position J Length a) (position J Width b) c, w .1)
+
+-- where the second capacity is 0, the pairs are the shares of the first
+module _ (J : Job) (own : ℕ → ℕ) (q : ℕ) where
+  no-second : (t s : ℕ) → below (pair-blocks q 0) 1 t s ≡ leb t s
+  unfolding below
+  no-second t s = rw (quotient t 1 t 0 (omega arith) (omega arith), quotient s 1 s 0 (omega arith) (omega arith), rest t 1 t 0 (omega arith) (omega arith), rest s 1 s 0 (omega arith) (omega arith)) (whole (leb t s))
+    where
+      whole : (b : Bool) → b && true ≡ b
+      whole true = refl
+      whole false = refl
+
+  pair-one : (l w c : ℕ) → figure-of J own l w c ≡ figure-pair J q 0 own l w c 0
+  pair-one l w c = sym (figure-one J own l w c) ∙ ap₂ (λ le s. figure-at J le own l w s) (λ i t s. sym (no-second t s) i) (omega arith)
+
+  -- a filled table of the first is that of the pairs
+  pub figures-pairs : (old new : List ℕ) → Shared J own q new × Kept (words-needed J q) old new → TwoBy J (figure-pair J q 0 own) q 0 old new
+  figures-pairs old new w = (λ a b c c′ ha hb hc hc′. (let e : c′ ≡ 0 = omega arith in rw e (ap (λ i. getD new i 0) (at a b c) ∙ w .0 a b c ha hb hc ∙ pair-one (position J Length a) (position J Width b) c)), subst (λ n. Kept n old new) all (w .1))
+    where
+      all : words-needed J q ≡ two-words J q 0
+      all = omega arith
+
+      at : (a b c : ℕ) → two-word J q 0 a b c 0 ≡ word J q a b c
+      at a b c = omega arith

@@ -19,4 +19,5 @@ pub use raise::below;
 pub use rows::fill;
 pub use rows::strip_all;
 pub use shape::Shape;
+pub use weights::fill_two;
 pub use weights::fill_weighed;

@@ -20,7 +20,7 @@ use Rattle.cutting.specs.Shares.{other, staged}
 use Rattle.cutting.specs.Job.{Job, laid, MayLie, members, pieces, by-kind, normal-side, normal-floor}
 use Rattle.cutting.specs.Staged.{block}
 use Rattle.cutting.specs.Listed.{InTableRange}
-use Rattle.cutting.proofs.Exact.{leaf-ge, best-ge, figure-upper, figure-attained}
+use Rattle.cutting.proofs.Exact.{leaf-ge, best-ge, figure-upper, figure-attained, figure-within}
 use Rattle.cutting.proofs.Saws.{saw-cut, saw-proper}
 use Rattle.cutting.proofs.Enlarge.{Enlarges, figure-mono}
 use Rattle.cutting.proofs.Pieces.{fits-in-true, units-enlarge}
@@ -38,7 +38,7 @@ use Rattle.table.specs.States.{by-state, Order, block-at}
 use Rattle.table.proofs.Words.{cell-before}
 use Rattle.table.proofs.Figures.{entry-side}
 use Rattle.table.proofs.Shares.{state-split, within-above, by-state-monotone, by-state-symmetric}
-use Rattle.table.proofs.Weighed.{one-within, within-one, figure-within}
+use Rattle.table.proofs.Weighed.{one-within, within-one}
 use Rattle.table.proofs.Covered.{Joins}
 use Rattle.table.proofs.Complete.{half-le}
 

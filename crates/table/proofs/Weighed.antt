@@ -4,12 +4,11 @@ use mathlib.Core.Path.{_≡_}
 use Prim.Native.Nat.{ℕ, _+_, _-_, _≤_}
 use native.Mathlib.Omega.{arith}
 use lib.Dec.{leb, leb→le, le→leb}
-use Rattle.cutting.specs.Tree.{Rect, Tree, waste, piece, cut, Pieces, Saw, Shares, Proper, total, Within}
-use Rattle.cutting.specs.Figure.{figure}
+use Rattle.cutting.specs.Tree.{Tree, waste, piece, cut, total, Within}
 use Rattle.cutting.specs.Saws.{saw}
 use Rattle.cutting.specs.Pieces.{Piece, kind}
 use Rattle.cutting.specs.Job.{Job, pieces, by-kind, figure-of}
-use Rattle.cutting.proofs.Exact.{figure-upper, figure-attained}
+use Rattle.cutting.proofs.Exact.{figure-within}
 use Rattle.cutting.proofs.Saws.{saw-proper}
 use Rattle.cutting.proofs.Weights.{within-weight, weight-within}
 use Rattle.table.specs.States.{by-state, Order, figure-at}
@@ -45,14 +44,6 @@ module _ {P : Type 0} (w : P → ℕ) where
         within-one a (total w a) (omega arith),
         within-one b (s - total w a) (omega arith),
       )
-
--- shares that have the same trees have the same figures
-pub figure-within : {P S S′ : Type 0} (K : Pieces P) (C : Saw) (proper : Proper C) (H : Shares P S) (H′ : Shares P S′) (r : Rect) (s : S) (s′ : S′)
-    → ((t : Tree P) → Within H s t → Within H′ s′ t) → ((t : Tree P) → Within H′ s′ t → Within H s t) → figure K C H r s ≡ figure K C H′ r s′
-figure-within K C proper H H′ r s s′ to from =
-    let e = figure-attained K C H proper r s in
-    let f = figure-attained K C H′ proper r s′ in
-    omega (arith, e .3, f .3, figure-upper K C H′ proper (e .0) r s′ (e .1) (to (e .0) (e .2)), figure-upper K C H proper (f .0) r s (f .1) (from (f .0) (f .2)))
 
 -- the figures of the scope
 pub figure-one : (J : Job) (weight : ℕ → ℕ) (l w c : ℕ) → figure-at J leb weight l w c ≡ figure-of J weight l w c

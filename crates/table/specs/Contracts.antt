@@ -6,12 +6,13 @@ use lib.ListN.{length, getD, take, drop}
 use Rattle.cutting.specs.declared.Direction.{Direction}
 use Rattle.cutting.specs.declared.Direction.the-variants.{Length, Width}
 use Rattle.cutting.specs.Tree.{side}
-use Rattle.cutting.specs.Limits.{most-capacity, most-limit}
+use Rattle.cutting.specs.Limits.{most-capacity, most-pairs, most-limit}
 use Rattle.cutting.specs.Job.{Job, normal-positions, normal-floor}
 use Rattle.cutting.specs.Listed.{InTableRange, pieces-job}
 use Rattle.table.specs.declared.TableSize.{TableSize}
 use Rattle.table.specs.Table.{position-count, position, words-needed, Figures, Kept}
 use Rattle.table.specs.Staged.{staged-words, StagedFigures}
+use Rattle.table.specs.Two.{pair-count, two-words, TwoFigures}
 
 -- a list holds the normal positions of a side
 abbrev pub Listed : Job → Direction → List ℕ → Type 0
@@ -54,3 +55,13 @@ pub record StagedFillable (size : TableSize) (limit : ℕ) (pieces normal-length
 -- what it leaves: the figures of every block, and later words as they were
 abbrev pub StagedBy : Job → (ℕ → ℕ) → ℕ → ℕ → List ℕ → List ℕ → Type 0
 StagedBy J weight n q old new = StagedFigures J weight n q new × Kept (staged-words J q n) old new
+
+-- what the fill of two weights asks besides, the second capacity beside the first: not too many pairs of shares, and room for all
+pub record TwoFillable (size : TableSize) (second : ℕ) (pieces normal-lengths normal-widths floors table : List ℕ) : Type 0 where
+  pub fillable : Fillable size pieces normal-lengths normal-widths floors table
+  pub pairs : pair-count (size .capacity) second ≤ most-pairs
+  pub all : two-words (size-job size pieces) (size .capacity) second ≤ length table
+
+-- what it leaves: the figures F of every pair, and later words as they were
+abbrev pub TwoBy : Job → (ℕ → ℕ → ℕ → ℕ → ℕ) → ℕ → ℕ → List ℕ → List ℕ → Type 0
+TwoBy J F q q′ old new = TwoFigures J F q q′ new × Kept (two-words J q q′) old new

@@ -3,9 +3,10 @@
 use mathlib.Core.Path.{_≡_}
 use mathlib.Core.Logic.{_⊎_}
 use mathlib.Core.Bool.{Bool, true, false, _&&_}
-use mathlib.Core.List.{map}
+use mathlib.Core.List.{[], _∷_, map}
 use Prim.Native.Nat.{ℕ, zero, suc, _+_, _-_, _*_, _/_, _%_, _≤_, _<_}
 use lib.Dec.{T, leb, ltb, eqb}
+use lib.ListN.{getD}
 use Rattle.cutting.specs.declared.Direction.{Direction}
 use Rattle.cutting.specs.Lists.{range, filter}
 use Rattle.cutting.specs.Tree.{Shares}
@@ -48,6 +49,14 @@ figure-at J le own l w s = figure (pieces J) (saw 0) (by-state le (λ p. own (ki
 unfoldable pub block-at : Job → (ℕ → ℕ → Bool) → (ℕ → ℕ) → ℕ → Direction → ℕ → ℕ → ℕ → ℕ
 block-at J le own k d l w s = figure (pieces J) (saw 0) (staged (by-state le (λ p. own (kind p)))) (l, w) (d, k, s)
 
+-- two digits: the second share runs fastest, and the first is the last digit
+abbrev pub pair-blocks : ℕ → ℕ → ℕ → ℕ
+pair-blocks q q′ i = getD ((q′ + 1) ∷ (q + 1) * (q′ + 1) ∷ []) i 0
+
+-- the figure of a rectangle and a pair of shares, by the pair's number
+abbrev pub figure-pair : Job → ℕ → ℕ → (ℕ → ℕ) → ℕ → ℕ → ℕ → ℕ → ℕ
+figure-pair J q q′ own l w c c′ = figure-at J (below (pair-blocks q q′) 1) own l w (c * (q′ + 1) + c′)
+
 -- some states cover the values f over those of g: at each state s, f is not above g, or not above its own value at one of them below s
 abbrev pub Covers : (ℕ → ℕ → Bool) → ℕ → (ℕ → Type 0) → (ℕ → ℕ) → (ℕ → ℕ) → Type 0
 Covers le n some f g = (s : ℕ) → s < n → (f s ≤ g s) ⊎ ((t : ℕ) × (t < n) × T (le t s) × some t × (f s ≤ f t))
@@ -61,3 +70,12 @@ digit B (suc d) i s = elim (eqb i (suc d)) [ true ↦ s / B d | false ↦ digit 
 unfoldable pub own-state : {P : Type 0} → (ℕ → ℕ) → (ℕ → P → ℕ) → ℕ → P → ℕ
 own-state B w zero p = w 0 p
 own-state B w (suc d) p = elim (ltb (own-state B w d p) (B d)) [ true ↦ w (suc d) p * B d + own-state B w d p | false ↦ B (suc d) ]
+
+-- two weights by digit: the second at digit 0, the first at digit 1
+abbrev pub two-weights : (ℕ → ℕ) → (ℕ → ℕ) → ℕ → ℕ → ℕ
+two-weights first second zero = second
+two-weights first second (suc i) = first
+
+-- the state of a kind with two weights: its number, or one past all pairs where the second is above its capacity
+abbrev pub pair-state : ℕ → ℕ → (ℕ → ℕ) → (ℕ → ℕ) → ℕ → ℕ
+pair-state q q′ first second = own-state (pair-blocks q q′) (two-weights first second) 1
