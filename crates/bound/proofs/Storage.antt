@@ -22,7 +22,7 @@ use Rattle.bound.specs.declared.BoundReport.{BoundReport}
 use Rattle.bound.specs.Contracts.{BothMapped, Bounded}
 
 -- none of two tests passes
-or-false : (a b : Bool) → (a || b) ≡ false → (a ≡ false) × (b ≡ false)
+pub or-false : (a b : Bool) → (a || b) ≡ false → (a ≡ false) × (b ≡ false)
 or-false true b e = (e, cc)
 or-false false b e = (refl, e)
 

@@ -66,7 +66,7 @@ pub fn map_sides(size: TableSize, lengths: &[u16], widths: &[u16], floors: &mut 
 }
 
 // The figures of pieces, into a table that is long enough: the fill for one share or for many.
-fn fill_table(
+pub fn fill_table(
     size: TableSize,
     pieces: &[u32; 640],
     normal_lengths: &[u16],

@@ -1,0 +1,171 @@
+-- What the call promises, from the verdicts of job and weights and from the bound of an accepted job.
+use mathlib.Core.Path.{_≡_, refl, sym, _∙_, ap, ap₂, subst}
+use mathlib.Core.List.{List}
+use Prim.Native.Nat.{ℕ, _≤_}
+use native.Mathlib.Omega.{arith}
+use lib.ListN.{length}
+use Rattle.cutting.specs.declared.Sides.{Sides}
+use Rattle.cutting.specs.Sides.{rect-of, sides-of}
+use Rattle.cutting.specs.Job.{Job, InRange, widened, capacity}
+use Rattle.cutting.specs.Two.{figure-two, two-bound}
+use Rattle.cutting.specs.Listed.{heavy-in, pieces-job, PieceArray}
+use Rattle.cutting.proofs.Members.{range-solid, widened-solid}
+use Rattle.cutting.proofs.Two.{two-recursion, two-floor, two-most, two-holds, two-ceiling}
+use Rattle.cutting.proofs.Promises.{normal-listed}
+use Rattle.refusal.specs.Refusals.{next, first-refusal, outcome-by}
+use Rattle.refusal.specs.declared.Refusal.{Refusal}
+use Rattle.refusal.specs.declared.Checked.{Checked}
+use Rattle.refusal.specs.declared.Checked.the-variants.{Passed, Refused}
+use Rattle.job.specs.declared.Choices.{Choices}
+use Rattle.job.specs.declared.JobRecord.{JobRecord}
+use Rattle.job.specs.declared.JobAnswer.{JobAnswer}
+use Rattle.job.specs.Block.{job-checks, record-of, read-of, job-of}
+use Rattle.job.specs.Weights.{block-job, weight-in}
+use Rattle.job.proofs.Checks.{first-append, append-passed, passed-append, passed-both}
+use Rattle.job.proofs.Read.{answered, refused, read-in-range}
+use Rattle.table.specs.Two.{pair-count}
+use Rattle.table.specs.States.{figure-pair, pair-state}
+use Rattle.bound.specs.Bound.{Memory, wide-job, block-capacity}
+use Rattle.bound.proofs.Listed.{pieces-range}
+use Rattle.two_bound.specs.Two.{two-checks, storage-checks, answer-by, TwoLeaves, weighed-verdict, BothAccepted, two-verdict, block-figure, two-block-report, two-answer, two-values, two-outcome, TwoHolds, TwoPromises}
+use Rattle.two_bound.specs.Contracts.{Statable, Stated, Pairable, Paired}
+use Rattle.two_bound.specs.declared.TwoReport.{TwoReport}
+use Rattle.two_bound.specs.declared.TwoAnswer.{TwoAnswer}
+use Rattle.two_bound.specs.declared.TwoAnswer.the-variants as answer
+use Rattle.two_bound.proofs.Weights.{Weighs, both-passed}
+use Rattle.two_bound.proofs.States.{statable, stated-array}
+use Rattle.two_bound.proofs.Listed.{pieces-paired}
+use Rattle.two_bound.proofs.One.{one-answer, one-memory}
+
+-- the bound of a job in range holds at its capacities
+two-held : (J : Job) (first second : ℕ → ℕ) → InRange J → TwoHolds J first second (capacity J first) (capacity J second) (two-bound J first second)
+two-held J first second h = record {
+  most = two-most J first second (range-solid J h) (capacity J first) (capacity J second);
+  demands = two-holds J first second (range-solid J h);
+  ceiling = two-ceiling J first second h;
+  figure = refl;
+  first-is = refl;
+  second-is = refl;
+}
+
+said-by : (v : Checked) (b : TwoReport) → two-outcome (answer-by v b) ≡ outcome-by v (two-values b)
+said-by Passed b = refl
+said-by (Refused r) b = refl
+
+-- an answer with a report: the verdict passed, and it is the report
+answered-behind : (v : Checked) (b : TwoReport) {x : TwoReport} → answer.Answered x ≡ answer-by v b → (v ≡ Passed) × (x ≡ b)
+answered-behind Passed b e = (refl, cc)
+answered-behind (Refused r) b e = (cc, cc)
+
+module _ (s : List ℕ) (choices : Choices) (first second : List ℕ) where
+  -- the job of an accepted block is in the scope's ranges
+  in-range : BothAccepted s choices first second → InRange (block-job s choices)
+  in-range a = read-in-range s choices (append-passed (job-checks s choices) (two-checks (block-job s choices) first second) a .0)
+
+  -- the job is refused, or its weights are
+  pub job-refused : {a : JobAnswer} {r : Refusal} → a ≡ read-of s choices → a .verdict ≡ Refused r → weighed-verdict s choices first second ≡ Refused r
+  job-refused e p = first-append (job-checks s choices) (two-checks (block-job s choices) first second) ∙ ap (λ v. next v (first-refusal (two-checks (block-job s choices) first second))) (refused s choices e p)
+
+  pub weights-refused : {a : JobAnswer} {v : Checked} {r : Refusal} → a ≡ read-of s choices → a .verdict ≡ Passed → v ≡ first-refusal (two-checks (job-of (a .job)) first second) → v ≡ Refused r → weighed-verdict s choices first second ≡ Refused r
+  weights-refused e p f g =
+      let j = answered s choices e p in
+      first-append (job-checks s choices) (two-checks (block-job s choices) first second) ∙ ap₂ next (j .0) (sym (ap (λ j. first-refusal (two-checks (job-of j) first second)) (j .1)) ∙ sym f ∙ g)
+
+  module _ (old : Memory) where
+    -- the answer and the memory give the rest
+    promised : {new : Memory} (r : TwoAnswer) → r ≡ two-answer s choices first second old
+        → TwoLeaves (weighed-verdict s choices first second) (wide-job s choices) (block-figure s choices first second) (block-capacity s choices first) (block-capacity s choices second) old new
+        → TwoPromises s choices first second old new r
+    promised {new} r e l = record {
+      answers = e;
+      outcome = ap (λ x. two-outcome x) e ∙ said-by (two-verdict s choices first second old) (two-block-report s choices first second);
+      memory = l;
+      exact = λ b f. held b (sym e ∙ f);
+      recursion = two-recursion (wide-job s choices) (weight-in first) (weight-in second);
+      normal = normal-listed (wide-job s choices);
+      accepted = λ a. two-held (block-job s choices) (weight-in first) (weight-in second) (in-range a);
+      floor = λ a. two-floor (wide-job s choices) (weight-in first) (weight-in second) (widened-solid (block-job s choices) (range-solid (block-job s choices) (in-range a)));
+      one = λ same none. (e ∙ one-answer first second same none s choices old, one-memory first second same none s choices old new l);
+    }
+      where
+        held : (b : TwoReport) → two-answer s choices first second old ≡ answer.Answered b → TwoHolds (block-job s choices) (weight-in first) (weight-in second) (b .«first_capacity») (b .«second_capacity») (b .bound)
+        held b f =
+            let w = answered-behind (two-verdict s choices first second old) (two-block-report s choices first second) (sym f) in
+            let v = passed-both (weighed-verdict s choices first second) (first-refusal (storage-checks (wide-job s choices) (block-capacity s choices first) (block-capacity s choices second) old)) (w .0) in
+            rw (w .1) (two-held (block-job s choices) (weight-in first) (weight-in second) (in-range (v .0)))
+
+    -- a refusal before the storage checks changes nothing
+    pub early : (r : Refusal) → weighed-verdict s choices first second ≡ Refused r → TwoPromises s choices first second old old (answer.Refused r)
+    early r v = promised (answer.Refused r) (sym (ap (λ v. answer-by (next v (first-refusal (storage-checks (wide-job s choices) (block-capacity s choices first) (block-capacity s choices second) old))) (two-block-report s choices first second)) v))
+        (rw v (record { lengths = refl; widths = refl; table = refl }))
+
+    -- job and weights are accepted
+    pub accepted : BothAccepted s choices first second → {new : Memory} (r : TwoAnswer)
+        → Paired (wide-job s choices) (block-figure s choices first second) (block-capacity s choices first) (block-capacity s choices second) old new r → TwoPromises s choices first second old new r
+    accepted v {new} r b =
+        promised r (b .answer ∙ sym (ap (λ v. answer-by (next v (first-refusal (storage-checks (wide-job s choices) (block-capacity s choices first) (block-capacity s choices second) old))) (two-block-report s choices first second)) v)) (rw v (b .memory))
+
+-- a job and capacities that were taken from a block and two weights a kind which are accepted
+pub record TwoTaken (s : List ℕ) (choices : Choices) (first second : List ℕ) (j : JobRecord) (q q′ : ℕ) : Type 0 where
+  pub accepted-is : BothAccepted s choices first second
+  pub record-is : j ≡ record-of s choices
+  pub first-is : q ≡ capacity (job-of j) (weight-in first)
+  pub second-is : q′ ≡ capacity (job-of j) (weight-in second)
+  pub range : InRange (job-of j)
+  pub weighs : Weighs (job-of j) first second
+
+-- the job that was read is in range
+pub range-read : (s : List ℕ) (choices : Choices) {a : JobAnswer} → a ≡ read-of s choices → a .verdict ≡ Passed → InRange (job-of (a .job))
+range-read s choices e p = let j = answered s choices e p in rw (j .1) (read-in-range s choices (j .0))
+
+pub two-taken : (s : List ℕ) (choices : Choices) (first second : List ℕ) {a : JobAnswer} {v : Checked} {q q′ : ℕ} → a ≡ read-of s choices → a .verdict ≡ Passed
+    → v ≡ first-refusal (two-checks (job-of (a .job)) first second) → (v ≡ Passed → (q ≡ capacity (job-of (a .job)) (weight-in first)) × (q′ ≡ capacity (job-of (a .job)) (weight-in second))) → v ≡ Passed
+    → TwoTaken s choices first second (a .job) q q′
+two-taken s choices first second {a} e p f g h =
+    let j = answered s choices e p in
+    record {
+      accepted-is = passed-append (job-checks s choices) (two-checks (block-job s choices) first second) (j .0) (sym (ap (λ j. first-refusal (two-checks (job-of j) first second)) (j .1)) ∙ sym f ∙ h);
+      record-is = j .1;
+      first-is = g h .0;
+      second-is = g h .1;
+      range = range-read s choices e p;
+      weighs = both-passed (job-of (a .job)) first second (sym f ∙ h);
+    }
+
+-- what the steps ask, and what the bound of the pieces says of the job's block
+module _ (s : List ℕ) (choices : Choices) (first second : List ℕ) {j : JobRecord} {q q′ : ℕ} (t : TwoTaken s choices first second j q q′) where
+  pub listable : InRange (job-of j) × (j .count ≤ length first)
+  listable = (t .range, omega (arith, t .weighs .first-all))
+
+  few-pairs : pair-count q q′ ≤ 65536
+  few-pairs = omega (arith, t .weighs .pairs, ap₂ pair-count (t .first-is) (t .second-is))
+
+  module _ {count : ℕ} {old : List ℕ} (array : PieceArray (widened (job-of j)) (weight-in first) count old) where
+    pub states-ready : Statable old count first second q q′
+    states-ready = statable (widened (job-of j)) count old array (pieces-range (job-of j) (weight-in first) count old array (t .range) .kinds) (t .weighs .first-all) (t .weighs .second-all) few-pairs
+
+    module _ {new : List ℕ} (stated : Stated count (weight-in first) (weight-in second) q q′ old new) where
+      -- the array with the states
+      abbrev own : ℕ → ℕ
+      own = pair-state q q′ (weight-in first) (weight-in second)
+
+      numbered : PieceArray (widened (job-of j)) own count new
+      numbered = stated-array (widened (job-of j)) count old array (weight-in first) (weight-in second) q q′ new stated
+
+      pub pairable : {plate : Sides} {floors : List ℕ} → plate ≡ sides-of (widened (job-of j) .plate) → length floors ≡ 2042 → Pairable (pieces-job (rect-of plate) count new) q q′ floors
+      pairable {plate} {floors} e h =
+          let b : Pairable (pieces-job (widened (job-of j) .plate) count new) q q′ floors =
+          record { in-range = pieces-range (job-of j) own count new numbered (t .range); most = omega (arith, t .weighs .few, t .first-is); pairs = few-pairs; floors-there = h } in
+          subst (λ p. Pairable (pieces-job (rect-of p) count new) q q′ floors) (sym e) b
+
+      pub job-paired : {plate : Sides} {m m′ : Memory} {r : TwoAnswer} → plate ≡ sides-of (widened (job-of j) .plate)
+          → Paired (pieces-job (rect-of plate) count new) (figure-pair (pieces-job (rect-of plate) count new) q q′ (heavy-in new)) q q′ m m′ r
+          → Paired (wide-job s choices) (block-figure s choices first second) (block-capacity s choices first) (block-capacity s choices second) m m′ r
+      job-paired {plate} {m} {m′} {r} e b =
+          let W = widened (job-of j) in
+          let F = figure-two W (weight-in first) (weight-in second) in
+          let c = pieces-paired W (weight-in first) (weight-in second) q q′ count new numbered m m′ r
+          (subst (λ p. Paired (pieces-job (rect-of p) count new) (figure-pair (pieces-job (rect-of p) count new) q q′ (heavy-in new)) q q′ m m′ r) e b) in
+          let d : Paired W F (capacity (job-of j) (weight-in first)) q′ m m′ r = subst (λ q. Paired W F q q′ m m′ r) (t .first-is) c in
+          let f : Paired W F (capacity (job-of j) (weight-in first)) (capacity (job-of j) (weight-in second)) m m′ r = subst (λ q′. Paired W F (capacity (job-of j) (weight-in first)) q′ m m′ r) (t .second-is) d in
+          subst (λ j. Paired (widened (job-of j)) (figure-two (widened (job-of j)) (weight-in first) (weight-in second)) (capacity (job-of j) (weight-in first)) (capacity (job-of j) (weight-in second)) m m′ r) (t .record-is) f
