@@ -4,3 +4,4 @@ mod Trees
 mod Calls
 mod Saw
 mod Within
+mod Pairs

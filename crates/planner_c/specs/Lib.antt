@@ -1,3 +1,4 @@
 pub mod Exports
 pub mod Saw
 pub mod Within
+pub mod Two

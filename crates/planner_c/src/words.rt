@@ -11,6 +11,8 @@ use saw::Part;
 use saw::SawAnswer;
 use saw::SawReport;
 use staged_plan::StagedAnswer;
+use two_bound::TwoAnswer;
+use two_bound::TwoReport;
 use writer::WriteAnswer;
 use writer::WriteReport;
 ghost use mathlib.Core.Path.{_≡_};
@@ -29,6 +31,7 @@ ghost use Rattle.writer.specs.Write.{write-values, write-outcome};
 ghost use Rattle.saw.specs.Saw.{saw-values, saw-outcome};
 ghost use Rattle.saw.specs.Parts.{part-said};
 ghost use Rattle.staged_plan.specs.Check.{staged-check-outcome};
+ghost use Rattle.two_bound.specs.Two.{two-values, two-outcome};
 ghost use Rattle.planner_c.specs.Exports.{Gives, GapWithin};
 
 // A refusal: its number is returned, its place put in the first word.
@@ -82,6 +85,35 @@ pub fn put_bound(a: BoundAnswer, answer: &mut [u64]) -> u32
         BoundAnswer::Refused(r) => refuse(r, answer),
         BoundAnswer::Answered(b) => {
             put_bounds(b.bound, b.capacity, b.length_count, b.columns, answer);
+            0
+        }
+    }
+}
+
+// What the bound call of two weights reports: the bound, both capacities and the numbers of normal lengths and widths.
+fn put_pairs(b: TwoReport, answer: &mut [u64])
+    requires { ⌜ 5 ≤ length (now answer) ⌝ }
+    ensures { λ _. ⌜ now (answer .exit) ≡ sets (now (answer .entry)) 0 (two-values b) ⌝ }
+{
+    put_bounds(
+        b.bound,
+        b.first_capacity,
+        b.second_capacity,
+        b.length_count,
+        answer,
+    );
+    answer[4] = b.columns as u64;
+}
+
+// What the bound call of two weights answers.
+pub fn put_two(a: TwoAnswer, answer: &mut [u64]) -> u32
+    requires { ⌜ 5 ≤ length (now answer) ⌝ }
+    ensures { λ n. ⌜ Gives (two-outcome a) n (now (answer .entry)) (now (answer .exit)) ⌝ }
+{
+    match a {
+        TwoAnswer::Refused(r) => refuse(r, answer),
+        TwoAnswer::Answered(b) => {
+            put_pairs(b, answer);
             0
         }
     }
