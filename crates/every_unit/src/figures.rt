@@ -1,20 +1,25 @@
 // The figures of every rectangle and share, by the definition: 0; the price of any kind that fits, upright or as the choice of turning
-// allows, and weighs at most the share; every length cut with every division of the share; every width cut likewise. The rectangles are
-// those that the saw leaves: a cut at x of a side n leaves x and n - x - k, k the kerf, both at least 1.
+// allows, and weighs at most the share; every length cut with every division of the share; every width cut likewise. Where a kind has two
+// weights, a share is a pair of them. The rectangles are those that the saw leaves: a cut at x of a side n leaves x and n - x - k, k the
+// kerf, both at least 1.
 use crate::job::FIGURES;
 use crate::job::PRICE;
+use crate::job::SECOND_WEIGHT;
 use crate::job::WEIGHT;
 use crate::job::fits;
 use crate::job::kerf;
 use crate::job::kind_count;
 use crate::job::may_turn;
 use crate::job::plate_side;
+use crate::job::second_shares;
 use crate::job::shares;
 use crate::job::widths;
 use test_tools::Words;
 use test_tools::larger;
 use test_tools::minus;
 use test_tools::plus;
+use test_tools::quotient;
+use test_tools::rest;
 use test_tools::times;
 use test_tools::word;
 
@@ -34,12 +39,15 @@ fn lies_within(t: &Words, i: usize, l: usize, w: usize) -> bool {
     false
 }
 
-// The price of a kind where it lies in the rectangle and weighs at most the share, and else 0.
+// The price of a kind where it lies in the rectangle and weighs at most both shares of the pair, and else 0.
 fn price_within(t: &Words, i: usize, l: usize, w: usize, c: usize) -> usize {
     if !lies_within(t, i, l, w) {
         return 0;
     }
-    if c < word(t, WEIGHT, i) {
+    if quotient(c, second_shares(t)) < word(t, WEIGHT, i) {
+        return 0;
+    }
+    if rest(c, second_shares(t)) < word(t, SECOND_WEIGHT, i) {
         return 0;
     }
     word(t, PRICE, i)
@@ -54,11 +62,19 @@ pub fn best_kind(t: &Words, l: usize, w: usize, c: usize) -> usize {
     best
 }
 
-// The most that the cells of two parts earn together, over every division of the share.
+// What the cells of two parts earn together where the first takes the pair s, if neither of its shares is above that of c, and else 0.
+fn division(t: &Words, first: usize, second: usize, c: usize, s: usize) -> usize {
+    if rest(c, second_shares(t)) < rest(s, second_shares(t)) {
+        return 0;
+    }
+    plus(word(t, first, s), word(t, second, minus(c, s)))
+}
+
+// The most that they earn together, over every division of both shares.
 fn best_division(t: &Words, first: usize, second: usize, c: usize) -> usize {
     let mut best: usize = 0;
     for s in 0..plus(c, 1) {
-        best = larger(best, plus(word(t, first, s), word(t, second, minus(c, s))));
+        best = larger(best, division(t, first, second, c, s));
     }
     best
 }

@@ -40,7 +40,7 @@ pub const WEIGHT: usize = 9290;
 // How many weights there are; then the weights.
 pub const WEIGHTS: usize = 9289;
 
-// What is expected of the planner: bound, capacity, numbers of normal lengths and widths, words of the table.
+// What is expected of the planner: bound, capacity, numbers of normal lengths and widths, second capacity, words of the table.
 pub const BOUND: usize = 9400;
 
 pub const CAPACITY: usize = 9401;
@@ -49,7 +49,17 @@ pub const LENGTH_COUNT: usize = 9402;
 
 pub const WIDTH_COUNT: usize = 9403;
 
-pub const WORD_COUNT: usize = 9404;
+pub const SECOND_CAPACITY: usize = 9404;
+
+pub const WORD_COUNT: usize = 9405;
+
+// How many second weights there are; then the second weights, all 0 where a kind has one weight.
+pub const SECOND_WEIGHTS: usize = 9409;
+
+pub const SECOND_WEIGHT: usize = 9410;
+
+// 1 where each kind has two weights, and else 0.
+pub const TWO: usize = 9490;
 
 // At most 1,021 positions each: up to a side of 1,000 and a kerf of 20.
 pub const NORMAL_LENGTHS: usize = 10000;
@@ -155,21 +165,28 @@ fn counted(t: &Words, i: usize) -> usize {
     if most < demand { most } else { demand }
 }
 
-// The capacity: the sum over the kinds of counted copies times weight.
-fn capacity(t: &Words) -> usize {
+// The capacity of the weights at a place: the sum over the kinds of counted copies times weight.
+fn capacity(t: &Words, weights: usize) -> usize {
     let mut sum: usize = 0;
     for i in 0..kind_count(t) {
-        sum = plus(sum, times(counted(t, i), word(t, WEIGHT, i)));
+        sum = plus(sum, times(counted(t, i), word(t, weights, i)));
     }
     sum
 }
 
-pub fn note_capacity(t: &mut Words) {
-    let q = capacity(t);
-    put(t, CAPACITY, 0, q);
+pub fn note_capacities(t: &mut Words) {
+    let first = capacity(t, WEIGHT);
+    let second = capacity(t, SECOND_WEIGHT);
+    put(t, CAPACITY, 0, first);
+    put(t, SECOND_CAPACITY, 0, second);
 }
 
-// How many shares there are, counted from 0.
+// How many second shares there are, counted from 0: one where a kind has one weight.
+pub fn second_shares(t: &Words) -> usize {
+    plus(word(t, SECOND_CAPACITY, 0), 1)
+}
+
+// How many pairs of shares there are. A pair is a number, the second share running fastest.
 pub fn shares(t: &Words) -> usize {
-    plus(word(t, CAPACITY, 0), 1)
+    times(plus(word(t, CAPACITY, 0), 1), second_shares(t))
 }

@@ -6,12 +6,16 @@ use crate::job::KIND_LENGTH;
 use crate::job::LEFT;
 use crate::job::PLATE;
 use crate::job::PRICE;
+use crate::job::SECOND_WEIGHT;
+use crate::job::SECOND_WEIGHTS;
 use crate::job::STATE;
+use crate::job::TWO;
 use crate::job::WEIGHT;
 use crate::job::kind_count;
 use crate::job::kind_side;
 use test_tools::ROW;
 use test_tools::Words;
+use test_tools::clear;
 use test_tools::minus;
 use test_tools::plus;
 use test_tools::put;
@@ -85,6 +89,16 @@ fn draw_terms(t: &mut Words, i: usize) {
     put(t, LEFT, 0, minus(left, times(demand, weight)));
 }
 
+// Draws the second weight of a kind, likewise.
+fn draw_second(t: &mut Words, i: usize) {
+    let demand = word(t, DEMAND, i);
+    let drawn = draw(t, 17);
+    let left = word(t, LEFT, 0);
+    let weight = lowered(drawn, demand, left);
+    put(t, SECOND_WEIGHT, i, weight);
+    put(t, LEFT, 0, minus(left, times(demand, weight)));
+}
+
 fn draw_kind(t: &mut Words, i: usize) {
     draw_side(t, 0, i);
     draw_side(t, 1, i);
@@ -98,13 +112,20 @@ fn draw_kinds(t: &mut Words) {
     }
 }
 
+fn draw_seconds(t: &mut Words) {
+    put(t, LEFT, 0, word(t, ROW, 19));
+    for i in 0..kind_count(t) {
+        draw_second(t, i);
+    }
+}
+
 // Draws one of the header's numbers: plate length, plate width, number of kinds, kerf.
 fn draw_header(t: &mut Words, which: usize) {
     let x = draw(t, times(2, which));
     put(t, PLATE, which, x);
 }
 
-// Draws a job of the shape in the row.
+// Draws a job of the shape in the row, with one weight a kind, or two that are drawn alike.
 pub fn draw_job(t: &mut Words) {
     draw_header(t, 0);
     draw_header(t, 1);
@@ -112,4 +133,9 @@ pub fn draw_job(t: &mut Words) {
     draw_header(t, 3);
     put(t, LEFT, 0, word(t, ROW, 19));
     draw_kinds(t);
+    put(t, SECOND_WEIGHTS, 0, kind_count(t));
+    clear(t, SECOND_WEIGHT, 70);
+    if word(t, TWO, 0) == 1 {
+        draw_seconds(t);
+    }
 }

@@ -3,7 +3,6 @@ use crate::figures::cell;
 use crate::figures::figure;
 use crate::figures::figure_count;
 use crate::job::BOUND;
-use crate::job::CAPACITY;
 use crate::job::FIGURES;
 use crate::job::FULL_DEMAND;
 use crate::job::LENGTH_COUNT;
@@ -13,7 +12,7 @@ use crate::job::TURNING;
 use crate::job::WIDTH_COUNT;
 use crate::job::WORD_COUNT;
 use crate::job::kerf;
-use crate::job::note_capacity;
+use crate::job::note_capacities;
 use crate::job::plate_side;
 use crate::job::shares;
 use crate::job::widths;
@@ -53,9 +52,9 @@ fn fill_figures(t: &mut Words) {
     }
 }
 
-// The figure of the plate and the whole capacity in a block.
+// The figure of the plate and the whole capacities in a block.
 fn plate_figure(t: &Words, block: usize) -> usize {
-    let c = word(t, CAPACITY, 0);
+    let c = minus(shares(t), 1);
     let plate = cell(t, plate_side(t, 0), plate_side(t, 1));
     word(t, plus(block_start(t, block), plate), c)
 }
@@ -110,7 +109,7 @@ fn keep_normal(t: &mut Words) {
 pub fn compute(t: &mut Words, turning: bool, full_demand: bool) {
     put(t, TURNING, 0, turning as usize);
     put(t, FULL_DEMAND, 0, full_demand as usize);
-    note_capacity(t);
+    note_capacities(t);
     list_positions(t, 0);
     list_positions(t, 1);
     fill_figures(t);

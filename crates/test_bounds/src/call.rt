@@ -1,5 +1,5 @@
-// The bound call on the job at hand, or within a limit of stages the staged one, with a part of marked memory lent; its answer and what
-// it left there go into words.
+// The bound call on the job at hand, or the staged one, or that of two weights, with a part of marked memory lent; its answer and what it
+// left there go into words.
 use bound::BoundAnswer;
 use bound::BoundReport;
 use every_unit::BLOCK;
@@ -8,6 +8,8 @@ use every_unit::LENGTH_COUNT;
 use every_unit::LIMIT;
 use every_unit::NORMAL_LENGTHS;
 use every_unit::NORMAL_WIDTHS;
+use every_unit::SECOND_WEIGHTS;
+use every_unit::TWO;
 use every_unit::WEIGHTS;
 use every_unit::WIDTH_COUNT;
 use every_unit::WORD_COUNT;
@@ -26,6 +28,10 @@ use test_tools::marked_list;
 use test_tools::marked_table;
 use test_tools::put;
 use test_tools::word;
+use two_bound::TwoAnswer;
+use two_bound::TwoReport;
+use two_bound::bound_two;
+use two_bound::bound_two_full_demand;
 
 // Entries of the two lists and words of the table that are lent.
 pub const LENT_LENGTHS: usize = 60000;
@@ -34,7 +40,7 @@ pub const LENT_WIDTHS: usize = 60001;
 
 pub const LENT_WORDS: usize = 60002;
 
-// A refusal's number and place; or 0 and bound, capacity, number of normal lengths and of normal widths.
+// A refusal's number and place; or 0 and bound, capacity, number of normal lengths, of normal widths, and the second capacity.
 pub const ANSWER: usize = 60010;
 
 // How many entries of the lengths, of the widths, and words of the table are not as expected.
@@ -59,6 +65,23 @@ fn note_report(t: &mut Words, r: BoundReport) {
     put(t, ANSWER, 2, widen(r.capacity));
     put(t, ANSWER, 3, widen(r.length_count));
     put(t, ANSWER, 4, widen(r.columns));
+    put(t, ANSWER, 5, 0);
+}
+
+fn note_two_report(t: &mut Words, r: TwoReport) {
+    put(t, ANSWER, 0, 0);
+    put(t, ANSWER, 1, r.bound as usize);
+    put(t, ANSWER, 2, widen(r.first_capacity));
+    put(t, ANSWER, 3, widen(r.length_count));
+    put(t, ANSWER, 4, widen(r.columns));
+    put(t, ANSWER, 5, widen(r.second_capacity));
+}
+
+fn note_two(t: &mut Words, answer: TwoAnswer) {
+    match answer {
+        TwoAnswer::Answered(r) => note_two_report(t, r),
+        TwoAnswer::Refused(r) => note_refusal(t, r),
+    }
 }
 
 fn note_answer(t: &mut Words, answer: BoundAnswer) {
@@ -84,6 +107,15 @@ fn note_left(t: &mut Words, lengths: &[u16; 1028], widths: &[u16; 1028], table: 
     note_table(t, table);
 }
 
+// The choices for a call whose name says full demand: of it they say nothing.
+fn other_choices(way: Choices) -> Choices {
+    Choices {
+        turning: way.turning,
+        full_demand: false,
+        old_block: way.old_block,
+    }
+}
+
 // The bound call, and where the full demands are asked for the one of that name.
 fn choose_call(
     block: &[u8],
@@ -93,15 +125,10 @@ fn choose_call(
     widths: &mut [u16],
     table: &mut [u64],
 ) -> BoundAnswer {
-    let choices = Choices {
-        turning: way.turning,
-        full_demand: false,
-        old_block: way.old_block,
-    };
     if way.full_demand {
-        return bound::bound_full_demand(block, choices, weights, lengths, widths, table);
+        return bound::bound_full_demand(block, other_choices(way), weights, lengths, widths, table);
     }
-    bound::bound(block, choices, weights, lengths, widths, table)
+    bound::bound(block, way, weights, lengths, widths, table)
 }
 
 // The call without a limit, or the one within the limit that is set.
@@ -119,6 +146,52 @@ fn call_within(
         return choose_call(block, way, weights, lengths, widths, table);
     }
     bound_staged(block, way, weights, limit, lengths, widths, table)
+}
+
+// The bound call of two weights, and where the full demands are asked for the one of that name.
+fn choose_two(
+    block: &[u8],
+    way: Choices,
+    first: &[u8],
+    second: &[u8],
+    lengths: &mut [u16],
+    widths: &mut [u16],
+    table: &mut [u64],
+) -> TwoAnswer {
+    if way.full_demand {
+        return bound_two_full_demand(
+            block,
+            other_choices(way),
+            first,
+            second,
+            lengths,
+            widths,
+            table,
+        );
+    }
+    bound_two(block, way, first, second, lengths, widths, table)
+}
+
+// The call on the job's block and both weights of its kinds.
+fn call_two(
+    t: &Words,
+    way: Choices,
+    lengths: &mut [u16],
+    widths: &mut [u16],
+    table: &mut [u64],
+) -> TwoAnswer {
+    let block = bytes(t, BLOCK);
+    let first = bytes(t, WEIGHTS);
+    let second = bytes(t, SECOND_WEIGHTS);
+    choose_two(
+        first_bytes(&block, word(t, BLOCK, 0)),
+        way,
+        first_bytes(&first, word(t, WEIGHTS, 0)),
+        first_bytes(&second, word(t, SECOND_WEIGHTS, 0)),
+        lengths,
+        widths,
+        table,
+    )
 }
 
 // The call on the job's block and weights.
@@ -142,19 +215,38 @@ fn call_bound(
     )
 }
 
+// The call of one weight or of two, whose answer is noted.
+fn note_call(
+    t: &mut Words,
+    way: Choices,
+    lengths: &mut [u16],
+    widths: &mut [u16],
+    table: &mut [u64],
+) {
+    if word(t, TWO, 0) == 1 {
+        let answer = call_two(t, way, lengths, widths, table);
+        note_two(t, answer);
+    } else {
+        let answer = call_bound(t, way, lengths, widths, table);
+        note_answer(t, answer);
+    }
+}
+
 // Makes the call with the parts of lists and table that are lent, and notes its answer and what it left.
 fn call_lent(t: &mut Words, way: Choices) {
     let mut lengths = marked_list();
     let mut widths = marked_list();
     let mut table = marked_table();
-    let answer = call_bound(
+    let p = word(t, LENT_LENGTHS, 0);
+    let r = word(t, LENT_WIDTHS, 0);
+    let k = word(t, LENT_WORDS, 0);
+    note_call(
         t,
         way,
-        lend_numbers(&mut lengths, word(t, LENT_LENGTHS, 0)),
-        lend_numbers(&mut widths, word(t, LENT_WIDTHS, 0)),
-        lend_words(&mut table, word(t, LENT_WORDS, 0)),
+        lend_numbers(&mut lengths, p),
+        lend_numbers(&mut widths, r),
+        lend_words(&mut table, k),
     );
-    note_answer(t, answer);
     note_left(t, &lengths, &widths, &table);
 }
 

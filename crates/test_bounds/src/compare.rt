@@ -1,6 +1,7 @@
 // Generated jobs of one shape: the second computation, the bound call, and what differs. Each job is compared in three ways: 0 with upright
 // pieces alone, 1 with pieces that may be turned, 2 with the capacity of the full demands, every second job with pieces that may be turned.
-// Half of the jobs that lose no kerf are given as old blocks. Without a limit of stages, or within the limits 1 to 8 in turn.
+// Half of the jobs that lose no kerf are given as old blocks. Three calls are compared: 0 the bound, 1 the staged bound within the limits 1
+// to 8 in turn, 2 the bound of two weights.
 use crate::call::ANSWER;
 use crate::call::LENT_LENGTHS;
 use crate::call::LENT_WIDTHS;
@@ -14,6 +15,7 @@ use every_unit::CAPACITY;
 use every_unit::KERF;
 use every_unit::LIMIT;
 use every_unit::PLATE;
+use every_unit::TWO;
 use every_unit::WORD_COUNT;
 use every_unit::compute;
 use every_unit::draw_job;
@@ -71,10 +73,10 @@ fn lend_all(t: &mut Words, number: usize) {
     lend(t, LENT_WORDS, WORD_COUNT, 0, spare);
 }
 
-// How many of the four answered values are not as expected, and the number of a refusal.
+// How many of the answered values are not as expected, and the number of a refusal.
 fn other_answers(t: &Words) -> usize {
     let mut n = word(t, ANSWER, 0);
-    for i in 0..4 {
+    for i in 0..5 {
         n = plus(
             n,
             (word(t, BOUND, i) != word(t, ANSWER, plus(i, 1))) as usize,
@@ -170,32 +172,33 @@ fn compare_way(t: &mut Words, way: usize) {
     note_difference(t, way);
 }
 
-// Sets the next limit of stages, where there is one.
-fn next_limit(t: &mut Words, staged: bool) {
-    let limit = times(staged as usize, plus(word(t, ALL_DRAWN, 0) % 8, 1));
-    put(t, LIMIT, 0, limit);
+// Sets the next limit of stages, or that each kind has two weights, by the call.
+fn set_call(t: &mut Words, call: usize) {
+    let limit = plus(word(t, ALL_DRAWN, 0) % 8, 1);
+    put(t, LIMIT, 0, times((call == 1) as usize, limit));
+    put(t, TWO, 0, (call == 2) as usize);
 }
 
 // Draws the next job, and compares it in all ways.
-fn compare_job(t: &mut Words, staged: bool) {
+fn compare_job(t: &mut Words, call: usize) {
     add(t, ALL_DRAWN, 1);
-    next_limit(t, staged);
+    set_call(t, call);
     draw_job(t);
     compare_way(t, 0);
     compare_way(t, 1);
     compare_way(t, 2);
 }
 
-fn compare_jobs(t: &mut Words, n: usize, staged: bool) {
+fn compare_jobs(t: &mut Words, n: usize, call: usize) {
     for i in 0..n {
-        compare_job(t, staged);
+        compare_job(t, call);
     }
 }
 
-// Compares the jobs of the shape in the row, by the call without or with a limit of stages.
-pub fn compare_shape(t: &mut Words, staged: bool) {
+// Compares the jobs of the shape in the row by a call.
+pub fn compare_shape(t: &mut Words, call: usize) {
     clear(t, AGREED, 11);
-    compare_jobs(t, JOBS, staged);
+    compare_jobs(t, JOBS, call);
     print_shape(t);
 }
 

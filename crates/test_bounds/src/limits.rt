@@ -1,7 +1,8 @@
 // A case at the limits: the job in the row, in which all kinds but the last are alike, and the memory that it is lent. The row has plate
 // length and width; number of kinds; kerf; kind length, width, price, demand and weight; the last kind's price; entries of the two lists
 // and words of the table that are lent; and, 1 for yes and 0 for no, whether pieces may be turned, whether the capacity is that of the
-// full demands, whether the block is written as an old one and whether it is read as an old one; then the limit of stages, 0 for none.
+// full demands, whether the block is written as an old one and whether it is read as an old one; then the limit of stages, 0 for none; 1 for two weights, the
+// second weight of every kind and the number of second weights.
 use crate::call::ANSWER;
 use crate::call::LENT_LENGTHS;
 use crate::call::OTHER_LENGTHS;
@@ -11,6 +12,9 @@ use every_unit::LENGTH_COUNT;
 use every_unit::LIMIT;
 use every_unit::PLATE;
 use every_unit::PRICE;
+use every_unit::SECOND_WEIGHT;
+use every_unit::SECOND_WEIGHTS;
+use every_unit::TWO;
 use job::Choices;
 use test_tools::ROW;
 use test_tools::Words;
@@ -30,6 +34,14 @@ fn copy_kinds(t: &mut Words) {
     }
 }
 
+// The second weight of every kind.
+fn copy_seconds(t: &mut Words) {
+    for i in 0..70 {
+        let x = word(t, ROW, 19);
+        put(t, SECOND_WEIGHT, i, x);
+    }
+}
+
 fn price_last(t: &mut Words) {
     let n = word(t, ROW, 2);
     let price = word(t, ROW, 9);
@@ -39,23 +51,33 @@ fn price_last(t: &mut Words) {
 fn make_job(t: &mut Words) {
     copy(t, PLATE, ROW, 4);
     copy(t, LIMIT, plus(ROW, 17), 1);
+    copy(t, TWO, plus(ROW, 18), 1);
+    copy(t, SECOND_WEIGHTS, plus(ROW, 20), 1);
     copy(t, LENT_LENGTHS, plus(ROW, 10), 3);
     copy_kinds(t);
+    copy_seconds(t);
     price_last(t);
 }
 
+fn print_second(t: &Words) {
+    if word(t, TWO, 0) == 1 {
+        print_words(b" second capacity #", t, plus(ANSWER, 5));
+    }
+}
+
 fn print_answer(t: &Words) {
-    if word(t, ANSWER, 0) == 0 {
-        print_words(b"bound # capacity # lengths # widths #", t, plus(ANSWER, 1));
-    } else {
+    if word(t, ANSWER, 0) != 0 {
         print_words(b"refused # place #", t, ANSWER);
+    } else {
+        print_words(b"bound # capacity # lengths # widths #", t, plus(ANSWER, 1));
+        print_second(t);
     }
 }
 
 // Runs the case. No length, no width and no word is expected, so that every change differs.
 pub fn run_limit(t: &mut Words) {
     make_job(t);
-    clear(t, LENGTH_COUNT, 3);
+    clear(t, LENGTH_COUNT, 4);
     let way = Choices {
         turning: word(t, ROW, 13) == 1,
         full_demand: word(t, ROW, 14) == 1,

@@ -8,5 +8,4 @@ pub best-division-spec : {M : Type 1} → statement M
 best-division-spec =
     tie.close
     (tie.spec
-    (λ t first second c best₀ s₀ s-end best s. s ≤ s-end) (λ t first second c best₀ s₀ s-end best s. s-end - s) (search needs) (search needs)
-    (search needs) (search needs) (search needs) (search needs) (search needs) (search needs) (search needs) (search needs) (search needs))
+    (λ t first second c best₀ s₀ s-end best s. s ≤ s-end) (λ t first second c best₀ s₀ s-end best s. s-end - s) (search needs) (search needs) (search needs) (search needs) (search needs) (search needs) (search needs) (search needs))

@@ -8,5 +8,5 @@ pub capacity-spec : {M : Type 1} → statement M
 capacity-spec =
     tie.close
     (tie.spec
-    (λ t sum₀ i₀ i-end sum i. i ≤ i-end) (λ t sum₀ i₀ i-end sum i. i-end - i) (search needs) (search needs) (search needs) (search needs)
+    (λ t weights sum₀ i₀ i-end sum i. i ≤ i-end) (λ t weights sum₀ i₀ i-end sum i. i-end - i) (search needs) (search needs) (search needs) (search needs)
     (search needs) (search needs) (search needs) (search needs) (search needs) (search needs))

@@ -8,4 +8,4 @@ pub compare-jobs-spec : {M : Type 1} → statement M
 compare-jobs-spec =
     tie.close
     (tie.spec
-    (λ t₀ n staged i₀ t i. i ≤ n) (λ t₀ n staged i₀ t i. n - i) (search needs) (search needs) (search needs) (search needs) (search needs) (search needs))
+    (λ t₀ n call i₀ t i. i ≤ n) (λ t₀ n call i₀ t i. n - i) (search needs) (search needs) (search needs) (search needs) (search needs) (search needs))
