@@ -74,9 +74,14 @@ extern "C" {
  * most k stages whose first cuts go across the length, block 2k those whose first cuts go across the
  * width. All else is as above.
  *
+ * Two weights. Each kind has a first and a second weight, and there are two capacities Q and R, each
+ * counted from its own weights. `table` needs p * r * (Q + 1) * (R + 1) words; word ((a * r + b) *
+ * (Q + 1) + c) * (R + 1) + d has the most that a tree of first weight at most c and second weight at
+ * most d earns. All else is as above.
+ *
  * Return value.
  *   0    done; `answer` holds the words that the function names; its later words are kept
- *   1 to 23, 26, 27
+ *   1 to 27
  *        refused, see below; answer[0] is the place; the other words of `answer` are kept
  *   100  `answer` has fewer words than the function names; nothing was changed
  *   101  `choices` has a bit that is no choice, `answer` is long enough; nothing was changed
@@ -91,7 +96,9 @@ extern "C" {
  *    6  price above 1000000                                    kind
  *    7  demand above 255                                       kind
  *    8  not n weights                                          0
- *    9  capacity above 4095                                    0
+ *   24  not n second weights                                   0
+ *    9  capacity above 4095, of two weights either             0
+ *   25  both capacities, each plus 1, multiply to above 65536  0
  *   22  limit on stages outside 1 to 8                         0
  *   10  plan arrays differ in length, or plan block under      0
  *       2 bytes or not 2 + 3 * count bytes
@@ -109,7 +116,7 @@ extern "C" {
  *   20  table too short                                        words needed
  *   21  plan needs above 4095 nodes, or more than an array     nodes needed
  *       of the plan holds
- * Numbers 1 to 19, 22, 23, 26 and 27 change no lent memory but answer[0]. On 20 the lists are filled and the
+ * Numbers 1 to 19 and 22 to 27 change no lent memory but answer[0]. On 20 the lists are filled and the
  * table is untouched. On 21 lists and table are filled and the plan arrays untouched. */
 
 enum {
@@ -133,6 +140,7 @@ enum {
     PLANNER_CERTIFICATE_WORDS = 3,
     PLANNER_NEAT_WORDS = 1,
     PLANNER_STAGED_REPORT_WORDS = 70,
+    PLANNER_TWO_WORDS = 5,
     PLANNER_SAW_WORDS = 68,
     PLANNER_PART_WORDS = 2
 };
@@ -258,6 +266,21 @@ uint32_t planner_certify_staged(
     uint32_t limit,
     const uint8_t *kinds, size_t kinds_len,
     const uint16_t *operands, size_t operands_len,
+    uint16_t *lengths, size_t lengths_len,
+    uint16_t *widths, size_t widths_len,
+    uint64_t *table, size_t table_len,
+    uint64_t *answer, size_t answer_len);
+
+/* Computes the bound of two weights a kind (refusals 1 to 7, 27, 8, 24, 9, 25, 19, 20) and fills the storage
+ * of two weights. The bound is exactly the most that a guillotine tree on the plate within both
+ * capacities earns, and no tree that keeps every demand earns more. With all second weights 0 the
+ * second capacity is 0, and all else is as planner_bound answers and leaves it.
+ * answer[0] bound, answer[1] first capacity, answer[2] second, answer[3] p, answer[4] r. */
+uint32_t planner_bound_two(
+    const uint8_t *job, size_t job_len,
+    uint32_t choices,
+    const uint8_t *first_weights, size_t first_weights_len,
+    const uint8_t *second_weights, size_t second_weights_len,
     uint16_t *lengths, size_t lengths_len,
     uint16_t *widths, size_t widths_len,
     uint64_t *table, size_t table_len,
