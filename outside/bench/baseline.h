@@ -53,6 +53,7 @@ void fill_row_fill(const Plate *plate, uint64_t *table);
 void fill_states(const Plate *plate, uint64_t *table);
 void fill_staged_rows(const Plate *plate, int limit, uint64_t *table);
 void fill_staged_states(const Plate *plate, int limit, uint64_t *table);
+void fill_two(const Plate *plate, const int *second, int capacity, uint64_t *table);
 size_t write_nodes(const Plate *plate, const uint64_t *table, uint8_t *kinds, uint16_t *operands);
 
 /* The steps of a row where the capacity is 0. */

@@ -150,3 +150,19 @@ void baseline_bound_staged(const uint8_t *job, uint32_t choices, const uint8_t *
     size_t end = (2 * limit + 1) * words(&plate);
     answer[0] = greater(table[end - 1], table[end - 1 - words(&plate)]);
 }
+
+/* The second weights are read as the first are, by a plate of their own; its pieces are the same. */
+void baseline_bound_two(const uint8_t *job, uint32_t choices, const uint8_t *first,
+                        const uint8_t *second, uint16_t *lengths, uint16_t *widths, uint64_t *table,
+                        uint64_t *answer)
+{
+    Plate plate;
+    Job other;
+    read_job(&other, job, choices, second);
+    list(job, choices, first, &plate, lengths, widths, answer);
+    fill_two(&plate, other.weight, other.capacity, table);
+    answer[4] = answer[3];
+    answer[3] = answer[2];
+    answer[2] = (uint64_t)other.capacity;
+    answer[0] = table[words(&plate) * (size_t)(other.capacity + 1) - 1];
+}

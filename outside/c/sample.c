@@ -1,6 +1,6 @@
 /* Job S of the scope from C: the bound, the plan behind it, its check and its certificate, upright
- * and with pieces that may be turned; within a limit on stages; more copies than the plate can hold; a
- * blade one unit wide.
+ * and with pieces that may be turned; within a limit on stages; with two weights a kind; more copies
+ * than the plate can hold; a blade one unit wide.
  * The script `run` compiles this file against planner.h and compares what it prints with sample.out. */
 #include "planner.h"
 #include <inttypes.h>
@@ -11,7 +11,7 @@ static uint8_t job[] = {
     2, 0, 3, 0, 3, 0, 1, 0, 2, 0, 2, 0,                   /* 2 by 3, 3 by 1, 2 by 2 */
     7, 0, 0, 0, 1, 0, 4, 0, 0, 0, 2, 0, 5, 0, 0, 0, 1, 0, /* price and demand of each */
 };
-static const uint8_t WEIGHTS[] = {0, 1, 0};
+static const uint8_t WEIGHTS[] = {0, 1, 0}, SECOND_WEIGHTS[] = {1, 0, 0};
 
 enum { KERF = 6, DEMAND_OF_KIND_0 = 24, DEMAND_OF_KIND_1 = 30 }; /* bytes of the job */
 enum { LENGTHS = 7, WIDTHS = 5, TABLE_WORDS = 300, NODES = 16 };
@@ -50,6 +50,19 @@ static void bound_staged(uint32_t limit)
                                     LENGTHS, widths, WIDTHS, table, TABLE_WORDS, answer,
                                     PLANNER_BOUND_WORDS),
                answer);
+}
+
+static void bound_two(size_t second_weights)
+{
+    uint64_t answer[PLANNER_TWO_WORDS];
+    uint32_t number = planner_bound_two(job, sizeof job, 0, WEIGHTS, sizeof WEIGHTS, SECOND_WEIGHTS,
+                                        second_weights, lengths, LENGTHS, widths, WIDTHS, table,
+                                        TABLE_WORDS, answer, PLANNER_TWO_WORDS);
+    if (number == PLANNER_DONE)
+        printf("bound %" PRIu64 " capacities %" PRIu64 " and %" PRIu64 "\n", answer[0], answer[1],
+               answer[2]);
+    else
+        refused(number, answer);
 }
 
 static size_t write_plan(uint32_t choices, uint8_t *kinds, uint16_t *operands)
@@ -147,6 +160,8 @@ int main(void)
     check_staged(1, kinds, operands, nodes);
     check_staged(2, kinds, operands, nodes);
     certify_staged(2, kinds, operands, nodes);
+    bound_two(sizeof SECOND_WEIGHTS);
+    bound_two(sizeof SECOND_WEIGHTS - 1);
     certify(PLANNER_TURNING, kinds, operands, nodes);
     nodes = write_plan(PLANNER_TURNING, kinds, operands);
     check(PLANNER_TURNING, kinds, operands, nodes);

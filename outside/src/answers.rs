@@ -76,6 +76,15 @@ pub struct Bound {
     pub widths: u64,
 }
 
+/// The bound, both capacities and the numbers of normal lengths and widths.
+#[derive(Clone, Copy, Debug, PartialEq, Eq)]
+pub struct BoundTwo {
+    pub bound: u64,
+    pub capacities: [u64; 2],
+    pub lengths: u64,
+    pub widths: u64,
+}
+
 /// The bound and the number of nodes of the plan that was written behind it.
 #[derive(Clone, Copy, Debug, PartialEq, Eq)]
 pub struct Written {
@@ -178,6 +187,17 @@ impl Words<4> for Bound {
 
     fn from_words([bound, capacity, lengths, widths]: [u64; 4]) -> Bound {
         Bound { bound, capacity, lengths, widths }
+    }
+}
+
+impl Words<5> for BoundTwo {
+    fn to_words(&self) -> [u64; 5] {
+        let [first, second] = self.capacities;
+        [self.bound, first, second, self.lengths, self.widths]
+    }
+
+    fn from_words([bound, first, second, lengths, widths]: [u64; 5]) -> BoundTwo {
+        BoundTwo { bound, capacities: [first, second], lengths, widths }
     }
 }
 

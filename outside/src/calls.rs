@@ -1,4 +1,4 @@
-// The nine calls of planner.h that the tests share, as one value, so that they run the same
+// The ten calls of planner.h that the tests share, as one value, so that they run the same
 // cases on several implementations.
 use crate::answers::{PlanArrays, Storage};
 
@@ -14,4 +14,5 @@ pub struct Calls {
     pub bound_staged: fn(&[u8], u32, &[u8], u32, Storage<'_>, &mut [u64]) -> u32,
     pub certify_staged:
         fn(&[u8], u32, &[u8], u32, &[u8], &[u16], Storage<'_>, &mut [u64]) -> u32,
+    pub bound_two: fn(&[u8], u32, &[u8], &[u8], Storage<'_>, &mut [u64]) -> u32,
 }

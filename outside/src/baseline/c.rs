@@ -1,6 +1,6 @@
 // The C baseline of the folder bench/, on slices.
 // It trusts its caller, so every call is unsafe.
-use crate::answers::{Bound, PlanArrays, Storage, Words, Written};
+use crate::answers::{Bound, BoundTwo, PlanArrays, Storage, Words, Written};
 
 extern "C" {
     fn baseline_bound(
@@ -18,6 +18,12 @@ extern "C" {
 
     fn baseline_bound_staged(
         job: *const u8, choices: u32, weights: *const u8, limit: u32,
+        lengths: *mut u16, widths: *mut u16, table: *mut u64,
+        answer: *mut u64,
+    );
+
+    fn baseline_bound_two(
+        job: *const u8, choices: u32, first: *const u8, second: *const u8,
         lengths: *mut u16, widths: *mut u16, table: *mut u64,
         answer: *mut u64,
     );
@@ -70,4 +76,22 @@ pub unsafe fn bound_staged(
         answer.as_mut_ptr(),
     );
     Bound::from_words(answer)
+}
+
+/// # Safety
+/// As for `bound`, with weights of both sorts and storage for the table of pairs.
+pub unsafe fn bound_two(
+    job: &[u8],
+    choices: u32,
+    first: &[u8],
+    second: &[u8],
+    storage: Storage,
+) -> BoundTwo {
+    let mut answer = [0; 5];
+    baseline_bound_two(
+        job.as_ptr(), choices, first.as_ptr(), second.as_ptr(),
+        storage.lengths.as_mut_ptr(), storage.widths.as_mut_ptr(), storage.table.as_mut_ptr(),
+        answer.as_mut_ptr(),
+    );
+    BoundTwo::from_words(answer)
 }

@@ -15,6 +15,7 @@ pub const CALLS: Calls = Calls {
     check_plan_staged,
     bound_staged,
     certify_staged,
+    bound_two,
 };
 
 pub fn check_plan(
@@ -252,6 +253,28 @@ pub fn certify_staged(
             limit,
             kinds.as_ptr(), kinds.len(),
             operands.as_ptr(), operands.len(),
+            storage.lengths.as_mut_ptr(), storage.lengths.len(),
+            storage.widths.as_mut_ptr(), storage.widths.len(),
+            storage.table.as_mut_ptr(), storage.table.len(),
+            answer.as_mut_ptr(), answer.len(),
+        )
+    }
+}
+
+pub fn bound_two(
+    job: &[u8],
+    choices: u32,
+    first: &[u8],
+    second: &[u8],
+    storage: Storage,
+    answer: &mut [u64],
+) -> u32 {
+    unsafe {
+        foreign::planner_bound_two(
+            job.as_ptr(), job.len(),
+            choices,
+            first.as_ptr(), first.len(),
+            second.as_ptr(), second.len(),
             storage.lengths.as_mut_ptr(), storage.lengths.len(),
             storage.widths.as_mut_ptr(), storage.widths.len(),
             storage.table.as_mut_ptr(), storage.table.len(),

@@ -118,4 +118,15 @@ extern "C" {
         table: *mut u64, table_len: usize,
         answer: *mut u64, answer_len: usize,
     ) -> u32;
+
+    pub fn planner_bound_two(
+        job: *const u8, job_len: usize,
+        choices: u32,
+        first: *const u8, first_len: usize,
+        second: *const u8, second_len: usize,
+        lengths: *mut u16, lengths_len: usize,
+        widths: *mut u16, widths_len: usize,
+        table: *mut u64, table_len: usize,
+        answer: *mut u64, answer_len: usize,
+    ) -> u32;
 }

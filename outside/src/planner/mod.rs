@@ -4,8 +4,8 @@ pub mod calls;
 mod foreign;
 
 use crate::answers::{
-    Bound, Certificate, Neat, Part, PlanArrays, Refusal, Report, SawReport, StagedReport, Storage,
-    Words, Written,
+    Bound, BoundTwo, Certificate, Neat, Part, PlanArrays, Refusal, Report, SawReport, StagedReport,
+    Storage, Words, Written,
 };
 
 /// Checks a plan given as two arrays.
@@ -136,6 +136,17 @@ pub fn certify_staged(
     typed(|answer| {
         calls::certify_staged(job, choices, weights, limit, kinds, operands, storage, answer)
     })
+}
+
+/// Computes the bound under two weights a kind and fills the storage.
+pub fn bound_two(
+    job: &[u8],
+    choices: u32,
+    first: &[u8],
+    second: &[u8],
+    storage: Storage,
+) -> Result<BoundTwo, Refusal> {
+    typed(|answer| calls::bound_two(job, choices, first, second, storage, answer))
 }
 
 fn part_of<T>(array: &[T], part: Part) -> &[T] {

@@ -17,6 +17,7 @@ pub const CALLS: Calls = Calls {
     check_plan_staged,
     bound_staged,
     certify_staged,
+    bound_two,
 };
 
 pub fn check_plan(
@@ -146,6 +147,17 @@ pub fn certify_staged(
     coded(choices, answer, || {
         super::certify_staged(job, choices, weights, limit, kinds, operands, storage)
     })
+}
+
+pub fn bound_two(
+    job: &[u8],
+    choices: u32,
+    first: &[u8],
+    second: &[u8],
+    storage: Storage,
+    answer: &mut [u64],
+) -> u32 {
+    coded(choices, answer, || super::bound_two(job, choices, first, second, storage))
 }
 
 fn coded<const N: usize, A: Words<N>>(

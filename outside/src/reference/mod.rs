@@ -10,6 +10,7 @@ mod normal;
 mod plan;
 mod saw;
 mod staged;
+mod two;
 mod weights;
 mod writer;
 
@@ -22,7 +23,8 @@ pub use normal::normal_positions;
 pub use plan::{check_plan, check_plan_block};
 pub use saw::{saw_check, saw_part};
 pub use staged::{bound_staged, certify_staged, check_plan_staged};
-pub use weights::capacity;
+pub use two::bound_two;
+pub use weights::{capacities, capacity};
 pub use writer::write_plan;
 
 use crate::answers::Refusal;

@@ -9,6 +9,8 @@ use outside::{baseline, reference};
 
 const ROOM: Sizes = Sizes { lengths: 120, widths: 120, table: 1 << 18, answer: 5, ..AMPLE };
 
+const TWO_ROOM: Sizes = Sizes { table: 1 << 20, ..ROOM };
+
 const STAGED_ROOM: Sizes = Sizes { table: 1 << 20, answer: 4, ..ROOM };
 
 type WritePlan = fn(&[u8], u32, &[u8], Storage<'_>, PlanArrays<'_>) -> Written;
@@ -74,6 +76,38 @@ fn the_staged_baseline_agrees() {
     staged_baseline_agrees(15, 400, many);
     let none = Scale { plate: 40, kerf: 20, side: 25, kinds: 9, price: 400, weight: 0, ..SMALL };
     staged_baseline_agrees(16, 400, none);
+}
+
+/// Compares the baseline of two weights on so many jobs, the words of choices taking turns.
+fn baseline_of_two_agrees(seed: u64, jobs: usize, scale: Scale) {
+    let random = &mut Random::new(seed);
+    let mut compared = 0;
+    for i in 0..jobs {
+        let input = draw(random, scale, ALL_CHOICES[i % 4]);
+        let second: Vec<u8> =
+            input.weights.iter().map(|_| random.from(0, scale.weight.min(3)) as u8).collect();
+        let input = input.and(&second);
+        let (mut expected, mut lent) = (Lent::new(TWO_ROOM), Lent::new(TWO_ROOM));
+        if Call::BoundTwo.run(&reference::calls::CALLS, &input, &mut expected) == 0 {
+            compared += 1;
+            let (storage, _, answer) = lent.split();
+            let Input { job, choices, weights, second, .. } = &input;
+            // The reference has found the storage enough.
+            let bound = unsafe { baseline::c::bound_two(job, *choices, weights, second, storage) };
+            answer.copy_from_slice(&bound.to_words());
+            assert_eq!(expected.differences(&lent), [""; 0], "{input:?}");
+        }
+    }
+    println!("{compared} of {jobs} jobs compared");
+    assert!(10 * compared >= 9 * jobs);
+}
+
+#[test]
+fn the_baseline_of_two_weights_agrees() {
+    let shares = Scale { plate: 10, kerf: 3, side: 6, kinds: 5, price: 30, weight: 2, ..SMALL };
+    baseline_of_two_agrees(17, 1500, shares);
+    let many = Scale { plate: 4, side: 3, kinds: 3, price: 50, demand: 3, weight: 20, ..SMALL };
+    baseline_of_two_agrees(18, 300, many);
 }
 
 #[test]

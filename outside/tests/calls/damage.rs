@@ -99,6 +99,31 @@ fn overload(random: &mut Random, input: &mut Input) {
     input.weights.fill(255);
 }
 
+/// Now and then the second weights are too few, too many or too heavy.
+pub fn damage_second(random: &mut Random, input: &mut Input) {
+    match random.from(0, 31) {
+        0 => input.second.truncate(random.from(0, input.weights.len())),
+        1 => input.second.push(0),
+        2 => input.second.fill(255),
+        3 => overload_pairs(input),
+        _ => {}
+    }
+}
+
+/// A last kind of 1 by 1 that fills the second capacity, and with a weight of 1 enough of the first for
+/// too many pairs of shares, where the plate holds 16 of it. An odd block is left as it is.
+fn overload_pairs(input: &mut Input) {
+    let (n, header) = (input.second.len(), header(input));
+    if input.job.len() == header + 10 * n && input.weights.len() == n {
+        let (sizes, pairs) = input.job[header..].split_at_mut(4 * n);
+        sizes[4 * n - 4..].copy_from_slice(&[1, 0, 1, 0]);
+        pairs[6 * n - 2..].copy_from_slice(&[16, 0]);
+        input.weights[n - 1] = 1;
+        input.second.fill(0);
+        input.second[n - 1] = 255;
+    }
+}
+
 fn damage_arrays(random: &mut Random, input: &mut Input) {
     let Input { kinds, operands, .. } = input;
     let last = kinds.len() - 1;

@@ -9,12 +9,13 @@ use outside::blocks::{job_block, job_s, plan_block};
 /// A node: kind and operand.
 pub type Node = (u8, u16);
 
-/// An input without a choice, within the greatest limit.
+/// An input without a choice and without second weights, within the greatest limit.
 pub fn input(job: Vec<u8>, weights: &[u8], nodes: &[Node]) -> Input {
     let kinds: Vec<u8> = nodes.iter().map(|node| node.0).collect();
     let operands: Vec<u16> = nodes.iter().map(|node| node.1).collect();
     let plan = plan_block(&kinds, &operands);
-    Input { job, choices: 0, weights: weights.to_vec(), limit: 8, kinds, operands, plan }
+    let second = vec![0; weights.len()];
+    Input { job, choices: 0, weights: weights.to_vec(), second, limit: 8, kinds, operands, plan }
 }
 
 /// Expects each implementation to answer these words.

@@ -1,12 +1,12 @@
 // Every call on many thousands of generated inputs, valid and damaged, with storage that is ample,
 // exact or short: code, answer and all lent memory must be the reference's.
-use crate::damage::damage;
+use crate::damage::{damage, damage_second};
 use crate::inputs::{draw, Scale, SMALL};
 use crate::lent::{Lent, Sizes};
 use crate::run::{compare, Call, Input, ALL_CALLS, ALL_CHOICES, STAGED_CALLS};
 use outside::answers::{OLD_BLOCK, STAGED_REPORT_WORDS};
 use outside::random::Random;
-use outside::reference::{capacity, normal_positions, Job};
+use outside::reference::{capacities, capacity, normal_positions, Job};
 use std::collections::BTreeMap;
 
 /// How often each call gave each code, and how many certificates of a plan that earns something were
@@ -96,6 +96,7 @@ fn codes(call: Call) -> Vec<u32> {
         Call::WritePlan => &[8, 9, 19, 20, 21],
         Call::NeatPlan => &[10, 11, 12, 13, 14, 15, 16, 17, 18, 21, 26],
         Call::Certify => &[8, 9, 10, 11, 12, 13, 14, 15, 16, 17, 18, 19, 20, 26],
+        Call::BoundTwo => &[8, 9, 19, 20, 24, 25],
         Call::CheckPlanStaged => &[10, 11, 12, 13, 14, 15, 16, 17, 18, 22, 23, 26],
         Call::BoundStaged => &[8, 9, 19, 20, 22],
         Call::CertifyStaged => {
@@ -163,7 +164,9 @@ fn written_plan_agrees(random: &mut Random, planned: &Input, sizes: Sizes, tally
 fn draw_affordable(random: &mut Random, scale: Scale, choices: u32) -> Input {
     loop {
         let mut input = draw(random, scale, choices).within(draw_limit(random));
+        draw_second(random, scale, &mut input);
         damage(random, &mut input);
+        damage_second(random, &mut input);
         if work(&input) <= scale.work {
             return input;
         }
@@ -185,21 +188,28 @@ fn blocks(input: &Input) -> usize {
     if (1..=8).contains(&input.limit) { 2 * input.limit as usize + 1 } else { 1 }
 }
 
+/// Second weights: none, few, or as heavy as the first.
+fn draw_second(random: &mut Random, scale: Scale, input: &mut Input) {
+    let heaviest = random.pick(&[0, 1, 2, scale.weight]).min(scale.weight);
+    input.second = input.weights.iter().map(|_| random.from(0, heaviest) as u8).collect();
+}
+
 /// The sums that the reference forms, about.
 fn work(input: &Input) -> usize {
     let Ok(job) = Job::read(&input.job, input.choices) else { return 0 };
-    let Ok(capacity) = capacity(&job, &input.weights) else { return 0 };
     let cuts = job.length * job.width * (job.length + job.width) / 2;
-    cuts * (capacity + 1) * (capacity + 2) / 2 * (blocks(input) + 1) / 2
+    let splits = |capacity| (capacity + 1) * (capacity + 2) / 2;
+    let staged = capacity(&job, &input.weights).map_or(0, |q| splits(q) * (blocks(input) + 1) / 2);
+    let two = capacities(&job, &input.weights, &input.second);
+    cuts * staged.max(two.map_or(0, |[first, second]| splits(first) * splits(second)))
 }
 
 fn draw_sizes(random: &mut Random, call: Call, input: &Input) -> Sizes {
-    let (lengths, widths, table) = needs(input);
-    let blocks = if STAGED_CALLS.contains(&call) { blocks(input) } else { 1 };
+    let (lengths, widths, table) = needs(call, input);
     Sizes {
         lengths: near(random, lengths),
         widths: near(random, widths),
-        table: near(random, blocks * table),
+        table: near(random, table),
         kinds: 4095,
         operands: 4095,
         answer: near(random, call.answer_words()),
@@ -216,11 +226,17 @@ fn near(random: &mut Random, needed: usize) -> usize {
     }
 }
 
-/// The words that lists and a block of the table need; anything for a job that is refused.
-fn needs(input: &Input) -> (usize, usize, usize) {
+/// The words that lists and table need; anything for a job that is refused.
+fn needs(call: Call, input: &Input) -> (usize, usize, usize) {
     let Ok(job) = Job::read(&input.job, input.choices) else { return (4, 4, 16) };
     let shares = capacity(&job, &input.weights).map_or(1, |q| q + 1);
+    let words = match call {
+        Call::BoundTwo => capacities(&job, &input.weights, &input.second)
+            .map_or(1, |both| (both[0] + 1) * (both[1] + 1)),
+        call if STAGED_CALLS.contains(&call) => blocks(input) * shares,
+        _ => shares,
+    };
     let (lengths, widths) = normal_positions(&job);
     let list = |side: usize| side + job.kerf + 1;
-    (list(job.length), list(job.width), lengths.len() * widths.len() * shares)
+    (list(job.length), list(job.width), lengths.len() * widths.len() * words)
 }

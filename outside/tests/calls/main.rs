@@ -23,5 +23,6 @@ mod staged;
 mod staged_deep;
 mod trees;
 mod turning;
+mod two;
 mod widened;
 mod wrapper;

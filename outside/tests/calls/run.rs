@@ -18,9 +18,10 @@ pub enum Call {
     CheckPlanStaged,
     BoundStaged,
     CertifyStaged,
+    BoundTwo,
 }
 
-pub const ALL_CALLS: [Call; 9] = [
+pub const ALL_CALLS: [Call; 10] = [
     Call::CheckPlan,
     Call::CheckPlanBlock,
     Call::Bound,
@@ -30,9 +31,10 @@ pub const ALL_CALLS: [Call; 9] = [
     Call::CheckPlanStaged,
     Call::BoundStaged,
     Call::CertifyStaged,
+    Call::BoundTwo,
 ];
 
-/// The calls that take weights and no limit.
+/// The calls that take one weight a kind and no limit.
 pub const WEIGHING_CALLS: [Call; 3] = [Call::Bound, Call::WritePlan, Call::Certify];
 
 /// The calls that take a limit.
@@ -47,6 +49,7 @@ pub struct Input {
     pub job: Vec<u8>,
     pub choices: u32,
     pub weights: Vec<u8>,
+    pub second: Vec<u8>,
     pub limit: u32,
     pub kinds: Vec<u8>,
     pub operands: Vec<u16>,
@@ -60,6 +63,11 @@ impl Input {
 
     pub fn within(self, limit: u32) -> Input {
         Input { limit, ..self }
+    }
+
+    /// The same input with these second weights.
+    pub fn and(self, second: &[u8]) -> Input {
+        Input { second: second.to_vec(), ..self }
     }
 
     /// This input; and where it is a new block with kerf 0, the same as an old block.
@@ -101,7 +109,7 @@ impl Call {
             Call::CheckPlan | Call::CheckPlanBlock => REPORT_WORDS,
             Call::CheckPlanStaged => STAGED_REPORT_WORDS,
             Call::Bound | Call::BoundStaged => 4,
-            Call::WritePlan => 5,
+            Call::WritePlan | Call::BoundTwo => 5,
             Call::NeatPlan => 1,
             Call::Certify | Call::CertifyStaged => 3,
         }
@@ -124,6 +132,9 @@ impl Call {
             Call::BoundStaged => (calls.bound_staged)(job, c, weights, limit, storage, answer),
             Call::CertifyStaged => {
                 (calls.certify_staged)(job, c, weights, limit, kinds, operands, storage, answer)
+            }
+            Call::BoundTwo => {
+                (calls.bound_two)(job, c, weights, &input.second, storage, answer)
             }
         }
     }

@@ -1,7 +1,7 @@
 // The implementations that are measured, and the memory that they are lent.
 // The memory is touched before the first call and never cleared between calls.
-use crate::jobs::{Job, StagedJob};
-use outside::answers::{Bound, PlanArrays, Storage, Written};
+use crate::jobs::Job;
+use outside::answers::{Bound, PlanArrays, Refusal, Storage, Words, Written};
 use outside::{baseline, planner};
 
 pub struct Contender {
@@ -9,8 +9,10 @@ pub struct Contender {
     pub write_plan: fn(&Job, &mut Memory) -> Written,
 }
 
-pub struct StagedContender {
-    pub bound: fn(&StagedJob, &mut Memory) -> Bound,
+/// A call that has a baseline in C alone; answers are given as words.
+pub struct Duel {
+    pub ours: fn(&Job, &mut Memory) -> Result<Vec<u64>, Refusal>,
+    pub c: fn(&Job, &mut Memory) -> Vec<u64>,
 }
 
 pub struct Memory {
@@ -55,23 +57,40 @@ pub const CONTENDERS: [Contender; 3] = [
     },
 ];
 
-/// Ours and the baseline in C.
-pub const STAGED_CONTENDERS: [StagedContender; 2] = [
-    StagedContender {
-        bound: |StagedJob { job, limit }, memory| {
-            let storage = memory.split().0;
-            planner::bound_staged(&job.block, job.choices, &job.weights, *limit, storage)
-                .expect("an accepted job")
-        },
+// In both duels job and memory are accepted: the proved call has said so.
+
+pub const STAGED: Duel = Duel {
+    ours: |Job { block, choices, weights, limit, .. }, memory| {
+        let bound = planner::bound_staged(block, *choices, weights, *limit, memory.split().0);
+        Ok(bound?.to_words().into())
     },
-    StagedContender {
-        // As above: the proved call has said that job and memory are accepted.
-        bound: |StagedJob { job, limit }, memory| unsafe {
-            let storage = memory.split().0;
-            baseline::c::bound_staged(&job.block, job.choices, &job.weights, *limit, storage)
-        },
+    c: |Job { block, choices, weights, limit, .. }, memory| {
+        let storage = memory.split().0;
+        let bound =
+            unsafe { baseline::c::bound_staged(block, *choices, weights, *limit, storage) };
+        bound.to_words().into()
     },
-];
+};
+
+pub const TWO_WEIGHTS: Duel = Duel {
+    ours: |Job { block, choices, weights, second, .. }, memory| {
+        let bound = planner::bound_two(block, *choices, weights, second, memory.split().0);
+        Ok(bound?.to_words().into())
+    },
+    c: |Job { block, choices, weights, second, .. }, memory| {
+        let storage = memory.split().0;
+        let bound = unsafe { baseline::c::bound_two(block, *choices, weights, second, storage) };
+        bound.to_words().into()
+    },
+};
+
+impl Duel {
+    /// The memory that a job needs, as the proved call answers it.
+    pub fn enough_for(&self, job: &Job) -> Memory {
+        let refusal = (self.ours)(job, &mut Memory::new(0)).expect_err("no table is lent");
+        Memory::new(refusal.place as usize)
+    }
+}
 
 impl Memory {
     pub fn new(words: usize) -> Memory {
@@ -88,15 +107,6 @@ impl Memory {
     pub fn enough_for(job: &Job) -> Memory {
         let mut none = Memory::new(0);
         let refusal = planner::bound(&job.block, job.choices, &job.weights, none.split().0);
-        Memory::new(refusal.expect_err("no table is lent").place as usize)
-    }
-
-    /// The memory that a job needs within its limit.
-    pub fn enough_for_staged(StagedJob { job, limit }: &StagedJob) -> Memory {
-        let mut none = Memory::new(0);
-        let storage = none.split().0;
-        let refusal =
-            planner::bound_staged(&job.block, job.choices, &job.weights, *limit, storage);
         Memory::new(refusal.expect_err("no table is lent").place as usize)
     }
 

@@ -11,11 +11,9 @@ pub struct Job {
     pub block: Vec<u8>,
     pub choices: u32,
     pub weights: Vec<u8>,
-}
-
-/// A job within a limit on the stages.
-pub struct StagedJob {
-    pub job: Job,
+    /// For the call with two weights a kind.
+    pub second: Vec<u8>,
+    /// For the staged calls.
     pub limit: u32,
 }
 
@@ -28,6 +26,8 @@ struct Draw {
     sides: (usize, usize),
     weights: &'static [u8],
     capacity: usize,
+    second_weights: &'static [u8],
+    second_capacity: usize,
     choices: u32,
 }
 
@@ -38,6 +38,8 @@ const SMALL: Draw = Draw {
     sides: (8, 60),
     weights: &[0],
     capacity: 0,
+    second_weights: &[0],
+    second_capacity: 0,
     choices: 0,
 };
 
@@ -63,7 +65,8 @@ pub fn named() -> Vec<Job> {
         choices: FULL_DEMAND,
         ..SMALL
     };
-    let s = Job { name: "S".into(), block: job_s(), choices: 0, weights: vec![0, 1, 0] };
+    let (block, weights, second) = (job_s(), vec![0, 1, 0], vec![0; 3]);
+    let s = Job { name: "S".into(), block, choices: 0, weights, second, limit: 0 };
     let mut jobs = vec![s];
     jobs.extend([SMALL, few, turning, kerf, half, full, shares, many].iter().map(draw));
     jobs
@@ -85,7 +88,7 @@ pub fn growing_capacities() -> Vec<Job> {
 }
 
 /// Staged bounds: without weights, with few shares, and with many within more and more stages.
-pub fn staged() -> Vec<StagedJob> {
+pub fn staged() -> Vec<Job> {
     let half = Draw { plate: 500, kinds: 40, sides: (30, 250), ..SMALL };
     let quarter = Draw { plate: 250, kinds: 30, sides: (20, 60), ..SMALL };
     let few = Draw { weights: &[0, 1], capacity: 18, ..SMALL };
@@ -97,27 +100,48 @@ pub fn staged() -> Vec<StagedJob> {
     one.into_iter().chain(growing).map(|(from, limit)| within(draw(&from), limit)).collect()
 }
 
-fn within(job: Job, limit: u32) -> StagedJob {
-    let name = format!("staged {}, limit {limit}", job.name);
-    StagedJob { job: Job { name, ..job }, limit }
+fn within(job: Job, limit: u32) -> Job {
+    Job { name: format!("staged {}, limit {limit}", job.name), limit, ..job }
+}
+
+/// Two weights a kind, with more and more pairs of shares.
+pub fn two_weights() -> Vec<Job> {
+    let few = &[0, 1, 2];
+    let many = &[1, 2, 3, 5, 8];
+    let small = Draw { plate: 60, kinds: 10, sides: (8, 30), weights: few, ..SMALL };
+    let medium = Draw { plate: 80, kinds: 16, sides: (12, 40), weights: few, ..SMALL };
+    let large = Draw { sides: (15, 50), weights: &[8, 16, 48], ..SMALL };
+    let draws = [
+        Draw { capacity: 8, second_weights: few, second_capacity: 10, ..small },
+        Draw { capacity: 34, second_weights: few, second_capacity: 39, ..medium },
+        Draw { capacity: 72, second_weights: many, second_capacity: 171, ..medium },
+        Draw { capacity: 931, second_weights: few, second_capacity: 25, ..large },
+    ];
+    let named = |job: Job| Job { name: format!("two weights {}", job.name), ..job };
+    draws.iter().map(|from| named(draw(from))).collect()
 }
 
 fn draw(from: &Draw) -> Job {
     let random = &mut Random::new(u64::from(from.plate) + from.kinds as u64);
     let mut kinds: Vec<Kind> = (0..from.kinds).map(|_| draw_kind(random, from.sides)).collect();
-    let weights: Vec<u8> = (0..from.kinds).map(|_| random.pick(from.weights)).collect();
-    raise_demands(from, &mut kinds, &weights);
-    let capacity = capacity(from, &kinds, &weights);
+    let mut pick = |weights| (0..from.kinds).map(|_| random.pick(weights)).collect::<Vec<u8>>();
+    let (weights, second) = (pick(from.weights), pick(from.second_weights));
+    raise_demands(from, &mut kinds, &weights, &second);
+    let [capacity, other] = [&weights, &second].map(|weights| capacity(from, &kinds, weights));
     let &Draw { plate, kerf, sides: (low, high), choices, .. } = from;
     let n = kinds.len();
     let mut name = format!("{plate}×{plate}, {n} kinds of sides {low}–{high}, Q {capacity}");
+    if from.second_capacity > 0 {
+        name += &format!(" and {other}");
+    }
     if kerf > 0 {
         name += &format!(", kerf {kerf}");
     }
     for (choice, words) in [(TURNING, ", turning"), (FULL_DEMAND, ", full demand")] {
         name += if choices & choice != 0 { words } else { "" };
     }
-    Job { name, block: kerf_block(plate, plate, kerf, &kinds), choices, weights }
+    let block = kerf_block(plate, plate, kerf, &kinds);
+    Job { name, block, choices, weights, second, limit: 0 }
 }
 
 fn draw_kind(random: &mut Random, (low, high): (usize, usize)) -> Kind {
@@ -126,12 +150,15 @@ fn draw_kind(random: &mut Random, (low, high): (usize, usize)) -> Kind {
     (length as u16, width as u16, (area + random.from(0, area / 4)) as u32, 1)
 }
 
-/// Adds copies, one kind after the other, as long as the capacity stays within the limit.
-fn raise_demands(from: &Draw, kinds: &mut [Kind], weights: &[u8]) {
+/// Adds copies of kinds that weigh, one kind after the other, as long as both capacities stay within
+/// their limits.
+fn raise_demands(from: &Draw, kinds: &mut [Kind], weights: &[u8], second: &[u8]) {
     for _ in 1..255 {
-        for i in 0..kinds.len() {
+        for i in (0..kinds.len()).filter(|&i| weights[i] > 0 || second[i] > 0) {
             kinds[i].3 += 1;
-            if weights[i] == 0 || capacity(from, kinds, weights) > from.capacity {
+            if capacity(from, kinds, weights) > from.capacity
+                || capacity(from, kinds, second) > from.second_capacity
+            {
                 kinds[i].3 -= 1;
             }
         }

@@ -1,6 +1,7 @@
-// The benchmark: bound and written plan, ours against the baselines in Rust and C, and the staged
-// bound, ours against the one in C, in one run. Prints Markdown: one table of named jobs, two of how
-// time grows, one of staged jobs. A word given as argument leaves only the jobs whose names have it.
+// The benchmark: bound and written plan, ours against the baselines in Rust and C, and the staged bound
+// and that of two weights, ours against those in C, in one run. Prints Markdown: one table of named
+// jobs, two of how time grows, two of the other bounds. A word given as argument leaves only the jobs
+// whose names have it.
 mod contender;
 mod jobs;
 mod measure;
@@ -11,5 +12,6 @@ fn main() {
     report::table("Named jobs", &wanted, &jobs::named());
     report::table("Growth with p and r", &wanted, &jobs::growing_plates());
     report::table("Growth with Q", &wanted, &jobs::growing_capacities());
-    report::staged_table("Staged bounds", &wanted, &jobs::staged());
+    report::duel_table("Staged bounds", &wanted, &contender::STAGED, &jobs::staged());
+    report::duel_table("Two weights", &wanted, &contender::TWO_WEIGHTS, &jobs::two_weights());
 }

@@ -1,16 +1,17 @@
 // Medians of processor time: the contenders take turns, so that all meet the same machine.
 // Short calls are repeated within one sample.
 use crate::contender::Memory;
+use crate::jobs::Job;
 
 const ROUNDS: usize = 9;
 const SAMPLE_SECONDS: f64 = 0.002;
 
 /// Median seconds of one call, for each contender.
-pub fn medians<Contender, Job, const N: usize>(
+pub fn medians<Contender, const N: usize>(
     contenders: &[Contender; N],
     job: &Job,
     memory: &mut Memory,
-    call: fn(&Contender, &Job, &mut Memory),
+    call: impl Fn(&Contender, &Job, &mut Memory),
 ) -> [f64; N] {
     let repeats = contenders.each_ref().map(|contender| {
         let once = seconds(|| call(contender, job, memory));

@@ -1,7 +1,7 @@
 // The Markdown tables. Before a job is measured, all contenders must give the same answers and leave
 // the same memory.
-use crate::contender::{Memory, CONTENDERS, STAGED_CONTENDERS};
-use crate::jobs::{Job, StagedJob};
+use crate::contender::{Duel, Memory, CONTENDERS};
+use crate::jobs::Job;
 use crate::measure::medians;
 
 pub fn table(title: &str, wanted: &str, jobs: &[Job]) {
@@ -41,29 +41,31 @@ fn line(facts: &str, call: &str, [ours, rust, c]: [f64; 3]) {
     println!("{facts} {call} | {a} | {b} | {d} | {:.2} |", ours / rust.min(c));
 }
 
-pub fn staged_table(title: &str, wanted: &str, jobs: &[StagedJob]) {
+/// Of a call with a baseline in C alone.
+pub fn duel_table(title: &str, wanted: &str, duel: &Duel, jobs: &[Job]) {
     println!("\n## {title}\n");
-    println!("| job | p | r | Q | words | ours ms | C ms | ours / C |");
-    println!("|---|--:|--:|--:|--:|--:|--:|--:|");
-    for staged in jobs.iter().filter(|staged| staged.job.name.contains(wanted)) {
-        let facts = staged_facts(staged);
-        let mut memory = Memory::enough_for_staged(staged);
-        let [ours, c] = medians(&STAGED_CONTENDERS, staged, &mut memory, |contender, job, memory| {
-            (contender.bound)(job, memory);
+    println!("| job | p | r | words | ours ms | C ms | ours / C |");
+    println!("|---|--:|--:|--:|--:|--:|--:|");
+    let calls: [fn(&Duel, &Job, &mut Memory); 2] = [
+        |duel, job, memory| _ = (duel.ours)(job, memory).expect("an accepted job"),
+        |duel, job, memory| _ = (duel.c)(job, memory),
+    ];
+    for job in jobs.iter().filter(|job| job.name.contains(wanted)) {
+        let facts = duel_facts(duel, job);
+        let mut memory = duel.enough_for(job);
+        let [ours, c] = medians(&calls, job, &mut memory, |call, job, memory| {
+            call(duel, job, memory);
         });
         println!("{facts} {:.4} | {:.4} | {:.2} |", ours * 1e3, c * 1e3, ours / c);
     }
 }
 
-/// Compares the contenders on a staged job, and gives the columns that tell its size.
-fn staged_facts(staged: &StagedJob) -> String {
-    let [ours, c] = STAGED_CONTENDERS.map(|contender| {
-        let mut memory = Memory::enough_for_staged(staged);
-        let bound = (contender.bound)(staged, &mut memory);
-        (bound, memory.lengths, memory.widths, memory.table)
-    });
-    assert!(ours == c, "the contenders agree on {}", staged.job.name);
-    let (bound, words) = (ours.0, ours.3.len());
-    let (p, r, q) = (bound.lengths, bound.widths, bound.capacity);
-    format!("| {} | {p} | {r} | {q} | {words} |", staged.job.name)
+/// Compares both on a job, and gives the columns that tell its size.
+fn duel_facts(duel: &Duel, job: &Job) -> String {
+    let [mut ours, mut c] = [(); 2].map(|()| duel.enough_for(job));
+    let answer = (duel.ours)(job, &mut ours).expect("an accepted job");
+    assert!(answer == (duel.c)(job, &mut c), "both answer the same for {}", job.name);
+    assert!(ours.lengths == c.lengths && ours.widths == c.widths && ours.table == c.table);
+    let [.., p, r] = answer[..] else { panic!("p and r come last") };
+    format!("| {} | {p} | {r} | {} |", job.name, ours.table.len())
 }
