@@ -4,7 +4,7 @@ use mathlib.Core.Bool.{Bool, true, false}
 use mathlib.Core.List.{List, [], _∷_}
 use Prim.Native.Nat.{ℕ}
 use Rattle.refusal.specs.declared.Refusal.{Refusal}
-use Rattle.refusal.specs.declared.Refusal.the-variants.{ShortHeader, PlateSide, KindCount, BlockLength, KindSide, Price, Demand, WeightCount, Capacity, PlanLength, NodeCount, NodeKind, PieceNumber, Operand, Misfit, Excess, NodeMissing, NodeLeft, ListShort, TableShort, PlanLong, StageLimit, ManyStages, SecondCount, CapacityProduct, IdleCut, Kerf}
+use Rattle.refusal.specs.declared.Refusal.the-variants.{ShortHeader, PlateSide, KindCount, BlockLength, KindSide, Price, Demand, WeightCount, Capacity, PlanLength, NodeCount, NodeKind, PieceNumber, Operand, Misfit, Excess, NodeMissing, NodeLeft, ListShort, TableShort, PlanLong, StageLimit, ManyStages, SecondCount, CapacityProduct, IdleCut, Kerf, DemandProduct}
 use Rattle.refusal.specs.declared.Checked.{Checked}
 use Rattle.refusal.specs.declared.Checked.the-variants.{Passed, Refused}
 
@@ -37,6 +37,7 @@ number-of SecondCount = 24
 number-of CapacityProduct = 25
 number-of (IdleCut k) = 26
 number-of Kerf = 27
+number-of DemandProduct = 30
 
 -- the table's place of a refusal: a kind, a node, a count of words or nodes, or 0
 abbrev pub place-of : Refusal → ℕ
@@ -67,6 +68,7 @@ place-of SecondCount = 0
 place-of CapacityProduct = 0
 place-of (IdleCut k) = k
 place-of Kerf = 0
+place-of DemandProduct = 0
 
 -- one line of the table: whether its condition holds, and the refusal that it then draws
 abbrev pub Check : Type 0

@@ -32,6 +32,7 @@ pub enum Refusal {
     CapacityProduct,
     IdleCut(u16),
     Kerf,
+    DemandProduct,
 }
 
 // What a check answers: passed, or the first refusal met.
@@ -72,6 +73,7 @@ pub fn number(r: Refusal) -> u16
         Refusal::CapacityProduct => 25,
         Refusal::IdleCut(_) => 26,
         Refusal::Kerf => 27,
+        Refusal::DemandProduct => 30,
     }
 }
 
@@ -107,6 +109,7 @@ pub fn place(r: Refusal) -> u64
         Refusal::CapacityProduct => 0,
         Refusal::IdleCut(k) => k as u64,
         Refusal::Kerf => 0,
+        Refusal::DemandProduct => 0,
     }
 }
 
