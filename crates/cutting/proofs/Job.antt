@@ -7,13 +7,13 @@ use native.Mathlib.Nat.{sub-zero}
 use lib.Dec.{leb}
 use Rattle.cutting.specs.declared.Direction.the-variants.{Length, Width}
 use Rattle.cutting.specs.Lists.{range, only, greatest}
-use Rattle.cutting.specs.Tree.{Rect, Tree, waste, piece, cut, Guillotine}
+use Rattle.cutting.specs.Tree.{Rect, Tree, waste, piece, cut, Shares, Guillotine}
 use Rattle.cutting.specs.Figure.{leaf, best, step}
 use Rattle.cutting.specs.Pieces.{Piece, kind, fits-in, sized}
 use Rattle.cutting.specs.Saws.{saw}
 use Rattle.cutting.specs.Shares.{by-weight}
 use Rattle.cutting.specs.Areas.{waste-area, trim-area, sawdust-area}
-use Rattle.cutting.specs.Job.{Job, laid, GuillotineTree, members, pieces, by-kind, figure-of, pieces-area-of, waste-area-of, trim-area-of, sawdust-area-of, SolidKinds}
+use Rattle.cutting.specs.Job.{Job, laid, GuillotineTree, members, pieces, by-kind, figure-under, figure-of, pieces-area-of, waste-area-of, trim-area-of, sawdust-area-of, SolidKinds}
 use Rattle.cutting.proofs.Greatest.{greatest-map}
 use Rattle.cutting.proofs.Recursion.{figure-eq}
 use Rattle.cutting.proofs.Saws.{saw-cut, cut-saw, saw-proper}
@@ -53,12 +53,12 @@ module _ (J : Job) (weight : ℕ → ℕ) where
   unfolding figure-of step leaf best pieces sized saw by-weight
   figure-recursion l w c = figure-eq (pieces J) (saw 0) (by-kind weight) (saw-proper 0) (l, w) c ∙ simp (greatest-map, sub-zero)
 
-module _ (J : Job) (weight : ℕ → ℕ) (solid : SolidKinds J) (priced : (i : ℕ) → i < J .count → J .price i ≤ 1000000) where
+module _ {S : Type 0} (J : Job) (H : Shares Piece S) (solid : SolidKinds J) (priced : (i : ℕ) → i < J .count → J .price i ≤ 1000000) where
   -- no figure is above the area times the greatest price
-  pub figure-ceiling : (l w c : ℕ) → figure-of J weight l w c ≤ l * w * 1000000
-  unfolding figure-of pieces
-  figure-ceiling l w c = figure-area (members J) (λ p. J .price (kind p)) (laid J) (members-solid J solid) 0 (by-kind weight) 1000000
-      (λ p m. priced (kind p) (member-kind J p m)) (l, w) c
+  pub figure-ceiling : (l w : ℕ) (s : S) → figure-under J H l w s ≤ l * w * 1000000
+  unfolding pieces
+  figure-ceiling l w s = figure-area (members J) (λ p. J .price (kind p)) (laid J) (members-solid J solid) 0 H 1000000
+      (λ p m. priced (kind p) (member-kind J p m)) (l, w) s
 
 -- the four areas of a tree sum to the rectangle's
 pub areas-sum : (J : Job) (t : Tree Piece) (l w : ℕ) → GuillotineTree J l w t

@@ -12,14 +12,14 @@ use Rattle.cutting.specs.declared.Direction.{Direction}
 use Rattle.cutting.specs.declared.Direction.the-variants.{Length, Width}
 use Rattle.cutting.specs.Limits.{most-wide-side}
 use Rattle.cutting.specs.Lists.{range, filter, first, greatest, each, pairs}
-use Rattle.cutting.specs.Tree.{Rect, side}
+use Rattle.cutting.specs.Tree.{Rect, side, Shares}
 use Rattle.cutting.specs.Figure.{leaf}
 use Rattle.cutting.specs.Pieces.{Piece, upright, turned, kind, ways, fits-in, sized}
 use Rattle.cutting.specs.Saws.{saw, floor}
-use Rattle.cutting.specs.Shares.{by-weight}
+use Rattle.cutting.specs.Shares.{by-weight, by-state}
 use Rattle.cutting.specs.Normal.{sides, normal?}
 use Rattle.cutting.specs.Choice.{Choice, as-waste, as-piece, as-cut, or-waste, or-length, or-piece, or-zero}
-use Rattle.cutting.specs.Job.{Job, laid, widened, ordered, members, pieces, by-kind, figure-of, normal-side, normal-positions, laid-earns, pair-earns, first-pair, plan-choice, KindsAbove, InRange}
+use Rattle.cutting.specs.Job.{Job, laid, widened, ordered, members, pieces, by-kind, figure-under, figure-of, normal-side, normal-positions, laid-earns, pair-earns, first-pair, plan-choice, KindsAbove, InRange}
 use Rattle.cutting.specs.Listed.{plain, member-at, Listing, InTableRange}
 use Rattle.cutting.proofs.Lists.{mem-range, through, first-cong, entries, filter-map, first-map, filter-map-cong}
 use Rattle.cutting.proofs.Greatest.{greatest-map, greatest-cong}
@@ -122,32 +122,53 @@ module _ (J : Job) (weight : ℕ → ℕ) (n : ℕ) (size : ℕ → Rect) (price
   unfolding normal-positions
   listed-positions d = ap (λ N. filter N (range 0 (suc (side d (J .plate))))) (listed-normal d)
 
-  -- the same figures
+  -- shares that admit the same pieces, by their numbers, and are divided alike
+  module _ {S : Type 0} (H H′ : Shares Piece S) (admits : (s : S) (j : ℕ) → j < n → H .admits s (upright j) ≡ H′ .admits s (member-at J j)) (splits : (d : Direction) (s : S) → H .splits d s ≡ H′ .splits d s) where
+    -- give the same figures
+    pub shares-figure : (l w : ℕ) (s : S) → figure-under L H l w s ≡ figure-under J H′ l w s
+    unfolding leaf pieces sized
+    shares-figure l w s = figure-same (pieces L) (pieces J) (saw 0) H H′ (λ r s. greatest-listed _ _ (λ j h. rw (given .sizes j h, given .prices j h, admits s j h) refl)) splits (l, w) s
+
+    module _ (l w : ℕ) (s : S) where
+      shares-pair : (d : Direction) → first-pair L H d l w s ≡ first-pair J H′ d l w s
+      unfolding first-pair
+      shares-pair d = first-cong _ _ _ (λ u m. test d u)
+          ∙ ap₂ (λ N qs. first (pair-earns J H′ d l w s) (pairs (filter N (range 1 (floor N (side d (l, w)) - 1))) qs)) (listed-normal d) (splits d s)
+        where
+          test : (d : Direction) (u : ℕ × (S × S)) → pair-earns L H d l w s u ≡ pair-earns J H′ d l w s u
+          test Length u = ap₂ eqb (ap₂ _+_ (shares-figure (u .0) w (u .1 .0)) (shares-figure (l - u .0) w (u .1 .1))) (shares-figure l w s)
+          test Width u = ap₂ eqb (ap₂ _+_ (shares-figure l (u .0) (u .1 .0)) (shares-figure l (w - u .0) (u .1 .1))) (shares-figure l w s)
+
+      -- and the same choices, by the pieces' numbers
+      shares-choice : plan-choice J H′ l w s ≡ renamed (λ p. member-at J (kind p)) (plan-choice L H l w s)
+      unfolding plan-choice
+      shares-choice = (λ i. or-zero (eqb (sym (shares-figure l w s) i) 0) (or-piece (alone i) (or-length (sym (shares-pair Length) i) (or-waste (sym (shares-pair Width) i)))))
+          ∙ sym (renamed-choice (λ p. member-at J (kind p)) (eqb (figure-under L H l w s) 0)
+          (first (laid-earns L H l w s) (members L)) (first-pair L H Length l w s) (first-pair L H Width l w s))
+        where
+          alone : first (laid-earns J H′ l w s) (members J) ≡ through (λ p. member-at J (kind p)) (first (laid-earns L H l w s) (members L))
+          alone = first-listed (laid-earns L H l w s) (laid-earns J H′ l w s) (λ j h. rw (given .sizes j h, given .prices j h, admits s j h, shares-figure l w s) refl)
+
+  -- the same figures by weight
   pub listed-figure : (l w c : ℕ) → figure-of L heavy l w c ≡ figure-of J weight l w c
-  unfolding figure-of leaf pieces sized by-weight
-  listed-figure l w c = figure-same (pieces L) (pieces J) (saw 0) (by-kind heavy) (by-kind weight)
-      (λ r s. greatest-listed _ _ (λ j h. rw (given .sizes j h, given .prices j h, given .weights j h) refl)) (λ d s. refl) (l, w) c
+  unfolding figure-of by-weight
+  listed-figure = shares-figure (by-kind heavy) (by-kind weight) (λ s j h. ap (λ v. leb v s) (given .weights j h)) (λ d s. refl)
 
-  module _ (l w c : ℕ) where
-    listed-pair : (d : Direction) → first-pair L heavy d l w c ≡ first-pair J weight d l w c
-    unfolding first-pair
-    listed-pair d = first-cong _ _ _ (λ u m. test d u)
-        ∙ ap (λ N. first (pair-earns J weight d l w c) (pairs (filter N (range 1 (floor N (side d (l, w)) - 1))) (map (λ k. (k, c - k)) (range 0 (suc c))))) (listed-normal d)
-      where
-        test : (d : Direction) (u : ℕ × (ℕ × ℕ)) → pair-earns L heavy d l w c u ≡ pair-earns J weight d l w c u
-        test Length u = ap₂ eqb (ap₂ _+_ (listed-figure (u .0) w (u .1 .0)) (listed-figure (l - u .0) w (u .1 .1))) (listed-figure l w c)
-        test Width u = ap₂ eqb (ap₂ _+_ (listed-figure l (u .0) (u .1 .0)) (listed-figure l (w - u .0) (u .1 .1))) (listed-figure l w c)
+  -- and where the weights are states of an order the same figures and choices
+  module _ (le : ℕ → ℕ → Bool) where
+    abbrev numbers : Shares Piece ℕ
+    numbers = by-state le (λ p. heavy (kind p))
 
-    -- and the same choices, by the pieces' numbers
-    pub listed-choice : plan-choice J weight l w c ≡ renamed (λ p. member-at J (kind p)) (plan-choice L heavy l w c)
-    unfolding plan-choice
-    listed-choice = (λ i. or-zero (eqb (sym (listed-figure l w c) i) 0) (or-piece (alone i) (or-length (sym (listed-pair Length) i) (or-waste (sym (listed-pair Width) i)))))
-        ∙ sym (renamed-choice (λ p. member-at J (kind p)) (eqb (figure-of L heavy l w c) 0)
-        (first (laid-earns L heavy l w c) (members L)) (first-pair L heavy Length l w c) (first-pair L heavy Width l w c))
-      where
-        alone : first (laid-earns J weight l w c) (members J) ≡ through (λ p. member-at J (kind p)) (first (laid-earns L heavy l w c) (members L))
-        alone = first-listed (laid-earns L heavy l w c) (laid-earns J weight l w c)
-            (λ j h. rw (given .sizes j h, given .prices j h, given .weights j h, listed-figure l w c) refl)
+    abbrev kinds : Shares Piece ℕ
+    kinds = by-state le (λ p. weight (kind p))
+
+    pub state-figure : (l w s : ℕ) → figure-under L numbers l w s ≡ figure-under J kinds l w s
+    unfolding by-state
+    state-figure = shares-figure numbers kinds (λ s j h. ap (λ v. le v s) (given .weights j h)) (λ d s. refl)
+
+    pub state-choice : (l w s : ℕ) → plan-choice J kinds l w s ≡ renamed (λ p. member-at J (kind p)) (plan-choice L numbers l w s)
+    unfolding by-state
+    state-choice = shares-choice numbers kinds (λ s j h. ap (λ v. le v s) (given .weights j h)) (λ d s. refl)
 
   -- where the kinds have both sides above k, so have the numbers
   pub listed-above : (k : ℕ) → KindsAbove k J → KindsAbove k L

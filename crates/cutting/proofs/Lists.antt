@@ -2,7 +2,7 @@
 -- and a list after its first entries were written.
 use mathlib.Core.Path.{_≡_, refl, sym, _∙_, ap, ap₂, subst}
 use mathlib.Core.Logic.{_⊎_, inl, inr}
-use mathlib.Core.Bool.{Bool, true, false, _||_}
+use mathlib.Core.Bool.{Bool, true, false, _||_, _&&_}
 use mathlib.Core.Option.{Option, none, some}
 use mathlib.Core.List.{List, [], _∷_, _++_, map, List·Memᴰ, List·Memᴰ·head, List·Memᴰ·tail, List·Memᴰ·not-nil, List·Memᴰ·cases-cons, List·Memᴰ·append-cases, Memᴰ·append-left, Memᴰ·append-right, Memᴰ·cast}
 use Prim.Native.Nat.{ℕ, zero, suc, _+_, _*_, _≤_, _<_}
@@ -80,6 +80,37 @@ module _ {A : Type 0} where
           more (inl p) = (List·Memᴰ·head p, subst T (sym (ap f p ∙ e)) tt)
           more (inr k) = let r = h k in (List·Memᴰ·tail (r .0), r .1)
       go false e k h = let r = h k in (List·Memᴰ·tail (r .0), r .1)
+
+  -- where all pass, the list is whole
+  pub filter-all : (f : A → Bool) (xs : List A) → ((x : A) → List·Memᴰ x xs → T (f x)) → filter f xs ≡ xs
+  unfolding filter
+  filter-all f [] h = refl
+  filter-all f (x ∷ xs) h = go (f x) (h x (List·Memᴰ·head refl)) (filter-all f xs (λ y m. h y (List·Memᴰ·tail m)))
+    where
+      go : (b : Bool) → T b → filter f xs ≡ xs → keep b x (filter f xs) ≡ x ∷ xs
+      go true t e = ap (λ ys. x ∷ ys) e
+      go false t e = absurd t
+
+  filter-append : (f : A → Bool) (xs ys : List A) → filter f (xs ++ ys) ≡ filter f xs ++ filter f ys
+  unfolding filter
+  filter-append f [] ys = refl
+  filter-append f (x ∷ xs) ys = go (f x) (filter-append f xs ys)
+    where
+      go : (b : Bool) → filter f (xs ++ ys) ≡ filter f xs ++ filter f ys → keep b x (filter f (xs ++ ys)) ≡ keep b x (filter f xs) ++ filter f ys
+      go true e = ap (λ zs. x ∷ zs) e
+      go false e = e
+
+  -- the first of a filtered list passes both tests
+  pub first-filter : (f g : A → Bool) (xs : List A) → first f (filter g xs) ≡ first (λ x. f x && g x) xs
+  unfolding first filter
+  first-filter f g [] = refl
+  first-filter f g (x ∷ xs) = go (f x) (g x) refl (first-filter f g xs)
+    where
+      go : (b c : Bool) → f x ≡ b → first f (filter g xs) ≡ first (λ x. f x && g x) xs → first f (keep c x (filter g xs)) ≡ elim (b && c) [ true ↦ some x | false ↦ first (λ x. f x && g x) xs ]
+      go true true p e = rw p refl
+      go false true p e = rw p e
+      go true false p e = e
+      go false false p e = e
 
   pub any-mem : (f : A → Bool) {x : A} (xs : List A) → List·Memᴰ x xs → T (f x) → T (any f xs)
   unfolding any
@@ -215,3 +246,10 @@ module _ {A B : Type 0} where
       go : (b : Bool) → p x ≡ q x → map p (filter f xs) ≡ map q (filter g xs) → map p (keep b x (filter f xs)) ≡ map q (keep b x (filter g xs))
       go true u v = ap₂ (λ y ys. y ∷ ys) u v
       go false u v = v
+
+module _ {A B : Type 0} where
+  -- pairs with the members that pass are the pairs whose second member passes
+  pub pairs-filter : (f : B → Bool) (xs : List A) (ys : List B) → pairs xs (filter f ys) ≡ filter (λ u. f (u .1)) (pairs xs ys)
+  unfolding pairs filter
+  pairs-filter f [] ys = refl
+  pairs-filter f (x ∷ xs) ys = ap₂ _++_ (sym (filter-map (λ u. f (u .1)) (λ y. (x, y)) ys)) (pairs-filter f xs ys) ∙ sym (filter-append (λ u. f (u .1)) (map (λ y. (x, y)) ys) (pairs xs ys))

@@ -3,9 +3,10 @@ use Prim.Native.Nat.{ℕ, suc}
 use native.Mathlib.Omega.{arith}
 use Rattle.cutting.specs.Tree.{side}
 use Rattle.cutting.specs.Lists.{range}
-use Rattle.cutting.specs.Job.{Job, InRange, widened, capacity, bound-of, normal-positions, normal-side}
+use Rattle.cutting.specs.Job.{Job, InRange, widened, capacity, by-kind, bound-of, normal-positions, normal-side}
 use Rattle.cutting.specs.Promises.{NoneAbove, PlateHolds, NoneHeavier, MostWithin, FiguresMost, Recursion, NormalSums, FloorFigures, PlanFollows}
 use Rattle.cutting.proofs.Lists.{range-mem, mem-range, filter-mem, mem-filter}
+use Rattle.cutting.proofs.Weights.{by-weight-monotone}
 use Rattle.cutting.proofs.Members.{range-solid, widened-solid}
 use Rattle.cutting.proofs.Job.{figure-recursion}
 use Rattle.cutting.proofs.Bound.{copies-plate, figure-most, figure-earned, bound-most, bound-earned, demands-weight, bound-holds}
@@ -47,5 +48,5 @@ module _ (J : Job) (weight : ℕ → ℕ) where
     pub floor-figures : FloorFigures (widened J) weight
     floor-figures l w c on-length on-width = figure-floor (widened J) weight (widened-solid J (range-solid J h)) l w c on-length on-width
 
-    pub plan-follows : PlanFollows J weight
-    plan-follows l w c on-length on-width = plan-recursion J weight (range-solid J h) l w c on-length on-width
+    pub plan-follows : PlanFollows J (by-kind weight)
+    plan-follows l w c on-length on-width = plan-recursion J (by-kind weight) (by-weight-monotone _) (range-solid J h) l w c on-length on-width

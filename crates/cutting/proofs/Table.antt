@@ -10,13 +10,13 @@ use lib.ListN.{length, getD}
 use Rattle.cutting.specs.declared.Direction.{Direction}
 use Rattle.cutting.specs.declared.Direction.the-variants.{Length, Width}
 use Rattle.cutting.specs.Lists.{range, only, filter, greatest}
-use Rattle.cutting.specs.Tree.{Rect, side, Saw}
+use Rattle.cutting.specs.Tree.{Rect, side, Saw, Shares, Monotone}
 use Rattle.cutting.specs.Figure.{leaf, best, step, figure}
-use Rattle.cutting.specs.Pieces.{kind, _⊑_, fits-in, sized}
+use Rattle.cutting.specs.Pieces.{Piece, kind, _⊑_, fits-in, sized}
 use Rattle.cutting.specs.Saws.{saw-normal, saw-half}
 use Rattle.cutting.specs.Shares.{by-weight}
 use Rattle.cutting.specs.Normal.{Sum, sides}
-use Rattle.cutting.specs.Job.{Job, laid, members, pieces, by-kind, figure-of, normal-side, normal-positions, normal-floor, KindsAbove, SolidKinds}
+use Rattle.cutting.specs.Job.{Job, laid, members, pieces, by-kind, figure-under, figure-of, normal-side, normal-positions, normal-floor, KindsAbove, SolidKinds}
 use Rattle.cutting.proofs.Greatest.{greatest-map}
 use Rattle.cutting.proofs.Weights.{by-weight-monotone, by-weight-symmetric}
 use Rattle.cutting.proofs.Reduction.{Sufficient, CutsAt, saw-normal-cuts, saw-figure, floor-figure}
@@ -84,23 +84,28 @@ module _ (J : Job) (d : Direction) where
   unfolding normal-positions
   positions-floor a x h l g f = floor-at (normal-side J d) normal-zero (suc (side d (J .plate))) a x (omega arith) l g f
 
-module _ (J : Job) (weight : ℕ → ℕ) (h : SolidKinds J) where
+module _ {S : Type 0} (J : Job) (H : Shares Piece S) (mono : Monotone H) (h : SolidKinds J) where
   -- a saw at the normal positions gives the same figures on the plate
-  pub figure-saw : (C : Saw) → CutsAt (normal-side J) C → (r : Rect) (c : ℕ) → r ⊑ J .plate → figure-of J weight (r .0) (r .1) c ≡ figure (pieces J) C (by-kind weight) r c
-  unfolding figure-of pieces
-  figure-saw C cuts r c on = saw-figure (members J) (λ p. J .price (kind p)) (laid J) (members-solid J h) (by-kind weight) (by-weight-monotone _)
-      (J .plate) (normal-side J) (sides-suffice J) C cuts r c on
+  pub figure-saw : (C : Saw) → CutsAt (normal-side J) C → (r : Rect) (s : S) → r ⊑ J .plate → figure-under J H (r .0) (r .1) s ≡ figure (pieces J) C H r s
+  unfolding pieces
+  figure-saw C cuts r s on = saw-figure (members J) (λ p. J .price (kind p)) (laid J) (members-solid J h) H mono (J .plate) (normal-side J) (sides-suffice J) C cuts r s on
 
+  -- the figure of a rectangle on the plate is that of the largest normal length and width not above its sides
+  pub floor-under : (l w : ℕ) (s : S) → l ≤ J .plate .0 → w ≤ J .plate .1 → figure-under J H l w s ≡ figure-under J H (normal-floor J Length l) (normal-floor J Width w) s
+  unfolding pieces
+  floor-under l w s on-length on-width = floor-figure (members J) (λ p. J .price (kind p)) (laid J) (members-solid J h) H mono (J .plate) (normal-side J) (sides-suffice J) (l, w) s (on-length, on-width)
+
+module _ (J : Job) (weight : ℕ → ℕ) (h : SolidKinds J) where
   module _ (l w c : ℕ) (on-length : l ≤ J .plate .0) (on-width : w ≤ J .plate .1) where
     -- cuts at normal positions alone, the remainder counted down to one, give the same figure
     pub figure-normal : figure-of J weight l w c ≡ figure (pieces J) (saw-normal (normal-side J)) (by-kind weight) (l, w) c
-    figure-normal = figure-saw (saw-normal (normal-side J)) (saw-normal-cuts (normal-side J) (sides-suffice J .additive)) (l, w) c (on-length, on-width)
+    unfolding figure-of
+    figure-normal = figure-saw J (by-kind weight) (by-weight-monotone _) h (saw-normal (normal-side J)) (saw-normal-cuts (normal-side J) (sides-suffice J .additive)) (l, w) c (on-length, on-width)
 
     -- the figure of a rectangle on the plate is that of the largest normal length and width not above its sides
     pub figure-floor : figure-of J weight l w c ≡ figure-of J weight (normal-floor J Length l) (normal-floor J Width w) c
-    unfolding figure-of pieces
-    figure-floor = floor-figure (members J) (λ p. J .price (kind p)) (laid J) (members-solid J h) (by-kind weight) (by-weight-monotone _)
-        (J .plate) (normal-side J) (sides-suffice J) (l, w) c (on-length, on-width)
+    unfolding figure-of
+    figure-floor = floor-under J (by-kind weight) (by-weight-monotone _) h l w c on-length on-width
 
     -- the recursion over cuts at normal positions up to half of a side, the remainder counted down to a normal position
     pub figure-half : figure-of J weight l w c ≡

@@ -2,7 +2,7 @@
 -- behind the bound. The general definitions stand in the other modules; proofs/Job, Table, Bound and Plan have what is proved of these.
 use mathlib.Core.Bool.{Bool, true, false, _&&_}
 use mathlib.Core.Option.{Option}
-use mathlib.Core.List.{List, map}
+use mathlib.Core.List.{List}
 use Prim.Native.Nat.{ℕ, suc, _+_, _-_, _*_, _/_, _≤_, _<_, min}
 use lib.Dec.{T, leb, eqb}
 use Rattle.cutting.specs.declared.Direction.{Direction}
@@ -126,9 +126,13 @@ pieces J = sized (members J) (λ p. J .price (kind p)) (laid J)
 abbrev pub by-kind : (ℕ → ℕ) → Shares Piece ℕ
 by-kind weight = by-weight (λ p. weight (kind p))
 
--- the figure of a rectangle and a share, for a job cut without loss: a cut at every whole unit (figure-recursion of proofs/Job)
+-- the figure of a rectangle and a share under any shares, for a job cut without loss: a cut at every whole unit
+abbrev pub figure-under : {S : Type 0} → Job → Shares Piece S → ℕ → ℕ → S → ℕ
+figure-under J H l w s = figure (pieces J) (saw 0) H (l, w) s
+
+-- the figure under shares by the weights of the kinds (figure-recursion of proofs/Job)
 unfoldable pub figure-of : Job → (ℕ → ℕ) → ℕ → ℕ → ℕ → ℕ
-figure-of J weight l w c = figure (pieces J) (saw 0) (by-kind weight) (l, w) c
+figure-of J weight l w c = figure-under J (by-kind weight) l w c
 
 -- the bound: the widened job's figure at its plate and the capacity
 abbrev pub bound-of : Job → (ℕ → ℕ) → ℕ
@@ -146,49 +150,50 @@ normal-positions J d = filter (normal-side J d) (range 0 (suc (side d (J .plate)
 abbrev pub normal-floor : Job → Direction → ℕ → ℕ
 normal-floor J d n = floor (normal-side J d) n
 
--- whether a piece fits, weighs at most the share, and has the figure as its price
-abbrev pub laid-earns : Job → (ℕ → ℕ) → ℕ → ℕ → ℕ → Piece → Bool
-laid-earns J weight l w c p = (fits-in (laid J p) (l, w) && leb (weight (kind p)) c) && eqb (J .price (kind p)) (figure-of J weight l w c)
+-- The plan under any shares H: what follows reads J as a job cut without loss, up to lossless-plan.
+module _ {S : Type 0} (J : Job) (H : Shares Piece S) where
+  -- whether a piece fits, is admitted by the share, and has the figure as its price
+  abbrev pub laid-earns : ℕ → ℕ → S → Piece → Bool
+  laid-earns l w s p = (fits-in (laid J p) (l, w) && H .admits s p) && eqb (J .price (kind p)) (figure-under J H l w s)
 
--- whether a cut at position u .0, with the shares u .1 for its parts, earns the figure
-abbrev pub pair-earns : Job → (ℕ → ℕ) → Direction → ℕ → ℕ → ℕ → ℕ × (ℕ × ℕ) → Bool
-pair-earns J weight Length l w c u = eqb (figure-of J weight (u .0) w (u .1 .0) + figure-of J weight (l - u .0) w (u .1 .1)) (figure-of J weight l w c)
-pair-earns J weight Width l w c u = eqb (figure-of J weight l (u .0) (u .1 .0) + figure-of J weight l (w - u .0) (u .1 .1)) (figure-of J weight l w c)
+  -- whether a cut at position u .0, with the shares u .1 for its parts, earns the figure
+  abbrev pub pair-earns : Direction → ℕ → ℕ → S → ℕ × (S × S) → Bool
+  pair-earns Length l w s u = eqb (figure-under J H (u .0) w (u .1 .0) + figure-under J H (l - u .0) w (u .1 .1)) (figure-under J H l w s)
+  pair-earns Width l w s u = eqb (figure-under J H l (u .0) (u .1 .0) + figure-under J H l (w - u .0) (u .1 .1)) (figure-under J H l w s)
 
--- the first pair of position and share that earns it: normal positions from 1 to one less than the tabled side, rising, and for each
--- the first part's share, rising
-unfoldable pub first-pair : Job → (ℕ → ℕ) → Direction → ℕ → ℕ → ℕ → Option (ℕ × (ℕ × ℕ))
-first-pair J weight d l w c =
-    first (pair-earns J weight d l w c) (pairs (filter (normal-side J d) (range 1 (normal-floor J d (side d (l, w)) - 1))) (map (λ k. (k, c - k)) (range 0 (suc c))))
+  -- the first position and division of the share that earn it: normal positions from 1 to one less than the tabled side, rising, and for
+  -- each the divisions in their order, the first part's share rising
+  unfoldable pub first-pair : Direction → ℕ → ℕ → S → Option (ℕ × (S × S))
+  first-pair d l w s = first (pair-earns d l w s) (pairs (filter (normal-side J d) (range 1 (normal-floor J d (side d (l, w)) - 1))) (H .splits d s))
 
--- figure 0 gives waste; otherwise the lowest-numbered kind, upright before turned; otherwise a length cut; failing all, a width cut
-unfoldable pub plan-choice : Job → (ℕ → ℕ) → ℕ → ℕ → ℕ → Choice Piece ℕ
-plan-choice J weight l w c = or-zero (eqb (figure-of J weight l w c) 0)
-    (or-piece (first (laid-earns J weight l w c) (members J)) (or-length (first-pair J weight Length l w c) (or-waste (first-pair J weight Width l w c))))
+  -- figure 0 gives waste; otherwise the lowest-numbered kind, upright before turned; otherwise a length cut; failing all, a width cut
+  unfoldable pub plan-choice : ℕ → ℕ → S → Choice Piece S
+  plan-choice l w s = or-zero (eqb (figure-under J H l w s) 0) (or-piece (first (laid-earns l w s) (members J)) (or-length (first-pair Length l w s) (or-waste (first-pair Width l w s))))
 
--- the plan of a job cut without loss, from a rectangle and a share downward
-unfoldable pub lossless-plan : Job → (ℕ → ℕ) → Rect → ℕ → Tree Piece
-lossless-plan J weight r c = written (pieces J) (saw-written (normal-side J)) (by-kind weight) r c
+  -- the plan of a job cut without loss, from a rectangle and a share downward
+  unfoldable pub lossless-plan : Rect → S → Tree Piece
+  lossless-plan r s = written (pieces J) (saw-written (normal-side J)) H r s
 
--- the plan from a rectangle of the widened job and a share downward, as the saw cuts it
-unfoldable pub plan-of : Job → (ℕ → ℕ) → ℕ → ℕ → ℕ → Tree Piece
-plan-of J weight l w c = sawn (J .kerf) (l, w) (lossless-plan (widened J) weight (l, w) c)
+module _ {S : Type 0} (J : Job) (H : Shares Piece S) where
+  -- the plan from a rectangle of the widened job and a share downward, as the saw cuts it
+  unfoldable pub plan-of : ℕ → ℕ → S → Tree Piece
+  plan-of l w s = sawn (J .kerf) (l, w) (lossless-plan (widened J) H (l, w) s)
 
--- the plan of the plate and a capacity
+  -- the plan's tree after a choice of the widened job: a cut stands at its position less the kerf, with the true remainder beyond it, and
+  -- where that would be below 1 the plan goes on with the first part's size and share (plan-recursion of proofs/Plan)
+  abbrev pub plan-after : ℕ → ℕ → Choice Piece S → Tree Piece
+  plan-after l w as-waste = waste
+  plan-after l w (as-piece p) = piece p
+  plan-after l w (as-cut Length x q) = or-first (cut-remains (J .kerf) (l - x)) Length (x - J .kerf) (plan-of x w (q .0)) (plan-of (l - x) w (q .1))
+  plan-after l w (as-cut Width x q) = or-first (cut-remains (J .kerf) (w - x)) Width (x - J .kerf) (plan-of l x (q .0)) (plan-of l (w - x) (q .1))
+
+-- the plan of the plate, weights and a capacity
 abbrev pub plan-under : Job → (ℕ → ℕ) → ℕ → Tree Piece
-plan-under J weight q = plan-of J weight (widened J .plate .0) (widened J .plate .1) q
+plan-under J weight q = plan-of J (by-kind weight) (widened J .plate .0) (widened J .plate .1) q
 
 -- the plan behind the bound itself
 abbrev pub bound-plan : Job → (ℕ → ℕ) → Tree Piece
 bound-plan J weight = plan-under J weight (capacity J weight)
-
--- the plan's tree after a choice of the widened job: a cut stands at its position less the kerf, with the true remainder beyond it, and
--- where that would be below 1 the plan goes on with the first part's size and share (plan-recursion of proofs/Plan)
-abbrev pub plan-after : Job → (ℕ → ℕ) → ℕ → ℕ → Choice Piece ℕ → Tree Piece
-plan-after J weight l w as-waste = waste
-plan-after J weight l w (as-piece p) = piece p
-plan-after J weight l w (as-cut Length x q) = or-first (cut-remains (J .kerf) (l - x)) Length (x - J .kerf) (plan-of J weight x w (q .0)) (plan-of J weight (l - x) w (q .1))
-plan-after J weight l w (as-cut Width x q) = or-first (cut-remains (J .kerf) (w - x)) Width (x - J .kerf) (plan-of J weight l x (q .0)) (plan-of J weight l (w - x) (q .1))
 
 -- the area of the pieces of a tree
 abbrev pub pieces-area-of : Job → Tree Piece → ℕ

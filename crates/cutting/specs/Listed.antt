@@ -7,8 +7,9 @@ use Prim.Native.Nat.{ℕ, _+_, _*_, _/_, _%_, _≤_, _<_}
 use lib.Dec.{eqb}
 use lib.ListN.{length, getD}
 use Rattle.cutting.specs.Limits.{most-wide-side, most-pieces, most-price}
-use Rattle.cutting.specs.Tree.{Rect, Tree, waste, piece, cut}
+use Rattle.cutting.specs.Tree.{Rect, Tree, waste, piece, cut, Shares}
 use Rattle.cutting.specs.Pieces.{Piece, upright, turned, kind}
+use Rattle.cutting.specs.Shares.{by-state}
 use Rattle.cutting.specs.Choice.{sawn}
 use Rattle.cutting.specs.Job.{Job, laid, members, lossless-plan}
 
@@ -78,10 +79,14 @@ laid-tree pieces (cut d x a b) = cut d x (laid-tree pieces a) (laid-tree pieces 
 abbrev pub pieces-job : Rect → ℕ → List ℕ → Job
 pieces-job r n pieces = plain r n (size-in pieces) (price-in pieces)
 
--- the plan of an array of n pieces on a plate, from a rectangle and a share downward: as a saw k wide cuts it, with the pieces that the
+-- the shares of an order of states, where the pieces' entries for their weights are their states
+abbrev pub array-shares : (ℕ → ℕ → Bool) → List ℕ → Shares Piece ℕ
+array-shares le pieces = by-state le (λ p. heavy-in pieces (kind p))
+
+-- the plan of an array of n pieces on a plate, from a rectangle and a state downward: as a saw k wide cuts it, with the pieces that the
 -- numbers stand for
-abbrev pub array-plan : ℕ → Rect → ℕ → List ℕ → Rect → ℕ → Tree Piece
-array-plan k plate n pieces r c = sawn k r (laid-tree pieces (lossless-plan (pieces-job plate n pieces) (heavy-in pieces) r c))
+abbrev pub array-plan : (ℕ → ℕ → Bool) → ℕ → Rect → ℕ → List ℕ → Rect → ℕ → Tree Piece
+array-plan le k plate n pieces r s = sawn k r (laid-tree pieces (lossless-plan (pieces-job plate n pieces) (array-shares le pieces) r s))
 
 -- an array that holds the pieces of a job with their weights
 pub record PieceArray (J : Job) (weight : ℕ → ℕ) (n : ℕ) (pieces : List ℕ) : Type 0 where

@@ -9,7 +9,7 @@ use lib.Dec.{leb}
 use Rattle.cutting.specs.declared.Direction.{Direction}
 use Rattle.cutting.specs.declared.Direction.the-variants.{Length, Width}
 use Rattle.cutting.specs.Lists.{range, only, greatest}
-use Rattle.cutting.specs.Tree.{side, Tree}
+use Rattle.cutting.specs.Tree.{side, Tree, Shares}
 use Rattle.cutting.specs.Pieces.{Piece, kind, fits-in}
 use Rattle.cutting.specs.Normal.{Sum, sides}
 use Rattle.cutting.specs.Job.{Job, laid, members, GuillotineTree, OnPlate, KeepsDemands, profit, weight-of, copies-of, widened, plate-copies, figure-of, normal-positions, normal-floor, plan-of, plan-choice, plan-after}
@@ -64,5 +64,5 @@ FloorFigures J weight = (l w c : ℕ) → l ≤ J .plate .0 → w ≤ J .plate .
 
 -- the plan from a rectangle on the widened plate and a share follows the order of choice of the widened job, the second part of a cut the
 -- true remainder, and leaves out a cut whose second part would be below 1
-abbrev pub PlanFollows : Job → (ℕ → ℕ) → Type 0
-PlanFollows J weight = (l w c : ℕ) → l ≤ widened J .plate .0 → w ≤ widened J .plate .1 → plan-of J weight l w c ≡ plan-after J weight l w (plan-choice (widened J) weight l w c)
+abbrev pub PlanFollows : {S : Type 0} → Job → Shares Piece S → Type 0
+PlanFollows {S} J H = (l w : ℕ) (s : S) → l ≤ widened J .plate .0 → w ≤ widened J .plate .1 → plan-of J H l w s ≡ plan-after J H l w (plan-choice (widened J) H l w s)

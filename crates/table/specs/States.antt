@@ -16,20 +16,12 @@ use Rattle.cutting.specs.Saws.{saw}
 use Rattle.cutting.specs.Shares.{staged}
 use Rattle.cutting.specs.Job.{Job, pieces}
 
--- no digit of t, up to digit d, is above that of s; the last digit has no bound here, so no t past all states is below a state
-unfoldable pub below : (ℕ → ℕ) → ℕ → ℕ → ℕ → Bool
-below B zero t s = leb t s
-below B (suc d) t s = leb (t / B d) (s / B d) && below B d (t % B d) (s % B d)
+unfoldable pub use Rattle.cutting.specs.Shares.{below, by-state}
 
 -- the numbers of states up to digit d: none is 0, and each is a whole multiple of the one before
 pub record Blocks (B : ℕ → ℕ) (d : ℕ) : Type 0 where
   pub some : (i : ℕ) → i ≤ d → 1 ≤ B i
   pub whole : (i : ℕ) → i < d → (k : ℕ) × (B (i + 1) ≡ k * B i)
-
--- the shares of an order of states: a state admits the pieces whose own state is below it, and is divided into t and s - t for each t
--- below it, rising
-unfoldable pub by-state : {P : Type 0} → (ℕ → ℕ → Bool) → (P → ℕ) → Shares P ℕ
-by-state le at = record { admits = λ s p. le (at p) s; splits = λ d s. map (λ t. (t, s - t)) (filter (λ t. le t s) (range 0 (suc s))) }
 
 -- what the fill needs of an order of states: t and u add without a carry exactly if t is below t + u
 pub record Order (le : ℕ → ℕ → Bool) : Type 0 where

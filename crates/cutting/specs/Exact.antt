@@ -1,0 +1,75 @@
+-- The exact answer for short orders: the remaining copies of every kind as a state, numbered in mixed radix, kind 0 lowest; the figure of a
+-- rectangle and a state, the optimum, and the plan that earns it by the order of choice.
+use mathlib.Core.Path.{_≡_}
+use mathlib.Core.Bool.{Bool, _&&_}
+use mathlib.Core.List.{List}
+use Prim.Native.Nat.{ℕ, zero, suc, _+_, _-_, _*_, _≤_, max}
+use Rattle.cutting.specs.declared.Direction.the-variants.{Length, Width}
+use Rattle.cutting.specs.Lists.{range, only, filter, greatest}
+use Rattle.cutting.specs.Tree.{Tree, Shares}
+use Rattle.cutting.specs.Pieces.{Piece, kind, fits-in}
+use Rattle.cutting.specs.Shares.{below, by-state}
+use Rattle.cutting.specs.Job.{Job, laid, OnPlate, profit, KeepsDemands, widened, members, figure-under, normal-floor, plan-of}
+use Rattle.cutting.specs.Promises.{NoneAbove}
+
+-- the number of states of the kinds below n: the product of their demands, each plus 1
+unfoldable pub states : (ℕ → ℕ) → ℕ → ℕ
+states demand zero = 1
+states demand (suc n) = states demand n * (demand n + 1)
+
+-- the number of states of a job
+abbrev pub state-count : Job → ℕ
+state-count J = states (J .demand) (J .count)
+
+-- the last state, in which every copy remains
+abbrev pub full-state : Job → ℕ
+full-state J = state-count J - 1
+
+-- the state of one copy of kind i: the number of states of the kinds below it
+abbrev pub one-copy : Job → ℕ → ℕ
+one-copy J i = states (J .demand) i
+
+-- whether state t has of no kind more copies than state s
+abbrev pub no-more : Job → ℕ → ℕ → Bool
+no-more J = below (λ i. states (J .demand) (suc i)) (J .count - 1)
+
+-- the remaining copies as shares: a state admits a kind of which a copy remains, and is divided into a state that has of no kind more
+-- copies and the rest, the first in the rising order of its number
+abbrev pub by-copies : Job → Shares Piece ℕ
+by-copies J = by-state (no-more J) (λ p. one-copy J (kind p))
+
+-- the figure of a rectangle and a state, for a job cut without loss
+unfoldable pub exact-figure : Job → ℕ → ℕ → ℕ → ℕ
+exact-figure J l w s = figure-under J (by-copies J) l w s
+
+-- the optimum: the widened job's figure at its plate, where every copy remains
+abbrev pub optimum : Job → ℕ
+optimum J = exact-figure (widened J) (widened J .plate .0) (widened J .plate .1) (full-state J)
+
+-- the plan that earns it, by the order of choice and as the saw cuts it
+abbrev pub optimum-plan : Job → Tree Piece
+optimum-plan J = plan-of J (by-copies J) (widened J .plate .0) (widened J .plate .1) (full-state J)
+
+-- the states of a cut's first part where state s is divided: those that have of no kind more copies, rising
+abbrev pub first-states : Job → ℕ → List ℕ
+first-states J s = filter (λ t. no-more J t s) (range 0 (suc s))
+
+-- the recursion: a figure is the greatest of 0; the price of any piece that may lie, fits and has a copy that remains; for each length cut,
+-- at every whole unit, and each state of the first part, the first part's figure plus the second part's; the same for width cuts
+abbrev pub ExactRecursion : Job → Type 0
+ExactRecursion J = (l w s : ℕ) → exact-figure J l w s ≡
+    max (greatest (λ p. only (fits-in (laid J p) (l, w) && no-more J (one-copy J (kind p)) s) (J .price (kind p))) (members J))
+    (max (greatest (λ x. greatest (λ t. exact-figure J x w t + exact-figure J (l - x) w (s - t)) (first-states J s)) (range 1 (l - 1)))
+    (greatest (λ x. greatest (λ t. exact-figure J l x t + exact-figure J l (w - x) (s - t)) (first-states J s)) (range 1 (w - 1))))
+
+-- the figure of a rectangle on the plate is that of the largest normal length and width not above its sides
+abbrev pub ExactFloors : Job → Type 0
+ExactFloors J = (l w s : ℕ) → l ≤ J .plate .0 → w ≤ J .plate .1 → exact-figure J l w s ≡ exact-figure J (normal-floor J Length l) (normal-floor J Width w) s
+
+-- a guillotine tree on the plate that keeps every demand and earns n
+abbrev pub EarnsExactly : Job → ℕ → Tree Piece → Type 0
+EarnsExactly J n t = OnPlate J t × KeepsDemands J t × (profit J t ≡ n)
+
+-- n is the most that a guillotine tree on the plate that keeps every demand earns: none earns more, and one earns it
+abbrev pub MostExact : Job → ℕ → Type 0
+MostExact J n = NoneAbove J n × ((t : Tree Piece) × EarnsExactly J n t)
