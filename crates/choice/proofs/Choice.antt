@@ -1,6 +1,6 @@
 -- The choice from a filled table: the two searches over the table answer the definition's searches over figures of the job.
 use mathlib.Core.Path.{_≡_, refl, sym, _∙_, ap, ap₂}
-use mathlib.Core.Bool.{Bool, true, false}
+use mathlib.Core.Bool.{Bool, true, false, _&&_}
 use mathlib.Core.Option.{Option, none, some}
 use mathlib.Core.List.{List, [], _∷_, _++_, map, map-map, map-append}
 use Prim.Native.Nat.{ℕ, zero, suc, _+_, _-_, _*_, _≤_, _<_}
@@ -18,15 +18,17 @@ use Rattle.cutting.specs.Lists.{range, filter, first, pairs}
 use Rattle.cutting.specs.Tree.{side, part}
 use Rattle.cutting.specs.Pieces.{Piece, upright}
 use Rattle.cutting.specs.Choice.{or-waste, or-length, or-piece, or-zero}
-use Rattle.cutting.specs.Job.{Job, figure-of, normal-side, normal-positions, normal-floor, pair-earns, first-pair, laid-earns, plan-choice}
-use Rattle.cutting.specs.Listed.{size-in, price-in, heavy-in}
-use Rattle.cutting.proofs.Lists.{through, mem-range, mem-pairs, range-length, range-entry, first-cong, first-map}
+use Rattle.cutting.specs.Job.{Job, figure-under, normal-side, normal-positions, normal-floor, pair-earns, first-pair, laid-earns, plan-choice}
+use Rattle.cutting.specs.Listed.{size-in, price-in, array-shares}
+use Rattle.cutting.proofs.Lists.{through, mem-range, mem-pairs, range-length, range-entry, first-cong, first-map, first-filter, pairs-filter}
 use Rattle.cutting.proofs.Listed.{plain-first}
 use Rattle.cutting.proofs.Positions.{between-length, between-entry}
 use Rattle.cutting.proofs.Table.{normal-zero}
 use Rattle.table.specs.declared.TableSize.{TableSize}
 use Rattle.table.specs.Table.{position-count, position}
 use Rattle.table.specs.Contracts.{Listed, Mapped, size-job}
+use Rattle.table.specs.States.{by-state}
+use Rattle.state_fill.specs.Cells.{under}
 use Rattle.choice.specs.declared.Cell.{Cell}
 use Rattle.choice.specs.declared.Chosen.{Chosen}
 use Rattle.choice.specs.declared.PieceFound.{PieceFound}
@@ -35,7 +37,7 @@ use Rattle.choice.specs.declared.CutFound.{CutFound}
 use Rattle.choice.specs.declared.CutFound.the-variants as found
 use Rattle.choice.specs.Search.{piece-test, piece-found, pair-test, first-index, cut-found, or-width-cut, or-length-cut, Searchable}
 use Rattle.choice.specs.Choice.{Tabled, ChoiceInput, Inside, chosen-of, chosen-at}
-use Rattle.choice.proofs.Rows.{stride-of, base-of, figure-at, row-figure, mapped-figure, cell-figure, cell-there, cell-sizes, searchable}
+use Rattle.choice.proofs.Rows.{stride-of, base-of, shares-of, rect-figure, row-figure, mapped-figure, cell-figure, cell-there, cell-sizes, searchable}
 
 -- an entry of a mapped list
 module _ {A B : Type 0} where
@@ -74,10 +76,10 @@ cuts-listed J d positions a n listed h e = ext-getD 0 cuts (map (λ i. getD posi
         rw (sym e) (between-entry (normal-side J d) (normal-zero J d) (suc (side d (J .plate))) a j h g) ∙ sym (listed .1 (suc j) (omega arith))
         ∙ sym (getD-map-in (λ i. getD positions i 0) (range 1 (a - 1)) j 0 0 (omega (arith, range-length 1 (a - 1))) ∙ ap (λ i. getD positions i 0) k)
 
-pair-figures : (J : Job) (weight : ℕ → ℕ) (d : Direction) (l w c : ℕ) (u : ℕ × (ℕ × ℕ)) → pair-earns J weight d l w c u
-    ≡ eqb (figure-at J weight (part d (u .0) (l, w)) (u .1 .0) + figure-at J weight (part d (side d (l, w) - u .0) (l, w)) (u .1 .1)) (figure-of J weight l w c)
-pair-figures J weight Length l w c u = refl
-pair-figures J weight Width l w c u = refl
+pair-figures : (J : Job) (le : ℕ → ℕ → Bool) (own : ℕ → ℕ) (d : Direction) (l w c : ℕ) (u : ℕ × (ℕ × ℕ)) → pair-earns J (shares-of le own) d l w c u
+    ≡ eqb (rect-figure J le own (part d (u .0) (l, w)) (u .1 .0) + rect-figure J le own (part d (side d (l, w) - u .0) (l, w)) (u .1 .1)) (rect-figure J le own (l, w) c)
+pair-figures J le own Length l w c u = refl
+pair-figures J le own Width l w c u = refl
 
 -- the answer as the searches give it: waste where the value is 0, or the piece, or a cut
 abbrev pub or-laid : PieceFound → Chosen → Chosen
@@ -101,30 +103,37 @@ searched pieces normal-lengths normal-widths c false none (some u) j d e f = rw 
 searched pieces normal-lengths normal-widths c false none none (some v) d e f = rw (d, e, f) refl
 searched pieces normal-lengths normal-widths c false none none none d e f = rw (d, e, f) refl
 
-module _ {J : Job} {weight : ℕ → ℕ} {columns q : ℕ} {normal-lengths normal-widths length-floors width-floors table : List ℕ} (t : Tabled J weight columns q normal-lengths normal-widths length-floors width-floors table)
+module _ {J : Job} {le : ℕ → ℕ → Bool} {own : ℕ → ℕ} {columns q : ℕ} {normal-lengths normal-widths length-floors width-floors table : List ℕ} (t : Tabled J le own columns q normal-lengths normal-widths length-floors width-floors table)
     (l w c : ℕ) (on-length : l ≤ J .plate .0) (on-width : w ≤ J .plate .1) (share : c ≤ q) where
   module _ (d : Direction) (positions floors : List ℕ) (listed : Listed J d positions) (mapped : Mapped J d floors) where
     on-side : side d (l, w) ≤ side d (J .plate)
     on-side = elim d [ Length ↦ on-length | Width ↦ on-width ]
 
+    -- the figure of the whole
+    abbrev whole : ℕ
+    whole = rect-figure J le own (l, w) c
+
     -- the test of a pair reads the figures of its two parts
-    pair-same : (i k : ℕ) → i < position-count J d → k ≤ c → pair-earns J weight d l w c (pair-of positions c (i, k))
-        ≡ pair-test positions floors table (side d (l, w)) (stride-of columns q d) (base-of columns q d (getD length-floors l 0) (getD width-floors w 0)) c (figure-of J weight l w c) (i, k)
-    pair-same i k h g = pair-figures J weight d l w c (pair-of positions c (i, k)) ∙ ap₂ (λ a b. eqb (a + b) (figure-of J weight l w c))
-        (ap (λ x. figure-at J weight (part d x (l, w)) k) (listed .1 i h) ∙ sym (row-figure t l w on-length on-width d i k h (omega arith)))
-        (sym (mapped-figure t l w on-length on-width d floors mapped (side d (l, w) - getD positions i 0) (c - k) (omega (arith, on-side)) (omega arith)))
+    pair-same : (i k : ℕ) → i < position-count J d → k ≤ c → (pair-earns J (shares-of le own) d l w c (pair-of positions c (i, k)) && le k c)
+        ≡ pair-test le positions floors table (side d (l, w)) (stride-of columns q d) (base-of columns q d (getD length-floors l 0) (getD width-floors w 0)) c whole (i, k)
+    pair-same i k h g = ap (λ b. b && le k c) (pair-figures J le own d l w c (pair-of positions c (i, k)) ∙ ap₂ (λ a b. eqb (a + b) whole)
+        (ap (λ x. rect-figure J le own (part d x (l, w)) k) (listed .1 i h) ∙ sym (row-figure t l w on-length on-width d i k h (omega arith)))
+        (sym (mapped-figure t l w on-length on-width d floors mapped (side d (l, w) - getD positions i 0) (c - k) (omega (arith, on-side)) (omega arith))))
 
     -- the search over indexes answers the definition's search
-    pair-index : first-pair J weight d l w c ≡ through (pair-of positions c)
-        (first-index positions floors table (side d (l, w)) (getD floors (side d (l, w)) 0) (stride-of columns q d) (base-of columns q d (getD length-floors l 0) (getD width-floors w 0)) c (figure-of J weight l w c))
-    unfolding first-pair first-index
+    pair-index : first-pair J (shares-of le own) d l w c ≡ through (pair-of positions c)
+        (first-index le positions floors table (side d (l, w)) (getD floors (side d (l, w)) 0) (stride-of columns q d) (base-of columns q d (getD length-floors l 0) (getD width-floors w 0)) c whole)
+    unfolding first-pair first-index by-state
     pair-index =
         let a = getD floors (side d (l, w)) 0 in
         let m = mapped (side d (l, w)) on-side in
         let e : c + 1 ≡ suc c = add-one c in
-        rw e (ap (λ xs. first (pair-earns J weight d l w c) (pairs xs (map (λ k. (k, c - k)) (range 0 (suc c))))) (cuts-listed J d positions a (side d (l, w)) listed (m .0) (m .1))
-        ∙ ap (first (pair-earns J weight d l w c)) (pairs-map (λ i. getD positions i 0) (λ k. (k, c - k)) (range 1 (a - 1)) (range 0 (suc c)))
-        ∙ first-map (pair-earns J weight d l w c) (pair-of positions c) (pairs (range 1 (a - 1)) (range 0 (suc c)))
+        let earns = pair-earns J (shares-of le own) d l w c in
+        rw e (ap (λ xs. first earns (pairs xs (map (λ k. (k, c - k)) (filter (λ k. le k c) (range 0 (suc c)))))) (cuts-listed J d positions a (side d (l, w)) listed (m .0) (m .1))
+        ∙ ap (first earns) (pairs-map (λ i. getD positions i 0) (λ k. (k, c - k)) (range 1 (a - 1)) (filter (λ k. le k c) (range 0 (suc c))))
+        ∙ first-map earns (pair-of positions c) (pairs (range 1 (a - 1)) (filter (λ k. le k c) (range 0 (suc c))))
+        ∙ ap (λ us. through (pair-of positions c) (first (λ u. earns (pair-of positions c u)) us)) (pairs-filter (λ k. le k c) (range 1 (a - 1)) (range 0 (suc c)))
+        ∙ ap (through (pair-of positions c)) (first-filter (λ u. earns (pair-of positions c u)) (λ u. le (u .1) c) (pairs (range 1 (a - 1)) (range 0 (suc c))))
         ∙ ap (through (pair-of positions c)) (first-cong _ _ _ (λ u n.
         (let p = mem-pairs u (range 1 (a - 1)) (range 0 (suc c)) n in
         let i = mem-range 1 (a - 1) (u .0) (p .0) in
@@ -153,7 +162,7 @@ pub waste-out : {f g : CutFound} → f ≡ found.Missing → g ≡ found.Missing
 waste-out e h = rw (e, h) refl
 
 -- the searches that the choice makes at a cell of a value
-module _ (size : TableSize) (pieces normal-lengths normal-widths floors table : List ℕ) (cell : Cell) (value : ℕ) where
+module _ (le : ℕ → ℕ → Bool) (size : TableSize) (pieces normal-lengths normal-widths floors table : List ℕ) (cell : Cell) (value : ℕ) where
   -- the indexes of the tabled length and width
   abbrev pub row-of : ℕ
   row-of = getD floors (cell .sides .length) 0
@@ -162,13 +171,13 @@ module _ (size : TableSize) (pieces normal-lengths normal-widths floors table : 
   column-of = getD (drop 1021 floors) (cell .sides .width) 0
 
   abbrev pub piece-search : Option ℕ
-  piece-search = first (piece-test pieces cell value) (range 0 (size .count))
+  piece-search = first (piece-test le pieces cell value) (range 0 (size .count))
 
   abbrev pub length-search : Option (ℕ × ℕ)
-  length-search = first-index normal-lengths floors table (cell .sides .length) row-of (size .columns * (size .capacity + 1)) (column-of * (size .capacity + 1)) (cell .share) value
+  length-search = first-index le normal-lengths floors table (cell .sides .length) row-of (size .columns * (size .capacity + 1)) (column-of * (size .capacity + 1)) (cell .share) value
 
   abbrev pub width-search : Option (ℕ × ℕ)
-  width-search = first-index normal-widths (drop 1021 floors) table (cell .sides .width) column-of (size .capacity + 1) (row-of * (size .columns * (size .capacity + 1))) (cell .share) value
+  width-search = first-index le normal-widths (drop 1021 floors) table (cell .sides .width) column-of (size .capacity + 1) (row-of * (size .columns * (size .capacity + 1))) (cell .share) value
 
   -- a cut that they find, or waste
   abbrev pub cut-answer : Chosen
@@ -179,19 +188,23 @@ module _ (size : TableSize) (pieces normal-lengths normal-widths floors table : 
   answer = or-none (eqb value 0) (or-laid (piece-found pieces piece-search) cut-answer)
 
 -- the answer is the choice
-module _ {size : TableSize} {pieces normal-lengths normal-widths floors table : List ℕ} (t : ChoiceInput size pieces normal-lengths normal-widths floors table) {cell : Cell} (at : Inside (size-job size pieces) size cell) where
+module _ {size : TableSize} {blocks : List ℕ} {d : ℕ} {pieces normal-lengths normal-widths floors table : List ℕ} (t : ChoiceInput size blocks d pieces normal-lengths normal-widths floors table) {cell : Cell} (at : Inside (size-job size pieces) size cell) where
   -- the plain job of the pieces
   abbrev N : Job
   N = size-job size pieces
 
-  answer-figure : answer size pieces normal-lengths normal-widths floors table cell (figure-of N (heavy-in pieces) (cell .sides .length) (cell .sides .width) (cell .share)) ≡ chosen-at size pieces cell
-  unfolding plan-choice
+  -- the order of the states
+  abbrev le : ℕ → ℕ → Bool
+  le = under blocks d
+
+  answer-figure : answer le size pieces normal-lengths normal-widths floors table cell (figure-under N (array-shares le pieces) (cell .sides .length) (cell .sides .width) (cell .share)) ≡ chosen-at le size pieces cell
+  unfolding plan-choice by-state
   answer-figure =
-      let v = figure-of N (heavy-in pieces) (cell .sides .length) (cell .sides .width) (cell .share) in
+      let v = figure-under N (array-shares le pieces) (cell .sides .length) (cell .sides .width) (cell .share) in
       let pairs-of : (d : Direction) (positions floors : List ℕ) → Listed N d positions → Mapped N d floors → _ = pair-index (t .tabled) (cell .sides .length) (cell .sides .width) (cell .share) (at .on-length) (at .on-width) (at .in-capacity) in
-      sym (searched pieces normal-lengths normal-widths (cell .share) (eqb v 0) (piece-search size pieces normal-lengths normal-widths floors table cell v)
-      (length-search size pieces normal-lengths normal-widths floors table cell v) (width-search size pieces normal-lengths normal-widths floors table cell v)
-      (plain-first (size .length, size .width) (size .count) (size-in pieces) (price-in pieces) (laid-earns N (heavy-in pieces) (cell .sides .length) (cell .sides .width) (cell .share)))
+      sym (searched pieces normal-lengths normal-widths (cell .share) (eqb v 0) (piece-search le size pieces normal-lengths normal-widths floors table cell v)
+      (length-search le size pieces normal-lengths normal-widths floors table cell v) (width-search le size pieces normal-lengths normal-widths floors table cell v)
+      (plain-first (size .length, size .width) (size .count) (size-in pieces) (price-in pieces) (laid-earns N (array-shares le pieces) (cell .sides .length) (cell .sides .width) (cell .share)))
       (pairs-of Length normal-lengths floors (t .tabled .lengths-are) (t .tabled .lengths-floored)) (pairs-of Width normal-widths (drop 1021 floors) (t .tabled .widths-are) (t .tabled .widths-floored)))
 
   -- what the code multiplies and reads is in reach
@@ -214,8 +227,8 @@ module _ {size : TableSize} {pieces normal-lengths normal-widths floors table : 
   abbrev pub word-at : ℕ
   word-at = getD table (getD floors (cell .sides .length) 0 * (size .columns * (size .capacity + 1)) + getD (drop 1021 floors) (cell .sides .width) 0 * (size .capacity + 1) + cell .share) 0
 
-  answer-choice : answer size pieces normal-lengths normal-widths floors table cell word-at ≡ chosen-at size pieces cell
-  answer-choice = ap (λ v. answer size pieces normal-lengths normal-widths floors table cell v) (cell-figure (t .tabled) (cell .sides .length) (cell .sides .width) (at .on-length) (at .on-width) (cell .share) (at .in-capacity)) ∙ answer-figure
+  answer-choice : answer le size pieces normal-lengths normal-widths floors table cell word-at ≡ chosen-at le size pieces cell
+  answer-choice = ap (λ v. answer le size pieces normal-lengths normal-widths floors table cell v) (cell-figure (t .tabled) (cell .sides .length) (cell .sides .width) (at .on-length) (at .on-width) (cell .share) (at .in-capacity)) ∙ answer-figure
 
   -- each way out of the code answers the choice
   module _ {a b value : ℕ} (e : a ≡ getD floors (cell .sides .length) 0) (f : b ≡ getD (drop 1021 floors) (cell .sides .width) 0)
@@ -223,15 +236,15 @@ module _ {size : TableSize} {pieces normal-lengths normal-widths floors table : 
     word-is : value ≡ word-at
     word-is = v ∙ ap₂ (λ a b. getD table (a * (size .columns * (size .capacity + 1)) + b * (size .capacity + 1) + cell .share) 0) e f
 
-    pub none-chosen : value ≡ 0 → record { node = Waste; share = 0 } ≡ chosen-at size pieces cell
+    pub none-chosen : value ≡ 0 → record { node = Waste; share = 0 } ≡ chosen-at le size pieces cell
     none-chosen z = sym (exit-none _ _ (eq-eqb word-at 0 (sym word-is ∙ z))) ∙ answer-choice
 
     module _ (z : value ≡ 0 → ⊥) where
-      pub piece-chosen : {n : Node} → piece-found pieces (piece-search size pieces normal-lengths normal-widths floors table cell value) ≡ piece.Laid n → record { node = n; share = 0 } ≡ chosen-at size pieces cell
-      piece-chosen k = sym (exit-piece _ _ _ (ne-eqb value 0 z) k) ∙ ap (λ v. answer size pieces normal-lengths normal-widths floors table cell v) word-is ∙ answer-choice
+      pub piece-chosen : {n : Node} → piece-found pieces (piece-search le size pieces normal-lengths normal-widths floors table cell value) ≡ piece.Laid n → record { node = n; share = 0 } ≡ chosen-at le size pieces cell
+      piece-chosen k = sym (exit-piece _ _ _ (ne-eqb value 0 z) k) ∙ ap (λ v. answer le size pieces normal-lengths normal-widths floors table cell v) word-is ∙ answer-choice
 
-      pub cut-chosen : {r : Chosen} → piece-found pieces (piece-search size pieces normal-lengths normal-widths floors table cell value) ≡ piece.Missing
-          → r ≡ or-length-cut (cut-found normal-lengths (first-index normal-lengths floors table (cell .sides .length) a (size .columns * (size .capacity + 1)) (b * (size .capacity + 1)) (cell .share) value))
-          (or-width-cut (cut-found normal-widths (first-index normal-widths (drop 1021 floors) table (cell .sides .width) b (size .capacity + 1) (a * (size .columns * (size .capacity + 1))) (cell .share) value)))
-          → r ≡ chosen-at size pieces cell
-      cut-chosen k c = rw (e, f) at c ∙ sym (exit-cut _ _ _ (ne-eqb value 0 z) k) ∙ ap (λ v. answer size pieces normal-lengths normal-widths floors table cell v) word-is ∙ answer-choice
+      pub cut-chosen : {r : Chosen} → piece-found pieces (piece-search le size pieces normal-lengths normal-widths floors table cell value) ≡ piece.Missing
+          → r ≡ or-length-cut (cut-found normal-lengths (first-index le normal-lengths floors table (cell .sides .length) a (size .columns * (size .capacity + 1)) (b * (size .capacity + 1)) (cell .share) value))
+          (or-width-cut (cut-found normal-widths (first-index le normal-widths (drop 1021 floors) table (cell .sides .width) b (size .capacity + 1) (a * (size .columns * (size .capacity + 1))) (cell .share) value)))
+          → r ≡ chosen-at le size pieces cell
+      cut-chosen k c = rw (e, f) at c ∙ sym (exit-cut _ _ _ (ne-eqb value 0 z) k) ∙ ap (λ v. answer le size pieces normal-lengths normal-widths floors table cell v) word-is ∙ answer-choice

@@ -1,6 +1,7 @@
 -- The rows of a filled table in one direction: the row of index i holds the figures of the rectangle whose side in that direction is the
 -- i-th normal position, and whose other side stays.
 use mathlib.Core.Path.{_≡_, sym, _∙_, ap, ap₂}
+use mathlib.Core.Bool.{Bool}
 use mathlib.Core.List.{List}
 use Prim.Native.Nat.{ℕ, suc, _+_, _*_, _≤_, _<_}
 use native.Mathlib.Nat.{mul-le-mul, mul-le-mul-right}
@@ -9,15 +10,18 @@ use lib.ListN.{length, getD}
 use Rattle.cutting.specs.declared.Direction.{Direction}
 use Rattle.cutting.specs.declared.Direction.the-variants.{Length, Width}
 use Rattle.cutting.specs.Limits.{most-wide-figure}
-use Rattle.cutting.specs.Tree.{Rect, side, part}
-use Rattle.cutting.specs.Job.{Job, figure-of, normal-side, normal-floor}
+use Rattle.cutting.specs.Tree.{Rect, side, part, Shares}
+use Rattle.cutting.specs.Pieces.{Piece, kind}
+use Rattle.cutting.specs.Job.{Job, figure-under, normal-side, normal-floor}
 use Rattle.cutting.specs.Listed.{InTableRange}
 use Rattle.cutting.proofs.Floor.{floor-le}
 use Rattle.cutting.proofs.Members.{table-solid}
 use Rattle.cutting.proofs.Job.{figure-ceiling}
-use Rattle.cutting.proofs.Table.{positions-rise, positions-normal, positions-length, positions-floor, figure-floor}
+use Rattle.cutting.proofs.Table.{positions-rise, positions-normal, positions-length, positions-floor, floor-under}
 use Rattle.table.specs.Table.{position-count, position, words-needed, word}
 use Rattle.table.specs.Contracts.{Listed, Mapped}
+use Rattle.table.specs.States.{by-state, figure-at}
+use Rattle.table.proofs.Shares.{by-state-monotone}
 use Rattle.choice.specs.Search.{Row, Searchable}
 use Rattle.choice.specs.Choice.{Tabled}
 
@@ -30,9 +34,13 @@ abbrev pub base-of : ℕ → ℕ → Direction → ℕ → ℕ → ℕ
 base-of columns q Length a b = b * (q + 1)
 base-of columns q Width a b = a * (columns * (q + 1))
 
+-- the shares of the states
+abbrev pub shares-of : (ℕ → ℕ → Bool) → (ℕ → ℕ) → Shares Piece ℕ
+shares-of le own = by-state le (λ p. own (kind p))
+
 -- the figure of a rectangle
-abbrev pub figure-at : Job → (ℕ → ℕ) → Rect → ℕ → ℕ
-figure-at J weight r c = figure-of J weight (r .0) (r .1) c
+abbrev pub rect-figure : Job → (ℕ → ℕ → Bool) → (ℕ → ℕ) → Rect → ℕ → ℕ
+rect-figure J le own r c = figure-under J (shares-of le own) (r .0) (r .1) c
 
 -- an index in reach
 word-below : (p r n a b k : ℕ) → a < p → b < r → k < n → (a * r + b) * n + k < p * r * n
@@ -46,13 +54,13 @@ position-floor : (J : Job) (d : Direction) (i : ℕ) → i < position-count J d 
 position-floor J d i h = positions-floor J d i (position J d i) (positions-normal J d i h .1) h (omega arith) (λ g. positions-rise J d i (suc i) (omega arith) g)
 
 -- no figure on the plate is above 1,040,400,000,000
-figure-most : (J : Job) (weight : ℕ → ℕ) → InTableRange J → (r : Rect) (c : ℕ) → r .0 ≤ J .plate .0 → r .1 ≤ J .plate .1 → figure-at J weight r c ≤ most-wide-figure
-figure-most J weight h r c a b =
+figure-most : (J : Job) (le : ℕ → ℕ → Bool) (own : ℕ → ℕ) → InTableRange J → (r : Rect) (c : ℕ) → r .0 ≤ J .plate .0 → r .1 ≤ J .plate .1 → rect-figure J le own r c ≤ most-wide-figure
+figure-most J le own h r c a b =
     let x : r .0 ≤ 1020 = omega (arith, h .plate-length) in
     let y : r .1 ≤ 1020 = omega (arith, h .plate-width) in
-    omega (arith, figure-ceiling J weight (table-solid J h) (h .prices) (r .0) (r .1) c, mul-le-mul x y)
+    omega (arith, figure-ceiling J (shares-of le own) (table-solid J h) (h .prices) (r .0) (r .1) c, mul-le-mul x y)
 
-module _ {J : Job} {weight : ℕ → ℕ} {columns q : ℕ} {normal-lengths normal-widths length-floors width-floors table : List ℕ} (t : Tabled J weight columns q normal-lengths normal-widths length-floors width-floors table)
+module _ {J : Job} {le : ℕ → ℕ → Bool} {own : ℕ → ℕ} {columns q : ℕ} {normal-lengths normal-widths length-floors width-floors table : List ℕ} (t : Tabled J le own columns q normal-lengths normal-widths length-floors width-floors table)
     (l w : ℕ) (on-length : l ≤ J .plate .0) (on-width : w ≤ J .plate .1) where
   -- the indexes of the tabled length and width
   abbrev pub a-of : ℕ
@@ -61,22 +69,27 @@ module _ {J : Job} {weight : ℕ → ℕ} {columns q : ℕ} {normal-lengths norm
   abbrev pub b-of : ℕ
   b-of = getD width-floors w 0
 
+  -- the figure of a rectangle on the plate is that of its largest normal sides
+  floored : (x y k : ℕ) → x ≤ J .plate .0 → y ≤ J .plate .1 → figure-under J (shares-of le own) x y k ≡ figure-under J (shares-of le own) (normal-floor J Length x) (normal-floor J Width y) k
+  floored = floor-under J (shares-of le own) (by-state-monotone le (t .order) _) (table-solid J (t .in-range))
+
   -- a row's word, and its figure
   row-cell : (d : Direction) (i k : ℕ) → i < position-count J d → k ≤ q
-      → (i * stride-of columns q d + base-of columns q d a-of b-of + k < words-needed J q) × (getD table (i * stride-of columns q d + base-of columns q d a-of b-of + k) 0 ≡ figure-at J weight (part d (position J d i) (l, w)) k)
+      → (i * stride-of columns q d + base-of columns q d a-of b-of + k < words-needed J q) × (getD table (i * stride-of columns q d + base-of columns q d a-of b-of + k) 0 ≡ rect-figure J le own (part d (position J d i) (l, w)) k)
+  unfolding figure-at
   row-cell Length i k h g =
       let m = t .widths-floored w on-width in
       let e : i * (columns * (q + 1)) + b-of * (q + 1) + k ≡ word J q i b-of k = rw (t .columns-are) (omega arith) in (
         rw e (word-below _ _ _ i b-of k h (m .0) (omega arith)),
         ap (λ n. getD table n 0) e ∙ t .figures i b-of k h (m .0) (omega arith)
-            ∙ sym (figure-floor J weight (table-solid J (t .in-range)) (position J Length i) w k (positions-normal J Length i h .1) on-width ∙ ap₂ (λ x y. figure-of J weight x y k) (position-floor J Length i h) (sym (m .1))),
+            ∙ sym (floored (position J Length i) w k (positions-normal J Length i h .1) on-width ∙ ap₂ (λ x y. figure-under J (shares-of le own) x y k) (position-floor J Length i h) (sym (m .1))),
       )
   row-cell Width i k h g =
       let m = t .lengths-floored l on-length in
       let e : i * (q + 1) + a-of * (columns * (q + 1)) + k ≡ word J q a-of i k = rw (t .columns-are) (omega arith) in (
         rw e (word-below _ _ _ a-of i k (m .0) h (omega arith)),
         ap (λ n. getD table n 0) e ∙ t .figures a-of i k (m .0) h (omega arith)
-            ∙ sym (figure-floor J weight (table-solid J (t .in-range)) l (position J Width i) k on-length (positions-normal J Width i h .1) ∙ ap₂ (λ x y. figure-of J weight x y k) (sym (m .1)) (position-floor J Width i h)),
+            ∙ sym (floored l (position J Width i) k on-length (positions-normal J Width i h .1) ∙ ap₂ (λ x y. figure-under J (shares-of le own) x y k) (sym (m .1)) (position-floor J Width i h)),
       )
 
   part-on : (d : Direction) (i : ℕ) → i < position-count J d → (part d (position J d i) (l, w) .0 ≤ J .plate .0) × (part d (position J d i) (l, w) .1 ≤ J .plate .1)
@@ -85,7 +98,7 @@ module _ {J : Job} {weight : ℕ → ℕ} {columns q : ℕ} {normal-lengths norm
 
   -- a row's figures
   pub row-figure : (d : Direction) (i k : ℕ) → i < position-count J d → k ≤ q
-      → getD table (i * stride-of columns q d + base-of columns q d a-of b-of + k) 0 ≡ figure-at J weight (part d (position J d i) (l, w)) k
+      → getD table (i * stride-of columns q d + base-of columns q d a-of b-of + k) 0 ≡ rect-figure J le own (part d (position J d i) (l, w)) k
   row-figure d i k h g = row-cell d i k h g .1
 
   -- a row's words are there
@@ -93,27 +106,27 @@ module _ {J : Job} {weight : ℕ → ℕ} {columns q : ℕ} {normal-lengths norm
   row-there d c i g h k m =
       let e = row-cell d i k h (omega arith) in
       let o = part-on d i h in
-      (omega (arith, e .0, t .words-there), omega (arith, e .1, figure-most J weight (t .in-range) (part d (position J d i) (l, w)) k (o .0) (o .1)))
+      (omega (arith, e .0, t .words-there), omega (arith, e .1, figure-most J le own (t .in-range) (part d (position J d i) (l, w)) k (o .0) (o .1)))
 
   -- the row that a map gives for a length holds the figures of the rectangle with that length
   pub mapped-figure : (d : Direction) (floors : List ℕ) → Mapped J d floors → (n k : ℕ) → n ≤ side d (J .plate) → k ≤ q
-      → getD table (getD floors n 0 * stride-of columns q d + base-of columns q d a-of b-of + k) 0 ≡ figure-at J weight (part d n (l, w)) k
+      → getD table (getD floors n 0 * stride-of columns q d + base-of columns q d a-of b-of + k) 0 ≡ rect-figure J le own (part d n (l, w)) k
   mapped-figure Length floors mapped n k on g =
       let m = mapped n on in
       row-figure Length (getD floors n 0) k (m .0) g
-      ∙ figure-floor J weight (table-solid J (t .in-range)) (position J Length (getD floors n 0)) w k (positions-normal J Length (getD floors n 0) (m .0) .1) on-width
-      ∙ ap (λ x. figure-of J weight x (normal-floor J Width w) k) (position-floor J Length (getD floors n 0) (m .0) ∙ m .1) ∙ sym (figure-floor J weight (table-solid J (t .in-range)) n w k on on-width)
+      ∙ floored (position J Length (getD floors n 0)) w k (positions-normal J Length (getD floors n 0) (m .0) .1) on-width
+      ∙ ap (λ x. figure-under J (shares-of le own) x (normal-floor J Width w) k) (position-floor J Length (getD floors n 0) (m .0) ∙ m .1) ∙ sym (floored n w k on on-width)
   mapped-figure Width floors mapped n k on g =
       let m = mapped n on in
       row-figure Width (getD floors n 0) k (m .0) g
-      ∙ figure-floor J weight (table-solid J (t .in-range)) l (position J Width (getD floors n 0)) k on-length (positions-normal J Width (getD floors n 0) (m .0) .1)
-      ∙ ap (λ y. figure-of J weight (normal-floor J Length l) y k) (position-floor J Width (getD floors n 0) (m .0) ∙ m .1) ∙ sym (figure-floor J weight (table-solid J (t .in-range)) l n k on-length on)
+      ∙ floored l (position J Width (getD floors n 0)) k on-length (positions-normal J Width (getD floors n 0) (m .0) .1)
+      ∙ ap (λ y. figure-under J (shares-of le own) (normal-floor J Length l) y k) (position-floor J Width (getD floors n 0) (m .0) ∙ m .1) ∙ sym (floored l n k on-length on)
 
   -- the word of the rectangle itself
   pub cell-there : (c : ℕ) → c ≤ q → a-of * (columns * (q + 1)) + b-of * (q + 1) + c < length table
   cell-there c h = omega (arith, row-cell Length a-of c (t .lengths-floored l on-length .0) h .0, t .words-there)
 
-  pub cell-figure : (c : ℕ) → c ≤ q → getD table (a-of * (columns * (q + 1)) + b-of * (q + 1) + c) 0 ≡ figure-of J weight l w c
+  pub cell-figure : (c : ℕ) → c ≤ q → getD table (a-of * (columns * (q + 1)) + b-of * (q + 1) + c) 0 ≡ figure-under J (shares-of le own) l w c
   cell-figure c h = mapped-figure Length length-floors (t .lengths-floored) l c on-length h
 
   -- a cut in one direction can be searched for

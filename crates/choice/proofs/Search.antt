@@ -1,12 +1,11 @@
 -- Searches step by step: what is left of a search over a run of numbers, and of one over pairs, after the members tried so far failed.
 use mathlib.Core.Path.{_≡_, refl, _∙_, ap}
-use mathlib.Core.Bool.{Bool, true, false}
+use mathlib.Core.Bool.{Bool, true, false, _&&_}
 use mathlib.Core.Option.{Option, none, some}
 use mathlib.Core.List.{List, [], _∷_, _++_, map}
 use Prim.Native.Nat.{ℕ, suc, _+_, _-_, _*_, _≤_, _<_}
 use native.Mathlib.Numerals.{add-one}
 use native.Mathlib.Omega.{arith}
-use borrow.Author.Tests.{eq-eqb, ne-eqb}
 use lib.Dec.{eqb}
 use lib.ListN.{length, getD}
 use Rattle.cutting.specs.Limits.{most-wide-figure}
@@ -91,20 +90,21 @@ module _ {positions floors table : List ℕ} {side last stride base c : ℕ} (s 
       let u = r (c - k) (omega arith) in
       (r c (omega arith) .0, rw g (u .0), rw g (u .1))
 
-  -- the test of a pair as the loop makes it
-  pair-sum : (value i k x rest : ℕ) → x ≡ getD positions i 0 → rest ≡ getD floors (side - x) 0 → k < c + 1
-      → pair-test positions floors table side stride base c value (i, k) ≡ eqb (getD table (i * stride + base + k) 0 + getD table (rest * stride + base + c - k) 0) value
-  pair-sum value i k x rest e f h =
-      let g : rest * stride + base + c - k ≡ rest * stride + base + (c - k) = omega arith in
-      rw (g, f, e) refl
+  module _ (le : ℕ → ℕ → Bool) where
+    -- the test of a pair as the loop makes it
+    pair-sum : (value i k x rest : ℕ) → x ≡ getD positions i 0 → rest ≡ getD floors (side - x) 0 → k < c + 1
+        → pair-test le positions floors table side stride base c value (i, k) ≡ (eqb (getD table (i * stride + base + k) 0 + getD table (rest * stride + base + c - k) 0) value && le k c)
+    pair-sum value i k x rest e f h =
+        let g : rest * stride + base + c - k ≡ rest * stride + base + (c - k) = omega arith in
+        rw (g, f, e) refl
 
-  -- a pair that does not earn the value is left out, and the first that does is found
-  pub pair-fails : (value i k : ℕ) {x rest : ℕ} → x ≡ getD positions i 0 → rest ≡ getD floors (side - x) 0 → k < c + 1
-      → (getD table (i * stride + base + k) 0 + getD table (rest * stride + base + c - k) 0 ≡ value → ⊥)
-      → row-left (pair-test positions floors table side stride base c value) last (c + 1) i k ≡ row-left (pair-test positions floors table side stride base c value) last (c + 1) i (k + 1)
-  pair-fails value i k {x} {rest} e f h t = row-fails (pair-test positions floors table side stride base c value) last (c + 1) i k h (pair-sum value i k x rest e f h ∙ ne-eqb _ _ t)
+    -- a pair that does not earn the value is left out, and the first that does is found
+    pub pair-fails : (value i k : ℕ) {x rest : ℕ} → x ≡ getD positions i 0 → rest ≡ getD floors (side - x) 0 → k < c + 1
+        → (eqb (getD table (i * stride + base + k) 0 + getD table (rest * stride + base + c - k) 0) value && le k c) ≡ false
+        → row-left (pair-test le positions floors table side stride base c value) last (c + 1) i k ≡ row-left (pair-test le positions floors table side stride base c value) last (c + 1) i (k + 1)
+    pair-fails value i k {x} {rest} e f h t = row-fails (pair-test le positions floors table side stride base c value) last (c + 1) i k h (pair-sum value i k x rest e f h ∙ t)
 
-  pub pair-passes : (value i k : ℕ) {x rest : ℕ} → x ≡ getD positions i 0 → rest ≡ getD floors (side - x) 0 → k < c + 1
-      → getD table (i * stride + base + k) 0 + getD table (rest * stride + base + c - k) 0 ≡ value
-      → row-left (pair-test positions floors table side stride base c value) last (c + 1) i k ≡ some (i, k)
-  pair-passes value i k {x} {rest} e f h t = row-passes (pair-test positions floors table side stride base c value) last (c + 1) i k h (pair-sum value i k x rest e f h ∙ eq-eqb _ _ t)
+    pub pair-passes : (value i k : ℕ) {x rest : ℕ} → x ≡ getD positions i 0 → rest ≡ getD floors (side - x) 0 → k < c + 1
+        → (eqb (getD table (i * stride + base + k) 0 + getD table (rest * stride + base + c - k) 0) value && le k c) ≡ true
+        → row-left (pair-test le positions floors table side stride base c value) last (c + 1) i k ≡ some (i, k)
+    pair-passes value i k {x} {rest} e f h t = row-passes (pair-test le positions floors table side stride base c value) last (c + 1) i k h (pair-sum value i k x rest e f h ∙ t)

@@ -4,7 +4,7 @@ use mathlib.Core.Bool.{Bool, true, false, _&&_}
 use mathlib.Core.Option.{Option, none, some}
 use mathlib.Core.List.{List}
 use Prim.Native.Nat.{ℕ, _+_, _-_, _*_, _/_, _%_, _≤_, _<_}
-use lib.Dec.{leb, eqb}
+use lib.Dec.{eqb}
 use lib.ListN.{length, getD}
 use Rattle.cutting.specs.declared.Direction.the-variants.{Length, Width}
 use Rattle.cutting.specs.declared.Node.{Node}
@@ -14,6 +14,7 @@ use Rattle.cutting.specs.Lists.{range, first, pairs}
 use Rattle.cutting.specs.Pieces.{fits-in}
 use Rattle.cutting.specs.Sides.{rect-of}
 use Rattle.cutting.specs.Listed.{size-in, price-in, heavy-in, node-in}
+use Rattle.table.specs.States.{Blocks}
 use Rattle.choice.specs.declared.Cell.{Cell}
 use Rattle.choice.specs.declared.Chosen.{Chosen}
 use Rattle.choice.specs.declared.PieceFound.{PieceFound}
@@ -30,9 +31,13 @@ node-way false i = Turned i
 abbrev pub numbered-node : ℕ → Node
 numbered-node number = node-way (eqb (number % 2) 0) (number / 2)
 
--- whether piece j fits the cell, weighs at most its share and has the value as its price
-abbrev pub piece-test : List ℕ → Cell → ℕ → ℕ → Bool
-piece-test pieces cell value j = (fits-in (size-in pieces j) (rect-of (cell .sides)) && leb (heavy-in pieces j) (cell .share)) && eqb (price-in pieces j) value
+-- an order of states as its test asks it: the numbers of states that the digits up to d have together
+abbrev pub Ordered : List ℕ → ℕ → Type 0
+Ordered blocks d = Blocks (λ i. getD blocks i 0) d × (d < length blocks)
+
+-- whether piece j fits the cell, has a state within its share and the value as its price
+abbrev pub piece-test : (ℕ → ℕ → Bool) → List ℕ → Cell → ℕ → ℕ → Bool
+piece-test le pieces cell value j = (fits-in (size-in pieces j) (rect-of (cell .sides)) && le (heavy-in pieces j) (cell .share)) && eqb (price-in pieces j) value
 
 -- the node of the piece that a search found
 abbrev pub piece-found : List ℕ → Option ℕ → PieceFound
@@ -44,15 +49,15 @@ pub record Numbered (count : ℕ) (pieces : List ℕ) : Type 0 where
   pub counted : count ≤ most-pieces
   pub nodes : (j : ℕ) → j < count → node-in pieces j < 128
 
--- whether the i-th position with share k for the first part earns the value: the first part has row i of the table, the second the row
--- of the floor of the true remainder
-abbrev pub pair-test : List ℕ → List ℕ → List ℕ → ℕ → ℕ → ℕ → ℕ → ℕ → ℕ × ℕ → Bool
-pair-test positions floors table side stride base c value u =
-    eqb (getD table (u .0 * stride + base + u .1) 0 + getD table (getD floors (side - getD positions (u .0) 0) 0 * stride + base + (c - u .1)) 0) value
+-- whether the i-th position with share k for the first part, within share c, earns the value: the first part has row i of the table, the
+-- second the row of the floor of the true remainder
+abbrev pub pair-test : (ℕ → ℕ → Bool) → List ℕ → List ℕ → List ℕ → ℕ → ℕ → ℕ → ℕ → ℕ → ℕ × ℕ → Bool
+pair-test le positions floors table side stride base c value u =
+    eqb (getD table (u .0 * stride + base + u .1) 0 + getD table (getD floors (side - getD positions (u .0) 0) 0 * stride + base + (c - u .1)) 0) value && le (u .1) c
 
 -- the first pair that earns the value: the positions from the first to the last but one rising, and for each the shares rising
-unfoldable pub first-index : List ℕ → List ℕ → List ℕ → ℕ → ℕ → ℕ → ℕ → ℕ → ℕ → Option (ℕ × ℕ)
-first-index positions floors table side last stride base c value = first (pair-test positions floors table side stride base c value) (pairs (range 1 (last - 1)) (range 0 (c + 1)))
+unfoldable pub first-index : (ℕ → ℕ → Bool) → List ℕ → List ℕ → List ℕ → ℕ → ℕ → ℕ → ℕ → ℕ → ℕ → Option (ℕ × ℕ)
+first-index le positions floors table side last stride base c value = first (pair-test le positions floors table side stride base c value) (pairs (range 1 (last - 1)) (range 0 (c + 1)))
 
 -- the cut that a search found: its position and the first part's share
 abbrev pub cut-found : List ℕ → Option (ℕ × ℕ) → CutFound

@@ -1,19 +1,22 @@
 // The choice at a cell of a filled table, a rectangle and a share: what the plan behind the bound does there. Waste where the figure is
-// 0, or the first piece of the array that earns the figure, or the first length cut that earns it, or the first width cut.
+// 0, or the first piece of the array that earns the figure, or the first length cut that earns it, or the first width cut. A share is a
+// state, a number of several digits, and is divided without a carry; one digit: any number up to it.
 use cutting::Direction;
 use cutting::Node;
 use cutting::Sides;
+use state_fill::below;
 use table::TableSize;
 ghost use mathlib.Core.Path.{_≡_};
 ghost use mathlib.Core.Bool.{_&&_};
 ghost use Prim.Native.Nat.{_+_, _*_, _<_};
-ghost use lib.Dec.{leb, eqb};
+ghost use lib.Dec.{eqb};
 ghost use lib.ListN.{drop};
 ghost use Rattle.cutting.specs.Lists.{range, first};
 ghost use Rattle.cutting.specs.Pieces.{fits-in};
 ghost use Rattle.cutting.specs.Sides.{rect-of};
 ghost use Rattle.table.specs.Contracts.{size-job};
-ghost use Rattle.choice.specs.Search.{numbered-node, piece-test, piece-found, Numbered, first-index, cut-found, or-width-cut, or-length-cut, Searchable};
+ghost use Rattle.state_fill.specs.Cells.{under};
+ghost use Rattle.choice.specs.Search.{numbered-node, piece-test, piece-found, Numbered, first-index, cut-found, or-width-cut, or-length-cut, Ordered, Searchable};
 ghost use Rattle.choice.specs.Choice.{ChoiceInput, Inside, chosen-at};
 
 // A cell: a rectangle and a share.
@@ -70,20 +73,23 @@ fn numbered_node(number: u32) -> Node
     }
 }
 
-// Whether one piece fits the cell, weighs at most the share and has the value as its price.
+// Whether one piece fits the cell, has a state within the share and the value as its price.
 fn piece_earns(
     piece_length: u32,
     piece_width: u32,
     price: u32,
-    weight: u32,
+    state: u32,
+    blocks: &[u32],
+    d: usize,
     cell: Cell,
     value: u64,
 ) -> bool
-    ensures { λ r. ⌜ r ≡ ((fits-in («piece_length», «piece_width») (rect-of (cell .sides)) && leb weight (cell .share)) && eqb price value) ⌝ }
+    requires { ⌜ Ordered (now blocks) d ⌝ }
+    ensures { λ r. ⌜ r ≡ ((fits-in («piece_length», «piece_width») (rect-of (cell .sides)) && under (now (blocks .entry)) d state (cell .share)) && eqb price value) ⌝ }
 {
     if piece_length <= cell.sides.length as u32 {
         if piece_width <= cell.sides.width as u32 {
-            if weight <= cell.share as u32 {
+            if below(blocks, d, state as usize, cell.share as usize) {
                 return price as u64 == value;
             }
         }
@@ -92,9 +98,16 @@ fn piece_earns(
 }
 
 // The lowest-numbered piece that earns a value alone.
-fn find_piece(count: u16, pieces: &[u32; 640], cell: Cell, value: u64) -> PieceFound
-    requires { ⌜ Numbered count (now pieces) ⌝ }
-    ensures { λ r. ⌜ r ≡ piece-found (now (pieces .entry)) (first (piece-test (now (pieces .entry)) cell value) (range 0 count)) ⌝ }
+fn find_piece(
+    count: u16,
+    pieces: &[u32; 640],
+    blocks: &[u32],
+    d: usize,
+    cell: Cell,
+    value: u64,
+) -> PieceFound
+    requires { ⌜ Numbered count (now pieces) × Ordered (now blocks) d ⌝ }
+    ensures { λ r. ⌜ r ≡ piece-found (now (pieces .entry)) (first (piece-test (under (now (blocks .entry)) d) (now (pieces .entry)) cell value) (range 0 count)) ⌝ }
 {
     for j in 0..count as usize {
         let at = 5 * j;
@@ -103,6 +116,8 @@ fn find_piece(count: u16, pieces: &[u32; 640], cell: Cell, value: u64) -> PieceF
             pieces[at + 1],
             pieces[at + 2],
             pieces[at + 3],
+            blocks,
+            d,
             cell,
             value,
         );
@@ -113,12 +128,25 @@ fn find_piece(count: u16, pieces: &[u32; 640], cell: Cell, value: u64) -> PieceF
     PieceFound::Missing
 }
 
+// Whether a sum is the value and share k is within share c.
+fn pair_earns(blocks: &[u32], d: usize, k: usize, c: usize, sum: u64, value: u64) -> bool
+    requires { ⌜ Ordered (now blocks) d ⌝ }
+    ensures { λ r. ⌜ r ≡ (eqb sum value && under (now (blocks .entry)) d k c) ⌝ }
+{
+    if sum == value {
+        return below(blocks, d, k, c);
+    }
+    false
+}
+
 // The first pair of position and share that earns a value: positions rising, and for each the first part's share. The row of the i-th
 // position begins at word i * stride + base; the remainder's row is that of its floor.
 fn find_cut(
     positions: &[u16],
     floors: &[u16],
     table: &[u64],
+    blocks: &[u32],
+    d: usize,
     side: usize,
     last: usize,
     stride: usize,
@@ -126,8 +154,8 @@ fn find_cut(
     c: usize,
     value: u64,
 ) -> CutFound
-    requires { ⌜ Searchable (now positions) (now floors) (now table) side last stride base c ⌝ }
-    ensures { λ r. ⌜ r ≡ cut-found (now (positions .entry)) (first-index (now (positions .entry)) (now (floors .entry)) (now (table .entry)) side last stride base c value) ⌝ }
+    requires { ⌜ Searchable (now positions) (now floors) (now table) side last stride base c × Ordered (now blocks) d ⌝ }
+    ensures { λ r. ⌜ r ≡ cut-found (now (positions .entry)) (first-index (under (now (blocks .entry)) d) (now (positions .entry)) (now (floors .entry)) (now (table .entry)) side last stride base c value) ⌝ }
 {
     let shares = c + 1;
     let mut found = CutFound::Missing;
@@ -137,7 +165,8 @@ fn find_cut(
         let first = i * stride + base;
         let second = rest * stride + base + c;
         for k in 0..shares {
-            if table[first + k] + table[second - k] == value {
+            let sum = table[first + k] + table[second - k];
+            if pair_earns(blocks, d, k, c, sum, value) {
                 found = CutFound::At(x, k as u16);
                 break 'search;
             }
@@ -158,12 +187,14 @@ fn choose_cut(
     normal_widths: &[u16],
     floors: &[u16],
     table: &[u64],
+    blocks: &[u32],
+    d: usize,
 ) -> Chosen
     requires { ⌜ Searchable (now «normal_lengths») (now floors) (now table) (cell .sides .length) a (size .columns * (size .capacity + 1)) (b * (size .capacity + 1)) (cell .share)
-        × Searchable (now «normal_widths») (drop 1021 (now floors)) (now table) (cell .sides .width) b (size .capacity + 1) (a * (size .columns * (size .capacity + 1))) (cell .share) ⌝ }
+        × Searchable (now «normal_widths») (drop 1021 (now floors)) (now table) (cell .sides .width) b (size .capacity + 1) (a * (size .columns * (size .capacity + 1))) (cell .share) × Ordered (now blocks) d ⌝ }
     ensures { λ r. ⌜ r ≡ or-length-cut
-        (cut-found (now («normal_lengths» .entry)) (first-index (now («normal_lengths» .entry)) (now (floors .entry)) (now (table .entry)) (cell .sides .length) a (size .columns * (size .capacity + 1)) (b * (size .capacity + 1)) (cell .share) value))
-        (or-width-cut (cut-found (now («normal_widths» .entry)) (first-index (now («normal_widths» .entry)) (drop 1021 (now (floors .entry))) (now (table .entry)) (cell .sides .width) b (size .capacity + 1) (a * (size .columns * (size .capacity + 1))) (cell .share) value))) ⌝ }
+        (cut-found (now («normal_lengths» .entry)) (first-index (under (now (blocks .entry)) d) (now («normal_lengths» .entry)) (now (floors .entry)) (now (table .entry)) (cell .sides .length) a (size .columns * (size .capacity + 1)) (b * (size .capacity + 1)) (cell .share) value))
+        (or-width-cut (cut-found (now («normal_widths» .entry)) (first-index (under (now (blocks .entry)) d) (now («normal_widths» .entry)) (drop 1021 (now (floors .entry))) (now (table .entry)) (cell .sides .width) b (size .capacity + 1) (a * (size .columns * (size .capacity + 1))) (cell .share) value))) ⌝ }
 {
     let l = cell.sides.length as usize;
     let w = cell.sides.width as usize;
@@ -173,7 +204,19 @@ fn choose_cut(
     let column = b * shares;
     let start = a * row;
     let width_floors = &floors[1021..];
-    let along = find_cut(normal_lengths, floors, table, l, a, row, column, c, value);
+    let along = find_cut(
+        normal_lengths,
+        floors,
+        table,
+        blocks,
+        d,
+        l,
+        a,
+        row,
+        column,
+        c,
+        value,
+    );
     if let CutFound::At(x, k) = along {
         return choice_of(Node::Cut(Direction::Length, x), k);
     }
@@ -181,6 +224,8 @@ fn choose_cut(
         normal_widths,
         width_floors,
         table,
+        blocks,
+        d,
         w,
         b,
         shares,
@@ -195,7 +240,7 @@ fn choose_cut(
 }
 
 // The choice at a cell: figure 0 gives waste; otherwise the lowest-numbered piece that earns the figure; otherwise a cut. The floors are
-// those of the lengths from entry 0 on, and those of the widths from entry 1021 on.
+// those of the lengths from entry 0 on, and those of the widths from entry 1021 on; d is the last digit of the states.
 pub fn choose(
     cell: Cell,
     size: TableSize,
@@ -204,9 +249,11 @@ pub fn choose(
     normal_widths: &[u16],
     floors: &[u16],
     table: &[u64],
+    blocks: &[u32],
+    d: usize,
 ) -> Chosen
-    requires { ⌜ ChoiceInput size (now pieces) (now «normal_lengths») (now «normal_widths») (now floors) (now table) × Inside (size-job size (now pieces)) size cell ⌝ }
-    ensures { λ r. ⌜ r ≡ chosen-at size (now (pieces .entry)) cell ⌝ }
+    requires { ⌜ ChoiceInput size (now blocks) d (now pieces) (now «normal_lengths») (now «normal_widths») (now floors) (now table) × Inside (size-job size (now pieces)) size cell ⌝ }
+    ensures { λ r. ⌜ r ≡ chosen-at (under (now (blocks .entry)) d) size (now (pieces .entry)) cell ⌝ }
 {
     let a = floors[cell.sides.length as usize] as usize;
     let b = floors[1021 + cell.sides.width as usize] as usize;
@@ -216,7 +263,7 @@ pub fn choose(
     if value == 0 {
         return choice_of(Node::Waste, 0);
     }
-    let alone = find_piece(size.count, pieces, cell, value);
+    let alone = find_piece(size.count, pieces, blocks, d, cell, value);
     if let PieceFound::Laid(node) = alone {
         return choice_of(node, 0);
     }
@@ -230,5 +277,7 @@ pub fn choose(
         normal_widths,
         floors,
         table,
+        blocks,
+        d,
     )
 }

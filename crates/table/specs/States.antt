@@ -15,7 +15,6 @@ use Rattle.cutting.specs.Pieces.{kind}
 use Rattle.cutting.specs.Saws.{saw}
 use Rattle.cutting.specs.Shares.{staged}
 use Rattle.cutting.specs.Job.{Job, pieces}
-
 unfoldable pub use Rattle.cutting.specs.Shares.{below, by-state}
 
 -- the numbers of states up to digit d: none is 0, and each is a whole multiple of the one before

@@ -18,7 +18,7 @@ width-searchable s = rw (rest-part 1021 (now (s .args .floors))) (s .pre .1)
 
 mul-row : tie.Need-mul-row
 mul-row c =
-    let e = c .before .before .before .before .before .before .before .before .before in
+    let e = c .before .before .before .before .before .before .before .before .before .before in
     let a : e .args .size .columns ≤ 65535 = search needs in
     let b : e .args .size .capacity + 1 ≤ 65536 = search needs in
     omega (arith, mul-le-mul a b)
@@ -26,41 +26,45 @@ mul-row c =
 -- the length of the table is listed, because it stands too deep to be found
 mul-column : tie.Need-mul-column
 mul-column c =
-    let e = c .before .before .before .before .before .before .before .before .before in
+    let e = c .before .before .before .before .before .before .before .before .before .before in
     omega (arith, e .good .1 .1 .1 .1 .1 .1 .1 .1, e .pre .0 .remainders 0 (omega arith) 0 (omega arith))
 
 mul-start : tie.Need-mul-start
 mul-start c =
-    let e = c .before .before .before .before .before .before .before .before .before in
+    let e = c .before .before .before .before .before .before .before .before .before .before in
     omega (arith, e .good .1 .1 .1 .1 .1 .1 .1 .1, e .pre .1 .remainders 0 (omega arith) 0 (omega arith))
 
 sub-width-floors : tie.Need-sub-width-floors
 sub-width-floors c =
-    let e = c .before .before .before .before .before .before .before .before .before in
+    let e = c .before .before .before .before .before .before .before .before .before .before in
     omega (arith, e .pre .1 .mapped, length-drop 1021 (now (e .args .floors)))
 
 part-width-floors-start : tie.Need-part-width-floors-start
 part-width-floors-start c =
-    let e = c .before .before .before .before .before .before .before .before .before in
+    let e = c .before .before .before .before .before .before .before .before .before .before in
     omega (arith, e .pre .1 .mapped, length-drop 1021 (now (e .args .floors)))
 
 find-cut-requires : tie.Need-find-cut-requires
-find-cut-requires c κs = let across = width-searchable (c .before .before .before .before .before .before .before .before .before .before) in search needs
+find-cut-requires c κs =
+    let e = c .before .before .before .before .before .before .before .before .before .before .before in
+    (e .pre .0, e .pre .2)
 
 returns : tie.Need-returns
 returns c = c .choice-of .ensures ∙ length-out _ (sym (c .before .before .before .before .find-cut .ensures) ∙ c .before .before .along .given .1)
 
 find-cut-requires-2 : tie.Need-find-cut-requires-2
-find-cut-requires-2 c κs = width-searchable (c .before .before .before .before .before .before .before .before .before .before .before .before .before)
+find-cut-requires-2 c κs =
+    let e = c .before .before .before .before .before .before .before .before .before .before .before .before .before .before in
+    (width-searchable e, e .pre .2)
 
 returns-2 : tie.Need-returns-2
 returns-2 c =
-    let across = rw (rest-part 1021 (now (c .before .before .before .before .before .before .before .before .before .before .before .before .before .before .before .before .before .before .args .floors))) at (c .before .before .before .before .find-cut2 .ensures) in
+    let across = rw (rest-part 1021 (now (c .before .before .before .before .before .before .before .before .before .before .before .before .before .before .before .before .before .before .before .args .floors))) at (c .before .before .before .before .find-cut2 .ensures) in
     c .choice-of2 .ensures ∙ width-out (sym (c .before .before .before .before .before .before .before .find-cut .ensures) ∙ c .before .before .before .before .before .enum-told .given .1) (sym across ∙ c .before .before .across .given .1)
 
 returns-3 : tie.Need-returns-3
 returns-3 c =
-    let across = rw (rest-part 1021 (now (c .before .before .before .before .before .before .before .before .before .before .before .before .before .before .before .before .before .args .floors))) at (c .before .before .before .find-cut2 .ensures) in
+    let across = rw (rest-part 1021 (now (c .before .before .before .before .before .before .before .before .before .before .before .before .before .before .before .before .before .before .args .floors))) at (c .before .before .before .find-cut2 .ensures) in
     c .choice-of3 .ensures ∙ waste-out (sym (c .before .before .before .before .before .before .find-cut .ensures) ∙ c .before .before .before .before .enum-told .given .1) (sym across ∙ c .before .enum-told2 .given .1)
 
 pub choose-cut-spec : {M : Type 1} → statement M
