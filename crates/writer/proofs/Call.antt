@@ -12,7 +12,8 @@ use Rattle.refusal.specs.Refusals.{next, first-refusal, outcome-by}
 use Rattle.refusal.specs.declared.Refusal.{Refusal}
 use Rattle.refusal.specs.declared.Checked.{Checked}
 use Rattle.refusal.specs.declared.Checked.the-variants.{Passed, Refused}
-use Rattle.cutting.specs.Job.{widened, plan-under}
+use Rattle.cutting.specs.Job.{widened, by-kind, plan-under}
+use Rattle.cutting.proofs.Weights.{by-weight-monotone}
 use Rattle.job.specs.declared.Choices.{Choices}
 use Rattle.job.specs.declared.JobRecord.{JobRecord}
 use Rattle.job.specs.Block.{job-of}
@@ -49,7 +50,7 @@ plan-chosen : (s : List ℕ) (choices : Choices) (ws : List ℕ) → PlanChosen 
 plan-chosen s choices ws h =
     let J = block-job s choices in
     let r = accepted-in-range s choices ws h in
-    (plan-follows J (weight-in ws) r, plan-bound J (weight-in ws) (range-solid J r), plan-idle J (weight-in ws) (range-solid J r) _ _ _)
+    (plan-follows J (weight-in ws) r, plan-bound J (weight-in ws) (range-solid J r), plan-idle J (by-kind (weight-in ws)) (by-weight-monotone _) (range-solid J r) _ _ _)
 
 module _ (s : List ℕ) (choices : Choices) (ws : List ℕ) (old : bound.Memory) (kinds operands : List ℕ) where
   -- what the call's verdict makes of the answer and of the arrays gives the rest

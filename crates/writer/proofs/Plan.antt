@@ -19,20 +19,26 @@ use Rattle.cutting.specs.Sides.{rect-of, sides-of}
 use Rattle.cutting.specs.Preorder.{preorder, node-count}
 use Rattle.cutting.specs.Choice.{Choice, as-waste, as-piece, as-cut, cut-remains, or-first}
 use Rattle.cutting.specs.Job.{Job, lossless-plan, normal-side, plan-choice, KindsAbove}
-use Rattle.cutting.specs.Listed.{InTableRange, heavy-in, node-in, piece-way, numbered-piece, laid-tree, array-plan}
+use Rattle.cutting.specs.Listed.{InTableRange, heavy-in, node-in, piece-way, numbered-piece, laid-tree, array-shares, array-plan}
 use Rattle.cutting.proofs.Members.{table-solid}
-use Rattle.cutting.proofs.Sound.{Sound, choice-sound}
+use Rattle.cutting.proofs.Sound.{Sound, choice-sound, state-division}
 use Rattle.cutting.proofs.Plan.{lossless-tree}
 use Rattle.cutting.proofs.Laid.{array-after, array-recursion}
 use Rattle.cutting.proofs.Table.{positions-above}
 use Rattle.table.specs.declared.TableSize.{TableSize}
 use Rattle.table.specs.Contracts.{size-job}
+use Rattle.table.specs.States.{Order}
+use Rattle.table.proofs.Shares.{by-state-monotone}
 use Rattle.choice.specs.declared.Cell.{Cell}
 use Rattle.choice.specs.declared.Chosen.{Chosen}
 use Rattle.choice.specs.Search.{node-way, numbered-node}
 use Rattle.choice.specs.Choice.{Inside, chosen-of, chosen-at}
 use Rattle.writer.specs.Contracts.{plan-at, left-out, first-of, half-of}
 use Rattle.writer.proofs.Preorder.{nodes-most, count-sawn, count-laid}
+
+-- what the walk knows of an array: a plain job in range, and an order of states
+abbrev pub Ready : (ℕ → ℕ → Bool) → TableSize → List ℕ → Type 0
+Ready le size pieces = InTableRange (size-job size pieces) × Order le
 
 -- the node that a number stands for is its piece's
 number-nodes : (number : ℕ) → preorder (piece (numbered-piece number)) ≡ numbered-node number ∷ []
@@ -57,16 +63,16 @@ left-remains s x k e = lt-ltb k (s - x) (let h = leb-above s (x + k) e in omega 
 left-falls : (s x k : ℕ) → leb s (x + k) ≡ true → cut-remains k (s - x) ≡ false
 left-falls s x k e = le-ltb k (s - x) (let h = leb→le s (x + k) (subst T (sym e) tt) in omega arith)
 
-module _ (kerf : ℕ) (size : TableSize) (pieces : List ℕ) (r : Rect) (c : ℕ) where
+module _ (le : ℕ → ℕ → Bool) (kerf : ℕ) (size : TableSize) (pieces : List ℕ) (r : Rect) (c : ℕ) where
   -- the plain job of the pieces, the plan of a rectangle, and the tree after a choice
   abbrev N : Job
   N = size-job size pieces
 
   abbrev plan-in : Rect → ℕ → Tree Piece
-  plan-in q k = array-plan kerf (size .length, size .width) (size .count) pieces q k
+  plan-in q k = array-plan le kerf (size .length, size .width) (size .count) pieces q k
 
   abbrev after-choice : Choice Piece ℕ → Tree Piece
-  after-choice u = array-after kerf (size .length, size .width) (size .count) pieces r u
+  after-choice u = array-after le kerf (size .length, size .width) (size .count) pieces r u
 
   leaf-after : (u : Choice Piece ℕ) → ((d : Direction) (x : ℕ) → chosen-of pieces u .node ≡ Cut d x → ⊥) → preorder (after-choice u) ≡ chosen-of pieces u .node ∷ []
   unfolding preorder
@@ -83,14 +89,15 @@ module _ (kerf : ℕ) (size : TableSize) (pieces : List ℕ) (r : Rect) (c : ℕ
   abbrev cut-tree : Direction → ℕ → ℕ → Tree Piece
   cut-tree d x share = or-first (cut-remains kerf (side d r - x)) d (x - kerf) (plan-in (part d x r) share) (plan-in (part d (side d r - x) r) (c - share))
 
-  cut-after : (u : Choice Piece ℕ) (d : Direction) (x : ℕ) → Sound N (heavy-in pieces) (r .0) (r .1) c u → chosen-of pieces u .node ≡ Cut d x
+  cut-after : (u : Choice Piece ℕ) (d : Direction) (x : ℕ) → Sound N (array-shares le pieces) (r .0) (r .1) c u → chosen-of pieces u .node ≡ Cut d x
       → (1 ≤ x) × (x < side d r) × (chosen-of pieces u .share ≤ c) × T (normal-side N d x) × (after-choice u ≡ cut-tree d x (chosen-of pieces u .share))
   cut-after as-waste d x s e = absurd (let z : _≡_ {A = ℕ} 0 1 = cc in omega arith)
   cut-after (as-piece p) d x s e = no-cut (eqb (node-in pieces (kind p) % 2) 0) (node-in pieces (kind p) / 2) d x e
   cut-after (as-cut f y q) d x s e =
       let a : f ≡ d = cc in
       let b : y ≡ x = cc in
-      rw (sym a, sym b) (s .0, s .1, s .2, s .4, ap (λ k. or-first (cut-remains kerf (side f r - y)) f (y - kerf) (plan-in (part f y r) (q .0)) (plan-in (part f (side f r - y) r) k)) (s .3))
+      let k = state-division le (λ p. heavy-in pieces (kind p)) f c q (s .2) in
+      rw (sym a, sym b) (s .0, s .1, k .0, s .3, ap (λ k. or-first (cut-remains kerf (side f r - y)) f (y - kerf) (plan-in (part f y r) (q .0)) (plan-in (part f (side f r - y) r) k)) (k .1))
 
 -- the cells of a cut's two parts
 abbrev pub first-cell : Cell → Direction → ℕ → ℕ → Cell
@@ -121,39 +128,39 @@ parts cell at Width x share p q s = record {
   second-less = omega arith;
 }
 
-module _ (kerf : ℕ) (size : TableSize) (pieces : List ℕ) (h : InTableRange (size-job size pieces)) (cell : Cell) (at : Inside (size-job size pieces) size cell) where
+module _ (le : ℕ → ℕ → Bool) (kerf : ℕ) (size : TableSize) (pieces : List ℕ) (h : Ready le size pieces) (cell : Cell) (at : Inside (size-job size pieces) size cell) where
   -- the plan has fewer than 2,080,800 nodes
-  pub plan-nodes : node-count (plan-at kerf size pieces cell) < 2080800
+  pub plan-nodes : node-count (plan-at le kerf size pieces cell) < 2080800
   plan-nodes =
       let J = size-job size pieces in
       let l = cell .sides .length in
       let w = cell .sides .width in
-      let t = lossless-plan J (heavy-in pieces) (l, w) (cell .share) in
-      let x : l ≤ 1020 = omega (arith, at .on-length, h .plate-length) in
-      let y : w ≤ 1020 = omega (arith, at .on-width, h .plate-width) in
-      omega (arith, count-sawn kerf (l, w) (laid-tree pieces t), count-laid pieces t, nodes-most J t l w (lossless-tree J (heavy-in pieces) (l, w) (cell .share) refl) (at .some-length) (at .some-width), mul-le-mul x y)
+      let t = lossless-plan J (array-shares le pieces) (l, w) (cell .share) in
+      let x : l ≤ 1020 = omega (arith, at .on-length, h .0 .plate-length) in
+      let y : w ≤ 1020 = omega (arith, at .on-width, h .0 .plate-width) in
+      omega (arith, count-sawn kerf (l, w) (laid-tree pieces t), count-laid pieces t, nodes-most J t l w (lossless-tree J (array-shares le pieces) (l, w) (cell .share) refl) (at .some-length) (at .some-width), mul-le-mul x y)
 
   -- what the node of a choice says of the plan
-  module _ {r : Chosen} (e : r ≡ chosen-at size pieces cell) where
+  module _ {r : Chosen} (e : r ≡ chosen-at le size pieces cell) where
     abbrev chosen : Choice Piece ℕ
-    chosen = plan-choice (size-job size pieces) (heavy-in pieces) (cell .sides .length) (cell .sides .width) (cell .share)
+    chosen = plan-choice (size-job size pieces) (array-shares le pieces) (cell .sides .length) (cell .sides .width) (cell .share)
 
-    after : plan-at kerf size pieces cell ≡ after-choice kerf size pieces (rect-of (cell .sides)) (cell .share) chosen
+    after : plan-at le kerf size pieces cell ≡ after-choice le kerf size pieces (rect-of (cell .sides)) (cell .share) chosen
     after =
         let J = size-job size pieces in
-        array-recursion kerf (size .length, size .width) (size .count) pieces (table-solid J h) (rect-of (cell .sides)) (cell .share) (at .on-length, at .on-width)
+        array-recursion le kerf (size .length, size .width) (size .count) pieces (by-state-monotone le (h .1) _) (table-solid J (h .0)) (rect-of (cell .sides)) (cell .share) (at .on-length, at .on-width)
 
     -- a node that is no cut is all of the plan
-    pub leaf-nodes : ((d : Direction) (x : ℕ) → r .node ≡ Cut d x → ⊥) → preorder (plan-at kerf size pieces cell) ≡ r .node ∷ []
-    leaf-nodes k = ap preorder after ∙ leaf-after kerf size pieces (rect-of (cell .sides)) (cell .share) chosen (λ d x n. k d x (ap (λ u. u .node) e ∙ n)) ∙ ap (λ u. u .node ∷ []) (sym e)
+    pub leaf-nodes : ((d : Direction) (x : ℕ) → r .node ≡ Cut d x → ⊥) → preorder (plan-at le kerf size pieces cell) ≡ r .node ∷ []
+    leaf-nodes k = ap preorder after ∙ leaf-after le kerf size pieces (rect-of (cell .sides)) (cell .share) chosen (λ d x n. k d x (ap (λ u. u .node) e ∙ n)) ∙ ap (λ u. u .node ∷ []) (sym e)
 
     module _ (thick : KindsAbove kerf (size-job size pieces)) {d : Direction} {x : ℕ} (n : r .node ≡ Cut d x) where
       found-cut : (1 ≤ x) × (x < side d (rect-of (cell .sides))) × (r .share ≤ cell .share) × T (normal-side (size-job size pieces) d x)
-          × (plan-at kerf size pieces cell ≡ cut-tree kerf size pieces (rect-of (cell .sides)) (cell .share) d x (r .share))
+          × (plan-at le kerf size pieces cell ≡ cut-tree le kerf size pieces (rect-of (cell .sides)) (cell .share) d x (r .share))
       found-cut =
           let J = size-job size pieces in
-          let sound = choice-sound J (heavy-in pieces) (cell .sides .length) (cell .sides .width) (cell .share) in
-          let f = cut-after kerf size pieces (rect-of (cell .sides)) (cell .share) chosen d x sound (ap (λ u. u .node) (sym e) ∙ n) in
+          let sound = choice-sound J (array-shares le pieces) (cell .sides .length) (cell .sides .width) (cell .share) in
+          let f = cut-after le kerf size pieces (rect-of (cell .sides)) (cell .share) chosen d x sound (ap (λ u. u .node) (sym e) ∙ n) in
           rw e (f .0, f .1, f .2, f .3, after ∙ f .4)
 
       -- its position is above the kerf and below the side
@@ -164,19 +171,19 @@ module _ (kerf : ℕ) (size : TableSize) (pieces : List ℕ) (h : InTableRange (
       cut-parts = parts cell at d x (r .share) (found-cut .0) (found-cut .1) (found-cut .2)
 
       -- a cut that is left out: the plan goes on with the first part
-      pub cut-falls : left-out kerf (Cut d x) (rect-of (cell .sides)) ≡ true → plan-at kerf size pieces cell ≡ plan-at kerf size pieces (first-cell cell d x (r .share))
-      cut-falls f = found-cut .4 ∙ ap (λ b. or-first b d (x - kerf) (plan-at kerf size pieces (first-cell cell d x (r .share))) (plan-at kerf size pieces (second-cell cell d x (r .share)))) (left-falls (side d (rect-of (cell .sides))) x kerf f)
+      pub cut-falls : left-out kerf (Cut d x) (rect-of (cell .sides)) ≡ true → plan-at le kerf size pieces cell ≡ plan-at le kerf size pieces (first-cell cell d x (r .share))
+      cut-falls f = found-cut .4 ∙ ap (λ b. or-first b d (x - kerf) (plan-at le kerf size pieces (first-cell cell d x (r .share))) (plan-at le kerf size pieces (second-cell cell d x (r .share)))) (left-falls (side d (rect-of (cell .sides))) x kerf f)
 
       -- one that remains: it stands at its position less the kerf, before its parts
       pub cut-nodes : left-out kerf (Cut d x) (rect-of (cell .sides)) ≡ false
-          → preorder (plan-at kerf size pieces cell) ≡ Cut d (x - kerf) ∷ (preorder (plan-at kerf size pieces (first-cell cell d x (r .share))) ++ preorder (plan-at kerf size pieces (second-cell cell d x (r .share))))
+          → preorder (plan-at le kerf size pieces cell) ≡ Cut d (x - kerf) ∷ (preorder (plan-at le kerf size pieces (first-cell cell d x (r .share))) ++ preorder (plan-at le kerf size pieces (second-cell cell d x (r .share))))
       unfolding preorder
       cut-nodes f =
-          ap preorder (found-cut .4 ∙ ap (λ b. or-first b d (x - kerf) (plan-at kerf size pieces (first-cell cell d x (r .share))) (plan-at kerf size pieces (second-cell cell d x (r .share)))) (left-remains (side d (rect-of (cell .sides))) x kerf f))
+          ap preorder (found-cut .4 ∙ ap (λ b. or-first b d (x - kerf) (plan-at le kerf size pieces (first-cell cell d x (r .share))) (plan-at le kerf size pieces (second-cell cell d x (r .share)))) (left-remains (side d (rect-of (cell .sides))) x kerf f))
 
     -- past a cut that is left out: the same plan from a smaller cell on the plate
     abbrev pub GoesOn : Cell → Type 0
-    GoesOn a = (plan-at kerf size pieces cell ≡ plan-at kerf size pieces a) × Inside (size-job size pieces) size a × (half-of a < half-of cell)
+    GoesOn a = (plan-at le kerf size pieces cell ≡ plan-at le kerf size pieces a) × Inside (size-job size pieces) size a × (half-of a < half-of cell)
 
     pub goes-on : KindsAbove kerf (size-job size pieces) → left-out kerf (r .node) (rect-of (cell .sides)) ≡ true → {a : Cell} → a ≡ first-of cell r (r .node) → GoesOn a
     goes-on thick f g = subst GoesOn (sym g) (go (r .node) refl f)

@@ -3,11 +3,11 @@
 use mathlib.Core.Path.{_≡_, refl, sym, _∙_, ap, subst}
 use mathlib.Core.Bool.{Bool, true, false, _||_}
 use mathlib.Core.List.{List, [], _∷_}
-use Prim.Native.Nat.{ℕ, _≤_}
+use Prim.Native.Nat.{ℕ, _+_, _≤_}
 use native.Mathlib.Omega.{arith}
 use borrow.Author.Tests.{ltb-false}
 use lib.Dec.{ltb}
-use lib.ListN.{length, drop, length-append, length-map, List·getD-append}
+use lib.ListN.{length, getD, drop, length-append, length-map, List·getD-append}
 use lib.Seq.{paste, length-sets}
 use Rattle.cutting.specs.declared.Direction.{Direction}
 use Rattle.cutting.specs.declared.Direction.the-variants.{Length, Width}
@@ -16,13 +16,14 @@ use Rattle.cutting.specs.Preorder.{preorder, kind-of, operand-of, kinds-of, ope
 use Rattle.cutting.specs.declared.Sides.{Sides}
 use Rattle.cutting.specs.Limits.{most-capacity}
 use Rattle.cutting.specs.Tree.{Tree}
-use Rattle.cutting.specs.Pieces.{Piece}
+use Rattle.cutting.specs.Pieces.{Piece, kind}
 use Rattle.cutting.specs.Sides.{rect-of, sides-of}
-use Rattle.cutting.specs.Job.{Job, widened, normal-positions, plan-under}
+use Rattle.cutting.specs.Shares.{by-weight}
+use Rattle.cutting.specs.Job.{Job, widened, normal-positions, plan-of, plan-under}
 use Rattle.cutting.specs.Listed.{InTableRange, size-in, price-in, heavy-in, pieces-job, PieceArray}
 use Rattle.cutting.proofs.Members.{range-solid, widened-above}
 use Rattle.cutting.proofs.Listed.{listed-above}
-use Rattle.cutting.proofs.Laid.{laid-plan}
+use Rattle.cutting.proofs.Laid.{laid-plan, plain-states}
 use Rattle.refusal.specs.Refusals.{next, refuse-when, first-refusal}
 use Rattle.refusal.specs.declared.Refusal.{Refusal}
 use Rattle.refusal.specs.declared.Refusal.the-variants.{PlanLong}
@@ -30,8 +31,15 @@ use Rattle.refusal.specs.declared.Checked.{Checked}
 use Rattle.refusal.specs.declared.Checked.the-variants.{Passed, Refused}
 use Rattle.job.specs.Weights.{weight-in}
 use Rattle.job.proofs.Checks.{cons-passed}
-use Rattle.table.specs.Table.{words-needed}
+use Rattle.table.specs.Table.{position, words-needed, Figures}
 use Rattle.table.specs.Contracts.{Listed}
+use Rattle.table.specs.States.{below, by-state}
+use Rattle.table.proofs.Shares.{by-state-monotone}
+use Rattle.table.proofs.Weighed.{figure-one}
+use Rattle.state_fill.specs.Cells.{under}
+use Rattle.state_fill.specs.Tables as states
+use Rattle.state_fill.proofs.Digits.{digits-order}
+use Rattle.state_fill.proofs.Ties.{one-digit}
 use Rattle.bound.specs.declared.BoundReport.{BoundReport}
 use Rattle.bound.specs.declared.BoundAnswer.{BoundAnswer}
 use Rattle.bound.specs.declared.BoundAnswer.the-variants as bounded
@@ -63,16 +71,25 @@ none-long n a b e = go (ltb 4095 n) (ltb a n) (ltb b n) refl refl refl e
 pub untouched : (b : BoundReport) (t : Tree Piece) (kinds operands : List ℕ) (r : Refusal) → Planned (Refused r) b t kinds operands kinds operands (answer.Refused r)
 untouched b t kinds operands r = record { answer = refl; kinds-left = refl; operands-left = refl }
 
-one-passed : (t : Bool) (r : Refusal) → t ≡ false → first-refusal ((t, r) ∷ []) ≡ Passed
+pub one-passed : (t : Bool) (r : Refusal) → t ≡ false → first-refusal ((t, r) ∷ []) ≡ Passed
 unfolding first-refusal
 one-passed t r e = ap (λ x. next (refuse-when x r) Passed) e
 
 -- the normal positions over old contents
-listed-over : (J : Job) (d : Direction) (old : List ℕ) → Listed J d (over (normal-positions J d) old)
+pub listed-over : (J : Job) (d : Direction) (old : List ℕ) → Listed J d (over (normal-positions J d) old)
 listed-over J d old = (
   omega (arith, length-append (normal-positions J d) (drop (length (normal-positions J d)) old)),
   λ i h. List·getD-append (normal-positions J d) (drop (length (normal-positions J d)) old) 0 i h,
 )
+
+-- one digit: the table of the weights is that of the states, and the shares are those by weight
+figures-states : (J : Job) (weight : ℕ → ℕ) (q : ℕ) (xs : List ℕ) → Figures J weight q xs → states.Figures J (under ((q + 1) ∷ []) 0) weight (q + 1) xs
+unfolding below
+figures-states J weight q xs f a b c ha hb hc = f a b c ha hb hc ∙ sym (figure-one J weight (position J Length a) (position J Width b) c)
+
+one-shares : {P : Type 0} (m : ℕ) (weight : P → ℕ) → by-state (under (m ∷ []) 0) weight ≡ by-weight weight
+unfolding below
+one-shares m weight = plain-states weight
 
 -- what the choice reads, from what the bound of the pieces leaves
 module _ (plate : Sides) (n : ℕ) (pieces : List ℕ) (q : ℕ) (range : InTableRange (pieces-job (rect-of plate) n pieces)) (most : q ≤ most-capacity) (numbered : Numbered n pieces)
@@ -83,7 +100,7 @@ module _ (plate : Sides) (n : ℕ) (pieces : List ℕ) (q : ℕ) (range : InTabl
   behind : (first-refusal (bound.memory-checks N q old) ≡ Passed) × (report ≡ bound.bound-report N (heavy-in pieces) q)
   behind = answered-behind (first-refusal (bound.memory-checks N q old)) (bound.bound-report N (heavy-in pieces) q) (sym e ∙ left .answer)
 
-  pub choice-input : ChoiceInput (table-of plate n report) pieces (new .lengths) (new .widths) floors (new .table)
+  pub choice-input : ChoiceInput (table-of plate n report) ((q + 1) ∷ []) 0 pieces (new .lengths) (new .widths) floors (new .table)
   choice-input =
       let lists = bound.list-check N (length (old .lengths)) (length (old .widths)) in
       let words = bound.table-check N q (length (old .table)) in
@@ -96,9 +113,11 @@ module _ (plate : Sides) (n : ℕ) (pieces : List ℕ) (q : ℕ) (range : InTabl
       let m = left .mapped report e in
       record {
         numbered = numbered;
+        ordered = (one-digit (q + 1) (omega arith) (omega arith) .digits, omega arith);
         floors-there = m .entries;
         tabled = record {
           in-range = range;
+          order = digits-order (λ i. getD ((q + 1) ∷ []) i 0) 0 (one-digit (q + 1) (omega arith) (omega arith) .digits);
           columns-are = rw (behind .1) refl;
           capacity-most = rw (behind .1) most;
           lengths-are = rw l (listed-over N Length (old .lengths));
@@ -106,7 +125,7 @@ module _ (plate : Sides) (n : ℕ) (pieces : List ℕ) (q : ℕ) (range : InTabl
           lengths-floored = m .lengths;
           widths-floored = m .widths;
           words-there = rw (behind .1) (omega (arith, ltb-false (length (old .table)) (words-needed N q) (room .0), f .1 .0));
-          figures = rw (behind .1) (f .0);
+          figures = rw (behind .1) (figures-states N (heavy-in pieces) q (new .table) (f .0));
         };
       }
 
@@ -143,7 +162,7 @@ module _ {J : Job} {ws : List ℕ} {q : ℕ} (given : Weighed J ws q) {plate : S
 
   module _ {report : BoundReport} (e : b ≡ bounded.Answered report) where
     -- what planning asks
-    pub plan-ready : ChoiceInput (table-of plate n report) pieces (new .lengths) (new .widths) floors (new .table)
+    pub plan-ready : ChoiceInput (table-of plate n report) ((q + 1) ∷ []) 0 pieces (new .lengths) (new .widths) floors (new .table)
     plan-ready =
         let range = subst (λ p. InTableRange (pieces-job (rect-of p) n pieces)) (sym on) (pieces-range J (weight-in ws) n pieces array (given .in-range)) in
         choice-input plate n pieces q range (given .most) (array-numbered (widened J) (weight-in ws) n pieces array (given .in-range .kinds .1)) old new floors left report e
@@ -156,12 +175,14 @@ module _ {J : Job} {ws : List ℕ} {q : ℕ} (given : Weighed J ws q) {plate : S
     plan-thick = listed-above (widened J) (weight-in ws) n (size-in pieces) (price-in pieces) (heavy-in pieces) (array .listing) (J .kerf) (widened-above J (range-solid J (given .in-range)))
 
     -- the plan of the pieces is the job's
-    same-plan : whole-plan (J .kerf) (table-of plate n report) pieces ≡ T
-    same-plan = rw (on, stored .1) (laid-plan J (weight-in ws) n pieces array (range-solid J (given .in-range)) (widened J .plate .0) (widened J .plate .1) q (omega arith) (omega arith))
+    same-plan : whole-plan (under ((q + 1) ∷ []) 0) (J .kerf) (table-of plate n report) pieces ≡ T
+    same-plan = rw (on, stored .1) (laid-plan (under ((q + 1) ∷ []) 0) (by-state-monotone (under ((q + 1) ∷ []) 0) (digits-order (λ i. getD ((q + 1) ∷ []) i 0) 0 (one-digit (q + 1) (omega arith) (omega (arith, given .most)) .digits)))
+        J (weight-in ws) n pieces array (range-solid J (given .in-range)) (widened J .plate .0) (widened J .plate .1) q (omega arith) (omega arith)
+        ∙ ap (λ H. plan-of J H (widened J .plate .0) (widened J .plate .1) q) (one-shares (q + 1) (λ p. weight-in ws (kind p))))
 
     -- check 21 alone is left
     pub plan-made : {kinds operands new-kinds new-operands : List ℕ} {r : WriteAnswer}
-        → Planned (nodes-verdict (whole-plan (J .kerf) (table-of plate n report) pieces) kinds operands) report (whole-plan (J .kerf) (table-of plate n report) pieces) kinds operands new-kinds new-operands r
+        → Planned (nodes-verdict (whole-plan (under ((q + 1) ∷ []) 0) (J .kerf) (table-of plate n report) pieces) kinds operands) report (whole-plan (under ((q + 1) ∷ []) 0) (J .kerf) (table-of plate n report) pieces) kinds operands new-kinds new-operands r
         → Planned (room-verdict (widened J) q old T kinds operands) R T kinds operands new-kinds new-operands r
     plan-made {kinds} {operands} {new-kinds} {new-operands} {r} p =
         let a = subst (λ t. Planned (nodes-verdict t kinds operands) report t kinds operands new-kinds new-operands r) same-plan p in

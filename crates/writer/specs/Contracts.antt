@@ -39,22 +39,23 @@ cell-at waiting i = record { sides = record { length = getD waiting (3 * i) 0; w
 abbrev pub with-cell : List ℕ → ℕ → Cell → List ℕ
 with-cell waiting i cell = set (set (set waiting (3 * i) (cell .sides .length)) (3 * i + 1) (cell .sides .width)) (3 * i + 2) (cell .share)
 
--- the plan from a cell downward, as the saw cuts it: that of the plain job of the array, with the pieces that the numbers stand for
-abbrev pub plan-at : ℕ → TableSize → List ℕ → Cell → Tree laid.Piece
-plan-at kerf size pieces cell = array-plan kerf (size .length, size .width) (size .count) pieces (rect-of (cell .sides)) (cell .share)
+-- the plan from a cell downward over an order of states, as the saw cuts it: that of the plain job of the array, with the pieces that the
+-- numbers stand for
+abbrev pub plan-at : (ℕ → ℕ → Bool) → ℕ → TableSize → List ℕ → Cell → Tree laid.Piece
+plan-at le kerf size pieces cell = array-plan le kerf (size .length, size .width) (size .count) pieces (rect-of (cell .sides)) (cell .share)
 
 -- the cell of the plate with all of the capacity
 abbrev pub plate-cell : TableSize → Cell
 plate-cell size = record { sides = record { length = size .length; width = size .width }; share = size .capacity }
 
 -- the plan from that cell
-abbrev pub whole-plan : ℕ → TableSize → List ℕ → Tree laid.Piece
-whole-plan kerf size pieces = plan-at kerf size pieces (plate-cell size)
+abbrev pub whole-plan : (ℕ → ℕ → Bool) → ℕ → TableSize → List ℕ → Tree laid.Piece
+whole-plan le kerf size pieces = plan-at le kerf size pieces (plate-cell size)
 
 -- the nodes to come: the plans of the first n waiting cells in preorder, the last cell's first
-unfoldable pub nodes-left : ℕ → TableSize → List ℕ → List ℕ → ℕ → List Node
-nodes-left kerf size pieces waiting zero = []
-nodes-left kerf size pieces waiting (suc n) = preorder (plan-at kerf size pieces (cell-at waiting n)) ++ nodes-left kerf size pieces waiting n
+unfoldable pub nodes-left : (ℕ → ℕ → Bool) → ℕ → TableSize → List ℕ → List ℕ → ℕ → List Node
+nodes-left le kerf size pieces waiting zero = []
+nodes-left le kerf size pieces waiting (suc n) = preorder (plan-at le kerf size pieces (cell-at waiting n)) ++ nodes-left le kerf size pieces waiting n
 
 -- a cut is left out: its second part would be below 1
 abbrev pub left-out : ℕ → Node → Rect → Bool
@@ -75,9 +76,9 @@ abbrev pub half-of : Cell → ℕ
 half-of cell = cell .sides .length + cell .sides .width
 
 -- the cell that the plan of a cell goes on with, past the cuts that are left out, and the choice there
-pub record SettledAt (kerf : ℕ) (size : TableSize) (pieces : List ℕ) (cell : Cell) (r : Settled) : Type 0 where
-  pub same : plan-at kerf size pieces cell ≡ plan-at kerf size pieces (r .cell)
-  pub choice : r .chosen ≡ chosen-at size pieces (r .cell)
+pub record SettledAt (le : ℕ → ℕ → Bool) (kerf : ℕ) (size : TableSize) (pieces : List ℕ) (cell : Cell) (r : Settled) : Type 0 where
+  pub same : plan-at le kerf size pieces cell ≡ plan-at le kerf size pieces (r .cell)
+  pub choice : r .chosen ≡ chosen-at le size pieces (r .cell)
   pub inside : Inside (size-job size pieces) size (r .cell)
   pub smaller : half-of (r .cell) ≤ half-of cell
   pub remains : left-out kerf (r .chosen .node) (rect-of (r .cell .sides)) ≡ false
@@ -93,8 +94,8 @@ pub record Waiting (size : TableSize) (pieces waiting : List ℕ) (n : ℕ) : Ty
   pub smaller : (i : ℕ) → i < n → cell-at waiting i .sides .length + cell-at waiting i .sides .width + i ≤ size .length + size .width
 
 -- a step takes the first of the nodes to come
-pub record Stepped (kerf : ℕ) (size : TableSize) (pieces old new : List ℕ) (n : ℕ) (step : Step) : Type 0 where
-  pub nodes : nodes-left kerf size pieces old n ≡ step .node ∷ nodes-left kerf size pieces new (step .depth)
+pub record Stepped (le : ℕ → ℕ → Bool) (kerf : ℕ) (size : TableSize) (pieces old new : List ℕ) (n : ℕ) (step : Step) : Type 0 where
+  pub nodes : nodes-left le kerf size pieces old n ≡ step .node ∷ nodes-left le kerf size pieces new (step .depth)
   pub waits : Waiting size pieces new (step .depth)
 
 -- the nodes of a tree are counted, and listed from the first entries of two lists on, as far as the lists go

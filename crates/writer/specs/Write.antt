@@ -11,7 +11,7 @@ use Rattle.cutting.specs.Tree.{Tree, IdleFree}
 use Rattle.cutting.specs.Pieces.{Piece}
 use Rattle.cutting.specs.Preorder.{kinds-of, operands-of, node-count}
 use Rattle.cutting.specs.Lists.{over}
-use Rattle.cutting.specs.Job.{Job, bound-of, bound-plan}
+use Rattle.cutting.specs.Job.{Job, by-kind, bound-of, bound-plan}
 use Rattle.cutting.specs.Promises.{EarnsWithin, PlanFollows}
 use Rattle.refusal.specs.Refusals.{Check, Outcome, next, first-refusal, by-check, refused-as, outcome-by}
 use Rattle.refusal.specs.declared.Checked.{Checked}
@@ -76,7 +76,7 @@ array-after s choices ws m kinds operands xs old = list-after (write-verdict s c
 -- for every accepted job and weights, whatever storage is lent: the plan follows the order of choice, earns the bound within Q and has no
 -- idle cut
 abbrev pub PlanChosen : List ℕ → Choices → List ℕ → Type 0
-PlanChosen s choices ws = Accepted s choices ws → PlanFollows (block-job s choices) (weight-in ws)
+PlanChosen s choices ws = Accepted s choices ws → PlanFollows (block-job s choices) (by-kind (weight-in ws))
     × EarnsWithin (block-job s choices) (weight-in ws) (block-capacity s choices ws) (bound-of (block-job s choices) (weight-in ws)) (block-plan s choices ws)
     × IdleFree (block-plan s choices ws)
 

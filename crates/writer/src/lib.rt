@@ -24,6 +24,7 @@ ghost use Rattle.job.specs.Block.{with-full-demand, job-of};
 ghost use Rattle.job.specs.Weights.{weight-in};
 ghost use Rattle.refusal.specs.declared.Checked.the-variants.{Passed};
 ghost use Rattle.bound.specs.Bound.{lent, Leaves, bound-report};
+ghost use Rattle.state_fill.specs.Cells.{under};
 ghost use Rattle.choice.specs.Choice.{ChoiceInput};
 ghost use Rattle.writer.specs.Contracts.{table-of, whole-plan, Thick, Weighed, room-verdict, Planned};
 ghost use Rattle.writer.specs.Write.{reported, nodes-verdict, WritePromises};
@@ -70,13 +71,14 @@ fn with_nodes(report: BoundReport, nodes: u64) -> WriteReport
 }
 
 // The bound's report, and the kerf that the plan loses at each cut.
-struct Sawing {
-    report: BoundReport,
-    kerf: u16,
+pub struct Sawing {
+    pub report: BoundReport,
+    pub kerf: u16,
 }
 
-// The plan of pieces whose lists, floors and table are filled: refusal 21 with the nodes needed, or the plan in preorder.
-fn plan_of_pieces(
+// The plan of pieces whose lists, floors and table are filled, over the states of the digits up to d: refusal 21 with the nodes needed, or
+// the plan in preorder.
+pub fn plan_of_pieces(
     size: TableSize,
     pieces: &[u32; 640],
     sawing: Sawing,
@@ -84,11 +86,13 @@ fn plan_of_pieces(
     normal_widths: &[u16],
     floors: &[u16],
     table: &[u64],
+    blocks: &[u32],
+    d: usize,
     kinds: &mut [u8],
     operands: &mut [u16],
 ) -> WriteAnswer
-    requires { ⌜ ChoiceInput size (now pieces) (now «normal_lengths») (now «normal_widths») (now floors) (now table) × Thick (sawing .kerf) size (now pieces) ⌝ }
-    ensures { λ r. ⌜ Planned (nodes-verdict (whole-plan (sawing .kerf) size (now (pieces .entry))) (now (kinds .entry)) (now (operands .entry))) (sawing .report) (whole-plan (sawing .kerf) size (now (pieces .entry)))
+    requires { ⌜ ChoiceInput size (now blocks) d (now pieces) (now «normal_lengths») (now «normal_widths») (now floors) (now table) × Thick (sawing .kerf) size (now pieces) ⌝ }
+    ensures { λ r. ⌜ Planned (nodes-verdict (whole-plan (under (now (blocks .entry)) d) (sawing .kerf) size (now (pieces .entry))) (now (kinds .entry)) (now (operands .entry))) (sawing .report) (whole-plan (under (now (blocks .entry)) d) (sawing .kerf) size (now (pieces .entry)))
         (now (kinds .entry)) (now (operands .entry)) (now (kinds .exit)) (now (operands .exit)) r ⌝ }
 {
     let mut own_kinds = [0u8; 4095];
@@ -101,6 +105,8 @@ fn plan_of_pieces(
         normal_widths,
         floors,
         table,
+        blocks,
+        d,
         &mut own_kinds[..],
         &mut own_operands[..],
     );
@@ -115,7 +121,7 @@ fn plan_of_pieces(
 }
 
 // The size of the table that a report is of.
-fn table_of(plate: Sides, count: u16, report: BoundReport) -> TableSize
+pub fn table_of(plate: Sides, count: u16, report: BoundReport) -> TableSize
     ensures { λ r. ⌜ r ≡ table-of plate count report ⌝ }
 {
     TableSize {
@@ -149,6 +155,7 @@ fn write_accepted(
     let listing = list_pieces(job, weights);
     let count = listing.count;
     let pieces = listing.pieces;
+    let blocks = [(q as u32) + 1; 1];
     let mut floors = [0u16; 2042];
     let bounded = bound_of_pieces(
         plate,
@@ -173,6 +180,8 @@ fn write_accepted(
             &normal_widths[..],
             &floors[..],
             &table[..],
+            &blocks,
+            0,
             kinds,
             operands,
         ),

@@ -20,6 +20,7 @@ ghost use lib.Seq.{paste};
 ghost use Rattle.cutting.specs.Preorder.{kind-of, operand-of};
 ghost use Rattle.cutting.specs.Sides.{rect-of};
 ghost use Rattle.table.specs.Contracts.{size-job};
+ghost use Rattle.state_fill.specs.Cells.{under};
 ghost use Rattle.choice.specs.Choice.{ChoiceInput, Inside};
 ghost use Rattle.writer.specs.Contracts.{cell-at, with-cell, plate-cell, whole-plan, left-out, first-of, SettledAt, Thick, Waiting, Stepped, NodesListed, Copyable};
 
@@ -109,9 +110,11 @@ fn settle(
     normal_widths: &[u16],
     floors: &[u16],
     table: &[u64],
+    blocks: &[u32],
+    d: usize,
 ) -> Settled
-    requires { ⌜ ChoiceInput size (now pieces) (now «normal_lengths») (now «normal_widths») (now floors) (now table) × Thick kerf size (now pieces) × Inside (size-job size (now pieces)) size cell ⌝ }
-    ensures { λ r. ⌜ SettledAt kerf size (now (pieces .entry)) cell r ⌝ }
+    requires { ⌜ ChoiceInput size (now blocks) d (now pieces) (now «normal_lengths») (now «normal_widths») (now floors) (now table) × Thick kerf size (now pieces) × Inside (size-job size (now pieces)) size cell ⌝ }
+    ensures { λ r. ⌜ SettledAt (under (now (blocks .entry)) d) kerf size (now (pieces .entry)) cell r ⌝ }
 {
     let mut at = cell;
     let mut chosen = choose(
@@ -122,6 +125,8 @@ fn settle(
         normal_widths,
         floors,
         table,
+        blocks,
+        d,
     );
     while left_out(at, chosen, kerf) {
         at = first_cell(at, chosen);
@@ -133,6 +138,8 @@ fn settle(
             normal_widths,
             floors,
             table,
+            blocks,
+            d,
         );
     }
     Settled {
@@ -152,9 +159,11 @@ fn next_node(
     normal_widths: &[u16],
     floors: &[u16],
     table: &[u64],
+    blocks: &[u32],
+    d: usize,
 ) -> Step
-    requires { ⌜ ChoiceInput size (now pieces) (now «normal_lengths») (now «normal_widths») (now floors) (now table) × Thick kerf size (now pieces) × Waiting size (now pieces) (now waiting) depth × (0 < depth) ⌝ }
-    ensures { λ r. ⌜ Stepped kerf size (now (pieces .entry)) (now (waiting .entry)) (now (waiting .exit)) depth r ⌝ }
+    requires { ⌜ ChoiceInput size (now blocks) d (now pieces) (now «normal_lengths») (now «normal_widths») (now floors) (now table) × Thick kerf size (now pieces) × Waiting size (now pieces) (now waiting) depth × (0 < depth) ⌝ }
+    ensures { λ r. ⌜ Stepped (under (now (blocks .entry)) d) kerf size (now (pieces .entry)) (now (waiting .entry)) (now (waiting .exit)) depth r ⌝ }
 {
     let top = depth - 1;
     let settled = settle(
@@ -166,6 +175,8 @@ fn next_node(
         normal_widths,
         floors,
         table,
+        blocks,
+        d,
     );
     let cell = settled.cell;
     let chosen = settled.chosen;
@@ -216,11 +227,13 @@ pub fn list_nodes(
     normal_widths: &[u16],
     floors: &[u16],
     table: &[u64],
+    blocks: &[u32],
+    d: usize,
     kinds: &mut [u8],
     operands: &mut [u16],
 ) -> usize
-    requires { ⌜ ChoiceInput size (now pieces) (now «normal_lengths») (now «normal_widths») (now floors) (now table) × Thick kerf size (now pieces) ⌝ }
-    ensures { λ r. ⌜ NodesListed (whole-plan kerf size (now (pieces .entry))) (now (kinds .entry)) (now (operands .entry)) (now (kinds .exit)) (now (operands .exit)) r ⌝ }
+    requires { ⌜ ChoiceInput size (now blocks) d (now pieces) (now «normal_lengths») (now «normal_widths») (now floors) (now table) × Thick kerf size (now pieces) ⌝ }
+    ensures { λ r. ⌜ NodesListed (whole-plan (under (now (blocks .entry)) d) kerf size (now (pieces .entry))) (now (kinds .entry)) (now (operands .entry)) (now (kinds .exit)) (now (operands .exit)) r ⌝ }
 {
     let mut waiting = [0u16; 6120];
     let plate = plate_cell(size);
@@ -238,6 +251,8 @@ pub fn list_nodes(
             normal_widths,
             floors,
             table,
+            blocks,
+            d,
         );
         let node = step.node;
         put_kind(kinds, nodes, node);

@@ -17,7 +17,7 @@ bound-of-pieces-requires c κs = boundable (c .before .before .before .before .b
 
 plan-of-pieces-requires : tie.Need-plan-of-pieces-requires
 plan-of-pieces-requires c κs =
-    let table = c .before .before .before .before .before .before .before in
+    let table = c .before .before .before .before .before .before .before .before in
     let answered = table .before .before in
     let found = answered .before .before .before .before .before .before .before .before .before in
     let pieces = found .before .before .before .before .before .before .before in
@@ -34,15 +34,28 @@ returns c =
 
 returns-2 : tie.Need-returns-2
 returns-2 c =
-    let left = c .before .before .before .before .before .before .before .before .before .before .before .before .before .before .before .before .before .before .before .before .before .before .before .bound-of-pieces .ensures in (
-      memory-left (c .before .before .before .before .before .before .before .before .before .before .before .before .before .before .before .before .before .before .before .before .before .before .before .before .before .before .before .before .before .before .before .before .before .before .before .before .before .before .pre) (c .before .before .before .before .before .before .before .before .before .before .before .before .before .before .before .before .before .before .before .before .before .before .before .before .before .before .before .before .before .before .before .plate-of .ensures) (c .before .before .before .before .before .before .before .before .before .before .before .before .before .before .before .before .before .before .before .before .before .before .before .before .before .before .before .before .before .before .list-pieces .ensures) left,
-      plan-made (c .before .before .before .before .before .before .before .before .before .before .before .before .before .before .before .before .before .before .before .before .before .before .before .before .before .before .before .before .before .before .before .before .before .before .before .before .before .before .pre) (c .before .before .before .before .before .before .before .before .before .before .before .before .before .before .before .before .before .before .before .before .before .before .before .before .before .before .before .before .before .before .before .plate-of .ensures) (c .before .before .before .before .before .before .before .before .before .before .before .before .before .before .before .before .before .before .before .before .before .before .before .before .before .before .before .before .before .before .list-pieces .ensures) left (c .before .before .before .before .before .before .before .before .before .before .before .before .before .before .bounded2 .given .1) (rw (c .before .before .before .before .before .before .before .before .before .before .before .before .table-of .ensures) at (c .before .before .before .before .plan-of-pieces .ensures)),
+    let left = c .before .before .before .before .before .before .before .before .before .before .before .before .before .before .before .before .before .before .before .before .before .before .before .before .bound-of-pieces .ensures in
+    let given = c .before .before .before .before .before .before .before .before .before .before .before .before .before .before .before .before .before .before .before .before .before .before .before .before .before .before .before .before .before .before .before .before .before .before .before .before .before .before .before .pre in
+    let plate = c .before .before .before .before .before .before .before .before .before .before .before .before .before .before .before .before .before .before .before .before .before .before .before .before .before .before .before .before .before .before .before .before .plate-of .ensures in
+    let pieces = c .before .before .before .before .before .before .before .before .before .before .before .before .before .before .before .before .before .before .before .before .before .before .before .before .before .before .before .before .before .before .before .list-pieces .ensures in (
+      memory-left given plate pieces left,
+      plan-made given plate pieces left (c .before .before .before .before .before .before .before .before .before .before .before .before .before .before .before .bounded2 .given .1) (rw (c .before .before .before .before .before .before .before .before .before .before .before .before .before .table-of .ensures) at (c .before .before .before .before .plan-of-pieces .ensures)),
     )
+
+-- the lists and the table keep their lengths
+same-length-4 : tie.Need-same-length-4
+same-length-4 c = c .before .before .before .before .before .before .before .before .before .before .before .before .before .before .before .before .before .before .before .before .before .before .before .before .bound-of-pieces .kept .1 .1 .1 .1 .0
+
+same-length-5 : tie.Need-same-length-5
+same-length-5 c = c .before .before .before .before .before .before .before .before .before .before .before .before .before .before .before .before .before .before .before .before .before .before .before .before .bound-of-pieces .kept .1 .1 .1 .1 .1 .0
+
+same-length-6 : tie.Need-same-length-6
+same-length-6 c = c .before .before .before .before .before .before .before .before .before .before .before .before .before .before .before .before .before .before .before .before .before .before .before .before .bound-of-pieces .kept .1 .1 .1 .1 .1 .1 .1 .0
 
 pub write-accepted-spec : {M : Type 1} → statement M
 write-accepted-spec =
     tie.close
     (tie.spec
-    plate-of-requires list-pieces-requires (λ c. search needs) bound-of-pieces-requires (λ c. search needs) (λ c. search needs)
-    (λ c κs. search needs) (λ c. search needs) plan-of-pieces-requires (λ c. search needs) (λ c. search needs) (λ c. search needs) returns
-    (λ c. search needs) (λ c. search needs) (λ c. search needs) (λ c. search needs) (λ c. search needs) returns-2)
+    plate-of-requires list-pieces-requires (λ c. search needs) (λ c. search needs) bound-of-pieces-requires (λ c. search needs) (λ c. search needs)
+    (λ c κs. search needs) (λ c. search needs) (λ c. search needs) plan-of-pieces-requires (λ c. search needs) (λ c. search needs) (λ c. search needs) returns
+    same-length-4 same-length-5 same-length-6 (λ c. search needs) (λ c. search needs) returns-2)

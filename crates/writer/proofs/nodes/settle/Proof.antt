@@ -1,10 +1,12 @@
 -- `writer::nodes::settle` meets its contract. The measure is the half perimeter of the cell.
 use mathlib.Core.Path.{_≡_, refl, sym, _∙_}
-use Prim.Native.Nat.{_≤_, _<_}
+use mathlib.Core.Bool.{Bool}
+use Prim.Native.Nat.{ℕ, _≤_, _<_}
 use native.Mathlib.Omega.{arith}
 use borrow.Author.Needs.{needs}
 use denote.Ref.{now}
 use Rattle.table.specs.Contracts.{size-job}
+use Rattle.state_fill.specs.Cells.{under}
 use Rattle.choice.specs.Choice.{Inside, chosen-at}
 use Rattle.writer.specs.Contracts.{plan-at, half-of}
 use Rattle.writer.proofs.Plan.{goes-on}
@@ -12,29 +14,33 @@ use Rattle.writer.proofs.nodes.settle.Statement.{statement}
 use Rattle.writer.proofs.nodes.settle.Tie as tie
 
 abbrev Inv-loop : tie.InvT-loop
-Inv-loop kerf size pieces normal-lengths normal-widths floors table at₀ chosen₀ at chosen =
-    (plan-at kerf size pieces at₀ ≡ plan-at kerf size pieces at) × (chosen ≡ chosen-at size pieces at) × Inside (size-job size pieces) size at × (half-of at ≤ half-of at₀)
+Inv-loop kerf size pieces normal-lengths normal-widths floors table blocks d at₀ chosen₀ at chosen =
+    (plan-at (under blocks d) kerf size pieces at₀ ≡ plan-at (under blocks d) kerf size pieces at) × (chosen ≡ chosen-at (under blocks d) size pieces at) × Inside (size-job size pieces) size at × (half-of at ≤ half-of at₀)
 
 abbrev μ-loop : tie.MeasureT-loop
-μ-loop kerf size pieces normal-lengths normal-widths floors table at₀ chosen₀ at chosen = half-of at
+μ-loop kerf size pieces normal-lengths normal-widths floors table blocks d at₀ chosen₀ at chosen = half-of at
 
 choose-requires : tie.Need-choose-requires Inv-loop μ-loop
-choose-requires c κs = let e = c .before .before .before .before in (e .pre .0, e .pre .2)
+choose-requires c κs = let e = c .before .before .before .before .before in (e .pre .0, e .pre .2)
 
 loop-holds : tie.Need-loop-holds Inv-loop μ-loop
-loop-holds c = let e = c .before .before .before .before .before in (refl, c .choose .ensures, e .pre .2, omega arith)
+loop-holds c = let e = c .before .before .before .before .before .before in (refl, c .choose .ensures, e .pre .2, omega arith)
 
 -- where the call began, and what a turn goes on with
 abbrev start : tie.After-first-cell Inv-loop μ-loop → tie.Start Inv-loop μ-loop
-start k = k .before .before .before .before .before .before .before .before .before
+start k = k .before .before .before .before .before .before .before .before .before .before
+
+-- the order of the states
+abbrev order-of : tie.Start Inv-loop μ-loop → ℕ → ℕ → Bool
+order-of e = under (now (e .args .blocks)) (e .args .d)
 
 on : (k : tie.After-first-cell Inv-loop μ-loop)
-    → (plan-at (start k .args .kerf) (start k .args .size) (now (start k .args .pieces)) (k .before .before .before .loop .at) ≡ plan-at (start k .args .kerf) (start k .args .size) (now (start k .args .pieces)) (k .first-cell .result))
+    → (plan-at (order-of (start k)) (start k .args .kerf) (start k .args .size) (now (start k .args .pieces)) (k .before .before .before .loop .at) ≡ plan-at (order-of (start k)) (start k .args .kerf) (start k .args .size) (now (start k .args .pieces)) (k .first-cell .result))
     × Inside (size-job (start k .args .size) (now (start k .args .pieces))) (start k .args .size) (k .first-cell .result) × (half-of (k .first-cell .result) < half-of (k .before .before .before .loop .at))
 on k =
     let e = start k in
     let turn = k .before .before .before .loop in
-    goes-on (e .args .kerf) (e .args .size) (now (e .args .pieces)) (e .pre .0 .tabled .in-range) (turn .at) (turn .inv .2) (turn .inv .1) (e .pre .1) (sym (k .before .before .left-out .ensures) ∙ k .before .if1 .taken) (k .first-cell .ensures)
+    goes-on (order-of e) (e .args .kerf) (e .args .size) (now (e .args .pieces)) (e .pre .0 .tabled .in-range, e .pre .0 .tabled .order) (turn .at) (turn .inv .2) (turn .inv .1) (e .pre .1) (sym (k .before .before .left-out .ensures) ∙ k .before .if1 .taken) (k .first-cell .ensures)
 
 choose-requires-2 : tie.Need-choose-requires-2 Inv-loop μ-loop
 choose-requires-2 c κs = (start c .pre .0, on c .1)
