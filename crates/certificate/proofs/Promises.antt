@@ -3,9 +3,10 @@ use mathlib.Core.Path.{_≡_, sym, ap}
 use mathlib.Core.List.{List}
 use Prim.Native.Nat.{ℕ, _≤_}
 use native.Mathlib.Omega.{arith}
-use Rattle.cutting.specs.Job.{Job, bound-of}
+use Rattle.cutting.specs.Job.{Job, bound-of, by-kind}
 use Rattle.cutting.specs.Promises.{NoneAbove}
 use Rattle.cutting.proofs.Members.{range-solid}
+use Rattle.cutting.proofs.Weights.{by-weight-monotone}
 use Rattle.cutting.proofs.Plan.{plan-bound, plan-idle}
 use Rattle.cutting.proofs.Promises as trees
 use Rattle.refusal.specs.Refusals.{first-refusal}
@@ -54,7 +55,7 @@ pub bounds-hold : BoundsHold
 bounds-hold s choices ws m = exact-by s choices ws m
 
 pub plans-earn : PlansEarn
-plans-earn s choices ws accepted = let h = accepted-in-range s choices ws accepted in (trees.plan-follows (block-job s choices) (weight-in ws) h, plan-bound (block-job s choices) (weight-in ws) (range-solid (block-job s choices) h), plan-idle (block-job s choices) (weight-in ws) (range-solid (block-job s choices) h) _ _ _)
+plans-earn s choices ws accepted = let h = accepted-in-range s choices ws accepted in (trees.plan-follows (block-job s choices) (weight-in ws) h, plan-bound (block-job s choices) (weight-in ws) (range-solid (block-job s choices) h), plan-idle (block-job s choices) (by-kind (weight-in ws)) (by-weight-monotone _) (range-solid (block-job s choices) h) _ _ _)
 
 pub bound-exact : BoundExact
 bound-exact s choices ws accepted = bound-held (block-job s choices) (weight-in ws) (accepted-in-range s choices ws accepted)

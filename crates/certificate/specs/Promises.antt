@@ -9,7 +9,7 @@ use Rattle.cutting.specs.declared.Direction.the-variants.{Length, Width}
 use Rattle.cutting.specs.Lists.{over}
 use Rattle.cutting.specs.Tree.{Tree, IdleFree}
 use Rattle.cutting.specs.Pieces.{Piece}
-use Rattle.cutting.specs.Job.{Job, profit, bound-of, normal-positions, bound-plan}
+use Rattle.cutting.specs.Job.{Job, profit, bound-of, normal-positions, bound-plan, by-kind}
 use Rattle.cutting.specs.Promises.{NoneAbove, EarnsWithin, PlanFollows}
 use Rattle.refusal.specs.Refusals.{Check, number-of, next, first-refusal}
 use Rattle.refusal.specs.declared.Refusal.{Refusal}
@@ -61,7 +61,7 @@ BoundsHold = (s : List ℕ) (choices : Choices) (ws : List ℕ) (m : Memory) →
 -- guillotine tree on the plate that weighs at most the capacity, earns the bound and has no idle cut
 abbrev pub PlansEarn : Type 0
 PlansEarn = (s : List ℕ) (choices : Choices) (ws : List ℕ) → Accepted s choices ws
-    → PlanFollows (block-job s choices) (weight-in ws)
+    → PlanFollows (block-job s choices) (by-kind (weight-in ws))
     × EarnsWithin (block-job s choices) (weight-in ws) (block-capacity s choices ws) (bound-of (block-job s choices) (weight-in ws)) (bound-plan (block-job s choices) (weight-in ws))
     × IdleFree (bound-plan (block-job s choices) (weight-in ws))
 

@@ -40,7 +40,7 @@ loop-holds c =
     let h : Ready le size pieces = (t .in-range, t .order) in
     let p = c .put-cell .ensures ∙ ap (λ cell. with-cell (replicate 6120 0) 0 cell) (c .before .before .plate-cell .ensures) in
     let l = plan-left le kerf size pieces h (replicate 6120 0) refl p in
-        (plate-waits le kerf size pieces h (replicate 6120 0) refl p, omega (arith, count-left le kerf size pieces h (replicate 6120 0) refl p), refl, refl, kinds-begin (whole-plan le kerf size pieces) l (now (e .kinds)), operands-begin (whole-plan le kerf size pieces) l (now (e .operands)))
+    (plate-waits le kerf size pieces h (replicate 6120 0) refl p, omega (arith, count-left le kerf size pieces h (replicate 6120 0) refl p), refl, refl, kinds-begin (whole-plan le kerf size pieces) l (now (e .kinds)), operands-begin (whole-plan le kerf size pieces) l (now (e .operands)))
 
 next-node-requires : tie.Need-next-node-requires Inv-loop μ-loop
 next-node-requires c κs = let e = c .before .before .before .before .before .before .before .before .before .before .before .before .before in (e .pre .0, e .pre .1, c .before .before .loop .inv .0, search needs)
