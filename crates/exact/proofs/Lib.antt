@@ -1,0 +1,7 @@
+pub mod States
+pub mod Optimum
+pub mod Counting
+pub mod Pieces
+pub mod Storage
+pub mod Accepted
+pub mod Call

@@ -1,0 +1,84 @@
+-- The optimum in plain words: no guillotine tree on the plate that keeps every demand earns more, the written plan earns it, and every
+-- weighted bound lies at or above it.
+use mathlib.Core.Path.{_∙_}
+use Prim.Native.Nat.{ℕ, _-_, _≤_}
+use native.Mathlib.Nat.{sub-zero, add-sub-cancel}
+use native.Mathlib.Omega.{arith}
+use lib.Dec.{eqb}
+use Rattle.cutting.specs.Lists.{only}
+use Rattle.cutting.specs.Tree.{IdleFree}
+use Rattle.cutting.specs.Figure.{leaf, best, step}
+use Rattle.cutting.specs.Pieces.{kind, sized}
+use Rattle.cutting.specs.Saws.{saw}
+use Rattle.cutting.specs.Job.{Job, InRange, profit, weight-of, widened, capacity, at-full-demand, ordered, members, pieces, bound-of}
+use Rattle.cutting.specs.Promises.{NoneAbove, PlanFollows}
+use Rattle.cutting.specs.Two.{figure-two, two-bound}
+use Rattle.cutting.specs.Exact.{full-state, by-copies, exact-figure, optimum, optimum-plan, ExactRecursion, ExactFloors, EarnsExactly, MostExact}
+use Rattle.cutting.proofs.Greatest.{greatest-map}
+use Rattle.cutting.proofs.Recursion.{figure-eq}
+use Rattle.cutting.proofs.Saws.{saw-proper}
+use Rattle.cutting.proofs.Members.{range-solid, widened-solid}
+use Rattle.cutting.proofs.Job.{plain-guillotine}
+use Rattle.cutting.proofs.Bound.{share-most, capacity-less, bound-less}
+use Rattle.cutting.proofs.Table.{floor-under}
+use Rattle.cutting.proofs.Plan.{plan-saw, plan-within, plan-recursion, plan-idle}
+use Rattle.cutting.proofs.Promises.{none-above, none-heavier}
+use Rattle.cutting.proofs.Two.{two-most, two-holds}
+use Rattle.table.specs.States.{by-state}
+use Rattle.exact.proofs.States.{copies-monotone, keeps-within, within-keeps}
+
+-- the recursion, cut at every whole unit
+pub exact-recursion : (J : Job) → ExactRecursion J
+unfolding exact-figure step leaf best pieces sized saw by-state
+exact-recursion J l w s = figure-eq (pieces J) (saw 0) (by-copies J) (saw-proper 0) (l, w) s ∙ simp (greatest-map, sub-zero)
+
+module _ (J : Job) (h : InRange J) where
+  pub exact-floors : ExactFloors (widened J)
+  unfolding exact-figure
+  exact-floors = floor-under (widened J) (by-copies (widened J)) (copies-monotone (widened J) (h .kinds .0)) (widened-solid J (range-solid J h))
+
+  -- no tree that keeps the demands earns more
+  pub optimum-most : NoneAbove J (optimum J)
+  unfolding exact-figure
+  optimum-most t g k = share-most J (range-solid J h) (by-copies J) (copies-monotone J (h .kinds .0)) t (J .plate .0) (J .plate .1) (full-state J) g
+      (keeps-within J (h .kinds .0) t (saw (J .kerf)) (J .plate) (plain-guillotine J t (J .plate) g) k)
+
+  -- the plan earns it and keeps them
+  pub optimum-earned : EarnsExactly J (optimum J) (optimum-plan J)
+  unfolding exact-figure pieces members ordered
+  optimum-earned =
+      let e = plan-within J (by-copies J) (copies-monotone J (h .kinds .0)) (range-solid J h) (widened J .plate .0) (widened J .plate .1) (full-state J) (omega arith) (omega arith) in
+      let keeps = within-keeps (widened J) (h .kinds .0) (e .1 .0) (plan-saw (widened J)) (widened J .plate) (e .1 .1) (e .1 .2) in (
+        rw (add-sub-cancel (J .plate .0) (J .kerf), add-sub-cancel (J .plate .1) (J .kerf)) at (e .0),
+        (λ i l. omega (arith, e .1 .3 (λ p. only (eqb (kind p) i) 1), keeps i l)),
+        e .2,
+      )
+
+  pub optimum-exact : MostExact J (optimum J)
+  optimum-exact = (optimum-most, (optimum-plan J, optimum-earned))
+
+  -- it follows the order of choice and has no idle cut
+  pub optimum-follows : PlanFollows J (by-copies J)
+  optimum-follows l w s on-length on-width = plan-recursion J (by-copies J) (copies-monotone J (h .kinds .0)) (range-solid J h) l w s on-length on-width
+
+  pub optimum-idle : IdleFree (optimum-plan J)
+  optimum-idle = plan-idle J (by-copies J) (copies-monotone J (h .kinds .0)) (range-solid J h) (widened J .plate .0) (widened J .plate .1) (full-state J)
+
+  -- every weighted bound lies at or above it, in either form of the capacity
+  pub bounds-above : (weight : ℕ → ℕ) → (optimum J ≤ bound-of J weight) × (optimum J ≤ bound-of (at-full-demand J) weight)
+  bounds-above weight =
+      let a : optimum J ≤ bound-of J weight = omega (arith, optimum-earned .2, none-above J weight h (optimum-plan J) (optimum-earned .0) (optimum-earned .1)) in
+      (a, omega (arith, a, bound-less J weight))
+
+  -- and so does every bound of two weights: the plan's weights are within the capacities of the full demands too
+  pub two-above : (first second : ℕ → ℕ) → (optimum J ≤ two-bound J first second) × (optimum J ≤ two-bound (at-full-demand J) first second)
+  unfolding figure-two pieces members ordered
+  two-above first second =
+      let e = optimum-earned in
+      let q = capacity (at-full-demand J) first in
+      let q′ = capacity (at-full-demand J) second in
+      let w : weight-of first (optimum-plan J) ≤ q = omega (arith, none-heavier J first h (optimum-plan J) (e .0) (e .1), capacity-less J first) in
+      let w′ : weight-of second (optimum-plan J) ≤ q′ = omega (arith, none-heavier J second h (optimum-plan J) (e .0) (e .1), capacity-less J second) in
+      let a : profit J (optimum-plan J) ≤ two-bound J first second = two-holds J first second (range-solid J h) (optimum-plan J) (e .0) (e .1) in
+      let b : profit J (optimum-plan J) ≤ two-bound (at-full-demand J) first second = two-most J first second (range-solid J h) q q′ .0 (optimum-plan J) (e .0, w, w′) in
+      (omega (arith, e .2, a), omega (arith, e .2, b))

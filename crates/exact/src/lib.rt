@@ -1,0 +1,304 @@
+// The exact call for short orders: the optimum over the remaining copies of every kind, and the plan that earns it. A state is a number in
+// mixed radix, a digit a kind, kind 0 lowest. Refusals 1 to 7, 27, 30 and 19 to 21.
+use bound::BoundAnswer;
+use bound::BoundReport;
+use bound::lists_short;
+use bound::map_sides;
+use bound::words;
+use cutting::Sides;
+use job::Choices;
+use job::JobRecord;
+use pieces::list_pieces;
+use pieces::plate_of;
+use positions::normal_positions;
+use refusal::Checked;
+use refusal::Refusal;
+use state_fill::Shape;
+use state_fill::fill;
+use table::TableSize;
+use writer::Sawing;
+use writer::WriteAnswer;
+use writer::plan_of_pieces;
+use writer::table_of;
+ghost use mathlib.Core.Path.{_≡_};
+ghost use Prim.Native.Nat.{_+_, _-_, _≤_, _<_};
+ghost use lib.ListN.{length};
+ghost use Rattle.cutting.specs.Job.{InRange, widened};
+ghost use Rattle.cutting.specs.Sides.{rect-of};
+ghost use Rattle.cutting.specs.Exact.{exact-figure};
+ghost use Rattle.cutting.specs.Listed.{heavy-in, pieces-job};
+ghost use Rattle.refusal.specs.declared.Checked.the-variants.{Passed};
+ghost use Rattle.job.specs.Block.{job-of};
+ghost use Rattle.table.specs.Table.{words-needed, Kept};
+ghost use Rattle.table.specs.States.{figure-at};
+ghost use Rattle.table.specs.Contracts.{size-job, Fillable};
+ghost use Rattle.state_fill.specs.Cells.{under, Digits};
+ghost use Rattle.bound.specs.Bound.{lent};
+ghost use Rattle.exact.specs.Exact.{StateFigures, ExactLeaves, ExactPromises};
+ghost use Rattle.exact.specs.Contracts.{StatesCounted, stride, Statable, Stated, Countable, Filled, Short, exact-of, job-report, job-plan, room-verdict, Drawn};
+
+// What the call reports: the optimum, the number of states, the numbers p and r of normal lengths and widths, and the number of the plan's
+// nodes.
+pub struct ExactReport {
+    pub optimum: u64,
+    pub states: u32,
+    pub length_count: u16,
+    pub columns: u16,
+    pub nodes: u64,
+}
+
+// What the call answers.
+pub enum ExactAnswer {
+    Answered(ExactReport),
+    Refused(Refusal),
+}
+
+// The product of the demands, each plus 1, and for each kind that of the kinds up to it. It stops growing above 4,096.
+fn count_states(job: JobRecord, blocks: &mut [u32; 64]) -> u32
+    requires { ⌜ InRange (job-of job) × (length (now blocks) ≡ 64) ⌝ }
+    ensures { λ r. ⌜ StatesCounted (job-of job) (now (blocks .entry)) (now (blocks .exit)) r ⌝ }
+{
+    let mut product: u32 = 1;
+    for i in 0..job.count {
+        let k = i as usize;
+        product = product * ((job.demands[k] as u32) + 1);
+        if 4096 < product {
+            return product;
+        }
+        blocks[k] = product;
+    }
+    product
+}
+
+// The state of one copy of a kind: the number of states of the kinds below it.
+fn one_copy(blocks: &[u32], kind: usize) -> u32
+    requires { ⌜ kind < length (now blocks) ⌝ }
+    ensures { λ r. ⌜ r ≡ stride (now (blocks .entry)) kind ⌝ }
+{
+    if kind == 0 {
+        return 1;
+    }
+    blocks[kind - 1]
+}
+
+// Each piece gets the state of one copy of its kind for its weight.
+fn put_states(pieces: &mut [u32; 640], count: u16, blocks: &[u32])
+    requires { ⌜ Statable (now pieces) count (now blocks) ⌝ }
+    ensures { λ _. ⌜ Stated count (stride (now (blocks .entry))) (now (pieces .entry)) (now (pieces .exit)) ⌝ }
+{
+    for i in 0..count {
+        let at = 5 * (i as usize);
+        let kind = (pieces[at + 4] / 2) as usize;
+        pieces[at + 3] = one_copy(blocks, kind);
+    }
+}
+
+// The figures of pieces over the states of the digits up to d, into a table that is long enough.
+fn fill_states(
+    size: TableSize,
+    d: usize,
+    blocks: &[u32],
+    pieces: &[u32; 640],
+    normal_lengths: &[u16],
+    normal_widths: &[u16],
+    floors: &[u16],
+    table: &mut [u64],
+)
+    requires { ⌜ Fillable size (now pieces) (now «normal_lengths») (now «normal_widths») (now floors) (now table) × Digits (now blocks) d (size .capacity + 1) ⌝ }
+    ensures { λ _. ⌜ StateFigures (size-job size (now (pieces .entry))) (figure-at (size-job size (now (pieces .entry))) (under (now (blocks .entry)) d) (heavy-in (now (pieces .entry)))) (size .capacity) (now (table .exit))
+        × Kept (words-needed (size-job size (now (pieces .entry))) (size .capacity)) (now (table .entry)) (now (table .exit)) ⌝ }
+{
+    let columns = size.columns as usize;
+    let words = (size.capacity as usize) + 1;
+    let shape = Shape {
+        length: size.length,
+        width: size.width,
+        count: size.count as usize,
+        length_count: size.rows as usize,
+        columns: columns,
+        d: d,
+        words: words,
+        stride: columns * words,
+    };
+    let width_floors = &floors[1021..];
+    fill(
+        table,
+        pieces,
+        normal_lengths,
+        floors,
+        normal_widths,
+        width_floors,
+        blocks,
+        shape,
+    );
+}
+
+// The figures of pieces on a plate over the states up to q: refusals 19 and 20, then the lists, the floors of both sides, the table and
+// the report.
+fn states_of_pieces(
+    plate: Sides,
+    count: u16,
+    pieces: &[u32; 640],
+    q: u16,
+    d: usize,
+    blocks: &[u32],
+    normal_lengths: &mut [u16],
+    normal_widths: &mut [u16],
+    floors: &mut [u16],
+    table: &mut [u64],
+) -> BoundAnswer
+    requires { ⌜ Countable (pieces-job (rect-of plate) count (now pieces)) (now blocks) d q (now floors) ⌝ }
+    ensures { λ r. ⌜ Filled (pieces-job (rect-of plate) count (now (pieces .entry))) (figure-at (pieces-job (rect-of plate) count (now (pieces .entry))) (under (now (blocks .entry)) d) (heavy-in (now (pieces .entry)))) q
+        (lent (now («normal_lengths» .entry)) (now («normal_widths» .entry)) (now (table .entry)))
+        (lent (now («normal_lengths» .exit)) (now («normal_widths» .exit)) (now (table .exit))) (now (floors .exit)) r ⌝ }
+{
+    let length = plate.length;
+    let width = plate.width;
+    if lists_short(normal_lengths.len(), normal_widths.len(), length, width) {
+        return BoundAnswer::Refused(Refusal::ListShort);
+    }
+    let p = normal_positions(pieces, 0, count, length, width, normal_lengths);
+    let r = normal_positions(pieces, 1, count, width, length, normal_widths);
+    let needed = words(p, r, q);
+    if (table.len() as u64) < needed {
+        return BoundAnswer::Refused(Refusal::TableShort(needed));
+    }
+    let size = TableSize {
+        length: length,
+        width: width,
+        count: count,
+        rows: p,
+        columns: r,
+        capacity: q,
+    };
+    map_sides(size, &normal_lengths[..], &normal_widths[..], floors);
+    fill_states(
+        size,
+        d,
+        blocks,
+        pieces,
+        &normal_lengths[..],
+        &normal_widths[..],
+        &floors[..],
+        table,
+    );
+    let last = needed as usize - 1;
+    BoundAnswer::Answered(BoundReport {
+        bound: table[last],
+        capacity: q,
+        length_count: p,
+        columns: r,
+    })
+}
+
+// What the writing of the plan answers, as this call says it.
+fn exact_of(written: WriteAnswer) -> ExactAnswer
+    ensures { λ r. ⌜ r ≡ exact-of written ⌝ }
+{
+    match written {
+        WriteAnswer::Refused(r) => ExactAnswer::Refused(r),
+        WriteAnswer::Written(report) => ExactAnswer::Answered(ExactReport {
+            optimum: report.bound,
+            states: (report.capacity as u32) + 1,
+            length_count: report.length_count,
+            columns: report.columns,
+            nodes: report.nodes,
+        }),
+    }
+}
+
+// The optimum and the plan of a short order that was read, q its last state: refusals 19 to 21, or lists, table and plan.
+fn exact_accepted(
+    job: JobRecord,
+    q: u16,
+    blocks: &[u32; 64],
+    normal_lengths: &mut [u16],
+    normal_widths: &mut [u16],
+    table: &mut [u64],
+    kinds: &mut [u8],
+    operands: &mut [u16],
+) -> ExactAnswer
+    requires { ⌜ Short (job-of job) (now blocks) q ⌝ }
+    ensures memory { λ _. ⌜ ExactLeaves Passed (widened (job-of job)) (exact-figure (widened (job-of job))) q
+        (lent (now («normal_lengths» .entry)) (now («normal_widths» .entry)) (now (table .entry))) (lent (now («normal_lengths» .exit)) (now («normal_widths» .exit)) (now (table .exit))) ⌝ }
+    ensures plan { λ r. ⌜ Drawn (room-verdict (job-of job) q (lent (now («normal_lengths» .entry)) (now («normal_widths» .entry)) (now (table .entry))) (now (kinds .entry)) (now (operands .entry)))
+        (job-report (job-of job) q) (job-plan (job-of job) q) (now (kinds .entry)) (now (operands .entry)) (now (kinds .exit)) (now (operands .exit)) r ⌝ }
+{
+    let plate = plate_of(job);
+    let weights = [0u8; 64];
+    let listing = list_pieces(job, &weights);
+    let count = listing.count;
+    let mut pieces = listing.pieces;
+    put_states(&mut pieces, count, &blocks[..]);
+    let d = job.count as usize - 1;
+    let mut floors = [0u16; 2042];
+    let filled = states_of_pieces(
+        plate,
+        count,
+        &pieces,
+        q,
+        d,
+        &blocks[..],
+        normal_lengths,
+        normal_widths,
+        &mut floors[..],
+        table,
+    );
+    match filled {
+        BoundAnswer::Refused(r) => ExactAnswer::Refused(r),
+        BoundAnswer::Answered(report) => exact_of(plan_of_pieces(
+            table_of(plate, count, report),
+            &pieces,
+            Sawing {
+                report: report,
+                kerf: job.kerf,
+            },
+            &normal_lengths[..],
+            &normal_widths[..],
+            &floors[..],
+            &table[..],
+            &blocks[..],
+            d,
+            kinds,
+            operands,
+        )),
+    }
+}
+
+// The optimum of a job block and the plan that earns it, in preorder in the two plan arrays. No guillotine tree on the plate that keeps
+// every demand earns more. Where a check refuses, the plan arrays are untouched.
+pub fn exact(
+    block: &[u8],
+    choices: Choices,
+    lengths: &mut [u16],
+    widths: &mut [u16],
+    table: &mut [u64],
+    kinds: &mut [u8],
+    operands: &mut [u16],
+) -> ExactAnswer
+    ensures { λ r. ⌜ ExactPromises (now (block .entry)) choices (lent (now (lengths .entry)) (now (widths .entry)) (now (table .entry)))
+        (lent (now (lengths .exit)) (now (widths .exit)) (now (table .exit))) (now (kinds .entry)) (now (operands .entry)) (now (kinds .exit)) (now (operands .exit)) r ⌝ }
+{
+    let read = job::read_job(block, choices);
+    let verdict = read.verdict;
+    if let Checked::Refused(r) = verdict {
+        return ExactAnswer::Refused(r);
+    }
+    let record = read.job;
+    let mut blocks = [0u32; 64];
+    let states = count_states(record, &mut blocks);
+    if 4096 < states {
+        return ExactAnswer::Refused(Refusal::DemandProduct);
+    }
+    let last = (states - 1) as u16;
+    exact_accepted(
+        record,
+        last,
+        &blocks,
+        lengths,
+        widths,
+        table,
+        kinds,
+        operands,
+    )
+}
