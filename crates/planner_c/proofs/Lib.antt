@@ -5,3 +5,4 @@ mod Calls
 mod Saw
 mod Within
 mod Pairs
+mod Optimum

@@ -2,3 +2,4 @@ pub mod Exports
 pub mod Saw
 pub mod Within
 pub mod Two
+pub mod Exact

@@ -2,6 +2,8 @@
 // function asks for the words that it fills; the exported functions compare their number first.
 use bound::BoundAnswer;
 use certificate::Certificate;
+use exact::ExactAnswer;
+use exact::ExactReport;
 use neat::NeatAnswer;
 use plan::PlanAnswer;
 use plan::Report;
@@ -32,6 +34,7 @@ ghost use Rattle.saw.specs.Saw.{saw-values, saw-outcome};
 ghost use Rattle.saw.specs.Parts.{part-said};
 ghost use Rattle.staged_plan.specs.Check.{staged-check-outcome};
 ghost use Rattle.two_bound.specs.Two.{two-values, two-outcome};
+ghost use Rattle.exact.specs.Exact.{exact-values, exact-outcome};
 ghost use Rattle.planner_c.specs.Exports.{Gives, GapWithin};
 
 // A refusal: its number is returned, its place put in the first word.
@@ -114,6 +117,35 @@ pub fn put_two(a: TwoAnswer, answer: &mut [u64]) -> u32
         TwoAnswer::Refused(r) => refuse(r, answer),
         TwoAnswer::Answered(b) => {
             put_pairs(b, answer);
+            0
+        }
+    }
+}
+
+// What the exact call reports: the optimum, the number of states, the numbers of normal lengths and widths, and the node count.
+fn put_optimum(b: ExactReport, answer: &mut [u64])
+    requires { ⌜ 5 ≤ length (now answer) ⌝ }
+    ensures { λ _. ⌜ now (answer .exit) ≡ sets (now (answer .entry)) 0 (exact-values b) ⌝ }
+{
+    put_four(
+        b.optimum,
+        b.states as u64,
+        b.length_count as u64,
+        b.columns as u64,
+        answer,
+    );
+    answer[4] = b.nodes;
+}
+
+// What the exact call answers.
+pub fn put_exact(a: ExactAnswer, answer: &mut [u64]) -> u32
+    requires { ⌜ 5 ≤ length (now answer) ⌝ }
+    ensures { λ n. ⌜ Gives (exact-outcome a) n (now (answer .entry)) (now (answer .exit)) ⌝ }
+{
+    match a {
+        ExactAnswer::Refused(r) => refuse(r, answer),
+        ExactAnswer::Answered(b) => {
+            put_optimum(b, answer);
             0
         }
     }
