@@ -1,25 +1,21 @@
 // The figures of every rectangle and share, by the definition: 0; the price of any kind that fits, upright or as the choice of turning
-// allows, and weighs at most the share; every length cut with every division of the share; every width cut likewise. Where a kind has two
-// weights, a share is a pair of them. The rectangles are those that the saw leaves: a cut at x of a side n leaves x and n - x - k, k the
-// kerf, both at least 1.
+// allows, and is admitted by the share (shares.rt says what a share is); every length cut with every division of the share; every width
+// cut likewise. The rectangles are those that the saw leaves: a cut at x of a side n leaves x and n - x - k, k the kerf, both at least 1.
 use crate::job::FIGURES;
 use crate::job::PRICE;
-use crate::job::SECOND_WEIGHT;
-use crate::job::WEIGHT;
 use crate::job::fits;
 use crate::job::kerf;
 use crate::job::kind_count;
 use crate::job::may_turn;
 use crate::job::plate_side;
-use crate::job::second_shares;
 use crate::job::shares;
 use crate::job::widths;
+use crate::shares::admits;
+use crate::shares::divides;
 use test_tools::Words;
 use test_tools::larger;
 use test_tools::minus;
 use test_tools::plus;
-use test_tools::quotient;
-use test_tools::rest;
 use test_tools::times;
 use test_tools::word;
 
@@ -39,18 +35,15 @@ fn lies_within(t: &Words, i: usize, l: usize, w: usize) -> bool {
     false
 }
 
-// The price of a kind where it lies in the rectangle and weighs at most both shares of the pair, and else 0.
+// The price of a kind where it lies in the rectangle and the share admits it, and else 0.
 fn price_within(t: &Words, i: usize, l: usize, w: usize, c: usize) -> usize {
     if !lies_within(t, i, l, w) {
         return 0;
     }
-    if quotient(c, second_shares(t)) < word(t, WEIGHT, i) {
-        return 0;
+    if admits(t, i, c) {
+        return word(t, PRICE, i);
     }
-    if rest(c, second_shares(t)) < word(t, SECOND_WEIGHT, i) {
-        return 0;
-    }
-    word(t, PRICE, i)
+    0
 }
 
 // The most that one piece earns.
@@ -62,15 +55,15 @@ pub fn best_kind(t: &Words, l: usize, w: usize, c: usize) -> usize {
     best
 }
 
-// What the cells of two parts earn together where the first takes the pair s, if neither of its shares is above that of c, and else 0.
+// What the cells of two parts earn together where the first takes s of the share c, if it may, and else 0.
 fn division(t: &Words, first: usize, second: usize, c: usize, s: usize) -> usize {
-    if rest(c, second_shares(t)) < rest(s, second_shares(t)) {
-        return 0;
+    if divides(t, s, c) {
+        return plus(word(t, first, s), word(t, second, minus(c, s)));
     }
-    plus(word(t, first, s), word(t, second, minus(c, s)))
+    0
 }
 
-// The most that they earn together, over every division of both shares.
+// The most that they earn together, over every division of the share.
 fn best_division(t: &Words, first: usize, second: usize, c: usize) -> usize {
     let mut best: usize = 0;
     for s in 0..plus(c, 1) {

@@ -61,6 +61,12 @@ pub const SECOND_WEIGHT: usize = 9410;
 // 1 where each kind has two weights, and else 0.
 pub const TWO: usize = 9490;
 
+// 1 where a share is the remaining copies of every kind, and else 0.
+pub const EXACT: usize = 9491;
+
+// Of each kind the number of states of the kinds below it.
+pub const STRIDE: usize = 9500;
+
 // At most 1,021 positions each: up to a side of 1,000 and a kerf of 20.
 pub const NORMAL_LENGTHS: usize = 10000;
 
@@ -174,7 +180,8 @@ fn capacity(t: &Words, weights: usize) -> usize {
     sum
 }
 
-pub fn note_capacities(t: &mut Words) {
+// Notes both capacities.
+pub fn note_weights(t: &mut Words) {
     let first = capacity(t, WEIGHT);
     let second = capacity(t, SECOND_WEIGHT);
     put(t, CAPACITY, 0, first);

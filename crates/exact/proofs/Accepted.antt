@@ -3,7 +3,7 @@
 use mathlib.Core.Path.{_≡_, refl, sym, _∙_, ap, ap₂, subst}
 use mathlib.Core.Bool.{Bool}
 use mathlib.Core.List.{List, [], _∷_}
-use Prim.Native.Nat.{ℕ, _+_, _-_, _*_, _≤_, _<_}
+use Prim.Native.Nat.{ℕ, _+_, _-_, _*_}
 use native.Mathlib.Omega.{arith}
 use borrow.Author.Tests.{ltb-false}
 use lib.Dec.{ltb}
@@ -12,11 +12,11 @@ use Rattle.cutting.specs.declared.Direction.the-variants.{Length, Width}
 use Rattle.cutting.specs.Lists.{over}
 use Rattle.cutting.specs.Tree.{Tree}
 use Rattle.cutting.specs.Pieces.{Piece, kind}
-use Rattle.cutting.specs.Preorder.{kinds-of, operands-of, node-count}
+use Rattle.cutting.specs.Preorder.{node-count}
 use Rattle.cutting.specs.declared.Sides.{Sides}
 use Rattle.cutting.specs.Sides.{rect-of, sides-of}
 use Rattle.cutting.specs.Job.{Job, widened, figure-under, normal-positions, plan-of}
-use Rattle.cutting.specs.Exact.{one-copy, no-more, by-copies, exact-figure}
+use Rattle.cutting.specs.Exact.{one-copy, no-more, exact-figure}
 use Rattle.cutting.specs.Listed.{InTableRange, size-in, price-in, heavy-in, pieces-job, PieceArray}
 use Rattle.cutting.proofs.Members.{range-solid, widened-above}
 use Rattle.cutting.proofs.Listed.{listed-above, state-figure}
@@ -27,7 +27,7 @@ use Rattle.refusal.specs.declared.Refusal.the-variants.{TableShort}
 use Rattle.refusal.specs.declared.Checked.{Checked}
 use Rattle.refusal.specs.declared.Checked.the-variants.{Passed, Refused}
 use Rattle.job.proofs.Checks.{cons-passed}
-use Rattle.table.specs.Table.{position-count, words-needed, Kept}
+use Rattle.table.specs.Table.{words-needed, Kept}
 use Rattle.table.specs.States.{by-state, Order, figure-at}
 use Rattle.table.proofs.Shares.{by-state-monotone}
 use Rattle.state_fill.specs.Cells.{under, Digits}
@@ -36,7 +36,7 @@ use Rattle.bound.specs.declared.BoundReport.{BoundReport}
 use Rattle.bound.specs.declared.BoundAnswer.{BoundAnswer}
 use Rattle.bound.specs.declared.BoundAnswer.the-variants as bounded
 use Rattle.bound.specs.Bound as bound
-use Rattle.bound.proofs.Listed.{pieces-range, same-positions, same-count, same-position, same-words, same-both}
+use Rattle.bound.proofs.Listed.{pieces-range, same-positions, same-count, same-position, same-words}
 use Rattle.bound.proofs.Storage.{report-is}
 use Rattle.bound.proofs.Holds.{answered-behind, refused-behind}
 use Rattle.choice.specs.Choice.{ChoiceInput}

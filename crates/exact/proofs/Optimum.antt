@@ -1,7 +1,7 @@
 -- The optimum in plain words: no guillotine tree on the plate that keeps every demand earns more, the written plan earns it, and every
 -- weighted bound lies at or above it.
 use mathlib.Core.Path.{_∙_}
-use Prim.Native.Nat.{ℕ, _-_, _≤_}
+use Prim.Native.Nat.{ℕ, _≤_}
 use native.Mathlib.Nat.{sub-zero, add-sub-cancel}
 use native.Mathlib.Omega.{arith}
 use lib.Dec.{eqb}

@@ -1,6 +1,6 @@
 -- The states of a job's remaining copies: they are numbers of several digits, one a kind, and a tree is within the last state exactly if it
 -- keeps every demand.
-use mathlib.Core.Path.{_≡_, refl, sym, _∙_, ap, ap₂, subst}
+use mathlib.Core.Path.{_≡_, refl, sym, _∙_, ap, subst}
 use mathlib.Core.Bool.{Bool, true, false}
 use mathlib.Core.List.{List·Memᴰ}
 use Prim.Native.Nat.{ℕ, zero, suc, _+_, _-_, _*_, _/_, _%_, _≤_, _<_}
@@ -13,9 +13,9 @@ use lib.Dec.{T, ltb, eqb}
 use Rattle.cutting.specs.Lists.{only}
 use Rattle.cutting.specs.Tree.{Rect, Tree, waste, piece, cut, Pieces, Saw, Guillotine, Within, Monotone}
 use Rattle.cutting.specs.Pieces.{Piece, upright, turned, kind}
-use Rattle.cutting.specs.Job.{Job, KeepsDemands, MayLie, members, pieces}
+use Rattle.cutting.specs.Job.{Job, KeepsDemands, MayLie, pieces}
 use Rattle.cutting.specs.Pieces.{sized}
-use Rattle.cutting.specs.Exact.{states, state-count, full-state, no-more, by-copies}
+use Rattle.cutting.specs.Exact.{states, full-state, no-more, by-copies}
 use Rattle.cutting.proofs.Members.{member-lies}
 use Rattle.table.specs.States.{by-state, Blocks, Order, digit, own-state}
 use Rattle.table.proofs.Shares.{by-state-monotone}

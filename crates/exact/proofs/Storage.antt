@@ -10,7 +10,7 @@ use lib.Dec.{ltb}
 use lib.ListN.{length, getD}
 use Rattle.cutting.specs.declared.Direction.the-variants.{Length, Width}
 use Rattle.cutting.specs.Lists.{over}
-use Rattle.cutting.specs.Job.{Job, normal-positions, normal-floor}
+use Rattle.cutting.specs.Job.{Job, normal-positions}
 use Rattle.cutting.specs.Listed.{InTableRange}
 use Rattle.cutting.proofs.Members.{table-solid}
 use Rattle.cutting.proofs.Table.{positions-some, floor-under}

@@ -21,7 +21,7 @@ use writer::WriteAnswer;
 use writer::plan_of_pieces;
 use writer::table_of;
 ghost use mathlib.Core.Path.{_≡_};
-ghost use Prim.Native.Nat.{_+_, _-_, _≤_, _<_};
+ghost use Prim.Native.Nat.{_+_, _-_, _<_};
 ghost use lib.ListN.{length};
 ghost use Rattle.cutting.specs.Job.{InRange, widened};
 ghost use Rattle.cutting.specs.Sides.{rect-of};

@@ -2,14 +2,12 @@
 -- together, so B d is what one step of digit d + 1 is worth, and the last B is the number of all states. One digit: a plain number.
 use mathlib.Core.Path.{_≡_}
 use mathlib.Core.Logic.{_⊎_}
-use mathlib.Core.Bool.{Bool, true, false, _&&_}
-use mathlib.Core.List.{[], _∷_, map}
-use Prim.Native.Nat.{ℕ, zero, suc, _+_, _-_, _*_, _/_, _%_, _≤_, _<_}
-use lib.Dec.{T, leb, ltb, eqb}
+use mathlib.Core.Bool.{Bool, true, false}
+use mathlib.Core.List.{[], _∷_}
+use Prim.Native.Nat.{ℕ, zero, suc, _+_, _*_, _/_, _%_, _≤_, _<_}
+use lib.Dec.{T, ltb, eqb}
 use lib.ListN.{getD}
 use Rattle.cutting.specs.declared.Direction.{Direction}
-use Rattle.cutting.specs.Lists.{range, filter}
-use Rattle.cutting.specs.Tree.{Shares}
 use Rattle.cutting.specs.Figure.{figure}
 use Rattle.cutting.specs.Pieces.{kind}
 use Rattle.cutting.specs.Saws.{saw}

@@ -1,8 +1,9 @@
-// The bound call on the job at hand, or the staged one, or that of two weights, with a part of marked memory lent; its answer and what it
-// left there go into words.
+// The bound call on the job at hand, or the staged one, or that of two weights, or the exact call, with a part of marked memory lent; its
+// answer and what it left there go into words.
 use bound::BoundAnswer;
 use bound::BoundReport;
 use every_unit::BLOCK;
+use every_unit::EXACT;
 use every_unit::FIGURES;
 use every_unit::LENGTH_COUNT;
 use every_unit::LIMIT;
@@ -14,6 +15,9 @@ use every_unit::WEIGHTS;
 use every_unit::WIDTH_COUNT;
 use every_unit::WORD_COUNT;
 use every_unit::write_block;
+use exact::ExactAnswer;
+use exact::ExactReport;
+use exact::exact;
 use job::Choices;
 use refusal::Refusal;
 use staged_bound::bound_staged;
@@ -26,6 +30,7 @@ use test_tools::lend_numbers;
 use test_tools::lend_words;
 use test_tools::marked_list;
 use test_tools::marked_table;
+use test_tools::minus;
 use test_tools::put;
 use test_tools::word;
 use two_bound::TwoAnswer;
@@ -40,7 +45,8 @@ pub const LENT_WIDTHS: usize = 60001;
 
 pub const LENT_WORDS: usize = 60002;
 
-// A refusal's number and place; or 0 and bound, capacity, number of normal lengths, of normal widths, and the second capacity.
+// A refusal's number and place; or 0 and bound, capacity, number of normal lengths, of normal widths, and the second capacity; of the exact
+// call the optimum, the last state, the two numbers, 0 and the plan's nodes.
 pub const ANSWER: usize = 60010;
 
 // How many entries of the lengths, of the widths, and words of the table are not as expected.
@@ -75,6 +81,23 @@ fn note_two_report(t: &mut Words, r: TwoReport) {
     put(t, ANSWER, 3, widen(r.length_count));
     put(t, ANSWER, 4, widen(r.columns));
     put(t, ANSWER, 5, widen(r.second_capacity));
+}
+
+fn note_exact_report(t: &mut Words, r: ExactReport) {
+    put(t, ANSWER, 0, 0);
+    put(t, ANSWER, 1, r.optimum as usize);
+    put(t, ANSWER, 2, minus(r.states as usize, 1));
+    put(t, ANSWER, 3, widen(r.length_count));
+    put(t, ANSWER, 4, widen(r.columns));
+    put(t, ANSWER, 5, 0);
+    put(t, ANSWER, 6, r.nodes as usize);
+}
+
+fn note_exact(t: &mut Words, answer: ExactAnswer) {
+    match answer {
+        ExactAnswer::Answered(r) => note_exact_report(t, r),
+        ExactAnswer::Refused(r) => note_refusal(t, r),
+    }
 }
 
 fn note_two(t: &mut Words, answer: TwoAnswer) {
@@ -194,6 +217,28 @@ fn call_two(
     )
 }
 
+// The exact call on the job's block, with plan arrays of 4,095 entries.
+fn call_exact(
+    t: &Words,
+    way: Choices,
+    lengths: &mut [u16],
+    widths: &mut [u16],
+    table: &mut [u64],
+) -> ExactAnswer {
+    let block = bytes(t, BLOCK);
+    let mut kinds = [0u8; 4095];
+    let mut operands = [0u16; 4095];
+    exact(
+        first_bytes(&block, word(t, BLOCK, 0)),
+        way,
+        lengths,
+        widths,
+        table,
+        &mut kinds,
+        &mut operands,
+    )
+}
+
 // The call on the job's block and weights.
 fn call_bound(
     t: &Words,
@@ -215,7 +260,7 @@ fn call_bound(
     )
 }
 
-// The call of one weight or of two, whose answer is noted.
+// The exact call, or that of two weights, or of one; its answer is noted.
 fn note_call(
     t: &mut Words,
     way: Choices,
@@ -223,7 +268,10 @@ fn note_call(
     widths: &mut [u16],
     table: &mut [u64],
 ) {
-    if word(t, TWO, 0) == 1 {
+    if word(t, EXACT, 0) == 1 {
+        let answer = call_exact(t, way, lengths, widths, table);
+        note_exact(t, answer);
+    } else if word(t, TWO, 0) == 1 {
         let answer = call_two(t, way, lengths, widths, table);
         note_two(t, answer);
     } else {

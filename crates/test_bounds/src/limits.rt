@@ -2,11 +2,12 @@
 // length and width; number of kinds; kerf; kind length, width, price, demand and weight; the last kind's price; entries of the two lists
 // and words of the table that are lent; and, 1 for yes and 0 for no, whether pieces may be turned, whether the capacity is that of the
 // full demands, whether the block is written as an old one and whether it is read as an old one; then the limit of stages, 0 for none; 1 for two weights, the
-// second weight of every kind and the number of second weights.
+// second weight of every kind and the number of second weights; and 1 for the exact call.
 use crate::call::ANSWER;
 use crate::call::LENT_LENGTHS;
 use crate::call::OTHER_LENGTHS;
 use crate::call::try_bound;
+use every_unit::EXACT;
 use every_unit::KIND_LENGTH;
 use every_unit::LENGTH_COUNT;
 use every_unit::LIMIT;
@@ -53,6 +54,7 @@ fn make_job(t: &mut Words) {
     copy(t, LIMIT, plus(ROW, 17), 1);
     copy(t, TWO, plus(ROW, 18), 1);
     copy(t, SECOND_WEIGHTS, plus(ROW, 20), 1);
+    copy(t, EXACT, plus(ROW, 21), 1);
     copy(t, LENT_LENGTHS, plus(ROW, 10), 3);
     copy_kinds(t);
     copy_seconds(t);
@@ -65,12 +67,26 @@ fn print_second(t: &Words) {
     }
 }
 
+// The values of an answer, by the call.
+fn print_values(t: &Words) {
+    if word(t, EXACT, 0) == 1 {
+        print_words(
+            b"optimum # last state # lengths # widths #",
+            t,
+            plus(ANSWER, 1),
+        );
+        print_words(b" nodes #", t, plus(ANSWER, 6));
+    } else {
+        print_words(b"bound # capacity # lengths # widths #", t, plus(ANSWER, 1));
+        print_second(t);
+    }
+}
+
 fn print_answer(t: &Words) {
     if word(t, ANSWER, 0) != 0 {
         print_words(b"refused # place #", t, ANSWER);
     } else {
-        print_words(b"bound # capacity # lengths # widths #", t, plus(ANSWER, 1));
-        print_second(t);
+        print_values(t);
     }
 }
 
