@@ -79,9 +79,14 @@ extern "C" {
  * (Q + 1) + c) * (R + 1) + d has the most that a tree of first weight at most c and second weight at
  * most d earns. All else is as above.
  *
+ * States. The remaining copies of every kind as one number in mixed radix, kind 0 lowest; the digit of
+ * a kind has demand + 1 values, and there are S states. `table` of the exact call needs p * r * S words;
+ * word (a * r + b) * S + s has the most that a tree earns which takes of no kind more copies than remain
+ * in state s. All else is as above.
+ *
  * Return value.
  *   0    done; `answer` holds the words that the function names; its later words are kept
- *   1 to 27
+ *   1 to 27, 30
  *        refused, see below; answer[0] is the place; the other words of `answer` are kept
  *   100  `answer` has fewer words than the function names; nothing was changed
  *   101  `choices` has a bit that is no choice, `answer` is long enough; nothing was changed
@@ -99,6 +104,7 @@ extern "C" {
  *   24  not n second weights                                   0
  *    9  capacity above 4095, of two weights either             0
  *   25  both capacities, each plus 1, multiply to above 65536  0
+ *   30  the demands, each plus 1, multiply to above 4096        0
  *   22  limit on stages outside 1 to 8                         0
  *   10  plan arrays differ in length, or plan block under      0
  *       2 bytes or not 2 + 3 * count bytes
@@ -116,7 +122,7 @@ extern "C" {
  *   20  table too short                                        words needed
  *   21  plan needs above 4095 nodes, or more than an array     nodes needed
  *       of the plan holds
- * Numbers 1 to 19 and 22 to 27 change no lent memory but answer[0]. On 20 the lists are filled and the
+ * Numbers 1 to 19, 22 to 27 and 30 change no lent memory but answer[0]. On 20 the lists are filled and the
  * table is untouched. On 21 lists and table are filled and the plan arrays untouched. */
 
 enum {
@@ -141,6 +147,7 @@ enum {
     PLANNER_NEAT_WORDS = 1,
     PLANNER_STAGED_REPORT_WORDS = 70,
     PLANNER_TWO_WORDS = 5,
+    PLANNER_EXACT_WORDS = 5,
     PLANNER_SAW_WORDS = 68,
     PLANNER_PART_WORDS = 2
 };
@@ -284,6 +291,21 @@ uint32_t planner_bound_two(
     uint16_t *lengths, size_t lengths_len,
     uint16_t *widths, size_t widths_len,
     uint64_t *table, size_t table_len,
+    uint64_t *answer, size_t answer_len);
+
+/* Computes the optimum of a short order (refusals 1 to 7, 27, 30, 19 to 21), fills the storage of states and
+ * writes the plan that earns it. The plan passes planner_check_plan and earns the optimum, and no
+ * guillotine tree on the plate that keeps every demand earns more; no bound of one weight or of two, for
+ * the same PLANNER_TURNING, is below it. Entries of the arrays past the plan keep what they held.
+ * answer[0] optimum, answer[1] states, answer[2] p, answer[3] r, answer[4] node count. */
+uint32_t planner_exact(
+    const uint8_t *job, size_t job_len,
+    uint32_t choices,
+    uint16_t *lengths, size_t lengths_len,
+    uint16_t *widths, size_t widths_len,
+    uint64_t *table, size_t table_len,
+    uint8_t *kinds, size_t kinds_len,
+    uint16_t *operands, size_t operands_len,
     uint64_t *answer, size_t answer_len);
 
 /* Checks a plan as the saw does: the price fields of the job are not read, so that they may hold any
