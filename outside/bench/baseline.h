@@ -7,7 +7,7 @@
 #include <stdint.h>
 
 /* The greatest side has the greatest kerf added. */
-enum { MOST_PIECES = 128, MOST_SIDE = 1020, MOST_NODES = 4095 };
+enum { MOST_KINDS = 64, MOST_PIECES = 128, MOST_SIDE = 1020, MOST_NODES = 4095 };
 
 typedef struct {
     int length, width;
@@ -23,8 +23,19 @@ enum { WASTE, PIECE, CUT_LENGTH, CUT_WIDTH, TURNED_PIECE };
 /* The choices that a piece may be turned, and that the capacity counts every demand in full. */
 enum { TURNING = 1, FULL_DEMAND = 2 };
 
+/* The copies of each ordered kind that remain, as one number of mixed radix, the first kind lowest. At
+ * most 4,096 states have no more than twelve digits. */
+enum { MOST_DIGITS = 12 };
+
+typedef struct {
+    int digits;
+    int radix[MOST_DIGITS], stride[MOST_DIGITS];
+} Copies;
+
 /* Pieces are the kinds as they may lie, each with its node in a plan. All sides, the plate's too,
- * have the kerf added: then parts make up a whole, and only the writer knows of the kerf. */
+ * have the kerf added: then parts make up a whole, and only the writer knows of the kerf. Where copies are
+ * counted and not weighed, a piece weighs the number of one copy, and the capacity is that of all; else
+ * there are no digits. */
 typedef struct {
     Size plate;
     int kerf, pieces, capacity;
@@ -32,6 +43,7 @@ typedef struct {
     uint64_t price[MOST_PIECES];
     int weight[MOST_PIECES];
     Node node[MOST_PIECES];
+    Copies copies;
 } Job;
 
 /* A side's normal positions, and for each unit the index of the largest one not above it. */
@@ -54,6 +66,7 @@ void fill_states(const Plate *plate, uint64_t *table);
 void fill_staged_rows(const Plate *plate, int limit, uint64_t *table);
 void fill_staged_states(const Plate *plate, int limit, uint64_t *table);
 void fill_two(const Plate *plate, const int *second, int capacity, uint64_t *table);
+void fill_exact(const Plate *plate, uint64_t *table);
 size_t write_nodes(const Plate *plate, const uint64_t *table, uint8_t *kinds, uint16_t *operands);
 
 /* The steps of a row where the capacity is 0. */

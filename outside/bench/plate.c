@@ -44,7 +44,7 @@ static void read_job(Job *job, const uint8_t *block, uint32_t choices, const uin
     const uint8_t *sizes = block + 8, *pairs = sizes + 4 * kinds;
     job->plate = sides(block, kerf);
     job->kerf = kerf;
-    job->pieces = job->capacity = 0;
+    job->pieces = job->capacity = job->copies.digits = 0;
     for (int i = 0; i < kinds; i++) {
         const uint8_t *pair = pairs + 6 * i;
         Size size = sides(sizes + 4 * i, kerf), turned = {size.width, size.length};
@@ -56,6 +56,26 @@ static void read_job(Job *job, const uint8_t *block, uint32_t choices, const uin
             add_piece(job, turned, price, weights[i], (Node){TURNED_PIECE, i});
         job->capacity += counted(job->plate, size, demand, choices) * weights[i];
     }
+}
+
+/* Counts copies in place of weights. */
+static void count_copies(Job *job, const uint8_t *block)
+{
+    int kinds = two(block + 4), states = 1, one[MOST_KINDS];
+    const uint8_t *pairs = block + 8 + 4 * kinds;
+    Copies *copies = &job->copies;
+    for (int i = 0; i < kinds; i++) {
+        int demand = two(pairs + 6 * i + 4);
+        one[i] = states;
+        if (demand > 0) {
+            copies->radix[copies->digits] = demand + 1;
+            copies->stride[copies->digits++] = states;
+            states *= demand + 1;
+        }
+    }
+    for (int i = 0; i < job->pieces; i++)
+        job->weight[i] = one[job->node[i].operand];
+    job->capacity = states - 1;
 }
 
 static void find_positions(Positions *found, int side, const uint16_t *sides, int count)
@@ -165,4 +185,17 @@ void baseline_bound_two(const uint8_t *job, uint32_t choices, const uint8_t *fir
     answer[3] = answer[2];
     answer[2] = (uint64_t)other.capacity;
     answer[0] = table[words(&plate) * (size_t)(other.capacity + 1) - 1];
+}
+
+void baseline_exact(const uint8_t *job, uint32_t choices, uint16_t *lengths, uint16_t *widths,
+                    uint64_t *table, uint8_t *kinds, uint16_t *operands, uint64_t *answer)
+{
+    static const uint8_t no_weights[MOST_KINDS];
+    Plate plate;
+    list(job, choices, no_weights, &plate, lengths, widths, answer);
+    count_copies(&plate.job, job);
+    fill_exact(&plate, table);
+    answer[0] = table[words(&plate) - 1];
+    answer[1] = (uint64_t)plate.job.capacity + 1;
+    answer[4] = write_nodes(&plate, table, kinds, operands);
 }

@@ -1,10 +1,10 @@
-/* The plan behind the bound, read off the table with a list of waiting rectangles.
+/* The plan behind the bound or the optimum, read off the table with a list of waiting rectangles.
  * A position is looked into only where both parts at the whole share could earn the value.
  * Sides have the kerf added: a second part that is no longer is none, and its cut is left out. */
 #include "baseline.h"
 #include <string.h>
 
-/* A rectangle and its share. */
+/* A rectangle and its share, or its state. */
 typedef struct {
     int side[2];
     int share;
@@ -30,21 +30,35 @@ static const uint64_t *cell(const Tabled *tabled, const Part *part)
     return at;
 }
 
+/* Whether the whole has the part: of copies, those of each kind. */
+static int within(const Copies *copies, int part, int whole)
+{
+    for (int d = 0; d < copies->digits; d++) {
+        if (part % copies->radix[d] > whole % copies->radix[d])
+            return 0;
+        part /= copies->radix[d];
+        whole /= copies->radix[d];
+    }
+    return part <= whole;
+}
+
 static int find_piece(const Job *job, const Part *part, uint64_t value)
 {
     Size rectangle = {part->side[LENGTH], part->side[WIDTH]};
     for (int i = 0; i < job->pieces; i++)
-        if (job->price[i] == value && fits(job->size[i], rectangle) && job->weight[i] <= part->share)
+        if (job->price[i] == value && fits(job->size[i], rectangle)
+            && within(&job->copies, job->weight[i], part->share))
             return i;
     return -1;
 }
 
 /* The first share of the first part that earns the value, or -1. */
-static int find_share(const uint64_t *first, const uint64_t *second, int share, uint64_t value)
+static int find_share(const Copies *copies, const uint64_t *first, const uint64_t *second, int share,
+                      uint64_t value)
 {
     if (first[share] + second[share] >= value)
         for (int c = 0; c <= share; c++)
-            if (first[c] + second[share - c] == value)
+            if (first[c] + second[share - c] == value && within(copies, c, share))
                 return c;
     return -1;
 }
@@ -53,12 +67,13 @@ static int find_cut(const Tabled *tabled, const Part *part, int direction, uint6
                     Choice *chosen)
 {
     const Positions *positions = &tabled->plate->on[direction];
+    const Copies *copies = &tabled->plate->job.copies;
     size_t step = tabled->step[direction];
     int side = part->side[direction], last = positions->index[side];
     const uint64_t *origin = cell(tabled, part) - last * step;
     for (int i = 1; i < last; i++) {
         int rest = positions->index[side - positions->at[i]];
-        int c = find_share(origin + i * step, origin + rest * step, part->share, value);
+        int c = find_share(copies, origin + i * step, origin + rest * step, part->share, value);
         if (c >= 0) {
             int position = positions->at[i] - tabled->plate->job.kerf;
             *chosen = (Choice){{CUT_LENGTH + direction, position}, c};

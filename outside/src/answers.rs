@@ -92,6 +92,17 @@ pub struct Written {
     pub nodes: u64,
 }
 
+/// The optimum, the number of states, the numbers of normal lengths and widths, and the number of nodes
+/// of the plan that was written.
+#[derive(Clone, Copy, Debug, PartialEq, Eq)]
+pub struct Exact {
+    pub optimum: u64,
+    pub states: u64,
+    pub lengths: u64,
+    pub widths: u64,
+    pub nodes: u64,
+}
+
 /// The number of nodes of a neat plan.
 #[derive(Clone, Copy, Debug, PartialEq, Eq)]
 pub struct Neat {
@@ -209,6 +220,16 @@ impl Words<5> for Written {
 
     fn from_words([bound, capacity, lengths, widths, nodes]: [u64; 5]) -> Written {
         Written { bound: Bound { bound, capacity, lengths, widths }, nodes }
+    }
+}
+
+impl Words<5> for Exact {
+    fn to_words(&self) -> [u64; 5] {
+        [self.optimum, self.states, self.lengths, self.widths, self.nodes]
+    }
+
+    fn from_words([optimum, states, lengths, widths, nodes]: [u64; 5]) -> Exact {
+        Exact { optimum, states, lengths, widths, nodes }
     }
 }
 

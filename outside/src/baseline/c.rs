@@ -1,6 +1,6 @@
 // The C baseline of the folder bench/, on slices.
 // It trusts its caller, so every call is unsafe.
-use crate::answers::{Bound, BoundTwo, PlanArrays, Storage, Words, Written};
+use crate::answers::{Bound, BoundTwo, Exact, PlanArrays, Storage, Words, Written};
 
 extern "C" {
     fn baseline_bound(
@@ -25,6 +25,13 @@ extern "C" {
     fn baseline_bound_two(
         job: *const u8, choices: u32, first: *const u8, second: *const u8,
         lengths: *mut u16, widths: *mut u16, table: *mut u64,
+        answer: *mut u64,
+    );
+
+    fn baseline_exact(
+        job: *const u8, choices: u32,
+        lengths: *mut u16, widths: *mut u16, table: *mut u64,
+        kinds: *mut u8, operands: *mut u16,
         answer: *mut u64,
     );
 }
@@ -94,4 +101,18 @@ pub unsafe fn bound_two(
         answer.as_mut_ptr(),
     );
     BoundTwo::from_words(answer)
+}
+
+/// # Safety
+/// The planner accepts the job, the storage is enough for all states, and the plan arrays hold the plan
+/// or 4,095 nodes.
+pub unsafe fn exact(job: &[u8], choices: u32, storage: Storage, plan: PlanArrays) -> Exact {
+    let mut answer = [0; 5];
+    baseline_exact(
+        job.as_ptr(), choices,
+        storage.lengths.as_mut_ptr(), storage.widths.as_mut_ptr(), storage.table.as_mut_ptr(),
+        plan.kinds.as_mut_ptr(), plan.operands.as_mut_ptr(),
+        answer.as_mut_ptr(),
+    );
+    Exact::from_words(answer)
 }

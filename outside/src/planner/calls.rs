@@ -16,6 +16,7 @@ pub const CALLS: Calls = Calls {
     bound_staged,
     certify_staged,
     bound_two,
+    exact,
 };
 
 pub fn check_plan(
@@ -278,6 +279,27 @@ pub fn bound_two(
             storage.lengths.as_mut_ptr(), storage.lengths.len(),
             storage.widths.as_mut_ptr(), storage.widths.len(),
             storage.table.as_mut_ptr(), storage.table.len(),
+            answer.as_mut_ptr(), answer.len(),
+        )
+    }
+}
+
+pub fn exact(
+    job: &[u8],
+    choices: u32,
+    storage: Storage,
+    plan: PlanArrays,
+    answer: &mut [u64],
+) -> u32 {
+    unsafe {
+        foreign::planner_exact(
+            job.as_ptr(), job.len(),
+            choices,
+            storage.lengths.as_mut_ptr(), storage.lengths.len(),
+            storage.widths.as_mut_ptr(), storage.widths.len(),
+            storage.table.as_mut_ptr(), storage.table.len(),
+            plan.kinds.as_mut_ptr(), plan.kinds.len(),
+            plan.operands.as_mut_ptr(), plan.operands.len(),
             answer.as_mut_ptr(), answer.len(),
         )
     }

@@ -129,4 +129,15 @@ extern "C" {
         table: *mut u64, table_len: usize,
         answer: *mut u64, answer_len: usize,
     ) -> u32;
+
+    pub fn planner_exact(
+        job: *const u8, job_len: usize,
+        choices: u32,
+        lengths: *mut u16, lengths_len: usize,
+        widths: *mut u16, widths_len: usize,
+        table: *mut u64, table_len: usize,
+        kinds: *mut u8, kinds_len: usize,
+        operands: *mut u16, operands_len: usize,
+        answer: *mut u64, answer_len: usize,
+    ) -> u32;
 }

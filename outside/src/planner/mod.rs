@@ -4,8 +4,8 @@ pub mod calls;
 mod foreign;
 
 use crate::answers::{
-    Bound, BoundTwo, Certificate, Neat, Part, PlanArrays, Refusal, Report, SawReport, StagedReport,
-    Storage, Words, Written,
+    Bound, BoundTwo, Certificate, Exact, Neat, Part, PlanArrays, Refusal, Report, SawReport,
+    StagedReport, Storage, Words, Written,
 };
 
 /// Checks a plan given as two arrays.
@@ -147,6 +147,16 @@ pub fn bound_two(
     storage: Storage,
 ) -> Result<BoundTwo, Refusal> {
     typed(|answer| calls::bound_two(job, choices, first, second, storage, answer))
+}
+
+/// Computes the most that a tree within the demands earns, writes its plan and fills the storage.
+pub fn exact(
+    job: &[u8],
+    choices: u32,
+    storage: Storage,
+    plan: PlanArrays,
+) -> Result<Exact, Refusal> {
+    typed(|answer| calls::exact(job, choices, storage, plan, answer))
 }
 
 fn part_of<T>(array: &[T], part: Part) -> &[T] {

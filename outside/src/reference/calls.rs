@@ -18,6 +18,7 @@ pub const CALLS: Calls = Calls {
     bound_staged,
     certify_staged,
     bound_two,
+    exact,
 };
 
 pub fn check_plan(
@@ -158,6 +159,16 @@ pub fn bound_two(
     answer: &mut [u64],
 ) -> u32 {
     coded(choices, answer, || super::bound_two(job, choices, first, second, storage))
+}
+
+pub fn exact(
+    job: &[u8],
+    choices: u32,
+    storage: Storage,
+    plan: PlanArrays,
+    answer: &mut [u64],
+) -> u32 {
+    coded(choices, answer, || super::exact(job, choices, storage, plan))
 }
 
 fn coded<const N: usize, A: Words<N>>(

@@ -3,6 +3,7 @@
 mod bound;
 pub mod calls;
 mod certificate;
+mod exact;
 mod figures;
 mod job;
 mod neat;
@@ -16,6 +17,7 @@ mod writer;
 
 pub use bound::bound;
 pub use certificate::certify;
+pub use exact::{exact, Copies};
 pub use figures::Figures;
 pub use job::Job;
 pub use neat::neat_plan;

@@ -1,6 +1,6 @@
 // The benchmark's baselines against the reference: same answer and same memory on accepted jobs.
 // What they take as given is given here: an accepted job and storage that the reference found enough.
-use crate::inputs::{draw, Scale, SMALL};
+use crate::inputs::{draw, short_order, Scale, SMALL};
 use crate::lent::{Lent, Sizes, AMPLE};
 use crate::run::{Call, Input, ALL_CHOICES};
 use outside::answers::{PlanArrays, Storage, Words, Written};
@@ -108,6 +108,35 @@ fn the_baseline_of_two_weights_agrees() {
     baseline_of_two_agrees(17, 1500, shares);
     let many = Scale { plate: 4, side: 3, kinds: 3, price: 50, demand: 3, weight: 20, ..SMALL };
     baseline_of_two_agrees(18, 300, many);
+}
+
+/// Compares the baseline of short orders on so many jobs, the words of choices taking turns.
+fn exact_baseline_agrees(seed: u64, jobs: usize, scale: Scale) {
+    let random = &mut Random::new(seed);
+    let mut compared = 0;
+    for i in 0..jobs {
+        let input = draw(random, scale, ALL_CHOICES[i % 4]);
+        let input = short_order(random, &input, scale.work);
+        let (mut expected, mut lent) = (Lent::new(TWO_ROOM), Lent::new(TWO_ROOM));
+        if Call::Exact.run(&reference::calls::CALLS, &input, &mut expected) == 0 {
+            compared += 1;
+            let (storage, plan, answer) = lent.split();
+            // The reference has found the storage enough.
+            let exact = unsafe { baseline::c::exact(&input.job, input.choices, storage, plan) };
+            answer.copy_from_slice(&exact.to_words());
+            assert_eq!(expected.differences(&lent), [""; 0], "{input:?}");
+        }
+    }
+    println!("{compared} of {jobs} jobs compared");
+    assert!(10 * compared >= 8 * jobs);
+}
+
+#[test]
+fn the_baseline_of_short_orders_agrees() {
+    let few = Scale { plate: 12, kerf: 3, side: 7, kinds: 6, price: 30, work: 1_000_000, ..SMALL };
+    exact_baseline_agrees(19, 2000, few);
+    let many = Scale { plate: 5, side: 3, kinds: 12, price: 50, work: 20_000_000, ..SMALL };
+    exact_baseline_agrees(20, 300, many);
 }
 
 #[test]

@@ -73,9 +73,11 @@ fn to_cancel_a_kind_is_to_leave_it_out() {
     let random = &mut Random::new(33);
     for _ in 0..2000 {
         let (inputs, numbers) = draw_both(random);
-        writes_alike(&inputs, |(kind, operand)| match kind {
-            1 | 4 => (kind, numbers[usize::from(operand)]),
-            _ => (kind, operand),
-        });
+        for call in [Call::WritePlan, Call::Exact] {
+            writes_alike(call, &inputs, |(kind, operand)| match kind {
+                1 | 4 => (kind, numbers[usize::from(operand)]),
+                _ => (kind, operand),
+            });
+        }
     }
 }

@@ -50,8 +50,13 @@ pub fn plan_refused(input: &Input, number: u32, place: u64) {
 
 /// Expects a written plan, that of the input, and the bound.
 pub fn writes(expected: &Input, bound: u64) {
+    leaves_plan(Call::WritePlan, expected, bound);
+}
+
+/// Expects a call to write the input's plan and to answer this first.
+pub fn leaves_plan(call: Call, expected: &Input, bound: u64) {
     let nodes = expected.kinds.len();
-    for_each(Call::WritePlan, expected, 0, |lent, name| {
+    for_each(call, expected, 0, |lent, name| {
         let answer = lent.answer.words();
         assert_eq!((answer[0], answer[4]), (bound, nodes as u64), "{name}");
         assert_eq!(lent.kinds.words()[..nodes], expected.kinds, "{name}");
@@ -71,11 +76,11 @@ pub fn tidies(input: &Input, nodes: &[Node]) {
 }
 
 /// Expects two inputs to leave the same memory, the second's written nodes being renumbered.
-pub fn writes_alike(inputs: &[Input; 2], renumber: impl Fn(Node) -> Node) {
+pub fn writes_alike(call: Call, inputs: &[Input; 2], renumber: impl Fn(Node) -> Node) {
     for calls in IMPLEMENTATIONS {
         let [first, mut second] = inputs.each_ref().map(|input| {
             let mut lent = Lent::new(AMPLE);
-            assert_eq!(Call::WritePlan.run(&calls, input, &mut lent), 0, "{}", calls.name);
+            assert_eq!(call.run(&calls, input, &mut lent), 0, "{}", calls.name);
             lent
         });
         let nodes = second.answer.words()[4] as usize;

@@ -1,12 +1,12 @@
 // Every call on many thousands of generated inputs, valid and damaged, with storage that is ample,
 // exact or short: code, answer and all lent memory must be the reference's.
 use crate::damage::{damage, damage_second};
-use crate::inputs::{draw, Scale, SMALL};
+use crate::inputs::{draw, short_order, Scale, SMALL};
 use crate::lent::{Lent, Sizes};
 use crate::run::{compare, Call, Input, ALL_CALLS, ALL_CHOICES, STAGED_CALLS};
 use outside::answers::{OLD_BLOCK, STAGED_REPORT_WORDS};
 use outside::random::Random;
-use outside::reference::{capacities, capacity, normal_positions, Job};
+use outside::reference::{capacities, capacity, normal_positions, Copies, Job};
 use std::collections::BTreeMap;
 
 /// How often each call gave each code, and how many certificates of a plan that earns something were
@@ -97,6 +97,7 @@ fn codes(call: Call) -> Vec<u32> {
         Call::NeatPlan => &[10, 11, 12, 13, 14, 15, 16, 17, 18, 21, 26],
         Call::Certify => &[8, 9, 10, 11, 12, 13, 14, 15, 16, 17, 18, 19, 20, 26],
         Call::BoundTwo => &[8, 9, 19, 20, 24, 25],
+        Call::Exact => &[19, 20, 21, 30],
         Call::CheckPlanStaged => &[10, 11, 12, 13, 14, 15, 16, 17, 18, 22, 23, 26],
         Call::BoundStaged => &[8, 9, 19, 20, 22],
         Call::CertifyStaged => {
@@ -118,14 +119,20 @@ fn agree_with(random: &mut Random, inputs: usize, scale: Scale, choices: u32) ->
     let mut tally = Tally::default();
     for _ in 0..inputs {
         let input = draw_affordable(random, scale, choices);
+        let order = short_order(random, &input, scale.work.min(1_000_000));
         for call in ALL_CALLS {
-            let sizes = draw_sizes(random, call, &input);
-            let (code, lent) = tally.compare(call, &input, sizes);
-            if (call, code) == (Call::WritePlan, 0) {
-                written_plan_agrees(random, &input.with_written_plan(&lent), sizes, &mut tally);
-            }
-            if (call, code) == (Call::NeatPlan, 0) {
-                neat_plan_agrees(random, &input.with_neat_plan(&lent), sizes, &mut tally);
+            let input = if call == Call::Exact { &order } else { &input };
+            let sizes = draw_sizes(random, call, input);
+            let (code, lent) = tally.compare(call, input, sizes);
+            match (call, code) {
+                (Call::WritePlan | Call::Exact, 0) => {
+                    let planned = input.with_written_plan(&lent);
+                    written_plan_agrees(random, call, &planned, sizes, &mut tally);
+                }
+                (Call::NeatPlan, 0) => {
+                    neat_plan_agrees(random, &input.with_neat_plan(&lent), sizes, &mut tally);
+                }
+                _ => {}
             }
         }
     }
@@ -144,11 +151,17 @@ fn neat_plan_agrees(random: &mut Random, neat: &Input, sizes: Sizes, tally: &mut
 }
 
 /// The written plan again, into arrays that just hold it or do not; and as input of the checks.
-fn written_plan_agrees(random: &mut Random, planned: &Input, sizes: Sizes, tally: &mut Tally) {
+fn written_plan_agrees(
+    random: &mut Random,
+    call: Call,
+    planned: &Input,
+    sizes: Sizes,
+    tally: &mut Tally,
+) {
     let nodes = planned.kinds.len();
     let short = random.pick(&[(0, 0), (0, 0), (1, 0), (0, 1), (nodes, nodes)]);
     let tight = Sizes { kinds: nodes - short.0, operands: nodes - short.1, ..sizes };
-    tally.compare(Call::WritePlan, planned, tight);
+    tally.compare(call, planned, tight);
     if random.one_in(4) {
         for call in [Call::CheckPlan, Call::CheckPlanBlock, Call::Certify] {
             tally.compare(call, planned, Sizes { answer: STAGED_REPORT_WORDS, ..sizes });
@@ -233,6 +246,7 @@ fn needs(call: Call, input: &Input) -> (usize, usize, usize) {
     let words = match call {
         Call::BoundTwo => capacities(&job, &input.weights, &input.second)
             .map_or(1, |both| (both[0] + 1) * (both[1] + 1)),
+        Call::Exact => Copies::of(&job).map_or(1, |copies| copies.states),
         call if STAGED_CALLS.contains(&call) => blocks(input) * shares,
         _ => shares,
     };

@@ -5,6 +5,7 @@ use crate::run::Input;
 use outside::answers::{OLD_BLOCK, TURNING};
 use outside::blocks::{kerf_block, old_block, Kind};
 use outside::random::Random;
+use outside::reference::{Copies, Job};
 
 /// The greatest values that are drawn.
 #[derive(Clone, Copy)]
@@ -76,6 +77,31 @@ fn draw_kind(random: &mut Random, scale: Scale) -> Kind {
         price as u32,
         random.from(0, scale.demand) as u16,
     )
+}
+
+/// The same job with other demands: mostly as few as the exact answer takes, and no more than the
+/// reference can answer in so many sums; now and then too many. A job that is refused stays as it is.
+pub fn short_order(random: &mut Random, input: &Input, work: usize) -> Input {
+    let Ok(mut job) = Job::read(&input.job, input.choices) else { return input.clone() };
+    let long = random.one_in(8);
+    if long {
+        let demand = random.pick(&[1, 15, 63, 255]);
+        job.kinds.iter_mut().for_each(|kind| kind.demand = demand);
+    }
+    let cuts = job.length * job.width * (job.length + job.width) / 2;
+    while !Copies::of(&job).map_or(long, |copies| cuts * copies.ways() <= work) {
+        let most = job.kinds.iter_mut().max_by_key(|kind| kind.demand).expect("a kind");
+        if most.demand == 0 {
+            break;
+        }
+        most.demand /= 2;
+    }
+    let mut order = input.clone();
+    let pairs = order.job.len() - 6 * job.kinds.len();
+    for (pair, kind) in order.job[pairs..].chunks_mut(6).zip(&job.kinds) {
+        pair[4..].copy_from_slice(&(kind.demand as u16).to_le_bytes());
+    }
+    order
 }
 
 /// A plan by random cuts. Now and then a node breaks a rule; one plan in four keeps its idle cuts.

@@ -18,6 +18,7 @@ mod neat;
 mod readings;
 mod run;
 mod saw;
+mod short_orders;
 mod stack;
 mod staged;
 mod staged_deep;

@@ -19,9 +19,10 @@ pub enum Call {
     BoundStaged,
     CertifyStaged,
     BoundTwo,
+    Exact,
 }
 
-pub const ALL_CALLS: [Call; 10] = [
+pub const ALL_CALLS: [Call; 11] = [
     Call::CheckPlan,
     Call::CheckPlanBlock,
     Call::Bound,
@@ -32,6 +33,7 @@ pub const ALL_CALLS: [Call; 10] = [
     Call::BoundStaged,
     Call::CertifyStaged,
     Call::BoundTwo,
+    Call::Exact,
 ];
 
 /// The calls that take one weight a kind and no limit.
@@ -109,7 +111,7 @@ impl Call {
             Call::CheckPlan | Call::CheckPlanBlock => REPORT_WORDS,
             Call::CheckPlanStaged => STAGED_REPORT_WORDS,
             Call::Bound | Call::BoundStaged => 4,
-            Call::WritePlan | Call::BoundTwo => 5,
+            Call::WritePlan | Call::BoundTwo | Call::Exact => 5,
             Call::NeatPlan => 1,
             Call::Certify | Call::CertifyStaged => 3,
         }
@@ -136,6 +138,7 @@ impl Call {
             Call::BoundTwo => {
                 (calls.bound_two)(job, c, weights, &input.second, storage, answer)
             }
+            Call::Exact => (calls.exact)(job, c, storage, plan, answer),
         }
     }
 }

@@ -99,7 +99,7 @@ fn draw_both(random: &mut Random) -> [Input; 2] {
 fn turning_is_to_list_every_kind_twice() {
     let random = &mut Random::new(31);
     for _ in 0..2000 {
-        writes_alike(&draw_both(random), |(kind, operand)| match (kind, operand % 2) {
+        writes_alike(Call::WritePlan, &draw_both(random), |(kind, operand)| match (kind, operand % 2) {
             (1, 0) => (1, operand / 2),
             (1, _) => (4, operand / 2),
             _ => (kind, operand),

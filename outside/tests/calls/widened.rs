@@ -39,7 +39,7 @@ pub fn changed(
 }
 
 /// The same input with the kerf added to every side, to be cut without loss.
-fn widened(input: &Input, job: &Job) -> Input {
+pub fn widened(input: &Input, job: &Job) -> Input {
     let block = changed(job, 0, |side| side + job.kerf, |demand| demand);
     Input { job: block, ..input.clone() }
 }
@@ -55,7 +55,7 @@ fn bound_lists_and_table_are_those_of_the_widened_job() {
 
 /// The nodes of a plan for a widened rectangle, as they are sawn: a cut stands a kerf lower, and
 /// where its second part is no more than the kerf only the first one's nodes remain.
-fn saw(kerf: u16, side: [u16; 2], plan: &mut impl Iterator<Item = Node>) -> Vec<Node> {
+pub fn saw(kerf: u16, side: [u16; 2], plan: &mut impl Iterator<Item = Node>) -> Vec<Node> {
     let (kind, operand) = plan.next().expect("a node");
     let Some(direction) = [2, 3].iter().position(|&cut| cut == kind) else {
         return vec![(kind, operand)];

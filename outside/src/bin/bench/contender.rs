@@ -9,8 +9,10 @@ pub struct Contender {
     pub write_plan: fn(&Job, &mut Memory) -> Written,
 }
 
-/// A call that has a baseline in C alone; answers are given as words.
+/// A call that has a baseline in C alone; answers are given as words, p and r side by side.
 pub struct Duel {
+    /// The word that has p.
+    pub lengths_at: usize,
     pub ours: fn(&Job, &mut Memory) -> Result<Vec<u64>, Refusal>,
     pub c: fn(&Job, &mut Memory) -> Vec<u64>,
 }
@@ -57,9 +59,10 @@ pub const CONTENDERS: [Contender; 3] = [
     },
 ];
 
-// In both duels job and memory are accepted: the proved call has said so.
+// In every duel job and memory are accepted: the proved call has said so.
 
 pub const STAGED: Duel = Duel {
+    lengths_at: 2,
     ours: |Job { block, choices, weights, limit, .. }, memory| {
         let bound = planner::bound_staged(block, *choices, weights, *limit, memory.split().0);
         Ok(bound?.to_words().into())
@@ -73,6 +76,7 @@ pub const STAGED: Duel = Duel {
 };
 
 pub const TWO_WEIGHTS: Duel = Duel {
+    lengths_at: 3,
     ours: |Job { block, choices, weights, second, .. }, memory| {
         let bound = planner::bound_two(block, *choices, weights, second, memory.split().0);
         Ok(bound?.to_words().into())
@@ -81,6 +85,18 @@ pub const TWO_WEIGHTS: Duel = Duel {
         let storage = memory.split().0;
         let bound = unsafe { baseline::c::bound_two(block, *choices, weights, second, storage) };
         bound.to_words().into()
+    },
+};
+
+pub const EXACT: Duel = Duel {
+    lengths_at: 2,
+    ours: |Job { block, choices, .. }, memory| {
+        let (storage, plan) = memory.split();
+        Ok(planner::exact(block, *choices, storage, plan)?.to_words().into())
+    },
+    c: |Job { block, choices, .. }, memory| {
+        let (storage, plan) = memory.split();
+        unsafe { baseline::c::exact(block, *choices, storage, plan) }.to_words().into()
     },
 };
 

@@ -121,6 +121,48 @@ pub fn two_weights() -> Vec<Job> {
     draws.iter().map(|from| named(draw(from))).collect()
 }
 
+/// Short orders: ChW1, whose optimum is 244, and generated ones with these demands, on plates that hold
+/// few of the pieces and, in the last two, most of them.
+pub fn exact() -> Vec<Job> {
+    let chw1 = [
+        (8, 4, 66, 2),
+        (3, 7, 35, 1),
+        (8, 2, 24, 3),
+        (3, 4, 17, 5),
+        (3, 3, 11, 2),
+        (3, 2, 8, 2),
+        (2, 1, 2, 1),
+    ];
+    let drawn: [(u16, (usize, usize), &[u16]); 6] = [
+        (60, (10, 30), &[2; 6]),
+        (60, (10, 30), &[1; 12]),
+        (100, (20, 50), &[1; 12]),
+        (100, (15, 50), &[3; 6]),
+        (100, (12, 40), &[1, 2, 3, 4, 5, 2]),
+        (100, (10, 35), &[1; 12]),
+    ];
+    let named = |name: String, block| {
+        let (weights, second) = (vec![], vec![]);
+        Job { name: format!("exact {name}"), block, choices: 0, weights, second, limit: 0 }
+    };
+    let first = named("ChW1".into(), kerf_block(15, 10, 0, &chw1));
+    let others = drawn.map(|(plate, sides, demands)| {
+        let random = &mut Random::new(u64::from(plate) + demands.len() as u64);
+        let kinds: Vec<Kind> = demands
+            .iter()
+            .map(|&demand| {
+                let (length, width, price, _) = draw_kind(random, sides);
+                (length, width, price, demand)
+            })
+            .collect();
+        let (low, high) = sides;
+        let copies = demands.iter().map(u16::to_string).collect::<Vec<String>>().join(" ");
+        let name = format!("{plate}×{plate}, demands {copies}, sides {low}–{high}");
+        named(name, kerf_block(plate, plate, 0, &kinds))
+    });
+    [first].into_iter().chain(others).collect()
+}
+
 fn draw(from: &Draw) -> Job {
     let random = &mut Random::new(u64::from(from.plate) + from.kinds as u64);
     let mut kinds: Vec<Kind> = (0..from.kinds).map(|_| draw_kind(random, from.sides)).collect();

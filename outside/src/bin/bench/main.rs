@@ -1,7 +1,7 @@
-// The benchmark: bound and written plan, ours against the baselines in Rust and C, and the staged bound
-// and that of two weights, ours against those in C, in one run. Prints Markdown: one table of named
-// jobs, two of how time grows, two of the other bounds. A word given as argument leaves only the jobs
-// whose names have it.
+// The benchmark: bound and written plan, ours against the baselines in Rust and C, and the staged bound,
+// that of two weights and the exact answer, ours against those in C, in one run. Prints Markdown: one
+// table of named jobs, two of how time grows, three of the other calls. A word given as argument leaves
+// only the jobs whose names have it.
 mod contender;
 mod jobs;
 mod measure;
@@ -14,4 +14,5 @@ fn main() {
     report::table("Growth with Q", &wanted, &jobs::growing_capacities());
     report::duel_table("Staged bounds", &wanted, &contender::STAGED, &jobs::staged());
     report::duel_table("Two weights", &wanted, &contender::TWO_WEIGHTS, &jobs::two_weights());
+    report::duel_table("Exact answers", &wanted, &contender::EXACT, &jobs::exact());
 }

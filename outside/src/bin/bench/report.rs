@@ -66,6 +66,7 @@ fn duel_facts(duel: &Duel, job: &Job) -> String {
     let answer = (duel.ours)(job, &mut ours).expect("an accepted job");
     assert!(answer == (duel.c)(job, &mut c), "both answer the same for {}", job.name);
     assert!(ours.lengths == c.lengths && ours.widths == c.widths && ours.table == c.table);
-    let [.., p, r] = answer[..] else { panic!("p and r come last") };
+    assert!(ours.kinds == c.kinds && ours.operands == c.operands);
+    let [p, r] = [0, 1].map(|word| answer[duel.lengths_at + word]);
     format!("| {} | {p} | {r} | {} |", job.name, ours.table.len())
 }
