@@ -33,9 +33,9 @@ typedef struct {
 } Copies;
 
 /* Pieces are the kinds as they may lie, each with its node in a plan. All sides, the plate's too,
- * have the kerf added: then parts make up a whole, and only the writer knows of the kerf. Where copies are
- * counted and not weighed, a piece weighs the number of one copy, and the capacity is that of all; else
- * there are no digits. */
+ * have the kerf added: then parts make up a whole, and only the writer knows of the kerf. Where copies
+ * are counted and not weighed, a piece weighs the number of one copy, and the capacity is that of all;
+ * else there are no digits. */
 typedef struct {
     Size plate;
     int kerf, pieces, capacity;

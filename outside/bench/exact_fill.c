@@ -10,9 +10,9 @@ enum { MOST_STATES = 4096, STATE_BITS = 13 };
 /* The directions in which a state rises over the cell before. */
 enum { OVER_LENGTH = 1 << LENGTH, OVER_WIDTH = 1 << WIDTH, OVER_BOTH = OVER_LENGTH | OVER_WIDTH };
 
-/* A figure above the state's digits, each with a bit to spare, above the state, so that one addition adds
- * all. 4,096 states have 24 bits of digits at most, and figures fit above: an order of many copies has
- * few kinds. */
+/* A figure above the state's digits, each with a bit to spare, above the state, so that one addition
+ * adds all. 4,096 states have 24 bits of digits at most, and figures fit above: an order of many copies
+ * has few kinds. */
 typedef uint64_t Entry;
 
 typedef struct {
@@ -60,7 +60,8 @@ static void flag(Fill *fill, Cell *cell, int state, int over)
 
 /* Raises the states from `at` on that have no fewer copies in this digit and those below it, up to the
  * first that has as much. */
-static void raise_digits(Fill *fill, uint64_t *figure, const uint8_t *digits, int d, int at, uint64_t to)
+static void raise_digits(Fill *fill, uint64_t *figure, const uint8_t *digits, int d, int at,
+                         uint64_t to)
 {
     const Copies *copies = &fill->plate->job.copies;
     int stride = copies->stride[d], end = at + (copies->radix[d] - digits[d]) * stride;
@@ -143,8 +144,8 @@ static void cut(Fill *fill, Cell *cell, int direction, int index)
     }
 }
 
-/* Lists the flagged states and takes the flags off: those that rise in length alone, in both directions,
- * in width alone, so that each direction has its own side by side. */
+/* Lists the flagged states and takes the flags off: those that rise in length alone, in both
+ * directions, in width alone, so that each direction has its own side by side. */
 static void collect(Fill *fill, const Cell *cell)
 {
     static const int order[] = {OVER_LENGTH, OVER_BOTH, OVER_WIDTH};

@@ -1,5 +1,5 @@
-// The exact answer for short orders: one case for each sentence of the request; and on generated jobs the
-// optimum against every tree within the demands, the bounds and the plan check.
+// The exact answer for short orders: one case for each sentence of the request; and on generated jobs
+// the optimum against every tree within the demands, the bounds and the plan check.
 use crate::capacity::{done, words};
 use crate::deep::many_kinds;
 use crate::exact::{optimum, Amounts};
@@ -46,22 +46,25 @@ fn states_stand_with_kind_0_fastest() {
     assert_eq!(lent.table.words()[48..], Lent::new(ROOM).table.words()[48..]);
 }
 
-/// Of a whole state 3, two of kind 0 (radix 3) and one of kind 1, the part 2 is no part: it has two of
-/// kind 0, where the state that is left of 5 by 3 has none. Parts are taken in the order of their numbers.
+/// In the second part, 4 by 1, two copies of kind 1 remain and none of kind 0. A cut at 1 with a copy of
+/// kind 0 on each side would earn as much.
 #[test]
 fn parts_of_a_state_have_no_kind_above_what_remains() {
-    let two_of_each = [(1, 1, 5, 2), (1, 1, 5, 1)];
-    let nodes = [(2, 1), (1, 0), (2, 1), (1, 0), (1, 1)];
-    leaves_plan(Call::Exact, &order(job_block(3, 1, &two_of_each), &nodes), 15);
-    let lower_last = [(1, 1, 4, 1), (1, 1, 4, 2)];
-    let nodes = [(2, 1), (1, 0), (2, 1), (1, 1), (1, 1)];
-    leaves_plan(Call::Exact, &order(job_block(3, 1, &lower_last), &nodes), 12);
-    let dear_first = [(1, 1, 4, 1), (2, 1, 9, 1)];
-    let nodes = [(2, 1), (1, 0), (1, 1)];
-    leaves_plan(Call::Exact, &order(job_block(3, 1, &dear_first), &nodes), 13);
+    let job = job_block(5, 1, &[(1, 1, 2, 1), (2, 1, 4, 2)]);
+    let nodes = [(2, 1), (1, 0), (2, 2), (1, 1), (1, 1)];
+    leaves_plan(Call::Exact, &order(job, &nodes), 10);
 }
 
-/// A piece takes the place of a dearer one of which no copy remains; turned copies count with upright ones.
+/// The first part of 3 units may have any unit: it has the one with the lowest number.
+#[test]
+fn parts_are_tried_by_their_numbers() {
+    let nodes = |kinds: [u16; 3]| [(2, 1), (1, kinds[0]), (2, 1), (1, kinds[1]), (1, kinds[2])];
+    let units = |demands: [u16; 2]| job_block(3, 1, &demands.map(|demand| (1, 1, 5, demand)));
+    leaves_plan(Call::Exact, &order(units([2, 1]), &nodes([0, 0, 1])), 15);
+    leaves_plan(Call::Exact, &order(units([1, 2]), &nodes([0, 1, 1])), 15);
+}
+
+/// A cheaper piece lies where no copy of the dearer one remains; turned copies count with upright ones.
 #[test]
 fn copies_run_out() {
     let job = job_block(4, 2, &[(2, 2, 9, 1), (1, 2, 3, 1)]);
@@ -93,10 +96,10 @@ fn nothing_to_earn() {
 #[test]
 fn a_cut_without_a_second_part_is_left_out() {
     let kinds = [(3, 3, 5, 2), (4, 1, 1, 1)];
-    let written = [(4, [(3, 3), (1, 0), (1, 0)].to_vec()), (6, [(2, 3), (3, 3), (1, 0), (1, 0), (0, 0)].to_vec())];
-    for (length, nodes) in written {
-        leaves_plan(Call::Exact, &order(kerf_block(length, 8, 2, &kinds), &nodes), 10);
-    }
+    let job = |length| kerf_block(length, 8, 2, &kinds);
+    leaves_plan(Call::Exact, &order(job(4), &[(3, 3), (1, 0), (1, 0)]), 10);
+    let cut = [(2, 3), (3, 3), (1, 0), (1, 0), (0, 0)];
+    leaves_plan(Call::Exact, &order(job(6), &cut), 10);
 }
 
 #[test]
@@ -144,18 +147,12 @@ fn refusals_keep_what_was_lent() {
         let (code, lent) = compare(Call::Exact, &job, sizes);
         assert_eq!(code, number);
         assert!(lent.lengths == whole.lengths && lent.widths == whole.widths);
-        assert!(lent.table == if number == 20 { fresh.table } else { whole_table(&whole) });
+        assert!(lent.table == *if number == 20 { &fresh.table } else { &whole.table });
         assert!(lent.kinds == fresh.kinds && lent.operands == fresh.operands);
     }
     let sizes = Sizes { lengths: 5, ..ROOM };
     let (_, lent) = compare(Call::Exact, &job, sizes);
     assert_eq!(lent.differences(&Lent::new(sizes)), ["answer"]);
-}
-
-fn whole_table(lent: &Lent) -> crate::lent::Fenced<u64> {
-    let mut table = Lent::new(ROOM).table;
-    table.lend().copy_from_slice(lent.table.words());
-    table
 }
 
 /// Of kinds 1 by 1 with these demands, on a plate 1 by 1.
@@ -206,7 +203,8 @@ fn plans_of_4095_nodes_are_written() {
 
 #[test]
 fn typed_answers() {
-    let mut lent = Lent::new(Sizes { lengths: 6, widths: 4, table: 240, kinds: 5, operands: 5, answer: 0 });
+    let sizes = Sizes { lengths: 6, widths: 4, table: 240, kinds: 5, operands: 5, answer: 0 };
+    let mut lent = Lent::new(sizes);
     let (storage, plan, _) = lent.split();
     let exact = planner::exact(&job_s(), 0, storage, plan).expect("the optimum");
     assert_eq!((exact.optimum, exact.states, exact.nodes), (16, 12, 5));
@@ -247,8 +245,8 @@ fn the_optimum_is_the_most_of_every_tree_within_the_demands() {
     }
 }
 
-/// The plan passes the check and earns the optimum. No weights give a lower bound, one a kind or two; the
-/// certificate's gap is what remains.
+/// The plan passes the check and earns the optimum. No weights give a lower bound, one a kind or two;
+/// the certificate's gap is what remains.
 #[test]
 fn plans_pass_the_check_and_no_bound_is_lower() {
     let mut random = Random::new(92);
@@ -286,8 +284,8 @@ fn no_capacity_is_read() {
     }
 }
 
-/// Lists and table are those of the job with the kerf added to every side, and so is the plan but for the
-/// cuts that are left out.
+/// Lists and table are those of the job with the kerf added to every side, and so is the plan but for
+/// the cuts that are left out.
 #[test]
 fn a_kerf_is_added_to_every_side() {
     let mut shorter = 0;
@@ -310,15 +308,15 @@ fn a_kerf_is_added_to_every_side() {
     assert!(shorter >= 20);
 }
 
-/// With one kind the states are the shares of a weight of 1 that counts the full demand: the same table and
-/// plan.
+/// With one kind the states are the shares of a weight of 1 that counts the full demand: the same table
+/// and plan.
 #[test]
 fn one_kind_is_a_weight_of_1() {
     let one = Scale { plate: 12, kinds: 1, demand: 9, ..SMALL };
     for (input, _) in generated(96, 500, one) {
         let weighed = Input { weights: vec![1], ..input.clone().with(input.choices | FULL_DEMAND) };
-        let [exact, bound] =
-            [(Call::Exact, &input), (Call::WritePlan, &weighed)].map(|(call, input)| done(call, input, ROOM));
+        let calls = [(Call::Exact, &input), (Call::WritePlan, &weighed)];
+        let [exact, bound] = calls.map(|(call, input)| done(call, input, ROOM));
         let [optimum, states, p, r, nodes] = [0, 1, 2, 3, 4].map(|word| exact.answer.words()[word]);
         assert_eq!(bound.answer.words()[..5], [optimum, states - 1, p, r, nodes], "{input:?}");
         let differences = exact.differences(&bound);
@@ -344,16 +342,16 @@ fn longer_orders_agree() {
     assert!(done >= 200 && states == 4096);
 }
 
-/// 64 kinds of which twelve are ordered, the first, the last, or all along; two kinds of many copies; and
-/// the deepest plan: on a small stack. What is expected comes from the baseline, for the reference is too
-/// slow here.
+/// 64 kinds of which twelve are ordered, the first, the last, or all along; two kinds of many copies;
+/// and the deepest plan: on a small stack. What is expected comes from the baseline, for the reference is
+/// too slow here.
 #[test]
 fn largest_orders_are_answered_on_a_small_stack() {
     let ordered: [fn(usize) -> bool; 3] = [|i| i < 12, |i| i >= 52, |i| i % 5 == 3 && i < 60];
-    for (kerf, is_ordered) in [0, 2, 0].into_iter().zip(ordered) {
+    for ((side, kerf), is_ordered) in [(24, 0), (40, 2), (24, 1)].into_iter().zip(ordered) {
         let mut kinds = many_kinds(30);
         kinds.iter_mut().enumerate().for_each(|(i, kind)| kind.3 = u16::from(is_ordered(i)));
-        let job = order(kerf_block(60, 60, kerf, &kinds), &[]);
+        let job = order(kerf_block(side, side, kerf, &kinds), &[]);
         is_answered(&job, 4096);
         is_answered(&job.with(TURNING), 4096);
     }
