@@ -16,8 +16,9 @@ extern "C" {
  *
  * Stack. Every function runs on a thread with a stack of 128 KiB, whatever it is given. The proof
  * does not see the stack: this is an assumption, tested from outside on the deepest and longest
- * inputs. Only the staged check and the staged certificate recurse, no deeper than the limit: their
- * whole need is 20552 and 27128 bytes, as measured, whatever the plan.
+ * inputs. Four functions recurse: the staged check and the staged certificate no deeper than the limit,
+ * planner_bound_two once, planner_exact no deeper than the number of kinds. Their whole need, whatever
+ * the input, is 20552, 27128, 20584 and 37768 bytes, as measured.
  *
  * Job block. Plate length, plate width, number n of kinds, kerf k; then n sizes (length, width); all
  * of two bytes, lowest byte first. Then n pairs of price (four bytes) and demand (two bytes).
