@@ -1,0 +1,8 @@
+pub mod Sums
+pub mod Roots
+pub mod Count
+pub mod Turns
+pub mod Best
+pub mod Run
+pub mod Rules
+pub mod Calls

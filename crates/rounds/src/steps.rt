@@ -1,0 +1,196 @@
+// The steps of the weight rounds: formulas 12 and 13 of Morabito and Pureza in whole numbers.
+ghost use mathlib.Core.Path.{_≡_};
+ghost use mathlib.Core.Bool.{not};
+ghost use Prim.Native.Nat.{ℕ, _+_, _*_, _-_, _≤_, _<_, min};
+ghost use lib.Dec.{ltb};
+ghost use lib.ListN.{length, getD};
+ghost use Rattle.cutting.specs.Lists.{range, any};
+ghost use Rattle.job.specs.Block.{entries};
+ghost use Rattle.rounds.specs.Step.{factor, distance, root-below, scale, stepped, adjusted};
+ghost use Rattle.rounds.specs.Contracts.{lays, piece-here, pieces-in, summed};
+
+// The factor of a round in sixteenths: 2, halved after every third round.
+pub fn factor_of(round: u16) -> u64
+    requires { ⌜ round < 18 ⌝ }
+    ensures { λ r. ⌜ (r ≡ factor round) × (r ≤ 32) ⌝ }
+{
+    let mut f = 32u64;
+    for i in 0..round / 3 {
+        f = f / 2;
+    }
+    f
+}
+
+// How far copies lie from the demand.
+pub fn apart(copies: u16, demand: u16) -> u64
+    ensures { λ r. ⌜ (r ≡ distance copies demand) × (r ≤ 65535) ⌝ }
+{
+    if copies < demand {
+        return (demand - copies) as u64;
+    }
+    (copies - demand) as u64
+}
+
+// The greatest x up to 255 whose square is at most p / q.
+pub fn root(p: u64, q: u64) -> u8
+    requires { ⌜ q ≤ 5000000000000 ⌝ }
+    ensures { λ r. ⌜ r ≡ root-below 255 p q ⌝ }
+{
+    for x in 0..255u8 {
+        let y = (x as u64) + 1;
+        if p < y * y * q {
+            return x;
+        }
+    }
+    255
+}
+
+// The numerator of s over 16 times the summed squares.
+pub fn scale_of(f: u64, gap: u64, squares: u64) -> u64
+    requires { ⌜ (f ≤ 32) × (gap ≤ 1000000000000) × (squares ≤ 274869518400) ⌝ }
+    ensures { λ r. ⌜ (r ≡ scale f gap squares) × (r ≤ 32000000000000) ⌝ }
+{
+    let one = 16 * squares;
+    let quotient = f * gap;
+    if one < quotient {
+        return quotient;
+    }
+    one
+}
+
+// A weight after a step up.
+pub fn raised(weight: u8, x: u8) -> u8
+    ensures { λ r. ⌜ r ≡ min 255 (weight + x) ⌝ }
+{
+    if 255 - weight < x {
+        return 255;
+    }
+    weight + x
+}
+
+// A weight after a step down.
+pub fn lowered(weight: u8, x: u8) -> u8
+    ensures { λ r. ⌜ r ≡ weight - x ⌝ }
+{
+    if weight < x {
+        return 0;
+    }
+    weight - x
+}
+
+// The weight of a kind in the next round, where s is top / q.
+pub fn adjust(weight: u8, copies: u16, demand: u16, top: u64, q: u64) -> u8
+    requires { ⌜ (top ≤ 32000000000000) × (q ≤ 5000000000000) ⌝ }
+    ensures { λ r. ⌜ r ≡ stepped (ltb demand copies) weight (root-below 255 (distance copies demand * top) q) ⌝ }
+{
+    let d = apart(copies, demand);
+    let x = root(d * top, q);
+    if demand < copies {
+        return raised(weight, x);
+    }
+    lowered(weight, x)
+}
+
+// The summed squares of the distances of n kinds.
+pub fn sum_squares(copies: &[u16; 64], demands: &[u16; 64], n: u16) -> u64
+    requires { ⌜ n ≤ 64 ⌝ }
+    ensures { λ r. ⌜ (r ≡ summed (now (copies .entry)) (now (demands .entry)) n) × (r ≤ 4294836225 * n) ⌝ }
+{
+    let mut squares = 0u64;
+    for i in 0..n {
+        let k = i as usize;
+        let d = apart(copies[k], demands[k]);
+        squares = squares + d * d;
+    }
+    squares
+}
+
+// The weights of n kinds in the next round, where s is top / q.
+pub fn adjust_all(
+    weights: &[u8; 64],
+    copies: &[u16; 64],
+    demands: &[u16; 64],
+    n: u16,
+    top: u64,
+    q: u64,
+) -> [u8; 64]
+    requires { ⌜ (n ≤ 64) × (top ≤ 32000000000000) × (q ≤ 5000000000000) ⌝ }
+    ensures { λ r. ⌜ r ≡ entries (λ i. stepped (ltb (getD (now (demands .entry)) i 0) (getD (now (copies .entry)) i 0)) (getD (now (weights .entry)) i 0)
+        (root-below 255 (distance (getD (now (copies .entry)) i 0) (getD (now (demands .entry)) i 0) * top) q)) n ⌝ }
+{
+    let mut adjusted = [0u8; 64];
+    for i in 0..n {
+        let k = i as usize;
+        adjusted[k] = adjust(weights[k], copies[k], demands[k], top, q);
+    }
+    adjusted
+}
+
+// The weights of n kinds in the next round, from the round's gap.
+pub fn next_weights(
+    weights: &[u8; 64],
+    copies: &[u16; 64],
+    demands: &[u16; 64],
+    n: u16,
+    round: u16,
+    gap: u64,
+) -> [u8; 64]
+    requires { ⌜ (n ≤ 64) × (round < 18) × (gap ≤ 1000000000000) ⌝ }
+    ensures { λ r. ⌜ r ≡ entries (λ i. adjusted (factor round) gap (summed (now (copies .entry)) (now (demands .entry)) n)
+        (getD (now (weights .entry)) i 0) (getD (now (copies .entry)) i 0) (getD (now (demands .entry)) i 0)) n ⌝ }
+{
+    let squares = sum_squares(copies, demands, n);
+    let top = scale_of(factor_of(round), gap, squares);
+    adjust_all(weights, copies, demands, n, top, 16 * squares)
+}
+
+// Whether the copies of n kinds keep all demands.
+pub fn keep_demands(copies: &[u16; 64], demands: &[u16; 64], n: u16) -> bool
+    requires { ⌜ n ≤ 64 ⌝ }
+    ensures { λ r. ⌜ r ≡ not (any (λ i. ltb (getD (now (demands .entry)) i 0) (getD (now (copies .entry)) i 0)) (range 0 n)) ⌝ }
+{
+    for i in 0..n {
+        let k = i as usize;
+        if demands[k] < copies[k] {
+            return false;
+        }
+    }
+    true
+}
+
+// Whether a node of a written plan is a piece, upright or turned.
+fn is_piece(kind: u8) -> bool
+    ensures { λ r. ⌜ r ≡ lays kind ⌝ }
+{
+    if kind == 1 {
+        return true;
+    }
+    kind == 4
+}
+
+// One node more of a written plan: a piece's copy is counted.
+fn count_node(copies: &mut [u16; 64], kind: u8, operand: u16)
+    requires { ⌜ (length (now copies) ≡ 64) × ((k : ℕ) → k < 64 → getD (now copies) k 0 < 65535) ⌝ }
+    ensures { λ _. ⌜ (length (now (copies .exit)) ≡ 64) × ((k : ℕ) → k < 64 → getD (now (copies .exit)) k 0 ≡ getD (now (copies .entry)) k 0 + piece-here kind operand k) ⌝ }
+{
+    if !is_piece(kind) {
+        return;
+    }
+    let at = operand as usize;
+    if 64 <= at {
+        return;
+    }
+    copies[at] = copies[at] + 1;
+}
+
+// The copies of each of 64 kinds in the first nodes of a written plan.
+pub fn count_copies(kinds: &[u8], operands: &[u16], nodes: usize) -> [u16; 64]
+    requires { ⌜ (nodes ≤ 4095) × (nodes ≤ length (now kinds)) × (nodes ≤ length (now operands)) ⌝ }
+    ensures { λ r. ⌜ ((k : ℕ) → k < 64 → getD r k 0 ≡ pieces-in (now (kinds .entry)) (now (operands .entry)) nodes k) ⌝ }
+{
+    let mut copies = [0u16; 64];
+    for i in 0..nodes {
+        count_node(&mut copies, kinds[i], operands[i]);
+    }
+    copies
+}
