@@ -85,6 +85,16 @@ extern "C" {
  * word (a * r + b) * S + s has the most that a tree earns which takes of no kind more copies than remain
  * in state s. All else is as above.
  *
+ * Rounds. At most 18, numbered from 0; a lower figure is given. Round 0 has all weights 0. A round
+ * writes the plan behind the bound of its weights and gives each kind a step: the whole part of the
+ * square root of d * s, but at most 255. Here d is how far the copies in that plan lie from the demand,
+ * and s the greater of 1 and f * g / S, where S is the sum of the squares of every kind's d, g the
+ * round's bound less the lower figure, and f is 2 in rounds 0 to 2 and half as much after every third
+ * round. The next weight has the step added, up to 255, where the copies are more than the demand, and
+ * taken off, down to 0, where they are fewer. The last round is the first whose plan keeps every demand
+ * or whose next capacity would be above 4095, or round 17. A round after round 0 that planner_write_plan
+ * would refuse, by 20 or 21, ends the run too and is not counted.
+ *
  * Return value.
  *   0    done; `answer` holds the words that the function names; its later words are kept
  *   1 to 27, 30
@@ -149,6 +159,7 @@ enum {
     PLANNER_STAGED_REPORT_WORDS = 70,
     PLANNER_TWO_WORDS = 5,
     PLANNER_EXACT_WORDS = 5,
+    PLANNER_FOUND_WORDS = 66,
     PLANNER_SAW_WORDS = 68,
     PLANNER_PART_WORDS = 2
 };
@@ -307,6 +318,25 @@ uint32_t planner_exact(
     uint64_t *table, size_t table_len,
     uint8_t *kinds, size_t kinds_len,
     uint16_t *operands, size_t operands_len,
+    uint64_t *answer, size_t answer_len);
+
+/* Finds weights in rounds (refusals 1 to 7, 27, 10 to 18, 26, and those of round 0, 19 to 21). `kinds`
+ * and `operands` are a plan, which is checked; its profit is the lower figure. The bound is the least of
+ * those that the rounds met, and planner_bound answers it for the weights, which first gave it. No
+ * guillotine tree on the plate that keeps every demand earns more. Each round leaves storage and written
+ * arrays as planner_write_plan with its weights does, over what the round before left: at the end they
+ * are the last round's, be it counted or not.
+ * answer[0] bound, answer[1] rounds run; answer[2 + i] weight of kind i, 0 past the job's kinds. */
+uint32_t planner_find_weights(
+    const uint8_t *job, size_t job_len,
+    uint32_t choices,
+    const uint8_t *kinds, size_t kinds_len,
+    const uint16_t *operands, size_t operands_len,
+    uint16_t *lengths, size_t lengths_len,
+    uint16_t *widths, size_t widths_len,
+    uint64_t *table, size_t table_len,
+    uint8_t *written_kinds, size_t written_kinds_len,
+    uint16_t *written_operands, size_t written_operands_len,
     uint64_t *answer, size_t answer_len);
 
 /* Checks a plan as the saw does: the price fields of the job are not read, so that they may hold any

@@ -6,3 +6,4 @@ mod Saw
 mod Within
 mod Pairs
 mod Optimum
+mod Rounds

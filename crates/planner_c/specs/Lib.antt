@@ -3,3 +3,4 @@ pub mod Saw
 pub mod Within
 pub mod Two
 pub mod Exact
+pub mod Found

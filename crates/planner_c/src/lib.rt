@@ -2,6 +2,7 @@
 // answer words, or returns the refusal's number and puts its place in the first word. Where the answer has fewer words than the
 // function states it returns 100, where the word of choices has a bit that is no choice 101, and changes nothing.
 mod choices;
+mod found;
 mod short;
 mod staged;
 mod two;

@@ -9,6 +9,7 @@ use plan::PlanAnswer;
 use plan::Report;
 use refusal::Checked;
 use refusal::Refusal;
+use rounds::WeightsFound;
 use saw::Part;
 use saw::SawAnswer;
 use saw::SawReport;
@@ -35,6 +36,7 @@ ghost use Rattle.saw.specs.Parts.{part-said};
 ghost use Rattle.staged_plan.specs.Check.{staged-check-outcome};
 ghost use Rattle.two_bound.specs.Two.{two-values, two-outcome};
 ghost use Rattle.exact.specs.Exact.{exact-values, exact-outcome};
+ghost use Rattle.rounds.specs.Rounds.{found-values, found-outcome};
 ghost use Rattle.planner_c.specs.Exports.{Gives, GapWithin};
 
 // A refusal: its number is returned, its place put in the first word.
@@ -44,6 +46,15 @@ fn refuse(r: Refusal, answer: &mut [u64]) -> u32
 {
     answer[0] = refusal::place(r);
     refusal::number(r) as u32
+}
+
+// Two values, into the first two words.
+fn put_two_words(a: u64, b: u64, answer: &mut [u64])
+    requires { ⌜ 2 ≤ length (now answer) ⌝ }
+    ensures { λ _. ⌜ now (answer .exit) ≡ sets (now (answer .entry)) 0 (a ∷ b ∷ []) ⌝ }
+{
+    answer[0] = a;
+    answer[1] = b;
 }
 
 // Three values, into the first three words.
@@ -298,6 +309,48 @@ pub fn put_saw(a: SawAnswer, answer: &mut [u64]) -> u32
         Checked::Passed => {
             let report = a.report;
             put_saw_report(report, answer);
+            0
+        }
+    }
+}
+
+// A weight as a word.
+fn wide_weight(n: u8) -> u64
+    ensures { λ r. ⌜ r ≡ n ⌝ }
+{
+    n as u64
+}
+
+// The weights of 64 kinds, from a word on. That they are 64 is handed on to the proof of the caller.
+fn put_weights(weights: [u8; 64], from: usize, answer: &mut [u64])
+    requires { ⌜ from + 64 ≤ length (now answer) ⌝ }
+    ensures { λ _. ⌜ (now (answer .exit) ≡ sets (now (answer .entry)) from weights) × (length weights ≡ most-kinds) ⌝ }
+{
+    for i in 0..64 {
+        answer[from + i] = wide_weight(weights[i]);
+    }
+}
+
+// What the weight rounds found: the least bound met, the rounds run and the weights that first gave the bound.
+fn put_least(a: WeightsFound, answer: &mut [u64])
+    requires { ⌜ 66 ≤ length (now answer) ⌝ }
+    ensures { λ _. ⌜ now (answer .exit) ≡ over (found-values a) (now (answer .entry)) ⌝ }
+{
+    put_two_words(a.bound, a.rounds as u64, answer);
+    let weights = a.weights;
+    put_weights(weights, 2, answer);
+}
+
+// What the call that finds weights answers.
+pub fn put_found(a: WeightsFound, answer: &mut [u64]) -> u32
+    requires { ⌜ 66 ≤ length (now answer) ⌝ }
+    ensures { λ n. ⌜ Gives (found-outcome a) n (now (answer .entry)) (now (answer .exit)) ⌝ }
+{
+    let verdict = a.verdict;
+    match verdict {
+        Checked::Refused(r) => refuse(r, answer),
+        Checked::Passed => {
+            put_least(a, answer);
             0
         }
     }

@@ -50,7 +50,8 @@ fn print_certificate(c: Certificate) {
     }
 }
 
-fn print_changed(t: &Words, lengths: &[u16; 1028], widths: &[u16; 1028], table: &[u64; 36872]) {
+// How many entries of the lists and words of the table were changed.
+pub fn print_changed(t: &Words, lengths: &[u16; 1028], widths: &[u16; 1028], table: &[u64; 36872]) {
     let p = different_entries(lengths, t, 0, 0) as u64;
     let r = different_entries(widths, t, 0, 0) as u64;
     let k = different_words(table, t, 0, 0) as u64;

@@ -1,8 +1,8 @@
 // Runs the calls on plans by a script (its standard input): the check of plans, the writing of plans, neat plans, certificates, both
-// within a limit of stages too, the saw.
+// within a limit of stages too, the saw, the weight rounds.
 // `job`, `weights`, `kinds`, `operands` and `plan` set the bytes of the job block, the weights, the plan's two arrays and the plan block;
 // `lend` sets how many entries of the two lists and words of the table a certificate is lent, `neat` how many entries of the two output
-// arrays a neat plan is lent, `most` the limit of stages; `turning` sets whether pieces may be turned
+// arrays a neat plan, or a round's plan, is lent, `most` the limit of stages; `turning` sets whether pieces may be turned
 // from here on, 1 or 0, `full` whether the capacity is that of the full demands (a plan is then written, or certified, by the call of that name), and
 // `before` whether job blocks are old ones, from before the kerf. Then a call runs on what is set:
 // `Arrays` checks the two arrays, `Block` the plan block, `Jobs` and `Plans` every truncation of the job block and of the plan block;
@@ -10,10 +10,11 @@
 // the output arrays and prints seven entries of them; `Certify` certifies the arrays and prints how
 // many entries of the lists and words of the table it changed; `Depth` checks the two arrays within the limit of stages, and `Limited`
 // certifies them within it; `Saw` checks the two arrays as the saw does, and `Entries` prints the part of
-// them that belongs to the node which `entry` sets;
+// them that belongs to the node which `entry` sets; `Find` finds weights with the arrays as the lent plan, and prints what `Certify` and `Neat` print of memory;
 // `Old` reads the job block by the call for old ones. An answer is printed as its values, a refusal as number and place.
 mod certify;
 mod check;
+mod find;
 mod lent;
 mod old_job;
 mod saw_calls;
@@ -25,6 +26,7 @@ use check::run_arrays;
 use check::run_block;
 use check::run_staged;
 use check::run_truncations;
+use find::run_find;
 use lent::FULL_DEMAND;
 use lent::JOB;
 use lent::KINDS;
@@ -79,6 +81,7 @@ fn run(t: &mut Words, letter: u8) {
         b'C' => run_certify(t, false),
         b'D' => run_staged(t),
         b'L' => run_certify(t, true),
+        b'F' => run_find(t),
         b'S' => run_saw(t),
         b'E' => run_entries(t),
         b'O' => run_old_job(t),
