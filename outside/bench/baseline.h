@@ -61,6 +61,10 @@ typedef struct {
 } Plate;
 
 void read_plate(Plate *plate, const uint8_t *job, uint32_t choices, const uint8_t *weights);
+
+/* The words of a table, or of a block of it. */
+size_t table_words(const Plate *plate);
+
 void fill_row_fill(const Plate *plate, uint64_t *table);
 void fill_states(const Plate *plate, uint64_t *table);
 void fill_staged_rows(const Plate *plate, int limit, uint64_t *table);
@@ -73,6 +77,16 @@ size_t write_nodes(const Plate *plate, const uint64_t *table, uint8_t *kinds, ui
 void lay_in_row(const Plate *plate, int length, uint64_t *row);
 void cut_lengths(const Positions *lengths, int a, uint64_t *table, size_t r);
 void cut_widths(const Positions *widths, uint64_t *row, uint64_t *unit);
+
+void baseline_write_plan(const uint8_t *job, uint32_t choices, const uint8_t *weights,
+                         uint16_t *lengths, uint16_t *widths, uint64_t *table, uint8_t *kinds,
+                         uint16_t *operands, uint64_t *answer);
+
+/* A field of two bytes. */
+static inline int two(const uint8_t *at)
+{
+    return at[0] | at[1] << 8;
+}
 
 static inline int fits(Size piece, Size rectangle)
 {

@@ -3,11 +3,6 @@
 #include "baseline.h"
 #include <string.h>
 
-static int two(const uint8_t *at)
-{
-    return at[0] | at[1] << 8;
-}
-
 /* Two sides, with the kerf added. */
 static Size sides(const uint8_t *at, int kerf)
 {
@@ -123,8 +118,7 @@ static void list(const uint8_t *job, uint32_t choices, const uint8_t *weights, P
     answer[3] = (uint64_t)on[WIDTH].count;
 }
 
-/* The words of a table, or of a block of it. */
-static size_t words(const Plate *plate)
+size_t table_words(const Plate *plate)
 {
     size_t cells = (size_t)plate->on[LENGTH].count * (size_t)plate->on[WIDTH].count;
     return cells * (size_t)(plate->job.capacity + 1);
@@ -136,7 +130,7 @@ static void fill(const Plate *plate, uint64_t *table, uint64_t *answer)
         fill_row_fill(plate, table);
     else
         fill_states(plate, table);
-    answer[0] = table[words(plate) - 1];
+    answer[0] = table[table_words(plate) - 1];
 }
 
 void baseline_bound(const uint8_t *job, uint32_t choices, const uint8_t *weights,
@@ -167,8 +161,8 @@ void baseline_bound_staged(const uint8_t *job, uint32_t choices, const uint8_t *
         fill_staged_rows(&plate, (int)limit, table);
     else
         fill_staged_states(&plate, (int)limit, table);
-    size_t end = (2 * limit + 1) * words(&plate);
-    answer[0] = greater(table[end - 1], table[end - 1 - words(&plate)]);
+    size_t end = (2 * limit + 1) * table_words(&plate);
+    answer[0] = greater(table[end - 1], table[end - 1 - table_words(&plate)]);
 }
 
 /* The second weights are read as the first are, by a plate of their own; its pieces are the same. */
@@ -184,7 +178,7 @@ void baseline_bound_two(const uint8_t *job, uint32_t choices, const uint8_t *fir
     answer[4] = answer[3];
     answer[3] = answer[2];
     answer[2] = (uint64_t)other.capacity;
-    answer[0] = table[words(&plate) * (size_t)(other.capacity + 1) - 1];
+    answer[0] = table[table_words(&plate) * (size_t)(other.capacity + 1) - 1];
 }
 
 void baseline_exact(const uint8_t *job, uint32_t choices, uint16_t *lengths, uint16_t *widths,
@@ -195,7 +189,7 @@ void baseline_exact(const uint8_t *job, uint32_t choices, uint16_t *lengths, uin
     list(job, choices, no_weights, &plate, lengths, widths, answer);
     count_copies(&plate.job, job);
     fill_exact(&plate, table);
-    answer[0] = table[words(&plate) - 1];
+    answer[0] = table[table_words(&plate) - 1];
     answer[1] = (uint64_t)plate.job.capacity + 1;
     answer[4] = write_nodes(&plate, table, kinds, operands);
 }

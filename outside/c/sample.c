@@ -1,6 +1,6 @@
 /* Job S of the scope from C: the bound, the plan behind it, its check and its certificate, upright
- * and with pieces that may be turned; within a limit on stages; with two weights a kind; more copies
- * than the plate can hold; a blade one unit wide.
+ * and with pieces that may be turned; within a limit on stages; with two weights a kind; weights found
+ * in rounds; more copies than the plate can hold; a blade one unit wide.
  * The script `run` compiles this file against planner.h and compares what it prints with sample.out. */
 #include "planner.h"
 #include <inttypes.h>
@@ -61,6 +61,24 @@ static void bound_two(size_t second_weights)
     if (number == PLANNER_DONE)
         printf("bound %" PRIu64 " capacities %" PRIu64 " and %" PRIu64 "\n", answer[0], answer[1],
                answer[2]);
+    else
+        refused(number, answer);
+}
+
+/* The plan is lent, and the last round's is written beside it. */
+static void find_weights(const uint8_t *kinds, const uint16_t *operands, size_t nodes,
+                         size_t table_words)
+{
+    uint64_t answer[PLANNER_FOUND_WORDS];
+    uint8_t written_kinds[NODES];
+    uint16_t written_operands[NODES];
+    uint32_t number = planner_find_weights(job, sizeof job, 0, kinds, nodes, operands, nodes, lengths,
+                                           LENGTHS, widths, WIDTHS, table, table_words, written_kinds,
+                                           NODES, written_operands, NODES, answer,
+                                           PLANNER_FOUND_WORDS);
+    if (number == PLANNER_DONE)
+        printf("bound %" PRIu64 " rounds %" PRIu64 " weights %" PRIu64 " %" PRIu64 " %" PRIu64 "\n",
+               answer[0], answer[1], answer[2], answer[3], answer[4]);
     else
         refused(number, answer);
 }
@@ -162,6 +180,9 @@ int main(void)
     certify_staged(2, kinds, operands, nodes);
     bound_two(sizeof SECOND_WEIGHTS);
     bound_two(sizeof SECOND_WEIGHTS - 1);
+    find_weights(kinds, operands, nodes, TABLE_WORDS);
+    find_weights(kinds, operands, nodes, 59);
+    find_weights(kinds, operands, nodes, 19);
     certify(PLANNER_TURNING, kinds, operands, nodes);
     nodes = write_plan(PLANNER_TURNING, kinds, operands);
     check(PLANNER_TURNING, kinds, operands, nodes);

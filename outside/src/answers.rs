@@ -19,6 +19,9 @@ pub const STAGED_REPORT_WORDS: usize = 70;
 /// Words of a report of the saw.
 pub const SAW_WORDS: usize = 68;
 
+/// Words of found weights.
+pub const FOUND_WORDS: usize = 66;
+
 /// Answer of a call whose `answer` slice is too short.
 pub const ANSWER_TOO_SHORT: u32 = 100;
 
@@ -109,6 +112,15 @@ pub struct Neat {
     pub nodes: u64,
 }
 
+/// The least bound that the rounds met, how many were run, and the weights that first gave it, 0 past
+/// the job's kinds.
+#[derive(Clone, Copy, Debug, PartialEq, Eq)]
+pub struct Found {
+    pub bound: u64,
+    pub rounds: u64,
+    pub weights: [u64; 64],
+}
+
 /// Bound less profit (0: the plan is best), with both.
 #[derive(Clone, Copy, Debug, PartialEq, Eq)]
 pub struct Certificate {
@@ -128,6 +140,20 @@ pub struct Storage<'a> {
 pub struct PlanArrays<'a> {
     pub kinds: &'a mut [u8],
     pub operands: &'a mut [u16],
+}
+
+impl Storage<'_> {
+    /// The same storage for a call in between.
+    pub fn again(&mut self) -> Storage<'_> {
+        Storage { lengths: self.lengths, widths: self.widths, table: self.table }
+    }
+}
+
+impl PlanArrays<'_> {
+    /// The same arrays for a call in between.
+    pub fn again(&mut self) -> PlanArrays<'_> {
+        PlanArrays { kinds: self.kinds, operands: self.operands }
+    }
 }
 
 /// An answer as the words of planner.h.
@@ -240,6 +266,19 @@ impl Words<1> for Neat {
 
     fn from_words([nodes]: [u64; 1]) -> Neat {
         Neat { nodes }
+    }
+}
+
+impl Words<FOUND_WORDS> for Found {
+    fn to_words(&self) -> [u64; FOUND_WORDS] {
+        let mut words = [0; FOUND_WORDS];
+        words[..2].copy_from_slice(&[self.bound, self.rounds]);
+        words[2..].copy_from_slice(&self.weights);
+        words
+    }
+
+    fn from_words([bound, rounds, weights @ ..]: [u64; FOUND_WORDS]) -> Found {
+        Found { bound, rounds, weights }
     }
 }
 

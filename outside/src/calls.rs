@@ -1,4 +1,4 @@
-// The eleven calls of planner.h that the tests share, as one value, so that they run the same
+// The twelve calls of planner.h that the tests share, as one value, so that they run the same
 // cases on several implementations.
 use crate::answers::{PlanArrays, Storage};
 
@@ -16,4 +16,6 @@ pub struct Calls {
         fn(&[u8], u32, &[u8], u32, &[u8], &[u16], Storage<'_>, &mut [u64]) -> u32,
     pub bound_two: fn(&[u8], u32, &[u8], &[u8], Storage<'_>, &mut [u64]) -> u32,
     pub exact: fn(&[u8], u32, Storage<'_>, PlanArrays<'_>, &mut [u64]) -> u32,
+    pub find_weights:
+        fn(&[u8], u32, &[u8], &[u16], Storage<'_>, PlanArrays<'_>, &mut [u64]) -> u32,
 }

@@ -1,6 +1,8 @@
 // The C baseline of the folder bench/, on slices.
 // It trusts its caller, so every call is unsafe.
-use crate::answers::{Bound, BoundTwo, Exact, PlanArrays, Storage, Words, Written};
+use crate::answers::{
+    Bound, BoundTwo, Exact, Found, PlanArrays, Storage, Words, Written, FOUND_WORDS,
+};
 
 extern "C" {
     fn baseline_bound(
@@ -31,6 +33,13 @@ extern "C" {
     fn baseline_exact(
         job: *const u8, choices: u32,
         lengths: *mut u16, widths: *mut u16, table: *mut u64,
+        kinds: *mut u8, operands: *mut u16,
+        answer: *mut u64,
+    );
+
+    fn baseline_find_weights(
+        job: *const u8, choices: u32, lower: u64,
+        lengths: *mut u16, widths: *mut u16, table: *mut u64, words: usize,
         kinds: *mut u8, operands: *mut u16,
         answer: *mut u64,
     );
@@ -115,4 +124,25 @@ pub unsafe fn exact(job: &[u8], choices: u32, storage: Storage, plan: PlanArrays
         answer.as_mut_ptr(),
     );
     Exact::from_words(answer)
+}
+
+/// # Safety
+/// The planner accepts the job, storage and table are enough for its weights of 0, and the plan arrays
+/// hold 4,095 nodes, the plan of those weights among them; some plan earns the lower figure.
+pub unsafe fn find_weights(
+    job: &[u8],
+    choices: u32,
+    lower: u64,
+    storage: Storage,
+    plan: PlanArrays,
+) -> Found {
+    let mut answer = [0; FOUND_WORDS];
+    baseline_find_weights(
+        job.as_ptr(), choices, lower,
+        storage.lengths.as_mut_ptr(), storage.widths.as_mut_ptr(),
+        storage.table.as_mut_ptr(), storage.table.len(),
+        plan.kinds.as_mut_ptr(), plan.operands.as_mut_ptr(),
+        answer.as_mut_ptr(),
+    );
+    Found::from_words(answer)
 }

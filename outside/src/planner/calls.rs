@@ -17,6 +17,7 @@ pub const CALLS: Calls = Calls {
     certify_staged,
     bound_two,
     exact,
+    find_weights,
 };
 
 pub fn check_plan(
@@ -295,6 +296,31 @@ pub fn exact(
         foreign::planner_exact(
             job.as_ptr(), job.len(),
             choices,
+            storage.lengths.as_mut_ptr(), storage.lengths.len(),
+            storage.widths.as_mut_ptr(), storage.widths.len(),
+            storage.table.as_mut_ptr(), storage.table.len(),
+            plan.kinds.as_mut_ptr(), plan.kinds.len(),
+            plan.operands.as_mut_ptr(), plan.operands.len(),
+            answer.as_mut_ptr(), answer.len(),
+        )
+    }
+}
+
+pub fn find_weights(
+    job: &[u8],
+    choices: u32,
+    kinds: &[u8],
+    operands: &[u16],
+    storage: Storage,
+    plan: PlanArrays,
+    answer: &mut [u64],
+) -> u32 {
+    unsafe {
+        foreign::planner_find_weights(
+            job.as_ptr(), job.len(),
+            choices,
+            kinds.as_ptr(), kinds.len(),
+            operands.as_ptr(), operands.len(),
             storage.lengths.as_mut_ptr(), storage.lengths.len(),
             storage.widths.as_mut_ptr(), storage.widths.len(),
             storage.table.as_mut_ptr(), storage.table.len(),

@@ -140,4 +140,17 @@ extern "C" {
         operands: *mut u16, operands_len: usize,
         answer: *mut u64, answer_len: usize,
     ) -> u32;
+
+    pub fn planner_find_weights(
+        job: *const u8, job_len: usize,
+        choices: u32,
+        kinds: *const u8, kinds_len: usize,
+        operands: *const u16, operands_len: usize,
+        lengths: *mut u16, lengths_len: usize,
+        widths: *mut u16, widths_len: usize,
+        table: *mut u64, table_len: usize,
+        written_kinds: *mut u8, written_kinds_len: usize,
+        written_operands: *mut u16, written_operands_len: usize,
+        answer: *mut u64, answer_len: usize,
+    ) -> u32;
 }

@@ -4,7 +4,7 @@ pub mod calls;
 mod foreign;
 
 use crate::answers::{
-    Bound, BoundTwo, Certificate, Exact, Neat, Part, PlanArrays, Refusal, Report, SawReport,
+    Bound, BoundTwo, Certificate, Exact, Found, Neat, Part, PlanArrays, Refusal, Report, SawReport,
     StagedReport, Storage, Words, Written,
 };
 
@@ -157,6 +157,18 @@ pub fn exact(
     plan: PlanArrays,
 ) -> Result<Exact, Refusal> {
     typed(|answer| calls::exact(job, choices, storage, plan, answer))
+}
+
+/// Finds weights in rounds, from the profit of a plan. Storage and arrays are left as by the last round.
+pub fn find_weights(
+    job: &[u8],
+    choices: u32,
+    kinds: &[u8],
+    operands: &[u16],
+    storage: Storage,
+    plan: PlanArrays,
+) -> Result<Found, Refusal> {
+    typed(|answer| calls::find_weights(job, choices, kinds, operands, storage, plan, answer))
 }
 
 fn part_of<T>(array: &[T], part: Part) -> &[T] {

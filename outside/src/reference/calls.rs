@@ -19,6 +19,7 @@ pub const CALLS: Calls = Calls {
     certify_staged,
     bound_two,
     exact,
+    find_weights,
 };
 
 pub fn check_plan(
@@ -169,6 +170,18 @@ pub fn exact(
     answer: &mut [u64],
 ) -> u32 {
     coded(choices, answer, || super::exact(job, choices, storage, plan))
+}
+
+pub fn find_weights(
+    job: &[u8],
+    choices: u32,
+    kinds: &[u8],
+    operands: &[u16],
+    storage: Storage,
+    plan: PlanArrays,
+    answer: &mut [u64],
+) -> u32 {
+    coded(choices, answer, || super::find_weights(job, choices, kinds, operands, storage, plan))
 }
 
 fn coded<const N: usize, A: Words<N>>(

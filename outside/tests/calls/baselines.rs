@@ -3,7 +3,7 @@
 use crate::inputs::{draw, short_order, Scale, SMALL};
 use crate::lent::{Lent, Sizes, AMPLE};
 use crate::run::{Call, Input, ALL_CHOICES};
-use outside::answers::{PlanArrays, Storage, Words, Written};
+use outside::answers::{PlanArrays, Storage, Words, Written, FOUND_WORDS};
 use outside::random::Random;
 use outside::{baseline, reference};
 
@@ -137,6 +137,39 @@ fn the_baseline_of_short_orders_agrees() {
     exact_baseline_agrees(19, 2000, few);
     let many = Scale { plate: 5, side: 3, kinds: 12, price: 50, work: 20_000_000, ..SMALL };
     exact_baseline_agrees(20, 300, many);
+}
+
+/// Compares the baseline of the rounds on so many jobs whose lent plan passes, the words of choices
+/// taking turns.
+fn baseline_of_rounds_agrees(seed: u64, jobs: usize, scale: Scale) {
+    let random = &mut Random::new(seed);
+    let room = Sizes { table: 1 << 12, answer: FOUND_WORDS, ..ROOM };
+    let (mut compared, mut rounds) = (0, 0);
+    for i in 0..jobs {
+        let input = draw(random, scale, ALL_CHOICES[i % 4]);
+        let Input { job, choices, kinds, operands, .. } = &input;
+        let (mut expected, mut lent) = (Lent::new(room), Lent::new(room));
+        if Call::FindWeights.run(&reference::calls::CALLS, &input, &mut expected) == 0 {
+            compared += 1;
+            let lower = reference::check_plan(job, *choices, kinds, operands).expect("a plan").profit;
+            let (storage, plan, answer) = lent.split();
+            // The reference has found the storage enough.
+            let found = unsafe { baseline::c::find_weights(job, *choices, lower, storage, plan) };
+            answer.copy_from_slice(&found.to_words());
+            assert_eq!(expected.differences(&lent), [""; 0], "{input:?}");
+            rounds += found.rounds;
+        }
+    }
+    println!("{compared} of {jobs} jobs compared, {rounds} rounds");
+    assert!(10 * compared >= 6 * jobs);
+}
+
+#[test]
+fn the_baseline_of_the_rounds_agrees() {
+    let few = Scale { plate: 8, kerf: 3, side: 4, kinds: 6, price: 30, demand: 2, ..SMALL };
+    baseline_of_rounds_agrees(21, 2000, few);
+    let dear = Scale { plate: 4, side: 2, price: 1_000_000, ..few };
+    baseline_of_rounds_agrees(22, 300, dear);
 }
 
 #[test]

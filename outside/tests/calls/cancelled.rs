@@ -46,7 +46,7 @@ fn refusals_stay_as_they_are() {
 }
 
 /// A job with cancelled kinds, the same job without them, and the numbers that its kinds had.
-fn draw_both(random: &mut Random) -> ([Input; 2], Vec<u16>) {
+pub fn draw_both(random: &mut Random) -> ([Input; 2], Vec<u16>) {
     let (mut all, mut ordered, mut numbers) = (vec![], vec![], vec![]);
     let (mut weights, mut kept) = (vec![], vec![]);
     for i in 0..random.from(2, 6) {

@@ -98,6 +98,7 @@ fn codes(call: Call) -> Vec<u32> {
         Call::Certify => &[8, 9, 10, 11, 12, 13, 14, 15, 16, 17, 18, 19, 20, 26],
         Call::BoundTwo => &[8, 9, 19, 20, 24, 25],
         Call::Exact => &[19, 20, 21, 30],
+        Call::FindWeights => &[10, 11, 12, 13, 14, 15, 16, 17, 18, 19, 20, 21, 26],
         Call::CheckPlanStaged => &[10, 11, 12, 13, 14, 15, 16, 17, 18, 22, 23, 26],
         Call::BoundStaged => &[8, 9, 19, 20, 22],
         Call::CertifyStaged => {
@@ -122,7 +123,7 @@ fn agree_with(random: &mut Random, inputs: usize, scale: Scale, choices: u32) ->
         let order = short_order(random, &input, scale.work.min(1_000_000));
         for call in ALL_CALLS {
             let input = if call == Call::Exact { &order } else { &input };
-            let sizes = draw_sizes(random, call, input);
+            let sizes = draw_sizes(random, call, input, scale.work);
             let (code, lent) = tally.compare(call, input, sizes);
             match (call, code) {
                 (Call::WritePlan | Call::Exact, 0) => {
@@ -210,23 +211,44 @@ fn draw_second(random: &mut Random, scale: Scale, input: &mut Input) {
 /// The sums that the reference forms, about.
 fn work(input: &Input) -> usize {
     let Ok(job) = Job::read(&input.job, input.choices) else { return 0 };
-    let cuts = job.length * job.width * (job.length + job.width) / 2;
-    let splits = |capacity| (capacity + 1) * (capacity + 2) / 2;
     let staged = capacity(&job, &input.weights).map_or(0, |q| splits(q) * (blocks(input) + 1) / 2);
     let two = capacities(&job, &input.weights, &input.second);
-    cuts * staged.max(two.map_or(0, |[first, second]| splits(first) * splits(second)))
+    cuts(&job) * staged.max(two.map_or(0, |[first, second]| splits(first) * splits(second)))
 }
 
-fn draw_sizes(random: &mut Random, call: Call, input: &Input) -> Sizes {
-    let (lengths, widths, table) = needs(call, input);
+/// The cuts that the reference tries, about.
+fn cuts(job: &Job) -> usize {
+    job.length * job.width * (job.length + job.width) / 2
+}
+
+/// The ways to share out every part of a capacity.
+fn splits(capacity: usize) -> usize {
+    (capacity + 1) * (capacity + 2) / 2
+}
+
+fn draw_sizes(random: &mut Random, call: Call, input: &Input, work: usize) -> Sizes {
+    let (lengths, widths, words) = needs(call, input);
+    let rounds = call == Call::FindWeights;
+    let table = if rounds { words * draw_shares(random, input, work / 4) } else { words };
+    let mut nodes = || if rounds && random.one_in(4) { random.from(0, 20) } else { 4095 };
+    let (kinds, operands) = (nodes(), nodes());
     Sizes {
         lengths: near(random, lengths),
         widths: near(random, widths),
         table: near(random, table),
-        kinds: 4095,
-        operands: 4095,
+        kinds,
+        operands,
         answer: near(random, call.answer_words()),
     }
+}
+
+/// The shares of a round that the table is to hold: as many as the reference can fill in so many sums,
+/// now and then fewer. A round that needs more ends the run.
+fn draw_shares(random: &mut Random, input: &Input, work: usize) -> usize {
+    let Ok(job) = Job::read(&input.job, input.choices) else { return 1 };
+    let affordable = |capacity: &usize| cuts(&job) * splits(*capacity) <= work;
+    let most = (0..4096).take_while(affordable).count().max(1);
+    if random.one_in(4) { random.from(1, most) } else { most }
 }
 
 /// Mostly enough, at times exactly, one short or nothing.
@@ -247,6 +269,7 @@ fn needs(call: Call, input: &Input) -> (usize, usize, usize) {
         Call::BoundTwo => capacities(&job, &input.weights, &input.second)
             .map_or(1, |both| (both[0] + 1) * (both[1] + 1)),
         Call::Exact => Copies::of(&job).map_or(1, |copies| copies.states),
+        Call::FindWeights => 1,
         call if STAGED_CALLS.contains(&call) => blocks(input) * shares,
         _ => shares,
     };

@@ -16,6 +16,8 @@ mod lent;
 mod limits;
 mod neat;
 mod readings;
+mod rounds;
+mod rounds_found;
 mod run;
 mod saw;
 mod short_orders;

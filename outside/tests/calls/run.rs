@@ -1,7 +1,9 @@
 // One call on one input with fresh memory, and the same call on two implementations, with the new
 // block and the old one.
 use crate::lent::{Lent, Sizes};
-use outside::answers::{FULL_DEMAND, OLD_BLOCK, REPORT_WORDS, STAGED_REPORT_WORDS, TURNING};
+use outside::answers::{
+    FOUND_WORDS, FULL_DEMAND, OLD_BLOCK, REPORT_WORDS, STAGED_REPORT_WORDS, TURNING,
+};
 use outside::blocks::plan_block;
 use outside::calls::Calls;
 use outside::planner;
@@ -20,9 +22,10 @@ pub enum Call {
     CertifyStaged,
     BoundTwo,
     Exact,
+    FindWeights,
 }
 
-pub const ALL_CALLS: [Call; 11] = [
+pub const ALL_CALLS: [Call; 12] = [
     Call::CheckPlan,
     Call::CheckPlanBlock,
     Call::Bound,
@@ -34,6 +37,7 @@ pub const ALL_CALLS: [Call; 11] = [
     Call::CertifyStaged,
     Call::BoundTwo,
     Call::Exact,
+    Call::FindWeights,
 ];
 
 /// The calls that take one weight a kind and no limit.
@@ -114,6 +118,7 @@ impl Call {
             Call::WritePlan | Call::BoundTwo | Call::Exact => 5,
             Call::NeatPlan => 1,
             Call::Certify | Call::CertifyStaged => 3,
+            Call::FindWeights => FOUND_WORDS,
         }
     }
 
@@ -139,6 +144,9 @@ impl Call {
                 (calls.bound_two)(job, c, weights, &input.second, storage, answer)
             }
             Call::Exact => (calls.exact)(job, c, storage, plan, answer),
+            Call::FindWeights => {
+                (calls.find_weights)(job, c, kinds, operands, storage, plan, answer)
+            }
         }
     }
 }

@@ -9,10 +9,13 @@ pub struct Contender {
     pub write_plan: fn(&Job, &mut Memory) -> Written,
 }
 
-/// A call that has a baseline in C alone; answers are given as words, p and r side by side.
+/// A call that has a baseline in C alone; answers are given as words.
 pub struct Duel {
-    /// The word that has p.
-    pub lengths_at: usize,
+    /// What two words of the answer tell, and where the first of them stands.
+    pub columns: [&'static str; 2],
+    pub columns_at: usize,
+    /// The table has so many times the words of the first refusal.
+    pub tables: usize,
     pub ours: fn(&Job, &mut Memory) -> Result<Vec<u64>, Refusal>,
     pub c: fn(&Job, &mut Memory) -> Vec<u64>,
 }
@@ -62,7 +65,9 @@ pub const CONTENDERS: [Contender; 3] = [
 // In every duel job and memory are accepted: the proved call has said so.
 
 pub const STAGED: Duel = Duel {
-    lengths_at: 2,
+    columns: ["p", "r"],
+    columns_at: 2,
+    tables: 1,
     ours: |Job { block, choices, weights, limit, .. }, memory| {
         let bound = planner::bound_staged(block, *choices, weights, *limit, memory.split().0);
         Ok(bound?.to_words().into())
@@ -76,7 +81,9 @@ pub const STAGED: Duel = Duel {
 };
 
 pub const TWO_WEIGHTS: Duel = Duel {
-    lengths_at: 3,
+    columns: ["p", "r"],
+    columns_at: 3,
+    tables: 1,
     ours: |Job { block, choices, weights, second, .. }, memory| {
         let bound = planner::bound_two(block, *choices, weights, second, memory.split().0);
         Ok(bound?.to_words().into())
@@ -89,7 +96,9 @@ pub const TWO_WEIGHTS: Duel = Duel {
 };
 
 pub const EXACT: Duel = Duel {
-    lengths_at: 2,
+    columns: ["p", "r"],
+    columns_at: 2,
+    tables: 1,
     ours: |Job { block, choices, .. }, memory| {
         let (storage, plan) = memory.split();
         Ok(planner::exact(block, *choices, storage, plan)?.to_words().into())
@@ -100,11 +109,27 @@ pub const EXACT: Duel = Duel {
     },
 };
 
+/// The lower figure is 0: a waste node is lent. The first refusal tells the words for one share.
+pub const ROUNDS: Duel = Duel {
+    columns: ["bound", "rounds"],
+    columns_at: 0,
+    tables: 1024,
+    ours: |Job { block, choices, .. }, memory| {
+        let (storage, plan) = memory.split();
+        let found = planner::find_weights(block, *choices, &[0], &[0], storage, plan);
+        Ok(found?.to_words().into())
+    },
+    c: |Job { block, choices, .. }, memory| {
+        let (storage, plan) = memory.split();
+        unsafe { baseline::c::find_weights(block, *choices, 0, storage, plan) }.to_words().into()
+    },
+};
+
 impl Duel {
     /// The memory that a job needs, as the proved call answers it.
     pub fn enough_for(&self, job: &Job) -> Memory {
         let refusal = (self.ours)(job, &mut Memory::new(0)).expect_err("no table is lent");
-        Memory::new(refusal.place as usize)
+        Memory::new(self.tables * refusal.place as usize)
     }
 }
 

@@ -163,6 +163,13 @@ pub fn exact() -> Vec<Job> {
     [first].into_iter().chain(others).collect()
 }
 
+/// Weights found in rounds: for short orders, and for one of each of many kinds.
+pub fn rounds() -> Vec<Job> {
+    let short = exact().into_iter().take(3);
+    let named = |job: Job| Job { name: format!("rounds {}", job.name.replace("exact ", "")), ..job };
+    short.chain([draw(&SMALL)]).map(named).collect()
+}
+
 fn draw(from: &Draw) -> Job {
     let random = &mut Random::new(u64::from(from.plate) + from.kinds as u64);
     let mut kinds: Vec<Kind> = (0..from.kinds).map(|_| draw_kind(random, from.sides)).collect();

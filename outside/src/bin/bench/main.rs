@@ -1,7 +1,7 @@
 // The benchmark: bound and written plan, ours against the baselines in Rust and C, and the staged bound,
-// that of two weights and the exact answer, ours against those in C, in one run. Prints Markdown: one
-// table of named jobs, two of how time grows, three of the other calls. A word given as argument leaves
-// only the jobs whose names have it.
+// that of two weights, the exact answer and the weights found, ours against those in C, in one run.
+// Prints Markdown: one table of named jobs, two of how time grows, four of the other calls. A word given
+// as argument leaves only the jobs whose names have it.
 mod contender;
 mod jobs;
 mod measure;
@@ -15,4 +15,5 @@ fn main() {
     report::duel_table("Staged bounds", &wanted, &contender::STAGED, &jobs::staged());
     report::duel_table("Two weights", &wanted, &contender::TWO_WEIGHTS, &jobs::two_weights());
     report::duel_table("Exact answers", &wanted, &contender::EXACT, &jobs::exact());
+    report::duel_table("Rounds", &wanted, &contender::ROUNDS, &jobs::rounds());
 }

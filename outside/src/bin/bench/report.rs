@@ -44,7 +44,8 @@ fn line(facts: &str, call: &str, [ours, rust, c]: [f64; 3]) {
 /// Of a call with a baseline in C alone.
 pub fn duel_table(title: &str, wanted: &str, duel: &Duel, jobs: &[Job]) {
     println!("\n## {title}\n");
-    println!("| job | p | r | words | ours ms | C ms | ours / C |");
+    let [first, second] = duel.columns;
+    println!("| job | {first} | {second} | words | ours ms | C ms | ours / C |");
     println!("|---|--:|--:|--:|--:|--:|--:|");
     let calls: [fn(&Duel, &Job, &mut Memory); 2] = [
         |duel, job, memory| _ = (duel.ours)(job, memory).expect("an accepted job"),
@@ -67,6 +68,6 @@ fn duel_facts(duel: &Duel, job: &Job) -> String {
     assert!(answer == (duel.c)(job, &mut c), "both answer the same for {}", job.name);
     assert!(ours.lengths == c.lengths && ours.widths == c.widths && ours.table == c.table);
     assert!(ours.kinds == c.kinds && ours.operands == c.operands);
-    let [p, r] = [0, 1].map(|word| answer[duel.lengths_at + word]);
-    format!("| {} | {p} | {r} | {} |", job.name, ours.table.len())
+    let [first, second] = [0, 1].map(|word| answer[duel.columns_at + word]);
+    format!("| {} | {first} | {second} | {} |", job.name, ours.table.len())
 }
