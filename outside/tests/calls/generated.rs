@@ -229,7 +229,7 @@ fn splits(capacity: usize) -> usize {
 fn draw_sizes(random: &mut Random, call: Call, input: &Input, work: usize) -> Sizes {
     let (lengths, widths, words) = needs(call, input);
     let rounds = call == Call::FindWeights;
-    let table = if rounds { words * draw_shares(random, input, work / 4) } else { words };
+    let table = if rounds { words * draw_shares(random, input, work) } else { words };
     let mut nodes = || if rounds && random.one_in(4) { random.from(0, 20) } else { 4095 };
     let (kinds, operands) = (nodes(), nodes());
     Sizes {
@@ -242,13 +242,17 @@ fn draw_sizes(random: &mut Random, call: Call, input: &Input, work: usize) -> Si
     }
 }
 
-/// The shares of a round that the table is to hold: as many as the reference can fill in so many sums,
-/// now and then fewer. A round that needs more ends the run.
+/// The shares of a round that the table is to hold: as many as the reference can fill for eighteen
+/// rounds in a short time, now and then fewer. A round that needs more ends the run.
 fn draw_shares(random: &mut Random, input: &Input, work: usize) -> usize {
     let Ok(job) = Job::read(&input.job, input.choices) else { return 1 };
-    let affordable = |capacity: &usize| cuts(&job) * splits(*capacity) <= work;
+    let affordable = |capacity: &usize| cuts(&job) * splits(*capacity) <= (work / 4).min(500_000);
     let most = (0..4096).take_while(affordable).count().max(1);
-    if random.one_in(4) { random.from(1, most) } else { most }
+    match random.from(0, 7) {
+        0 => 1,
+        1 | 2 => random.from(1, most),
+        _ => most,
+    }
 }
 
 /// Mostly enough, at times exactly, one short or nothing.
