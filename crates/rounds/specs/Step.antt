@@ -1,12 +1,18 @@
 -- The numbers of formulas 12 and 13 of Morabito and Pureza, exact: the factor of a round, and the step as the whole part of a square root.
 use mathlib.Core.Path.{_≡_}
 use mathlib.Core.Bool.{Bool, true, false}
+use mathlib.Core.List.{List, [], _∷_}
 use Prim.Native.Nat.{ℕ, zero, suc, _+_, _-_, _*_, _/_, _^_, _≤_, _<_, max, min}
 use lib.Dec.{leb, ltb}
+use lib.ListN.{getD}
 
 -- the factor of a round in sixteenths: 2, halved after every third round
 abbrev pub factor : ℕ → ℕ
 factor k = 32 / 2 ^ (k / 3)
+
+-- the table of the factors of the eighteen rounds, in sixteenths
+abbrev pub factors : List ℕ
+factors = 32 ∷ 32 ∷ 32 ∷ 16 ∷ 16 ∷ 16 ∷ 8 ∷ 8 ∷ 8 ∷ 4 ∷ 4 ∷ 4 ∷ 2 ∷ 2 ∷ 2 ∷ 1 ∷ 1 ∷ 1 ∷ []
 
 -- d: how far copies lie from the demand
 abbrev pub distance : ℕ → ℕ → ℕ
@@ -43,10 +49,11 @@ stepped false weight x = weight - x
 abbrev pub adjusted : ℕ → ℕ → ℕ → ℕ → ℕ → ℕ → ℕ
 adjusted f gap squares weight copies demand = stepped (ltb demand copies) weight (step f gap squares (distance copies demand))
 
--- the rules of the steps: the factor is 2 in rounds 0 to 2 and is halved after every third round; a step is the whole part of the square
--- root of d · s, and 255 where that is above; where the summed squares are not 0 there is such a root
+-- the rules of the steps: the factor is 2 in rounds 0 to 2 and is halved after every third round, and each entry of the table is its round's
+-- factor; a step is the whole part of the square root of d · s, and 255 where that is above; where the summed squares are not 0 there is such a root
 pub record StepRules : Type 0 where
   pub first : (k : ℕ) → k < 3 → factor k ≡ 32
   pub halved : (k : ℕ) → factor (k + 3) ≡ factor k / 2
+  pub tabled : (k : ℕ) → k < 18 → getD factors k 0 ≡ factor k
   pub whole : (f gap squares d x : ℕ) → WholeRoot (d * scale f gap squares) (16 * squares) x → step f gap squares d ≡ min 255 x
   pub exists : (f gap squares d : ℕ) → 1 ≤ squares → (x : ℕ) × WholeRoot (d * scale f gap squares) (16 * squares) x

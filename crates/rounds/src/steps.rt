@@ -9,16 +9,15 @@ ghost use Rattle.job.specs.Block.{entries};
 ghost use Rattle.rounds.specs.Step.{factor, distance, root-below, scale, stepped, adjusted};
 ghost use Rattle.rounds.specs.Contracts.{lays, piece-here, pieces-in, summed};
 
-// The factor of a round in sixteenths: 2, halved after every third round.
+// The factor of each round in sixteenths: 2, halved after every third round.
+const FACTORS: [u64; 18] = [32, 32, 32, 16, 16, 16, 8, 8, 8, 4, 4, 4, 2, 2, 2, 1, 1, 1];
+
+// The factor of a round.
 pub fn factor_of(round: u16) -> u64
     requires { ⌜ round < 18 ⌝ }
     ensures { λ r. ⌜ (r ≡ factor round) × (r ≤ 32) ⌝ }
 {
-    let mut f = 32u64;
-    for i in 0..round / 3 {
-        f = f / 2;
-    }
-    f
+    FACTORS[round as usize]
 }
 
 // How far copies lie from the demand.
