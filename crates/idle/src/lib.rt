@@ -6,7 +6,7 @@ use node::decode;
 use refusal::Checked;
 use refusal::Refusal;
 ghost use mathlib.Core.Path.{_≡_};
-ghost use Prim.Native.Nat.{_≤_};
+ghost use Prim.Native.Nat.{_+_, _≤_};
 ghost use lib.ListN.{length};
 ghost use Rattle.cutting.specs.Limits.{most-nodes};
 ghost use Rattle.refusal.specs.declared.Refusal.the-variants.{IdleCut};
@@ -53,10 +53,10 @@ fn decide(idle: bool, k: u16, after: Checked) -> Checked
     after
 }
 
-// The first idle cut in preorder.
-pub fn idle_cut(kinds: &[u8]) -> Checked
-    requires { ⌜ length (now kinds) ≤ most-nodes ⌝ }
-    ensures { λ r. ⌜ r ≡ first-refusal (idle-checks 0 (now (kinds .entry))) ⌝ }
+// The first idle cut in preorder, of nodes numbered from `first` on.
+pub fn idle_cut(kinds: &[u8], first: usize) -> Checked
+    requires { ⌜ first + length (now kinds) ≤ most-nodes ⌝ }
+    ensures { λ r. ⌜ r ≡ first-refusal (idle-checks first (now (kinds .entry))) ⌝ }
 {
     let mut verdict = Checked::Passed;
     let mut pieceless: u16 = 0;
@@ -65,7 +65,7 @@ pub fn idle_cut(kinds: &[u8]) -> Checked
         k -= 1;
         let node = decode(kinds[k], 0);
         let idle = is_idle(node, pieceless);
-        verdict = decide(idle, k as u16, verdict);
+        verdict = decide(idle, (first + k) as u16, verdict);
         pieceless = pieceless_from(node, pieceless);
     }
     verdict

@@ -12,7 +12,7 @@ use Rattle.refusal.specs.Refusals.{Check, next, first-refusal, outcome-by}
 use Rattle.refusal.specs.declared.Checked.{Checked}
 use Rattle.refusal.specs.declared.Checked.the-variants.{Passed, Refused}
 use Rattle.refusal.specs.declared.Refusal.{Refusal}
-use Rattle.job.specs.Block.{plate-length-at, plate-width-at, count-at, kerf-at, sizes-end, length-at, width-at, price-at, demand-at, outside, number-checks, header-checks, size-check, pair-checks, each-kind, checks-by, job-checks, record-of, priced, empty-record, read-by, read-of, job-values, job-outcome, job-said, job-of}
+use Rattle.job.specs.Block.{plate-length-at, plate-width-at, count-at, kerf-at, sizes-end, length-at, width-at, price-at, demand-at, outside, sides-outside, short-check, count-checks, header-checks, plateless-checks, size-check, pair-checks, each-kind, checks-by, job-checks, record-of, priced, empty-record, read-by, read-of, job-values, job-outcome, job-said, job-from, job-of}
 use Rattle.job.specs.Contracts.{HoldsKinds}
 use Rattle.job.specs.declared.Choices.{Choices}
 use Rattle.job.specs.declared.JobAnswer.{JobAnswer}
@@ -20,17 +20,17 @@ use Rattle.job.specs.declared.JobRecord.{JobRecord}
 use Rattle.job.proofs.Checks.{passed-both, first-append, append-passed, cons-passed, each-passed}
 use Rattle.job.proofs.Entries.{entries-in}
 
-or-false : (a b : Bool) → (a || b) ≡ false → (a ≡ false) × (b ≡ false)
+pub or-false : (a b : Bool) → (a || b) ≡ false → (a ≡ false) × (b ≡ false)
 or-false true b p = (p, cc)
 or-false false b p = (refl, p)
 
 -- a number that does not lie outside a range
-inside : (lo hi x : ℕ) → outside lo hi x ≡ false → (lo ≤ x) × (x ≤ hi)
+pub inside : (lo hi x : ℕ) → outside lo hi x ≡ false → (lo ≤ x) × (x ≤ hi)
 inside lo hi x p = let q = or-false (ltb x lo) (ltb hi x) p in (ltb-false x lo (q .0), ltb-false hi x (q .1))
 
--- two numbers of which none lies outside
-both-inside : (lo hi x y : ℕ) → (outside lo hi x || outside lo hi y) ≡ false → ((lo ≤ x) × (x ≤ hi)) × ((lo ≤ y) × (y ≤ hi))
-both-inside lo hi x y p = let q = or-false (outside lo hi x) (outside lo hi y) p in (inside lo hi x (q .0), inside lo hi y (q .1))
+-- two sides of which none lies outside
+pub both-inside : (x y : ℕ) → sides-outside x y ≡ false → ((1 ≤ x) × (x ≤ 1000)) × ((1 ≤ y) × (y ≤ 1000))
+both-inside x y p = let q = or-false (outside 1 1000 x) (outside 1 1000 y) p in (inside 1 1000 x (q .0), inside 1 1000 y (q .1))
 
 -- a block is at least six bytes long where its sizes are there
 pub sizes-least : (old : Bool) → (6 ≤ sizes-end old) × (sizes-end old ≤ 8)
@@ -38,42 +38,46 @@ sizes-least true = omega arith
 sizes-least false = omega arith
 
 module _ (old : Bool) (s : List ℕ) where
-  -- the header's numbers where its checks passed
-  pub record Header : Type 0 where
-    pub plate-length : (1 ≤ plate-length-at s) × (plate-length-at s ≤ 1000)
-    pub plate-width : (1 ≤ plate-width-at s) × (plate-width-at s ≤ 1000)
+  -- the header's numbers beside the plate's, where their checks passed
+  pub record Counts : Type 0 where
     pub kinds : (1 ≤ count-at s) × (count-at s ≤ 64)
     pub kerf : kerf-at old s ≤ 20
     pub bytes : length s ≡ sizes-end old + 10 * count-at s
 
-  pub header-passed : first-refusal (header-checks old s) ≡ Passed → Header
-  header-passed p =
-      let a = append-passed (number-checks old s) _ (cons-passed _ _ _ p .1) in
-      let b = cons-passed _ _ _ (a .0) in
-      let d = cons-passed _ _ _ (b .1) in
+  pub counts-passed : first-refusal (count-checks old s) ≡ Passed → Counts
+  counts-passed p =
+      let d = cons-passed _ _ _ p in
       let e = cons-passed _ _ _ (d .1) in
-      let f = cons-passed _ _ _ (a .1) in
-      let plate = both-inside 1 1000 (plate-length-at s) (plate-width-at s) (b .0) in
+      let f = cons-passed _ _ _ (e .1) in
       record {
-        plate-length = plate .0;
-        plate-width = plate .1;
         kinds = inside 1 64 (count-at s) (d .0);
         kerf = ltb-false 20 (kerf-at old s) (e .0);
         bytes = eqb-true (length s) (sizes-end old + 10 * count-at s) (not-false (eqb (length s) (sizes-end old + 10 * count-at s)) (f .0));
       }
 
-  -- a block whose header passed has all the bytes of its kinds
-  pub header-holds : (n : ℕ) → n ≡ count-at s → first-refusal (header-checks old s) ≡ Passed → HoldsKinds (sizes-end old) s n
-  header-holds n e p = let h = header-passed p in (e, omega (arith, e, h .kinds .1), sizes-least old .1, omega (arith, e, h .bytes))
+  -- the header's numbers where its checks passed
+  pub header-passed : first-refusal (header-checks old s) ≡ Passed → (((1 ≤ plate-length-at s) × (plate-length-at s ≤ 1000)) × ((1 ≤ plate-width-at s) × (plate-width-at s ≤ 1000))) × Counts
+  header-passed p = let a = cons-passed _ _ _ (cons-passed _ _ _ p .1) in (both-inside (plate-length-at s) (plate-width-at s) (a .0), counts-passed (a .1))
 
--- a block's checks, whichever checks a pair has
-module _ (pair : ℕ → List ℕ → ℕ → List Check) (s : List ℕ) (choices : Choices) where
+  -- and where they passed without the plate's
+  pub plateless-passed : first-refusal (plateless-checks old s) ≡ Passed → Counts
+  plateless-passed p = counts-passed (cons-passed _ _ _ p .1)
+
+  -- such a block has all the bytes of its kinds
+  pub counts-hold : (n : ℕ) → n ≡ count-at s → Counts → HoldsKinds (sizes-end old) s n
+  counts-hold n e h = (e, omega (arith, e, h .kinds .1), sizes-least old .1, omega (arith, e, h .bytes))
+
+  pub header-holds : (n : ℕ) → n ≡ count-at s → first-refusal (header-checks old s) ≡ Passed → HoldsKinds (sizes-end old) s n
+  header-holds n e p = counts-hold n e (header-passed p .1)
+
+-- a block's checks, whichever checks its header and a pair have
+module _ (head : Bool → List ℕ → List Check) (pair : ℕ → List ℕ → ℕ → List Check) (s : List ℕ) (choices : Choices) where
   -- where the sizes of the block end
   abbrev end : ℕ
   end = sizes-end (choices .«old_block»)
 
   abbrev header : Checked
-  header = first-refusal (header-checks (choices .«old_block») s)
+  header = first-refusal (head (choices .«old_block») s)
 
   abbrev sizes : Checked
   sizes = first-refusal (each-kind (λ i. size-check end s i ∷ []) 0 (count-at s))
@@ -82,59 +86,69 @@ module _ (pair : ℕ → List ℕ → ℕ → List Check) (s : List ℕ) (choice
   pairs = first-refusal (each-kind (pair end s) 0 (count-at s))
 
   -- they are the header's, then the sizes', then the pairs'
-  pub block-parts : first-refusal (checks-by pair s choices) ≡ next header (next sizes pairs)
-  block-parts = first-append (header-checks (choices .«old_block») s) (each-kind (λ i. size-check end s i ∷ []) 0 (count-at s) ++ each-kind (pair end s) 0 (count-at s))
+  pub block-parts : first-refusal (checks-by head pair s choices) ≡ next header (next sizes pairs)
+  block-parts = first-append (head (choices .«old_block») s) (each-kind (λ i. size-check end s i ∷ []) 0 (count-at s) ++ each-kind (pair end s) 0 (count-at s))
       ∙ ap (next header) (first-append (each-kind (λ i. size-check end s i ∷ []) 0 (count-at s)) (each-kind (pair end s) 0 (count-at s)))
 
   -- where a block passed, its three parts did
-  pub block-passed : first-refusal (checks-by pair s choices) ≡ Passed → (header ≡ Passed) × (sizes ≡ Passed) × (pairs ≡ Passed)
+  pub block-passed : first-refusal (checks-by head pair s choices) ≡ Passed → (header ≡ Passed) × (sizes ≡ Passed) × (pairs ≡ Passed)
   block-passed p =
       let a = passed-both header (next sizes pairs) (sym block-parts ∙ p) in
       let b = passed-both sizes pairs (a .1) in
       (a .0, b .0, b .1)
 
-  module _ (p : first-refusal (checks-by pair s choices) ≡ Passed) where
+  module _ (p : first-refusal (checks-by head pair s choices) ≡ Passed) where
     -- a kind's sides where the block passed
     sides-passed : (i : ℕ) → i < count-at s → ((1 ≤ length-at end s i) × (length-at end s i ≤ 1000)) × ((1 ≤ width-at end s i) × (width-at end s i ≤ 1000))
     sides-passed i h =
         let q = each-passed (λ i. size-check end s i ∷ []) 0 (count-at s) i (block-passed p .1) (omega arith) (omega (arith, h)) in
-        both-inside 1 1000 (length-at end s i) (width-at end s i) (cons-passed _ _ _ q .0)
+        both-inside (length-at end s i) (width-at end s i) (cons-passed _ _ _ q .0)
 
     -- a kind's own checks where the block passed
     pub pair-passed : (i : ℕ) → i < count-at s → first-refusal (pair end s i) ≡ Passed
     pair-passed i h = each-passed (pair end s) 0 (count-at s) i (block-passed p .2) (omega arith) (omega (arith, h))
 
-    -- its job, at whichever prices, is in the scope's ranges where its demands and these prices are
-    pub range-by : ((i : ℕ) → i < count-at s → demand-at end s i ≤ 255) → (prices : List ℕ) → ((i : ℕ) → i < count-at s → getD prices i 0 ≤ 1000000)
-        → InRange (job-of (priced prices (record-of s choices)))
+    -- its job, on whichever plate and at whichever prices, is in the scope's ranges where its header's numbers, the plate, its demands and
+    -- these prices are
+    pub range-by : Counts (choices .«old_block») s → (l w : ℕ) → ((1 ≤ l) × (l ≤ 1000)) × ((1 ≤ w) × (w ≤ 1000)) → ((i : ℕ) → i < count-at s → demand-at end s i ≤ 255)
+        → (prices : List ℕ) → ((i : ℕ) → i < count-at s → getD prices i 0 ≤ 1000000)
+        → InRange (job-from l w (record-of s choices .kerf) (record-of s choices .turning) (record-of s choices .«full_demand») (record-of s choices .count) (record-of s choices .lengths) (record-of s choices .widths) prices (record-of s choices .demands))
     unfolding record-of
-    range-by d prices q =
-        let h = header-passed (choices .«old_block») s (block-passed p .0) in
+    range-by h l w plate d prices q =
         record {
-          plate-length = h .plate-length;
-          plate-width = h .plate-width;
+          plate-length = plate .0;
+          plate-width = plate .1;
           kinds = h .kinds;
           kerfs = h .kerf;
-          lengths = λ i l. subst (λ x. (1 ≤ x) × (x ≤ 1000)) (sym (entries-in (length-at end s) (count-at s) i (h .kinds .1) l)) (sides-passed i l .0);
-          widths = λ i l. subst (λ x. (1 ≤ x) × (x ≤ 1000)) (sym (entries-in (width-at end s) (count-at s) i (h .kinds .1) l)) (sides-passed i l .1);
+          lengths = λ i m. subst (λ x. (1 ≤ x) × (x ≤ 1000)) (sym (entries-in (length-at end s) (count-at s) i (h .kinds .1) m)) (sides-passed i m .0);
+          widths = λ i m. subst (λ x. (1 ≤ x) × (x ≤ 1000)) (sym (entries-in (width-at end s) (count-at s) i (h .kinds .1) m)) (sides-passed i m .1);
           prices = q;
-          demands = λ i l. subst (λ x. x ≤ 255) (sym (entries-in (demand-at end s) (count-at s) i (h .kinds .1) l)) (d i l);
+          demands = λ i m. subst (λ x. x ≤ 255) (sym (entries-in (demand-at end s) (count-at s) i (h .kinds .1) m)) (d i m);
         }
+
+-- a job block's checks, whichever its header has: its job, on whichever plate, is in the scope's ranges where the header's numbers and the
+-- plate are
+pub pairs-range : (head : Bool → List ℕ → List Check) (s : List ℕ) (choices : Choices) → first-refusal (checks-by head pair-checks s choices) ≡ Passed → Counts (choices .«old_block») s
+    → (l w : ℕ) → ((1 ≤ l) × (l ≤ 1000)) × ((1 ≤ w) × (w ≤ 1000))
+    → InRange (job-from l w (record-of s choices .kerf) (record-of s choices .turning) (record-of s choices .«full_demand») (record-of s choices .count) (record-of s choices .lengths) (record-of s choices .widths) (record-of s choices .prices) (record-of s choices .demands))
+unfolding record-of
+pairs-range head s choices p h l w plate =
+    let end = sizes-end (choices .«old_block») in
+    let pair : (i : ℕ) → i < count-at s → (price-at end s i ≤ 1000000) × (demand-at end s i ≤ 255) = λ i l. (let q = cons-passed _ _ _ (pair-passed head pair-checks s choices p i l) in (ltb-false 1000000 (price-at end s i) (q .0), ltb-false 255 (demand-at end s i) (cons-passed _ _ _ (q .1) .0))) in
+    range-by head pair-checks s choices p h l w plate (λ i l. pair i l .1) (record-of s choices .prices) (λ i l. subst (λ x. x ≤ 1000000) (sym (entries-in (price-at end s) (count-at s) i (h .kinds .1) l)) (pair i l .0))
 
 module _ (s : List ℕ) (choices : Choices) (p : first-refusal (job-checks s choices) ≡ Passed) where
   -- where a job block passed, its three parts did
   pub job-passed : (first-refusal (header-checks (choices .«old_block») s) ≡ Passed) × (first-refusal (each-kind (λ i. size-check (sizes-end (choices .«old_block»)) s i ∷ []) 0 (count-at s)) ≡ Passed) × (first-refusal (each-kind (pair-checks (sizes-end (choices .«old_block»)) s) 0 (count-at s)) ≡ Passed)
   unfolding job-checks
-  job-passed = block-passed pair-checks s choices p
+  job-passed = block-passed header-checks pair-checks s choices p
 
   -- the job that was read from it is in the scope's ranges
   pub read-in-range : InRange (job-of (record-of s choices))
   unfolding job-checks record-of
   read-in-range =
-      let end = sizes-end (choices .«old_block») in
-      let few = header-passed (choices .«old_block») s (job-passed .0) .kinds .1 in
-      let pair : (i : ℕ) → i < count-at s → (price-at end s i ≤ 1000000) × (demand-at end s i ≤ 255) = λ i l. (let q = cons-passed _ _ _ (pair-passed pair-checks s choices p i l) in (ltb-false 1000000 (price-at end s i) (q .0), ltb-false 255 (demand-at end s i) (cons-passed _ _ _ (q .1) .0))) in
-      range-by pair-checks s choices p (λ i l. pair i l .1) (record-of s choices .prices) (λ i l. subst (λ x. x ≤ 1000000) (sym (entries-in (price-at end s) (count-at s) i few l)) (pair i l .0))
+      let h = header-passed (choices .«old_block») s (job-passed .0) in
+      pairs-range header-checks s choices p (h .1) (plate-length-at s) (plate-width-at s) (h .0)
 
 -- an answer by a verdict, whichever the checks and the record
 module _ (v : Checked) (j : JobRecord) where

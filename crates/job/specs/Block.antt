@@ -74,23 +74,33 @@ demand-at h s i = u16-at s (h + 4 + 4 * count-at s + 6 * i)
 abbrev pub outside : ℕ → ℕ → ℕ → Bool
 outside lo hi x = ltb x lo || ltb hi x
 
--- the checks of the header's numbers: 2, 3, 27
-abbrev pub number-checks : Bool → List ℕ → List Check
-number-checks old s =
-    (outside 1 most-side (plate-length-at s) || outside 1 most-side (plate-width-at s), PlateSide)
-    ∷ (outside 1 most-kinds (count-at s), KindCount)
+-- one of two sides lies outside 1 to 1,000
+abbrev pub sides-outside : ℕ → ℕ → Bool
+sides-outside l w = outside 1 most-side l || outside 1 most-side w
+
+-- check 1
+abbrev pub short-check : Bool → List ℕ → Check
+short-check old s = (ltb (length s) (sizes-end old), ShortHeader)
+
+-- checks 3, 27 and 4
+abbrev pub count-checks : Bool → List ℕ → List Check
+count-checks old s =
+    (outside 1 most-kinds (count-at s), KindCount)
     ∷ (ltb most-kerf (kerf-at old s), Kerf)
+    ∷ (not (eqb (length s) (sizes-end old + 10 * count-at s)), BlockLength)
     ∷ []
 
--- the header's checks: 1, the numbers', 4
+-- the header's checks: 1, 2, then 3, 27 and 4
 abbrev pub header-checks : Bool → List ℕ → List Check
-header-checks old s =
-    (ltb (length s) (sizes-end old), ShortHeader)
-    ∷ (number-checks old s ++ (not (eqb (length s) (sizes-end old + 10 * count-at s)), BlockLength) ∷ [])
+header-checks old s = short-check old s ∷ (sides-outside (plate-length-at s) (plate-width-at s), PlateSide) ∷ count-checks old s
+
+-- those of a header whose plate is not read: 1, then 3, 27 and 4
+abbrev pub plateless-checks : Bool → List ℕ → List Check
+plateless-checks old s = short-check old s ∷ count-checks old s
 
 -- check 5, of one kind
 abbrev pub size-check : ℕ → List ℕ → ℕ → Check
-size-check h s i = (outside 1 most-side (length-at h s i) || outside 1 most-side (width-at h s i), KindSide i)
+size-check h s i = (sides-outside (length-at h s i) (width-at h s i), KindSide i)
 
 -- check 7, of one kind
 abbrev pub demand-check : ℕ → List ℕ → ℕ → Check
@@ -109,13 +119,14 @@ each-kind f i (suc n) = f i ++ each-kind f (suc i) n
 abbrev pub array-checks : (ℕ → List Check) → ℕ → List ℕ → List Check
 array-checks pair h s = each-kind (λ i. size-check h s i ∷ []) 0 (count-at s) ++ each-kind pair 0 (count-at s)
 
--- the checks of a block, in the table's order: the header, the first array, the second array, its pairs by the checks given
-abbrev pub checks-by : (ℕ → List ℕ → ℕ → List Check) → List ℕ → Choices → List Check
-checks-by pair s choices = header-checks (choices .«old_block») s ++ array-checks (pair (sizes-end (choices .«old_block»)) s) (sizes-end (choices .«old_block»)) s
+-- the checks of a block, in the table's order: the header, by the checks given, the first array, the second array, its pairs by the checks
+-- given
+abbrev pub checks-by : (Bool → List ℕ → List Check) → (ℕ → List ℕ → ℕ → List Check) → List ℕ → Choices → List Check
+checks-by header pair s choices = header (choices .«old_block») s ++ array-checks (pair (sizes-end (choices .«old_block»)) s) (sizes-end (choices .«old_block»)) s
 
 -- the checks of a job block: each pair by its price and its demand
 unfoldable pub job-checks : List ℕ → Choices → List Check
-job-checks s choices = checks-by pair-checks s choices
+job-checks s choices = checks-by header-checks pair-checks s choices
 
 -- an array of 64 entries: f at the first n, and 0 past them
 unfoldable pub entries : (ℕ → ℕ) → ℕ → List ℕ

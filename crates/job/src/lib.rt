@@ -12,12 +12,12 @@ ghost use mathlib.Core.Bool.{true, false, _||_};
 ghost use mathlib.Core.List.{[], _∷_};
 ghost use Prim.Native.Nat.{ℕ, _+_, _*_, _/_, _≤_, _<_};
 ghost use lib.ListN.{length};
-ghost use Rattle.refusal.specs.Refusals.{first-refusal};
+ghost use Rattle.refusal.specs.Refusals.{refuse-when, first-refusal};
 ghost use Rattle.cutting.specs.Areas as measured;
 ghost use Rattle.cutting.specs.Pieces.{fits-either};
 ghost use Rattle.cutting.specs.Sides.{rect-of};
 ghost use Rattle.cutting.specs.Job.{InRange, capacity, copies-on, counted-of};
-ghost use Rattle.job.specs.Block.{with-full-demand, with-old-block, u16-at, u32-at, count-at, kerf-at, sizes-end, price-at, outside, number-checks, header-checks, size-check, demand-check, pair-checks, each-kind, array-checks, job-checks, entries, record-of, unpriced, empty-record, read-of, job-outcome, job-said, job-of};
+ghost use Rattle.job.specs.Block.{with-full-demand, with-old-block, u16-at, u32-at, count-at, kerf-at, sizes-end, price-at, outside, sides-outside, short-check, count-checks, header-checks, plateless-checks, size-check, demand-check, pair-checks, each-kind, array-checks, job-checks, entries, record-of, unpriced, empty-record, read-of, job-outcome, job-said, job-of};
 ghost use Rattle.job.specs.Weights.{weight-in, weights-answer, weights-outcome, weights-said, acceptance-of, acceptance-outcome, acceptance-said};
 ghost use Rattle.job.specs.Contracts.{HoldsKinds};
 
@@ -132,14 +132,21 @@ fn lies_outside(x: u16, lo: u16, hi: u16) -> bool
     either(x < lo, hi < x)
 }
 
-// Whether one of two sides, the first at `at`, lies outside 1 to 1,000.
+// Whether one of two sides lies outside 1 to 1,000.
+pub fn sides_outside(length: u16, width: u16) -> bool
+    ensures { λ r. ⌜ r ≡ sides-outside length width ⌝ }
+{
+    let long = lies_outside(length, 1, 1000);
+    let wide = lies_outside(width, 1, 1000);
+    either(long, wide)
+}
+
+// The same of two sides of a block, the first at `at`.
 fn side_outside(block: &[u8], at: usize) -> bool
     requires { ⌜ at + 4 ≤ length (now block) ⌝ }
-    ensures { λ r. ⌜ r ≡ (outside 1 1000 (u16-at (now (block .entry)) at) || outside 1 1000 (u16-at (now (block .entry)) (at + 2))) ⌝ }
+    ensures { λ r. ⌜ r ≡ sides-outside (u16-at (now (block .entry)) at) (u16-at (now (block .entry)) (at + 2)) ⌝ }
 {
-    let length = lies_outside(read_u16(block, at), 1, 1000);
-    let width = lies_outside(read_u16(block, at + 2), 1, 1000);
-    either(length, width)
+    sides_outside(read_u16(block, at), read_u16(block, at + 2))
 }
 
 // The bytes of the sizes, in the old block and in the new.
@@ -160,37 +167,55 @@ fn read_kerf(block: &[u8], old: bool) -> u16
     read_u16(block, 6)
 }
 
-// Refusals 2, 3 and 27: the numbers of the header.
-fn check_numbers(block: &[u8], old: bool) -> Checked
-    requires { ⌜ sizes-end old ≤ length (now block) ⌝ }
-    ensures { λ r. ⌜ r ≡ first-refusal (number-checks old (now (block .entry))) ⌝ }
+// Refusal 1.
+fn check_short(block: &[u8], old: bool) -> Checked
+    ensures { λ r. ⌜ r ≡ refuse-when (short-check old (now (block .entry)) .0) (short-check old (now (block .entry)) .1) ⌝ }
 {
+    refuse_if(block.len() < sizes_end(old), Refusal::ShortHeader)
+}
+
+// Refusals 3, 27 and 4: the numbers of the header beside the plate's.
+fn check_counts(block: &[u8], old: bool) -> Checked
+    requires { ⌜ sizes-end old ≤ length (now block) ⌝ }
+    ensures { λ r. ⌜ r ≡ first-refusal (count-checks old (now (block .entry))) ⌝ }
+{
+    let n = read_u16(block, 4);
+    let kinds = refuse_if(lies_outside(n, 1, 64), Refusal::KindCount);
+    let Checked::Passed = kinds else {
+        return kinds;
+    };
+    let kerf = refuse_if(20 < read_kerf(block, old), Refusal::Kerf);
+    let Checked::Passed = kerf else {
+        return kerf;
+    };
+    let bytes = sizes_end(old) + 10 * (n as usize);
+    refuse_if(block.len() != bytes, Refusal::BlockLength)
+}
+
+// The header: refusals 1, 2, then 3, 27 and 4.
+pub fn check_header(block: &[u8], old: bool) -> Checked
+    ensures { λ r. ⌜ r ≡ first-refusal (header-checks old (now (block .entry))) ⌝ }
+{
+    let short = check_short(block, old);
+    let Checked::Passed = short else {
+        return short;
+    };
     let plate = refuse_if(side_outside(block, 0), Refusal::PlateSide);
     let Checked::Passed = plate else {
         return plate;
     };
-    let kinds = refuse_if(lies_outside(read_u16(block, 4), 1, 64), Refusal::KindCount);
-    let Checked::Passed = kinds else {
-        return kinds;
-    };
-    refuse_if(20 < read_kerf(block, old), Refusal::Kerf)
+    check_counts(block, old)
 }
 
-// Refusals 1, those of the numbers, and 4: the header.
-pub fn check_header(block: &[u8], old: bool) -> Checked
-    ensures { λ r. ⌜ r ≡ first-refusal (header-checks old (now (block .entry))) ⌝ }
+// A header whose plate is not read: refusals 1, then 3, 27 and 4.
+pub fn check_plateless(block: &[u8], old: bool) -> Checked
+    ensures { λ r. ⌜ r ≡ first-refusal (plateless-checks old (now (block .entry))) ⌝ }
 {
-    let end = sizes_end(old);
-    let short = refuse_if(block.len() < end, Refusal::ShortHeader);
+    let short = check_short(block, old);
     let Checked::Passed = short else {
         return short;
     };
-    let numbers = check_numbers(block, old);
-    let Checked::Passed = numbers else {
-        return numbers;
-    };
-    let n = read_u16(block, 4) as usize;
-    refuse_if(block.len() != end + 10 * n, Refusal::BlockLength)
+    check_counts(block, old)
 }
 
 // Refusal 5, of one kind, where the sizes of the block end at byte h.
@@ -257,7 +282,7 @@ fn check_pairs(block: &[u8], h: usize, n: u16) -> Checked
 }
 
 // Refusals 5 to 7: the two arrays of n kinds.
-fn check_arrays(block: &[u8], h: usize, n: u16) -> Checked
+pub fn check_arrays(block: &[u8], h: usize, n: u16) -> Checked
     requires { ⌜ HoldsKinds h (now block) n ⌝ }
     ensures { λ r. ⌜ r ≡ first-refusal (array-checks (pair-checks h (now (block .entry))) h (now (block .entry))) ⌝ }
 {
@@ -335,7 +360,7 @@ pub fn read_unpriced(block: &[u8], choices: Choices) -> JobRecord
 }
 
 // The record of a block that has the bytes of its kinds.
-fn read_record(block: &[u8], choices: Choices) -> JobRecord
+pub fn read_record(block: &[u8], choices: Choices) -> JobRecord
     requires { ⌜ HoldsKinds (sizes-end (choices .«old_block»)) (now block) (count-at (now block)) ⌝ }
     ensures { λ r. ⌜ r ≡ record-of (now (block .entry)) choices ⌝ }
 {

@@ -24,7 +24,7 @@ use Rattle.plan.specs.declared.PlanAnswer.{PlanAnswer}
 use Rattle.plan.specs.Plan.{plan-answer, unreported, refused, proceed}
 use Rattle.plan.specs.Trees.{ChecksPlan}
 use Rattle.plan.specs.Calls.{arrays-answer, arrays-before-idle, plan-count, plan-kinds, plan-operands, block-checks, plan-block-answer, block-answer, block-before-idle, JobPasses, BlockPasses, plan-outcome, said-after, arrays-said, block-said}
-use Rattle.plan.proofs.Whole.{many-refused, walk-stops}
+use Rattle.plan.proofs.Whole.{many-refused, whole-stops, walk-stops}
 use Rattle.plan.proofs.Plans.{plans-checked, checked-after}
 
 -- a job that was read is in range
@@ -63,7 +63,7 @@ module _ (J : Job) (p : List ℕ) where
 
     pub block-many : 4095 < plan-count p → plan-block-answer J p ≡ refused NodeCount
     block-many m = block-on ∙ walk-stops J (plan-kinds p) (plan-operands p)
-        (ap (λ (a : PlanAnswer). a .verdict) (many-refused J (plan-kinds p) (plan-operands p) (kinds-length ∙ sym operands-length) (omega (arith, kinds-length, m)) (omega (arith, kinds-length, m))))
+        (ap (λ (a : PlanAnswer). a .verdict) (whole-stops J (plan-kinds p) (plan-operands p) (many-refused (plan-kinds p) (plan-operands p) (kinds-length ∙ sym operands-length) (omega (arith, kinds-length, m)) (omega (arith, kinds-length, m)))))
 
 -- both calls pass exactly for the plans of trees
 arrays-checked : (s : List ℕ) (choices : Choices) (kinds operands : List ℕ) → ChecksPlan (JobPasses s choices) (block-job s choices) kinds operands (arrays-before-idle s choices kinds operands) (arrays-answer s choices kinds operands)

@@ -6,8 +6,7 @@ use Prim.Native.Nat.{ℕ, _+_, _-_, _≤_, _<_}
 use native.Mathlib.Nat.{zero-add}
 use native.Mathlib.Decide.{decLt}
 use native.Mathlib.Omega.{arith}
-use borrow.Author.Tests.{ne-eqb, eqb-true, not-false}
-use lib.Dec.{eqb}
+use borrow.Author.Tests.{ne-eqb}
 use lib.ListN.{length, getD, length-replicate, getD-replicate}
 use lib.Seq.{ext-getD}
 use Rattle.cutting.specs.declared.Direction.the-variants.{Length, Width}
@@ -22,8 +21,7 @@ use Rattle.refusal.specs.declared.Refusal.{Refusal}
 use Rattle.refusal.specs.declared.Checked.{Checked}
 use Rattle.refusal.specs.declared.Checked.the-variants.{Passed, Refused}
 use Rattle.job.specs.Block.{entries}
-use Rattle.job.proofs.Checks.{cons-passed, passed-both}
-use Rattle.node.proofs.Nodes.{inside-range}
+use Rattle.job.proofs.Checks.{passed-both}
 use Rattle.job.proofs.Entries.{entries-length, entries-in, entries-past}
 use Rattle.idle.specs.Idle.{idle-checks, tree-checks}
 use Rattle.idle.proofs.Idle.{idle-tree, passed-free, free-passed}
@@ -32,7 +30,7 @@ use Rattle.plan.specs.declared.PlanAnswer.{PlanAnswer}
 use Rattle.plan.specs.Plan.{plan-checks, walk-answer, plan-answer, walk, node-of, node-checks, parts, report-after, nodes-in, passed, proceed, empty-report}
 use Rattle.plan.specs.Trees.{DrawnAs, tree-report, Reports, ChecksPlan}
 use Rattle.plan.proofs.Walk.{nodes-length}
-use Rattle.plan.proofs.Whole.{walks-on, verdict-is}
+use Rattle.plan.proofs.Whole.{whole-counts, walks-on, verdict-is}
 use Rattle.plan.proofs.Counts.{added, added-profit, added-pieces, added-waste, added-trim, added-sawdust, added-length, added-copies}
 use Rattle.plan.proofs.Preorder.{written, count-written, arrays-written, kinds-length, operands-length, written-kinds, written-operands}
 use Rattle.plan.proofs.Trees.{tree-walks}
@@ -63,7 +61,7 @@ none-past J (cut Length x a b) l w g i h = omega (arith, none-past J a x w (g .2
 none-past J (cut Width x a b) l w g i h = omega (arith, none-past J a l x (g .2) i h, none-past J b l (w - x - J .kerf) (g .3) i h)
 
 -- where every rectangle is filled, the walk passes only at the end of the nodes
-ended : (J : Job) (k : ℕ) (left : List (ℕ × ℕ)) (s : Report) → walk J k left [] s .verdict ≡ Passed → (left ≡ []) × (walk J k left [] s ≡ passed s)
+pub ended : (J : Job) (k : ℕ) (left : List (ℕ × ℕ)) (s : Report) → walk J k left [] s .verdict ≡ Passed → (left ≡ []) × (walk J k left [] s ≡ passed s)
 unfolding walk
 ended J k [] s p = (refl, refl)
 ended J k (n ∷ ns) s p = no-pass p
@@ -81,21 +79,21 @@ same-report : {p p′ q q′ w w′ m m′ d d′ : ℕ} {c c′ : List ℕ} →
 same-report a b c d e f = cc
 
 -- the empty report has 64 entries, all 0
-empty-length : length (empty-report .copies) ≡ 64
+pub empty-length : length (empty-report .copies) ≡ 64
 empty-length = length-replicate {A = ℕ} 64 0
 
-empty-copies : (i : ℕ) → i < 64 → getD (empty-report .copies) i 0 ≡ 0
+pub empty-copies : (i : ℕ) → i < 64 → getD (empty-report .copies) i 0 ≡ 0
 empty-copies i h = getD-replicate {A = ℕ} 64 i 0 0 h
 
 module _ (J : Job) (few : J .count ≤ 64) where
-  abbrev whole : Tree laid.Piece → Report
+  abbrev pub whole : Tree laid.Piece → Report
   whole t = added J t (J .plate) empty-report
 
-  whole-copies : (t : Tree laid.Piece) (i : ℕ) → i < 64 → getD (whole t .copies) i 0 ≡ copies-of i t
+  pub whole-copies : (t : Tree laid.Piece) (i : ℕ) → i < 64 → getD (whole t .copies) i 0 ≡ copies-of i t
   whole-copies t i h = added-copies J t (J .plate) empty-report i (omega (arith, h, empty-length)) ∙ omega (arith, empty-copies i h)
 
   -- what a whole tree adds to the empty report is its own
-  whole-own : (t : Tree laid.Piece) → OnPlate J t → whole t ≡ tree-report J t
+  pub whole-own : (t : Tree laid.Piece) → OnPlate J t → whole t ≡ tree-report J t
   whole-own t g =
       same-report (added-profit J t (J .plate) empty-report ∙ zero-add _) copies (added-pieces J t (J .plate) empty-report ∙ zero-add _) (added-waste J t (J .plate) empty-report ∙ zero-add _) (added-trim J t (J .plate) empty-report ∙ zero-add _)
       (added-sawdust J t (J .plate) empty-report ∙ zero-add _)
@@ -145,10 +143,7 @@ module _ (J : Job) (few : J .count ≤ 64) where
 -- arrays that pass the walk have one length, from 1 to 4,095
 pub walked-counts : (J : Job) (kinds operands : List ℕ) → walk-answer J kinds operands .verdict ≡ Passed → (length kinds ≡ length operands) × (1 ≤ length kinds) × (length kinds ≤ 4095)
 unfolding walk-answer
-walked-counts J kinds operands p =
-    let f = cons-passed _ _ _ (proceed-passed (first-refusal (plan-checks kinds operands)) (walk J 0 (nodes-in kinds operands) (J .plate ∷ []) empty-report) p) in
-    let g = inside-range 4096 0 (length kinds) (cons-passed _ _ _ (f .1) .0) in
-    (eqb-true (length kinds) (length operands) (not-false (eqb (length kinds) (length operands)) (f .0)), g .0, omega (arith, g .1))
+walked-counts J kinds operands p = whole-counts kinds operands (proceed-passed (first-refusal (plan-checks kinds operands)) (walk J 0 (nodes-in kinds operands) (J .plate ∷ []) empty-report) p)
 
 -- they are drawn as a tree, and report it
 drawn : (J : Job) → J .count ≤ 64 → (kinds operands : List ℕ) → walk-answer J kinds operands .verdict ≡ Passed → (t : Tree laid.Piece) × DrawnAs J t kinds operands × Reports J t (walk-answer J kinds operands .report)

@@ -33,12 +33,12 @@ arrays-in [] = refl
 arrays-in (n ∷ ns) = ap (λ l. pair-of n ∷ l) (arrays-in ns)
 
 -- two arrays of one length are known by their pairs
-firsts : (ks os : List ℕ) → length ks ≡ length os → map (λ p. p .0) (nodes-in ks os) ≡ ks
+pub firsts : (ks os : List ℕ) → length ks ≡ length os → map (λ p. p .0) (nodes-in ks os) ≡ ks
 firsts [] os h = refl
 firsts (k ∷ ks) [] h = absurd (omega arith)
 firsts (k ∷ ks) (o ∷ os) h = ap (λ l. k ∷ l) (firsts ks os (omega arith))
 
-seconds : (ks os : List ℕ) → length ks ≡ length os → map (λ p. p .1) (nodes-in ks os) ≡ os
+pub seconds : (ks os : List ℕ) → length ks ≡ length os → map (λ p. p .1) (nodes-in ks os) ≡ os
 seconds [] [] h = refl
 seconds [] (o ∷ os) h = absurd (omega arith)
 seconds (k ∷ ks) [] h = absurd (omega arith)

@@ -14,8 +14,9 @@ use Rattle.cutting.specs.declared.Sides.{Sides}
 use Rattle.cutting.specs.Tree.{Rect, side, part}
 use Rattle.cutting.specs.Sides.{rect-of, sides-of}
 use Rattle.cutting.specs.Job.{Job}
+use Rattle.refusal.specs.Refusals.{by-check}
 use Rattle.refusal.specs.declared.Refusal.{Refusal}
-use Rattle.refusal.specs.declared.Refusal.the-variants.{NodeMissing, NodeLeft}
+use Rattle.refusal.specs.declared.Refusal.the-variants.{NodeMissing}
 use Rattle.refusal.specs.declared.Checked.the-variants.{Passed, Refused}
 use Rattle.job.specs.declared.JobRecord.{JobRecord}
 use Rattle.job.specs.Block.{job-from, job-of}
@@ -26,8 +27,8 @@ use Rattle.node.specs.declared.Rules.{Rules}
 use Rattle.node.specs.Placed.{Sized, Placed}
 use Rattle.node.proofs.Nodes.{NodeFits, node-passed}
 use Rattle.plan.specs.declared.Report.{Report}
-use Rattle.plan.specs.declared.PlanAnswer.{PlanAnswer}
-use Rattle.plan.specs.Plan.{node-of, parts, report-after, plan-report, empty-report, passed, refused, unreported, proceed, walk, nodes-in}
+use Rattle.plan.specs.declared.TreeAnswer.{TreeAnswer}
+use Rattle.plan.specs.Plan.{node-of, parts, report-after, plan-report, empty-report, tree-passed, tree-stopped, tree-walk, nodes-in}
 use Rattle.plan.specs.Walk.{waiting, no-sums, rules-of, entry-at, CutInside, Held, Opens}
 
 -- two arrays of one length have as many nodes
@@ -45,37 +46,37 @@ nodes-suc (a ∷ ks) (b ∷ os) zero h l = refl
 nodes-suc (a ∷ ks) (b ∷ os) (suc k) h l = nodes-suc ks os k (omega arith) (omega arith)
 
 module _ (J : Job) (kinds operands : List ℕ) (same : length kinds ≡ length operands) where
-  -- the walk from node k on
-  abbrev pub from : ℕ → List Rect → Tally → List ℕ → PlanAnswer
-  from k rs t copies = walk J k (drop k (nodes-in kinds operands)) rs (plan-report t copies)
+  -- the walk over a tree from node k on
+  abbrev pub from : ℕ → List Rect → Tally → List ℕ → TreeAnswer
+  from k rs t copies = tree-walk J k (drop k (nodes-in kinds operands)) rs (plan-report t copies)
 
   module _ (k : ℕ) (more : k < length kinds) where
     -- the node at a place
     here : drop k (nodes-in kinds operands) ≡ (getD kinds k 0, getD operands k 0) ∷ drop (k + 1) (nodes-in kinds operands)
     here = rw add-one (nodes-suc kinds operands k same more)
 
-    -- 18: a node, and no rectangle waits
-    pub left-over : (t : Tally) (copies : List ℕ) → from k [] t copies ≡ refused (NodeLeft k)
-    unfolding walk
-    left-over t copies = rw here
+    -- a node, and no rectangle waits: the tree has ended
+    pub over : (t : Tally) (copies : List ℕ) → from k [] t copies ≡ tree-passed k (plan-report t copies)
+    unfolding tree-walk
+    over t copies = rw here
 
     module _ {r : Rect} (rs : List Rect) {t : Tally} {copies : List ℕ} {a : NodeAnswer} {after : List ℕ}
         (placed : Placed J k (getD kinds k 0) (getD operands k 0) r t copies a after) where
       -- what follows the node
-      abbrev then : PlanAnswer
-      then = walk J (k + 1) (drop (k + 1) (nodes-in kinds operands)) (parts (J .kerf) (node-of (getD kinds k 0) (getD operands k 0)) r ++ rs) (report-after J (node-of (getD kinds k 0) (getD operands k 0)) r (plan-report t copies))
+      abbrev then : TreeAnswer
+      then = tree-walk J (k + 1) (drop (k + 1) (nodes-in kinds operands)) (parts (J .kerf) (node-of (getD kinds k 0) (getD operands k 0)) r ++ rs) (report-after J (node-of (getD kinds k 0) (getD operands k 0)) r (plan-report t copies))
 
-      opens-to : from k (r ∷ rs) t copies ≡ proceed (a .verdict) then
-      unfolding walk
-      opens-to = rw here (ap (λ v. proceed v then) (sym (placed .verdict)))
+      opens-to : from k (r ∷ rs) t copies ≡ by-check (a .verdict) then (λ x. tree-stopped (Refused x))
+      unfolding tree-walk
+      opens-to = rw here (ap (λ v. by-check v then (λ x. tree-stopped (Refused x))) (sym (placed .verdict)))
 
       -- a node that is refused ends the walk
-      pub stops : {x : Refusal} → a .verdict ≡ Refused x → from k (r ∷ rs) t copies ≡ unreported (a .verdict)
-      stops e = opens-to ∙ ap (λ v. proceed v then) e ∙ sym (ap unreported e)
+      pub stops : {x : Refusal} → a .verdict ≡ Refused x → from k (r ∷ rs) t copies ≡ tree-stopped (a .verdict)
+      stops e = opens-to ∙ ap (λ v. by-check v then (λ x. tree-stopped (Refused x))) e ∙ sym (ap tree-stopped e)
 
       -- the walk goes on after one that passes
       pub steps : a .verdict ≡ Passed → from k (r ∷ rs) t copies ≡ from (k + 1) (parts (J .kerf) (node-of (getD kinds k 0) (getD operands k 0)) r ++ rs) (a .tally) after
-      steps e = opens-to ∙ ap (λ v. proceed v then) e
+      steps e = opens-to ∙ ap (λ v. by-check v then (λ x. tree-stopped (Refused x))) e
           ∙ ap₂ (λ s c. from (k + 1) (parts (J .kerf) (node-of (getD kinds k 0) (getD operands k 0)) r ++ rs) s c) (sym (placed .sums e)) (sym (placed .counts e))
 
 -- a node checked by the rules of a job that was read is checked by the job
@@ -91,15 +92,15 @@ fits-inside J copies r (Piece i) h = tt
 fits-inside J copies r (Turned i) h = tt
 fits-inside J copies r (Cut d x) h = omega (arith, h .1)
 
--- after the last node: 17 where a rectangle waits, and else the plan passes
+-- after the last node: 17 where a rectangle waits, and else the tree passes
 module _ (J : Job) (k : ℕ) (lengths widths : List ℕ) (s : Report) where
-  pub missing : (n : ℕ) → 0 < n → refused (NodeMissing k) ≡ walk J k [] (waiting lengths widths n) s
-  unfolding walk waiting
+  pub missing : (n : ℕ) → 0 < n → tree-stopped (Refused (NodeMissing k)) ≡ tree-walk J k [] (waiting lengths widths n) s
+  unfolding tree-walk waiting
   missing zero h = absurd (omega arith)
   missing (suc n) h = refl
 
-  pub filled : (n : ℕ) → n ≤ 0 → passed s ≡ walk J k [] (waiting lengths widths n) s
-  unfolding walk waiting
+  pub filled : (n : ℕ) → n ≤ 0 → tree-passed k s ≡ tree-walk J k [] (waiting lengths widths n) s
+  unfolding tree-walk waiting
   filled zero h = refl
   filled (suc n) h = absurd (omega arith)
 
@@ -147,41 +148,41 @@ cut-waits lengths widths n node d x kerf r first second h l w c e f =
     parts-wait lengths widths n (rect-of first) (rect-of second) h l w ∙ ap₂ (λ p q. rect-of p ∷ rect-of q ∷ waiting lengths widths (n - 1)) e f
     ∙ sym (ap (λ m. parts kerf m r ++ waiting lengths widths (n - 1)) c)
 
--- where the walk stands before node k: n rectangles wait in two arrays
-pub record Walking (J : Job) (kinds operands copies lengths widths : List ℕ) (n : ℕ) (t : Tally) (k : ℕ) : Type 0 where
+-- where the walk over a tree from a first node on stands before node k: n rectangles wait in two arrays
+pub record Walking (J : Job) (kinds operands : List ℕ) (first : ℕ) (copies lengths widths : List ℕ) (n : ℕ) (t : Tally) (k : ℕ) : Type 0 where
   pub nodes : k ≤ length kinds
   pub few : n ≤ k + 1
   pub held : Held lengths widths
   pub sized : Sized k t
-  pub walks : walk J 0 (nodes-in kinds operands) (J .plate ∷ []) empty-report ≡ walk J k (drop k (nodes-in kinds operands)) (waiting lengths widths n) (plan-report t copies)
+  pub walks : tree-walk J first (drop first (nodes-in kinds operands)) (J .plate ∷ []) empty-report ≡ tree-walk J k (drop k (nodes-in kinds operands)) (waiting lengths widths n) (plan-report t copies)
 
 -- it begins with the plate
-pub begins : (J : Job) (kinds operands : List ℕ) (t : Tally) → t ≡ no-sums → Walking J kinds operands (replicate 64 0) (replicate 4096 (J .plate .0)) (replicate 4096 (J .plate .1)) 1 t 0
+pub begins : (J : Job) (kinds operands : List ℕ) (first : ℕ) (t : Tally) → first ≤ length kinds → t ≡ no-sums → Walking J kinds operands first (replicate 64 0) (replicate 4096 (J .plate .0)) (replicate 4096 (J .plate .1)) 1 t first
 unfolding waiting
-begins J kinds operands t e = rw e
+begins J kinds operands first t h e = rw e
     (record {
-      nodes = omega arith;
+      nodes = h;
       few = omega arith;
       held = (length-replicate {A = ℕ} 4096 (J .plate .0), length-replicate {A = ℕ} 4096 (J .plate .1));
       sized = record { profit = omega arith; pieces = omega arith; waste = omega arith; trim = omega arith; sawdust = omega arith };
       walks = refl;
     })
 
-module _ {J : Job} {kinds operands copies lengths widths : List ℕ} {n : ℕ} {t : Tally} {k : ℕ} (given : Walking J kinds operands copies lengths widths n t k) (same : length kinds ≡ length operands) where
-  abbrev answer : PlanAnswer
-  answer = walk J 0 (nodes-in kinds operands) (J .plate ∷ []) empty-report
+module _ {J : Job} {kinds operands : List ℕ} {first : ℕ} {copies lengths widths : List ℕ} {n : ℕ} {t : Tally} {k : ℕ} (given : Walking J kinds operands first copies lengths widths n t k) (same : length kinds ≡ length operands) where
+  abbrev answer : TreeAnswer
+  answer = tree-walk J first (drop first (nodes-in kinds operands)) (J .plate ∷ []) empty-report
 
   -- after the last node
-  pub ends : length kinds ≤ k → (a : PlanAnswer) → a ≡ walk J (length kinds) [] (waiting lengths widths n) (plan-report t copies) → a ≡ answer
+  pub ends : length kinds ≤ k → (a : TreeAnswer) → a ≡ tree-walk J (length kinds) [] (waiting lengths widths n) (plan-report t copies) → a ≡ answer
   ends h a e = let m : length kinds ≡ k = omega (arith, given .nodes) in
       let l : length (nodes-in kinds operands) ≤ k = omega (arith, nodes-length kinds operands same) in
-      e ∙ ap (λ i. walk J i [] (waiting lengths widths n) (plan-report t copies)) m
-      ∙ sym (given .walks ∙ ap (λ ns. walk J k ns (waiting lengths widths n) (plan-report t copies)) (drop-of-length-le (nodes-in kinds operands) l))
+      e ∙ ap (λ i. tree-walk J i [] (waiting lengths widths n) (plan-report t copies)) m
+      ∙ sym (given .walks ∙ ap (λ ns. tree-walk J k ns (waiting lengths widths n) (plan-report t copies)) (drop-of-length-le (nodes-in kinds operands) l))
 
   module _ (more : k < length kinds) where
     -- no rectangle waits for node k
-    pub left : n < 1 → refused (NodeLeft k) ≡ answer
-    left h = sym (given .walks ∙ ap (λ rs. from J kinds operands same k rs t copies) (none-wait lengths widths n h) ∙ left-over J kinds operands same k more t copies)
+    pub filled-all : n < 1 → tree-passed k (plan-report t copies) ≡ answer
+    filled-all h = sym (given .walks ∙ ap (λ rs. from J kinds operands same k rs t copies) (none-wait lengths widths n h) ∙ over J kinds operands same k more t copies)
 
     module _ (some : 1 ≤ n) {room : Sides} (next : room ≡ sides-of (getD lengths (n - 1) 0, getD widths (n - 1) 0)) {e : NodeEntry} (here : e ≡ entry-at kinds operands k)
         {a : NodeAnswer} {after : List ℕ} (placed : Placed J (e .at) (e .kind) (e .operand) (rect-of room) t copies a after) where
@@ -193,7 +194,7 @@ module _ {J : Job} {kinds operands copies lengths widths : List ℕ} {n : ℕ} {
       opened = given .walks ∙ ap (λ rs. from J kinds operands same k rs t copies) (next-waits lengths widths n some ∙ sym (ap (λ r. rect-of r ∷ waiting lengths widths (n - 1)) next))
 
       -- it is refused
-      pub halts : {x : Refusal} → a .verdict ≡ Refused x → unreported (a .verdict) ≡ answer
+      pub halts : {x : Refusal} → a .verdict ≡ Refused x → tree-stopped (a .verdict) ≡ answer
       halts v = sym (opened ∙ stops J kinds operands same k more (waiting lengths widths (n - 1)) at-k v)
 
       -- it passes
@@ -210,7 +211,7 @@ module _ {J : Job} {kinds operands copies lengths widths : List ℕ} {n : ℕ} {
 
         -- and the walk goes on
         pub goes-on : {node : Node} → node ≡ node-of (e .kind) (e .operand) → (lengths′ widths′ : List ℕ) (n′ : ℕ)
-            → (waiting lengths′ widths′ n′ ≡ parts (J .kerf) node (rect-of room) ++ waiting lengths widths (n - 1)) × (n′ ≤ n + 1) × Held lengths′ widths′ → Walking J kinds operands after lengths′ widths′ n′ (a .tally) (k + 1)
+            → (waiting lengths′ widths′ n′ ≡ parts (J .kerf) node (rect-of room) ++ waiting lengths widths (n - 1)) × (n′ ≤ n + 1) × Held lengths′ widths′ → Walking J kinds operands first after lengths′ widths′ n′ (a .tally) (k + 1)
         goes-on {node} m lengths′ widths′ n′ w =
             record {
               nodes = omega arith;

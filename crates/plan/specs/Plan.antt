@@ -2,7 +2,7 @@
 use mathlib.Core.Bool.{not}
 use mathlib.Core.List.{List, [], _∷_, _++_}
 use Prim.Native.Nat.{ℕ, _+_}
-use lib.Dec.{eqb}
+use lib.Dec.{ltb, eqb}
 use lib.ListN.{length, replicate}
 use Rattle.cutting.specs.declared.Node.{Node}
 use Rattle.cutting.specs.Tree.{Rect}
@@ -12,7 +12,7 @@ use Rattle.refusal.specs.declared.Refusal.{Refusal}
 use Rattle.refusal.specs.declared.Refusal.the-variants.{PlanLength, NodeCount, NodeMissing, NodeLeft}
 use Rattle.refusal.specs.declared.Checked.{Checked}
 use Rattle.refusal.specs.declared.Checked.the-variants.{Passed, Refused}
-use Rattle.refusal.specs.Refusals.{Check, next, first-refusal}
+use Rattle.refusal.specs.Refusals.{Check, by-check, next, first-refusal}
 use Rattle.job.specs.Block.{outside}
 use Rattle.node.specs.declared.Tally.{Tally}
 use Rattle.node.specs.Nodes.{tallied, copied}
@@ -20,6 +20,7 @@ pub use Rattle.node.specs.Nodes.{node-of, node-checks, parts}
 use Rattle.idle.specs.Idle.{idle-checks}
 use Rattle.plan.specs.declared.Report.{Report}
 use Rattle.plan.specs.declared.PlanAnswer.{PlanAnswer}
+use Rattle.plan.specs.declared.TreeAnswer.{TreeAnswer}
 
 -- the sums of a report
 abbrev pub sums-of : Report → Tally
@@ -63,6 +64,32 @@ walk J k [] (r ∷ rs) s = refused (NodeMissing k)
 walk J k (n ∷ ns) (r ∷ rs) s =
     proceed (first-refusal (node-checks J (s .copies) r k (n .0) (n .1)))
     (walk J (k + 1) ns (parts (J .kerf) (node-of (n .0) (n .1)) r ++ rs) (report-after J (node-of (n .0) (n .1)) r s))
+
+-- a tree walked to its end, before node k
+abbrev pub tree-passed : ℕ → Report → TreeAnswer
+tree-passed k s = record { verdict = Passed; report = s; past = k }
+
+-- a walk over a tree that stops
+abbrev pub tree-stopped : Checked → TreeAnswer
+tree-stopped v = record { verdict = v; report = empty-report; past = 0 }
+
+-- the walk over one tree from node k on, the same but for its end: it passes where its last rectangle is filled, whatever nodes follow
+unfoldable pub tree-walk : Job → ℕ → List (ℕ × ℕ) → List Rect → Report → TreeAnswer
+tree-walk J k [] [] s = tree-passed k s
+tree-walk J k (n ∷ ns) [] s = tree-passed k s
+tree-walk J k [] (r ∷ rs) s = tree-stopped (Refused (NodeMissing k))
+tree-walk J k (n ∷ ns) (r ∷ rs) s =
+    by-check (first-refusal (node-checks J (s .copies) r k (n .0) (n .1)))
+    (tree-walk J (k + 1) ns (parts (J .kerf) (node-of (n .0) (n .1)) r ++ rs) (report-after J (node-of (n .0) (n .1)) r s))
+    (λ x. tree-stopped (Refused x))
+
+-- 18: nodes left over, of n, after the walks have ended before node k
+abbrev pub left-check : ℕ → ℕ → Check
+left-check n k = (ltb k n, NodeLeft k)
+
+-- the walk over a plan's only tree, of n nodes, as that of the plan (walk-ends of proofs/Ends)
+abbrev pub only-tree : ℕ → TreeAnswer → PlanAnswer
+only-tree n a = proceed (next (a .verdict) (first-refusal (left-check n (a .past) ∷ []))) (passed (a .report))
 
 -- the nodes of two arrays, each a kind and an operand
 abbrev pub nodes-in : List ℕ → List ℕ → List (ℕ × ℕ)

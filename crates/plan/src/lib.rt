@@ -19,13 +19,14 @@ use refusal::Refusal;
 ghost use mathlib.Core.Path.{_≡_};
 ghost use mathlib.Core.List.{List, [], _∷_, _++_};
 ghost use Prim.Native.Nat.{ℕ, _+_, _*_, _-_, _≤_, _<_};
-ghost use lib.ListN.{length, take, getD};
+ghost use lib.ListN.{length, take, drop, getD};
 ghost use Rattle.cutting.specs.Limits.{most-kinds, most-nodes};
 ghost use Rattle.cutting.specs.Sides.{rect-of, sides-of};
 ghost use Rattle.cutting.specs.Job.{Job, InRange};
+ghost use Rattle.refusal.specs.Refusals.{first-refusal};
 ghost use Rattle.job.specs.Block.{job-of};
 ghost use Rattle.job.specs.Weights.{block-job};
-ghost use Rattle.plan.specs.Plan.{parts, plan-report, empty-report, unreported, nodes-in, walk, walk-answer, plan-answer};
+ghost use Rattle.plan.specs.Plan.{parts, plan-report, empty-report, unreported, nodes-in, tree-passed, tree-stopped, tree-walk, left-check, walk, plan-checks, walk-answer, plan-answer};
 ghost use Rattle.plan.specs.Walk.{waiting, no-sums, rules-of, entry-at, Held, Opens, Walkable};
 ghost use Rattle.plan.specs.Trees.{ChecksPlan};
 ghost use Rattle.plan.specs.Calls.{arrays-answer, arrays-before-idle, plan-count, plan-kinds, plan-operands, plan-block-answer, block-answer, block-before-idle, JobPasses, BlockPasses, plan-outcome, arrays-said, block-said};
@@ -44,6 +45,13 @@ pub struct Report {
 pub struct PlanAnswer {
     pub verdict: Checked,
     pub report: Report,
+}
+
+// What the walk over one tree answers: its report, and the number of the node after its last; zeros where it is refused.
+pub struct TreeAnswer {
+    pub verdict: Checked,
+    pub report: Report,
+    pub past: usize,
 }
 
 // An answer with an empty report.
@@ -141,14 +149,24 @@ fn leave_parts(
     }
 }
 
-// After the last node: a rectangle that waits has no node, and else the plan passes.
-fn finish(n: usize, k: u16, t: Tally, copies: [u16; 64]) -> PlanAnswer
-    ensures { λ r. ⌜ ((J : Job) (lengths widths : List ℕ) → r ≡ walk J k [] (waiting lengths widths n) (plan-report t copies)) ⌝ }
+// A walk over a tree that stops.
+pub fn stop_tree(verdict: Checked) -> TreeAnswer
+    ensures { λ r. ⌜ r ≡ tree-stopped verdict ⌝ }
 {
-    if 0 < n {
-        return without_report(Checked::Refused(Refusal::NodeMissing(k)));
+    let none = without_report(verdict);
+    let report = none.report;
+    TreeAnswer {
+        verdict: verdict,
+        report: report,
+        past: 0,
     }
-    PlanAnswer {
+}
+
+// A tree walked to its end, before node k.
+fn end_tree(k: usize, t: Tally, copies: [u16; 64]) -> TreeAnswer
+    ensures { λ r. ⌜ r ≡ tree-passed k (plan-report t copies) ⌝ }
+{
+    TreeAnswer {
         verdict: Checked::Passed,
         report: Report {
             profit: t.profit,
@@ -158,13 +176,25 @@ fn finish(n: usize, k: u16, t: Tally, copies: [u16; 64]) -> PlanAnswer
             trim: t.trim,
             sawdust: t.sawdust,
         },
+        past: k,
     }
 }
 
-// The walk over a plan's nodes from the plate on: refusals 12 to 18.
-fn walk_nodes(job: JobRecord, kinds: &[u8], operands: &[u16]) -> PlanAnswer
-    requires { ⌜ Walkable (now kinds) (now operands) × (job .count ≤ most-kinds) ⌝ }
-    ensures { λ r. ⌜ r ≡ walk (job-of job) 0 (nodes-in (now (kinds .entry)) (now (operands .entry))) (job-of job .plate ∷ []) empty-report ⌝ }
+// After the last node: a rectangle that waits has no node, and else the tree passes.
+fn finish(n: usize, k: usize, t: Tally, copies: [u16; 64]) -> TreeAnswer
+    requires { ⌜ k ≤ most-nodes ⌝ }
+    ensures { λ r. ⌜ ((J : Job) (lengths widths : List ℕ) → r ≡ tree-walk J k [] (waiting lengths widths n) (plan-report t copies)) ⌝ }
+{
+    if 0 < n {
+        return stop_tree(Checked::Refused(Refusal::NodeMissing(k as u16)));
+    }
+    end_tree(k, t, copies)
+}
+
+// The walk over one tree, from node `first` and the plate on: refusals 12 to 17.
+pub fn walk_tree(job: JobRecord, kinds: &[u8], operands: &[u16], first: usize) -> TreeAnswer
+    requires { ⌜ Walkable (now kinds) (now operands) × (job .count ≤ most-kinds) × (first ≤ length (now kinds)) ⌝ }
+    ensures { λ r. ⌜ r ≡ tree-walk (job-of job) first (drop first (nodes-in (now (kinds .entry)) (now (operands .entry)))) (job-of job .plate ∷ []) empty-report ⌝ }
 {
     let kind_lengths = job.lengths;
     let kind_widths = job.widths;
@@ -176,9 +206,9 @@ fn walk_nodes(job: JobRecord, kinds: &[u8], operands: &[u16]) -> PlanAnswer
     let mut widths = [job.width; 4096];
     let mut n: usize = 1;
     let mut t = no_sums();
-    for k in 0..kinds.len() {
+    for k in first..kinds.len() {
         if n < 1 {
-            return without_report(Checked::Refused(Refusal::NodeLeft(k as u16)));
+            return end_tree(k, t, copies);
         }
         let e = entry(kinds, operands, k);
         let room = next_room(&lengths, &widths, n);
@@ -195,13 +225,62 @@ fn walk_nodes(job: JobRecord, kinds: &[u8], operands: &[u16]) -> PlanAnswer
         );
         let verdict = a.verdict;
         let Checked::Passed = verdict else {
-            return without_report(verdict);
+            return stop_tree(verdict);
         };
         t = a.tally;
         let node = decode(e.kind, e.operand);
         n = leave_parts(node, job.kerf, room, &mut lengths, &mut widths, n);
     }
-    finish(n, kinds.len() as u16, t, copies)
+    finish(n, kinds.len(), t, copies)
+}
+
+// Refusal 18, of n nodes, after the walks have ended before node k.
+pub fn check_left(n: usize, k: usize) -> Checked
+    requires { ⌜ n ≤ most-nodes ⌝ }
+    ensures { λ r. ⌜ r ≡ first-refusal (left-check n k ∷ []) ⌝ }
+{
+    if k < n {
+        return Checked::Refused(Refusal::NodeLeft(k as u16));
+    }
+    Checked::Passed
+}
+
+// The walk over a plan's nodes from the plate on: refusals 12 to 18.
+fn walk_nodes(job: JobRecord, kinds: &[u8], operands: &[u16]) -> PlanAnswer
+    requires { ⌜ Walkable (now kinds) (now operands) × (job .count ≤ most-kinds) ⌝ }
+    ensures { λ r. ⌜ r ≡ walk (job-of job) 0 (nodes-in (now (kinds .entry)) (now (operands .entry))) (job-of job .plate ∷ []) empty-report ⌝ }
+{
+    let tree = walk_tree(job, kinds, operands, 0);
+    let walked = tree.verdict;
+    let Checked::Passed = walked else {
+        return without_report(walked);
+    };
+    let left = check_left(kinds.len(), tree.past);
+    let Checked::Passed = left else {
+        return without_report(left);
+    };
+    let report = tree.report;
+    PlanAnswer {
+        verdict: Checked::Passed,
+        report: report,
+    }
+}
+
+// Refusals 10 and 11: the plan as a whole.
+pub fn check_whole(kinds: &[u8], operands: &[u16]) -> Checked
+    ensures { λ r. ⌜ r ≡ first-refusal (plan-checks (now (kinds .entry)) (now (operands .entry))) ⌝ }
+{
+    let count = kinds.len();
+    if count != operands.len() {
+        return Checked::Refused(Refusal::PlanLength);
+    }
+    if count < 1 {
+        return Checked::Refused(Refusal::NodeCount);
+    }
+    if 4095 < count {
+        return Checked::Refused(Refusal::NodeCount);
+    }
+    Checked::Passed
 }
 
 // A plan's arrays checked for a job that was read: refusals 10 to 18.
@@ -209,16 +288,10 @@ fn check_walk(job: JobRecord, kinds: &[u8], operands: &[u16]) -> PlanAnswer
     requires { ⌜ InRange (job-of job) ⌝ }
     ensures { λ r. ⌜ r ≡ walk-answer (job-of job) (now (kinds .entry)) (now (operands .entry)) ⌝ }
 {
-    let count = kinds.len();
-    if count != operands.len() {
-        return without_report(Checked::Refused(Refusal::PlanLength));
-    }
-    if count < 1 {
-        return without_report(Checked::Refused(Refusal::NodeCount));
-    }
-    if 4095 < count {
-        return without_report(Checked::Refused(Refusal::NodeCount));
-    }
+    let whole = check_whole(kinds, operands);
+    let Checked::Passed = whole else {
+        return without_report(whole);
+    };
     walk_nodes(job, kinds, operands)
 }
 
@@ -232,7 +305,7 @@ pub fn check_nodes(job: JobRecord, kinds: &[u8], operands: &[u16]) -> PlanAnswer
     let Checked::Passed = walked else {
         return without_report(walked);
     };
-    let idle = idle_cut(kinds);
+    let idle = idle_cut(kinds, 0);
     let Checked::Passed = idle else {
         return without_report(idle);
     };

@@ -1,13 +1,14 @@
--- Every refusal has a number of its own from 1 on, so a call that answers 0 was not refused.
+-- Every refusal has a number from 1 on, so a call that answers 0 was not refused.
 use Prim.Native.Nat.{_<_}
 use native.Mathlib.Omega.{arith}
 use Rattle.refusal.specs.declared.Refusal.{Refusal}
-use Rattle.refusal.specs.declared.Refusal.the-variants.{ShortHeader, PlateSide, KindCount, BlockLength, KindSide, Price, Demand, WeightCount, Capacity, PlanLength, NodeCount, NodeKind, PieceNumber, Operand, Misfit, Excess, NodeMissing, NodeLeft, ListShort, TableShort, PlanLong, StageLimit, ManyStages, SecondCount, CapacityProduct, IdleCut, Kerf, DemandProduct}
+use Rattle.refusal.specs.declared.Refusal.the-variants.{ShortHeader, PlateSide, RackSide, KindCount, BlockLength, KindSide, Price, Demand, WeightCount, Capacity, PlanLength, NodeCount, NodeKind, PieceNumber, Operand, Misfit, Excess, NodeMissing, NodeLeft, ListShort, TableShort, PlanLong, StageLimit, ManyStages, SecondCount, CapacityProduct, IdleCut, Kerf, RackSize, RackDemand, DemandProduct}
 use Rattle.refusal.specs.Refusals.{number-of}
 
 pub number-some : (r : Refusal) → 0 < number-of r
 number-some ShortHeader = omega arith
 number-some PlateSide = omega arith
+number-some (RackSide k) = omega arith
 number-some KindCount = omega arith
 number-some BlockLength = omega arith
 number-some (KindSide k) = omega arith
@@ -33,4 +34,6 @@ number-some SecondCount = omega arith
 number-some CapacityProduct = omega arith
 number-some (IdleCut k) = omega arith
 number-some Kerf = omega arith
+number-some RackSize = omega arith
+number-some (RackDemand k) = omega arith
 number-some DemandProduct = omega arith

@@ -4,7 +4,7 @@ use mathlib.Core.Bool.{Bool, true, false}
 use mathlib.Core.List.{List, [], _∷_}
 use Prim.Native.Nat.{ℕ}
 use Rattle.refusal.specs.declared.Refusal.{Refusal}
-use Rattle.refusal.specs.declared.Refusal.the-variants.{ShortHeader, PlateSide, KindCount, BlockLength, KindSide, Price, Demand, WeightCount, Capacity, PlanLength, NodeCount, NodeKind, PieceNumber, Operand, Misfit, Excess, NodeMissing, NodeLeft, ListShort, TableShort, PlanLong, StageLimit, ManyStages, SecondCount, CapacityProduct, IdleCut, Kerf, DemandProduct}
+use Rattle.refusal.specs.declared.Refusal.the-variants.{ShortHeader, PlateSide, RackSide, KindCount, BlockLength, KindSide, Price, Demand, WeightCount, Capacity, PlanLength, NodeCount, NodeKind, PieceNumber, Operand, Misfit, Excess, NodeMissing, NodeLeft, ListShort, TableShort, PlanLong, StageLimit, ManyStages, SecondCount, CapacityProduct, IdleCut, Kerf, RackSize, RackDemand, DemandProduct}
 use Rattle.refusal.specs.declared.Checked.{Checked}
 use Rattle.refusal.specs.declared.Checked.the-variants.{Passed, Refused}
 
@@ -12,6 +12,7 @@ use Rattle.refusal.specs.declared.Checked.the-variants.{Passed, Refused}
 abbrev pub number-of : Refusal → ℕ
 number-of ShortHeader = 1
 number-of PlateSide = 2
+number-of (RackSide k) = 2
 number-of KindCount = 3
 number-of BlockLength = 4
 number-of (KindSide k) = 5
@@ -37,12 +38,15 @@ number-of SecondCount = 24
 number-of CapacityProduct = 25
 number-of (IdleCut k) = 26
 number-of Kerf = 27
+number-of RackSize = 28
+number-of (RackDemand k) = 29
 number-of DemandProduct = 30
 
--- the table's place of a refusal: a kind, a node, a count of words or nodes, or 0
+-- the table's place of a refusal: a kind, a node, a plate, a count of words or nodes, or 0
 abbrev pub place-of : Refusal → ℕ
 place-of ShortHeader = 0
 place-of PlateSide = 0
+place-of (RackSide k) = k
 place-of KindCount = 0
 place-of BlockLength = 0
 place-of (KindSide k) = k
@@ -68,6 +72,8 @@ place-of SecondCount = 0
 place-of CapacityProduct = 0
 place-of (IdleCut k) = k
 place-of Kerf = 0
+place-of RackSize = 0
+place-of (RackDemand k) = k
 place-of DemandProduct = 0
 
 -- one line of the table: whether its condition holds, and the refusal that it then draws

@@ -3,10 +3,11 @@
 ghost use mathlib.Core.Path.{_≡_};
 ghost use Rattle.refusal.specs.Refusals.{number-of, place-of, refuse-when};
 
-// The conditions of the table, in the order of their numbers.
+// The conditions of the table, in the order of their numbers; 2 is the job's own plate, or a plate of a rack.
 pub enum Refusal {
     ShortHeader,
     PlateSide,
+    RackSide(u16),
     KindCount,
     BlockLength,
     KindSide(u16),
@@ -32,6 +33,8 @@ pub enum Refusal {
     CapacityProduct,
     IdleCut(u16),
     Kerf,
+    RackSize,
+    RackDemand(u16),
     DemandProduct,
 }
 
@@ -48,6 +51,7 @@ pub fn number(r: Refusal) -> u16
     match r {
         Refusal::ShortHeader => 1,
         Refusal::PlateSide => 2,
+        Refusal::RackSide(_) => 2,
         Refusal::KindCount => 3,
         Refusal::BlockLength => 4,
         Refusal::KindSide(_) => 5,
@@ -73,6 +77,8 @@ pub fn number(r: Refusal) -> u16
         Refusal::CapacityProduct => 25,
         Refusal::IdleCut(_) => 26,
         Refusal::Kerf => 27,
+        Refusal::RackSize => 28,
+        Refusal::RackDemand(_) => 29,
         Refusal::DemandProduct => 30,
     }
 }
@@ -84,6 +90,7 @@ pub fn place(r: Refusal) -> u64
     match r {
         Refusal::ShortHeader => 0,
         Refusal::PlateSide => 0,
+        Refusal::RackSide(k) => k as u64,
         Refusal::KindCount => 0,
         Refusal::BlockLength => 0,
         Refusal::KindSide(k) => k as u64,
@@ -109,6 +116,8 @@ pub fn place(r: Refusal) -> u64
         Refusal::CapacityProduct => 0,
         Refusal::IdleCut(k) => k as u64,
         Refusal::Kerf => 0,
+        Refusal::RackSize => 0,
+        Refusal::RackDemand(k) => k as u64,
         Refusal::DemandProduct => 0,
     }
 }

@@ -12,11 +12,11 @@ use Rattle.refusal.specs.Refusals.{next, first-refusal, outcome-by}
 use Rattle.job.specs.declared.Choices.{Choices}
 use Rattle.job.specs.declared.JobRecord.{JobRecord}
 use Rattle.job.specs.declared.JobAnswer.{JobAnswer}
-use Rattle.job.specs.Block.{count-at, sizes-end, demand-at, entries, job-outcome, job-of}
+use Rattle.job.specs.Block.{plate-length-at, plate-width-at, count-at, sizes-end, demand-at, header-checks, entries, record-of, job-outcome, job-of}
 use Rattle.job.specs.Contracts.{HoldsKinds}
 use Rattle.job.proofs.Checks.{cons-passed}
 use Rattle.job.proofs.Entries.{entries-past}
-use Rattle.job.proofs.Read.{header-holds, block-passed, pair-passed, range-by, said-by, answered-by, refused-by}
+use Rattle.job.proofs.Read.{header-passed, header-holds, block-passed, pair-passed, range-by, said-by, answered-by, refused-by}
 use Rattle.plan.specs.declared.PlanAnswer.{PlanAnswer}
 use Rattle.plan.specs.Plan.{empty-report, proceed, walk-answer, plan-answer}
 use Rattle.plan.specs.Trees.{ChecksPlan}
@@ -31,14 +31,15 @@ module _ (s : List ℕ) (choices : Choices) where
   -- a block that passed has the bytes of its kinds
   pub saw-holds : SawPasses s choices → HoldsKinds (sizes-end (choices .«old_block»)) s (count-at s)
   unfolding saw-checks
-  saw-holds p = header-holds (choices .«old_block») s (count-at s) refl (block-passed demand-checks s choices p .0)
+  saw-holds p = header-holds (choices .«old_block») s (count-at s) refl (block-passed header-checks demand-checks s choices p .0)
 
   -- and its job, every price 0, is in the scope's ranges
   pub saw-range : SawPasses s choices → InRange (saw-job s choices)
-  unfolding saw-checks
+  unfolding saw-checks record-of
   saw-range p =
       let end = sizes-end (choices .«old_block») in
-      range-by demand-checks s choices p (λ i l. ltb-false 255 (demand-at end s i) (cons-passed _ _ _ (pair-passed demand-checks s choices p i l) .0)) (entries (λ i. 0) 0) (λ i l. (let e = entries-past (λ i. 0) 0 i (omega arith) in omega (arith, e)))
+      let h = header-passed (choices .«old_block») s (block-passed header-checks demand-checks s choices p .0) in
+      range-by header-checks demand-checks s choices p (h .1) (plate-length-at s) (plate-width-at s) (h .0) (λ i l. ltb-false 255 (demand-at end s i) (cons-passed _ _ _ (pair-passed header-checks demand-checks s choices p i l) .0)) (entries (λ i. 0) 0) (λ i l. (let e = entries-past (λ i. 0) 0 i (omega arith) in omega (arith, e)))
 
   -- and so is the job that was read
   pub read-range : {a : JobAnswer} → a ≡ saw-read s choices → a .verdict ≡ Passed → InRange (job-of (a .job))

@@ -100,8 +100,8 @@ module _ (s : List ℕ) (choices : Choices) where
       let sizes = first-refusal (each-kind (λ i. size-check end s i ∷ []) 0 (count-at s)) in
       let pairs = first-refusal (each-kind (pair-checks end s) 0 (count-at s)) in
       let demands = first-refusal (each-kind (demand-checks end s) 0 (count-at s)) in
-      let p = block-parts pair-checks s choices in
-      p ∙ next-alike header (next sizes pairs) (next sizes demands) (next-alike sizes pairs demands (pairs-alike end s 0 (count-at s))) (λ k e. f k (p ∙ e)) ∙ sym (block-parts demand-checks s choices)
+      let p = block-parts header-checks pair-checks s choices in
+      p ∙ next-alike header (next sizes pairs) (next sizes demands) (next-alike sizes pairs demands (pairs-alike end s 0 (count-at s))) (λ k e. f k (p ∙ e)) ∙ sym (block-parts header-checks demand-checks s choices)
 
   module _ (kinds operands : List ℕ) where
     office-alike : NotPrice (arrays-answer s choices kinds operands .verdict) → saw-answer s choices kinds operands ≡ saw-of (arrays-answer s choices kinds operands)

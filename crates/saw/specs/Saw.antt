@@ -12,7 +12,7 @@ use Rattle.refusal.specs.Refusals.{Check, Outcome, next, first-refusal, outcome
 use Rattle.job.specs.declared.Choices.{Choices}
 use Rattle.job.specs.declared.JobRecord.{JobRecord}
 use Rattle.job.specs.declared.JobAnswer.{JobAnswer}
-use Rattle.job.specs.Block.{demand-check, checks-by, record-of, unpriced, read-by, job-values, job-of}
+use Rattle.job.specs.Block.{header-checks, demand-check, checks-by, record-of, unpriced, read-by, job-values, job-of}
 use Rattle.idle.specs.Idle.{tree-checks}
 use Rattle.plan.specs.declared.Report.{Report}
 use Rattle.plan.specs.declared.PlanAnswer.{PlanAnswer}
@@ -27,7 +27,7 @@ demand-checks h s i = demand-check h s i ∷ []
 
 -- the checks of a job block as the saw reads it: of each pair the demand alone, so that none gives 6
 unfoldable pub saw-checks : List ℕ → Choices → List Check
-saw-checks s choices = checks-by demand-checks s choices
+saw-checks s choices = checks-by header-checks demand-checks s choices
 
 -- no check of the saw refuses a job block
 abbrev pub SawPasses : List ℕ → Choices → Type 0

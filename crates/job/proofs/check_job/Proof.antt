@@ -21,7 +21,7 @@ read-u16-requires : tie.Need-read-u16-requires
 read-u16-requires c κs =
     let e = c .before .before .before .before .before .args in
     let h = header-passed (e .choices .«old_block») (now (e .block)) (sym (c .before .before .before .check-header .ensures) ∙ c .before .enum-told .given .1) in
-    omega (arith, h .bytes, sizes-least (e .choices .«old_block») .0)
+    omega (arith, h .1 .bytes, sizes-least (e .choices .«old_block») .0)
 
 check-arrays-requires : tie.Need-check-arrays-requires
 check-arrays-requires c κs =

@@ -4,11 +4,7 @@ use Rattle.job.proofs.side_outside.Statement.{statement}
 use Rattle.job.proofs.side_outside.Tie as tie
 
 returns : tie.Need-returns
-returns c = simp (c .either .ensures, c .before .lies-outside2 .ensures, c .before .before .read-u162 .ensures, c .before .before .before .lies-outside .ensures, c .before .before .before .before .read-u16 .ensures)
+returns c = simp (c .sides-outside .ensures, c .before .read-u162 .ensures, c .before .before .read-u16 .ensures)
 
 pub side-outside-spec : {M : Type 1} → statement M
-side-outside-spec =
-    tie.close
-    (tie.spec
-    (λ c κs. search needs) (λ c κs. search needs) (λ c. search needs) (λ c κs. search needs) (λ c κs. search needs) (λ c κs. search needs)
-    returns)
+side-outside-spec = tie.close (tie.spec (λ c κs. search needs) (λ c. search needs) (λ c κs. search needs) (λ c κs. search needs) returns)

@@ -1,6 +1,7 @@
 -- `plan::check_nodes` meets its contract: the walk comes first, then check 26.
 use mathlib.Core.Path.{_∙_, sym, ap}
 use denote.Ref.{now}
+use native.Mathlib.Omega.{arith}
 use borrow.Author.Needs.{needs}
 use Rattle.job.specs.Block.{job-of}
 use Rattle.plan.specs.declared.PlanAnswer.{PlanAnswer}
@@ -20,7 +21,8 @@ idle-cut-requires : tie.Need-idle-cut-requires
 idle-cut-requires c κs =
     let a = c .before .before .before .before .before .args in
     let w = c .before .before .check-walk .ensures in
-    walked-counts (job-of (a .job)) (now (a .kinds)) (now (a .operands)) (ap (λ (p : PlanAnswer). p .verdict) (sym w) ∙ c .enum-told .given .1) .2
+    let n = walked-counts (job-of (a .job)) (now (a .kinds)) (now (a .operands)) (ap (λ (p : PlanAnswer). p .verdict) (sym w) ∙ c .enum-told .given .1) in
+    omega (arith, n .2)
 
 returns-2 : tie.Need-returns-2
 returns-2 c =

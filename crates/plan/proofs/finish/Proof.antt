@@ -1,4 +1,4 @@
--- `plan::finish` meets its contract: 17 where a rectangle waits, and else the report.
+-- `plan::finish` meets its contract: 17 where a rectangle waits, and else the tree passes.
 use mathlib.Core.Path.{_∙_}
 use borrow.Author.Needs.{needs}
 use Rattle.plan.specs.Plan.{plan-report}
@@ -8,10 +8,11 @@ use Rattle.plan.proofs.finish.Tie as tie
 
 returns : tie.Need-returns
 returns c = let a = c .before .before .args in
-    λ J lengths widths. c .without-report .ensures ∙ missing J (a .k) lengths widths (plan-report (a .t) (a .copies)) (a .n) (c .before .if1 .taken)
+    λ J lengths widths. c .stop-tree .ensures ∙ missing J (a .k) lengths widths (plan-report (a .t) (a .copies)) (a .n) (c .before .if1 .taken)
 
 returns-2 : tie.Need-returns-2
-returns-2 c = let a = c .before .args in λ J lengths widths. filled J (a .k) lengths widths (plan-report (a .t) (a .copies)) (a .n) (c .if1 .left)
+returns-2 c = let a = c .before .before .args in
+    λ J lengths widths. c .end-tree .ensures ∙ filled J (a .k) lengths widths (plan-report (a .t) (a .copies)) (a .n) (c .before .if1 .left)
 
 pub finish-spec : {M : Type 1} → statement M
-finish-spec = tie.close (tie.spec (λ c. search needs) returns returns-2)
+finish-spec = tie.close (tie.spec (λ c. search needs) (λ c κs. search needs) returns (λ c κs. search needs) returns-2)

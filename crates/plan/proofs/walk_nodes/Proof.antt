@@ -1,67 +1,33 @@
--- `plan::walk_nodes` meets its contract: before node k the walk stands where the rectangles that wait and the sums say.
-use mathlib.Core.Path.{_≡_, _∙_, refl, ap}
-use Prim.Native.Nat.{_-_}
-use native.Mathlib.Omega.{arith}
+-- `plan::walk_nodes` meets its contract: the walk over the plan's only tree comes first, then 18.
+use mathlib.Core.Path.{_∙_, sym, ap}
 use denote.Ref.{now}
 use borrow.Author.Needs.{needs}
-use lib.ListN.{length}
 use Rattle.job.specs.Block.{job-of}
-use Rattle.node.specs.declared.Rules.{Rules}
-use Rattle.node.proofs.Placed.{sized-more}
-use Rattle.plan.proofs.Walk.{Walking, by-rules, begins, left, halts, opens, goes-on, ends}
+use Rattle.plan.specs.Plan.{unreported}
+use Rattle.plan.proofs.Ends.{tree-stops, left-decides}
 use Rattle.plan.proofs.walk_nodes.Statement.{statement}
 use Rattle.plan.proofs.walk_nodes.Tie as tie
 
-abbrev Inv-loop : tie.InvT-loop
-Inv-loop job kinds operands kind-lengths kind-widths prices demands rules copies₀ lengths₀ widths₀ n₀ t₀ k₀ k-end copies lengths widths n t k =
-    (k-end ≡ length kinds) × Walking (job-of job) kinds operands copies lengths widths n t k
+returns : tie.Need-returns
+returns c =
+    let s = c .before .before .before .before .before .before in
+    c .without-report .ensures ∙ tree-stops (job-of (s .args .job)) (now (s .args .kinds)) (now (s .args .operands)) (s .pre .0 .0) (c .before .before .before .walk-tree .ensures) (c .before .enum-told2 .given .1)
 
-abbrev μ-loop : tie.MeasureT-loop
-μ-loop job kinds operands kind-lengths kind-widths prices demands rules copies₀ lengths₀ widths₀ n₀ t₀ k₀ k-end copies lengths widths n t k =
-    k-end - k
+returns-2 : tie.Need-returns-2
+returns-2 c =
+    let w = c .before .before .before .before .before .before in
+    let s = w .before .before .before in
+    c .without-report2 .ensures ∙ ap unreported (c .before .enum-told4 .given .1)
+    ∙ left-decides (job-of (s .args .job)) (now (s .args .kinds)) (now (s .args .operands)) (s .pre .0 .0) (w .walk-tree .ensures) (c .before .before .before .before .enum-told .given .1) (sym (c .before .enum-told4 .given .1) ∙ c .before .before .before .check-left .ensures)
 
-loop-holds : tie.Need-loop-holds Inv-loop μ-loop
-loop-holds c = let a = c .before .before .before .before .before .before .before .before .args in (refl, begins (job-of (a .job)) (now (a .kinds)) (now (a .operands)) (c .no-sums .result) (c .no-sums .ensures))
-
-returns : tie.Need-returns Inv-loop μ-loop
-returns c = c .without-report .ensures ∙ left (c .before .before .before .loop .inv .1) (c .before .before .before .before .before .before .before .before .before .before .before .before .pre .0 .0) (omega arith) (c .before .if1 .taken)
-
-check-node-requires : tie.Need-check-node-requires Inv-loop μ-loop
-check-node-requires c κs = (
-  sized-more (omega (arith, c .before .before .before .before .before .before .before .before .before .before .loop-test, c .before .before .before .before .before .before .before .before .before .before .before .loop .inv .0, c .before .before .before .before .before .before .before .before .before .before .before .before .before .before .before .before .before .before .before .before .pre .0 .1)) (c .before .before .before .before .before .before .before .before .before .before .before .loop .inv .1 .sized),
-  omega (arith, ap (λ (q : Rules). q .count) (c .before .before .before .before .before .before .before .before .before .before .before .before .before .rules-of .ensures), c .before .before .before .before .before .before .before .before .before .before .before .before .before .before .before .before .before .before .before .before .pre .1),
-)
-
-returns-2 : tie.Need-returns-2 Inv-loop μ-loop
-returns-2 c = let a = c .before .before .before .before .before .before .before .before .before .before .before .before .before .before .before .before .before .before .before .before .before .before .before .before .args in
-    c .without-report2 .ensures ∙ halts (c .before .before .before .before .before .before .before .before .before .before .before .before .before .before .before .loop .inv .1) (c .before .before .before .before .before .before .before .before .before .before .before .before .before .before .before .before .before .before .before .before .before .before .before .before .pre .0 .0) (omega (arith, c .before .before .before .before .before .before .before .before .before .before .before .before .before .before .loop-test, c .before .before .before .before .before .before .before .before .before .before .before .before .before .before .before .loop .inv .0)) (c .before .before .before .before .before .before .before .before .before .before .before .before .before .if1 .left) (c .before .before .before .before .before .before .before .before .before .next-room .ensures) (c .before .before .before .before .before .before .before .before .before .before .before .before .entry .ensures)
-    (by-rules (a .job) (c .before .before .before .before .before .before .before .before .before .before .before .before .before .before .before .before .before .rules-of .ensures) (c .before .before .before .check-node .ensures (a .job .length) (a .job .width) (a .job .«full_demand»))) (c .before .enum-told2 .given .1)
-
-leave-parts-requires : tie.Need-leave-parts-requires Inv-loop μ-loop
-leave-parts-requires c κs = let a = c .before .before .before .before .before .before .before .before .before .before .before .before .before .before .before .before .before .before .before .before .before .before .before .before .before .before .before .args in
-    opens (c .before .before .before .before .before .before .before .before .before .before .before .before .before .before .before .before .before .before .loop .inv .1) (c .before .before .before .before .before .before .before .before .before .before .before .before .before .before .before .before .before .before .before .before .before .before .before .before .before .before .before .pre .0 .0) (omega (arith, c .before .before .before .before .before .before .before .before .before .before .before .before .before .before .before .before .before .loop-test, c .before .before .before .before .before .before .before .before .before .before .before .before .before .before .before .before .before .before .loop .inv .0)) (c .before .before .before .before .before .before .before .before .before .before .before .before .before .before .before .before .if1 .left) (c .before .before .before .before .before .before .before .before .before .before .before .before .next-room .ensures) (c .before .before .before .before .before .before .before .before .before .before .before .before .before .before .before .entry .ensures)
-    (by-rules (a .job) (c .before .before .before .before .before .before .before .before .before .before .before .before .before .before .before .before .before .before .before .before .rules-of .ensures) (c .before .before .before .before .before .before .check-node .ensures (a .job .length) (a .job .width) (a .job .«full_demand»))) (c .before .before .before .before .enum-told .given .1) (c .before .before .before .before .before .before .before .before .before .before .before .before .before .before .before .before .before .before .before .before .before .before .before .before .before .before .before .pre .0 .1) (c .before .before .decode .ensures)
-
-add-k : tie.Need-add-k Inv-loop μ-loop
-add-k c = omega (arith, c .before .before .before .before .before .before .before .before .before .before .before .before .before .before .before .before .before .before .loop-test, c .before .before .before .before .before .before .before .before .before .before .before .before .before .before .before .before .before .before .before .loop .inv .0, c .before .before .before .before .before .before .before .before .before .before .before .before .before .before .before .before .before .before .before .before .before .before .before .before .before .before .before .before .pre .0)
-
-loop-less : tie.Need-loop-less Inv-loop μ-loop
-loop-less c = omega (arith, c .before .before .before .before .before .before .before .before .before .before .before .before .before .before .before .before .before .before .loop-test, c .before .before .before .before .before .before .before .before .before .before .before .before .before .before .before .before .before .before .before .loop .inv .0, c .before .before .before .before .before .before .before .before .before .before .before .before .before .before .before .before .before .before .before .before .before .before .before .before .before .before .before .before .pre .0)
-
-loop-again : tie.Need-loop-again Inv-loop μ-loop
-loop-again c = let a = c .before .before .before .before .before .before .before .before .before .before .before .before .before .before .before .before .before .before .before .before .before .before .before .before .before .before .before .before .args in (
-  c .before .before .before .before .before .before .before .before .before .before .before .before .before .before .before .before .before .before .before .loop .inv .0,
-  goes-on (c .before .before .before .before .before .before .before .before .before .before .before .before .before .before .before .before .before .before .before .loop .inv .1) (c .before .before .before .before .before .before .before .before .before .before .before .before .before .before .before .before .before .before .before .before .before .before .before .before .before .before .before .before .pre .0 .0) (omega (arith, c .before .before .before .before .before .before .before .before .before .before .before .before .before .before .before .before .before .before .loop-test, c .before .before .before .before .before .before .before .before .before .before .before .before .before .before .before .before .before .before .before .loop .inv .0)) (c .before .before .before .before .before .before .before .before .before .before .before .before .before .before .before .before .before .if1 .left) (c .before .before .before .before .before .before .before .before .before .before .before .before .before .next-room .ensures) (c .before .before .before .before .before .before .before .before .before .before .before .before .before .before .before .before .entry .ensures)
-      (by-rules (a .job) (c .before .before .before .before .before .before .before .before .before .before .before .before .before .before .before .before .before .before .before .before .before .rules-of .ensures) (c .before .before .before .before .before .before .before .check-node .ensures (a .job .length) (a .job .width) (a .job .«full_demand»))) (c .before .before .before .before .before .enum-told .given .1) (c .before .before .before .decode .ensures) _ _ _ (c .leave-parts .ensures),
-)
-
-returns-3 : tie.Need-returns-3 Inv-loop μ-loop
-returns-3 c = ends (c .before .before .loop .inv .1) (c .before .before .before .before .before .before .before .before .before .before .before .pre .0 .0) (omega (arith, c .before .loop-test, c .before .before .loop .inv .0)) _ (c .finish .ensures (job-of (c .before .before .before .before .before .before .before .before .before .before .before .args .job)) _ _)
+returns-3 : tie.Need-returns-3
+returns-3 c =
+    let w = c .before .before .before .before .before .before in
+    let s = w .before .before .before in
+    left-decides (job-of (s .args .job)) (now (s .args .kinds)) (now (s .args .operands)) (s .pre .0 .0) (w .walk-tree .ensures) (c .before .before .before .before .enum-told .given .1) (sym (c .before .enum-told3 .given .1) ∙ c .before .before .before .check-left .ensures)
 
 pub walk-nodes-spec : {M : Type 1} → statement M
 walk-nodes-spec =
     tie.close
-    (tie.spec Inv-loop μ-loop (λ c. search needs) (λ c. search needs) loop-holds (λ c. search needs)
-    (λ c. search needs) returns (λ c. search needs) (λ c. search needs) check-node-requires (λ c. search needs)
-    (λ c. search needs) (λ c. search needs) returns-2 (λ c. search needs) leave-parts-requires add-k loop-less loop-again
-    (λ c. search needs) (λ c. search needs) returns-3)
+    (tie.spec (λ c κs. search needs) (λ c. search needs) (λ c. search needs) (λ c κs. search needs) returns
+    (λ c κs. search needs) (λ c. search needs) (λ c. search needs) (λ c κs. search needs) returns-2 returns-3)

@@ -1,0 +1,24 @@
+-- `job::check_plateless` meets its contract: the checks run 1, then 3, 27 and 4.
+use mathlib.Core.Path.{_∙_}
+use borrow.Author.Needs.{needs}
+use denote.Ref.{now}
+use lib.ListN.{length}
+use Rattle.refusal.specs.declared.Refusal.the-variants.{ShortHeader}
+use Rattle.job.specs.Block.{sizes-end}
+use Rattle.job.proofs.Checks.{passed-least, check-stops, check-passes}
+use Rattle.job.proofs.check_plateless.Statement.{statement}
+use Rattle.job.proofs.check_plateless.Tie as tie
+
+returns : tie.Need-returns
+returns c = check-stops _ _ _ (c .before .before .check-short .ensures) (c .enum-told2 .given .1)
+
+check-counts-requires : tie.Need-check-counts-requires
+check-counts-requires c κs =
+    let a = c .before .before .before .before .args in
+    passed-least (length (now (a .block))) (sizes-end (a .old)) ShortHeader (c .before .before .check-short .ensures) (c .enum-told .given .1)
+
+returns-2 : tie.Need-returns-2
+returns-2 c = c .check-counts .ensures ∙ check-passes _ _ _ (c .before .before .before .check-short .ensures) (c .before .enum-told .given .1)
+
+pub check-plateless-spec : {M : Type 1} → statement M
+check-plateless-spec = tie.close (tie.spec (search needs) (search needs) (search needs) returns check-counts-requires returns-2)

@@ -1,0 +1,192 @@
+-- The call on the arrays of the plates' sides: what the checks before any plan's leave known, and all that is promised of an answer that
+-- equals the definition.
+use mathlib.Core.Path.{_≡_, _∙_, refl, sym, ap, subst}
+use mathlib.Core.List.{List, [], _∷_, _++_, map, map-map, map-append}
+use Prim.Native.Nat.{ℕ, zero, suc, _+_, _≤_, _<_}
+use native.Mathlib.Nat.{zero-add}
+use native.Mathlib.Omega.{arith}
+use lib.ListN.{length, getD, set, replicate, length-replicate, getD-replicate}
+use Rattle.cutting.specs.Lists.{sum}
+use Rattle.cutting.specs.Tree.{Rect, Tree}
+use Rattle.cutting.specs.Pieces.{Piece}
+use Rattle.cutting.specs.Preorder.{preorder, kinds-of, operands-of}
+use Rattle.cutting.specs.Job.{Job, OnPlate, profit, SolidKinds}
+use Rattle.cutting.proofs.Demands.{sum-le}
+use Rattle.refusal.specs.Refusals.{next, first-refusal, outcome-by}
+use Rattle.refusal.specs.declared.Refusal.{Refusal}
+use Rattle.refusal.specs.declared.Checked.{Checked}
+use Rattle.refusal.specs.declared.Checked.the-variants.{Passed, Refused}
+use Rattle.job.specs.declared.Choices.{Choices}
+use Rattle.job.specs.declared.JobRecord.{JobRecord}
+use Rattle.job.specs.Block.{count-at, sizes-end, plateless-checks, pair-checks, record-of, job-of}
+use Rattle.job.specs.Contracts.{HoldsKinds}
+use Rattle.job.specs.Weights.{block-job}
+use Rattle.job.proofs.Read.{Counts, plateless-passed, counts-hold, block-passed, pairs-range}
+use Rattle.node.proofs.Nodes.{pair-of}
+use Rattle.plan.specs.Plan.{nodes-in, left-check, plan-checks}
+use Rattle.plan.proofs.Parse.{no-pass}
+use Rattle.plan.proofs.Preorder.{written, firsts, seconds, arrays-written, kinds-length, operands-length}
+use Rattle.plan.proofs.Whole.{whole-counts}
+use Rattle.rack.specs.declared.RackAnswer.{RackAnswer}
+use Rattle.rack.specs.Racks.{plated, OnPlates, SharesDemands, rack-profit, rack-bound, chained}
+use Rattle.rack.specs.Check.{plate-at, size-check, order-checks, plate-checks, rack-checks, own-answer, total-checks, with-own, rack-passed, rack-stopped, rack-by, rack-walk, plans-answer, rack-answer, rack-outcome, rack-said}
+use Rattle.rack.specs.Promises.{OrderPasses, BeforePasses, RackOf, RackChecks, PlatesPromises}
+use Rattle.rack.proofs.Racks.{rack-keeps, rack-holds}
+use Rattle.rack.proofs.Before.{before-passed, size-passed}
+use Rattle.rack.proofs.Trees.{by-passed, racked, passing}
+use Rattle.rack.proofs.Unread.{same-answer}
+
+-- a list of each plan, one after another
+map-chained : {A B : Type 0} (f : A → B) (n : ℕ) (g : ℕ → List A) → map f (chained n g) ≡ chained n (λ p. map f (g p))
+unfolding chained
+map-chained f zero g = refl
+map-chained f (suc n) g = map-append f (g 0) (chained n (λ p. g (suc p))) ∙ ap (λ l. map f (g 0) ++ l) (map-chained f n (λ p. g (suc p)))
+
+-- nodes of arrays, one after another
+nodes-append : (a b xs ys : List ℕ) → length a ≡ length b → nodes-in (a ++ xs) (b ++ ys) ≡ nodes-in a b ++ nodes-in xs ys
+nodes-append [] [] xs ys h = refl
+nodes-append [] (y ∷ b) xs ys h = absurd (omega arith)
+nodes-append (x ∷ a) [] xs ys h = absurd (omega arith)
+nodes-append (x ∷ a) (y ∷ b) xs ys h = ap (λ l. (x, y) ∷ l) (nodes-append a b xs ys (omega arith))
+
+nodes-chained : (n : ℕ) (tree : ℕ → Tree Piece) → nodes-in (chained n (λ p. kinds-of (tree p))) (chained n (λ p. operands-of (tree p))) ≡ chained n (λ p. written (tree p))
+unfolding chained
+nodes-chained zero tree = refl
+nodes-chained (suc n) tree = nodes-append (kinds-of (tree 0)) (operands-of (tree 0)) _ _ (kinds-length (tree 0) ∙ sym (operands-length (tree 0)))
+    ∙ (λ i. arrays-written (tree 0) i ++ nodes-chained n (λ p. tree (suc p)) i)
+
+written-first : (t : Tree Piece) → map (λ p. p .0) (written t) ≡ kinds-of t
+unfolding kinds-of
+written-first t = map-map (λ p. p .0) (λ n. pair-of n) (preorder t)
+
+written-second : (t : Tree Piece) → map (λ p. p .1) (written t) ≡ operands-of t
+unfolding operands-of
+written-second t = map-map (λ p. p .1) (λ n. pair-of n) (preorder t)
+
+-- a refused rack has no profits
+abbrev Zeroed : RackAnswer → Type 0
+Zeroed a = (x : Refusal) → a .verdict ≡ Refused x → a .profits ≡ replicate 16 0
+
+by-zeros : (v : Checked) (a : RackAnswer) → Zeroed a → Zeroed (rack-by v a)
+by-zeros Passed a h = h
+by-zeros (Refused r) a h = λ x p. refl
+
+walk-zeros : (J : Job) (plate : ℕ → Rect) (kinds operands : List ℕ) (i m k : ℕ) (totals profits : List ℕ) → Zeroed (rack-walk J plate kinds operands i m k totals profits)
+unfolding rack-walk
+walk-zeros J plate kinds operands i zero k totals profits = by-zeros (first-refusal (left-check (length kinds) k ∷ [])) (rack-passed profits) (λ y q. no-pass (sym q))
+walk-zeros J plate kinds operands i (suc m) k totals profits =
+    let a = own-answer (plated J (plate i)) kinds operands k in
+    let totals′ = with-own totals (a .report .copies) (J .count) in
+    let profits′ = set profits i (a .report .profit) in
+    by-zeros (next (a .verdict) (first-refusal (total-checks J i totals (a .report .copies)))) (rack-walk J plate kinds operands (i + 1) m (a .past) totals′ profits′) (walk-zeros J plate kinds operands (i + 1) m (a .past) totals′ profits′)
+
+-- the number and values of an answer that follows a check
+outcome-after : (v : Checked) (a : RackAnswer) → rack-outcome (rack-by v a) ≡ outcome-by (next v (a .verdict)) (a .profits)
+outcome-after Passed a = refl
+outcome-after (Refused r) a = refl
+
+module _ (s : List ℕ) (choices : Choices) where
+  abbrev J : Job
+  J = block-job s choices
+
+  -- what a job block whose order passes says of its kinds
+  order-counts : OrderPasses s choices → Counts (choices .«old_block») s
+  unfolding order-checks
+  order-counts p = plateless-passed (choices .«old_block») s (block-passed plateless-checks pair-checks s choices p .0)
+
+  pub order-holds : OrderPasses s choices → HoldsKinds (sizes-end (choices .«old_block»)) s (count-at s)
+  order-holds p = counts-hold (choices .«old_block») s (count-at s) refl (order-counts p)
+
+  pub order-few : OrderPasses s choices → J .count ≤ 64
+  unfolding record-of
+  order-few p = order-counts p .kinds .1
+
+  order-solid : OrderPasses s choices → SolidKinds J
+  unfolding order-checks
+  order-solid p i l =
+      let r = pairs-range plateless-checks s choices p (order-counts p) 1 1 ((omega arith, omega arith), (omega arith, omega arith)) in
+      (omega (arith, r .lengths i l .0), omega (arith, r .widths i l .0))
+
+  module _ (lengths widths kinds operands : List ℕ) where
+    abbrev n : ℕ
+    n = length lengths
+
+    abbrev plate : ℕ → Rect
+    plate = plate-at lengths widths
+
+    abbrev plans : RackAnswer
+    plans = plans-answer J plate n kinds operands
+
+    abbrev before : Checked
+    before = first-refusal (rack-checks s choices lengths widths kinds operands)
+
+    -- no set of plans that share the demands earns more than the sum of the plates' bounds
+    bounded : OrderPasses s choices → (tree : ℕ → Tree Piece) → OnPlates J n plate tree → SharesDemands J n tree → (weight : ℕ → ℕ → ℕ) → rack-profit J n tree ≤ rack-bound J n plate weight
+    bounded p tree on shares weight = rack-holds J n tree shares (order-solid p) plate on weight
+
+    module _ (b : BeforePasses s choices lengths widths kinds operands) where
+      parts : (first-refusal (size-check lengths widths ∷ []) ≡ Passed) × OrderPasses s choices × (first-refusal (plate-checks plate n) ≡ Passed) × (first-refusal (plan-checks kinds operands) ≡ Passed)
+      parts = before-passed s choices lengths widths kinds operands b
+
+      none-yet : (j : ℕ) → j < J .count → _≡_ {A = ℕ} (getD (replicate 64 0) j 0) 0
+      none-yet j l = getD-replicate {A = ℕ} 64 j 0 0 (omega (arith, l, order-few (parts .1)))
+
+      -- plans that pass are trees'
+      drawn : plans .verdict ≡ Passed → (tree : ℕ → Tree Piece) × RackOf J n plate tree kinds operands × ((p : ℕ) → p < n → getD (plans .profits) p 0 ≡ profit J (tree p))
+      unfolding plans-answer
+      drawn p =
+          let same = whole-counts kinds operands (parts .3) .0 in
+          let t = racked J (order-few (parts .1)) plate kinds operands same n 0 0 (replicate 64 0) (replicate 16 0) (length-replicate {A = ℕ} 64 0) (length-replicate {A = ℕ} 16 0) (omega (arith, size-passed lengths widths (parts .0) .2))
+          (λ j l. omega (arith, none-yet j l)) p in
+          let shares : SharesDemands J n (t .tree) = λ j l. (let h = t .shares j l in omega (arith, h, none-yet j l)) in
+          let nodes : nodes-in kinds operands ≡ chained n (λ q. written (t .tree q)) = t .nodes in (
+            t .tree,
+            record {
+              on-plates = λ q l. subst (λ i. OnPlate (plated J (plate i)) (t .tree q)) (zero-add q) (t .on q l);
+              keeps = rack-keeps J n (t .tree) shares;
+              shares = shares;
+              idle-free = t .free;
+              kinds-are = sym (firsts kinds operands same) ∙ ap (map (λ q. q .0)) nodes ∙ map-chained (λ q. q .0) n (λ q. written (t .tree q)) ∙ (λ i. chained n (λ q. written-first (t .tree q) i));
+              operands-are = sym (seconds kinds operands same) ∙ ap (map (λ q. q .1)) nodes ∙ map-chained (λ q. q .1) n (λ q. written (t .tree q)) ∙ (λ i. chained n (λ q. written-second (t .tree q) i));
+            },
+            λ q l. ap (λ i. getD (plans .profits) i 0) (sym (zero-add q)) ∙ t .paid q l,
+          )
+
+      -- and the other way
+      judged : (tree : ℕ → Tree Piece) → RackOf J n plate tree kinds operands → plans .verdict ≡ Passed
+      unfolding plans-answer
+      judged tree t =
+          passing J (order-few (parts .1)) plate kinds operands (whole-counts kinds operands (parts .3) .0) n 0 0 (replicate 64 0) (replicate 16 0) tree (length-replicate {A = ℕ} 64 0)
+          (λ q l. subst (λ i. OnPlate (plated J (plate i)) (tree q)) (sym (zero-add q)) (t .on-plates q l)) (t .idle-free) (λ j l. (let h = t .shares j l in omega (arith, h, none-yet j l)))
+          ((λ i. nodes-in (t .kinds-are i) (t .operands-are i)) ∙ nodes-chained n tree)
+
+    -- a rack that passes is that of trees
+    trees : rack-by before plans .verdict ≡ Passed → (tree : ℕ → Tree Piece) × RackOf J n plate tree kinds operands × ((p : ℕ) → p < n → getD (rack-by before plans .profits) p 0 ≡ profit J (tree p))
+    trees p = let b = by-passed before plans p in let t = drawn (b .0) (b .1) in (t .0, t .1, λ q l. ap (λ v. getD (rack-by v plans .profits) q 0) (b .0) ∙ t .2 q l)
+
+    checked : RackChecks s choices lengths widths kinds operands (rack-by before plans)
+    unfolding plans-answer
+    checked =
+        record {
+          passes = λ b tree t. ap (λ v. rack-by v plans .verdict) b ∙ judged b tree t;
+          before = λ p. by-passed before plans p .0;
+          trees = trees;
+          zeros = by-zeros before plans (walk-zeros J plate kinds operands 0 n 0 _ _);
+          unread = λ z h. same-answer choices s z h lengths widths kinds operands;
+          bounds = bounded;
+          earned = λ p weight. (let t = trees p in let o = parts (by-passed before plans p .0) .1 in
+              let a = sum-le n (λ q. getD (rack-by before plans .profits) q 0) (λ q. profit J (t .0 q)) (λ q l. omega (arith, t .2 q l)) in
+              let c = bounded o (t .0) (t .1 .on-plates) (t .1 .shares) weight in omega (arith, a, c));
+        }
+
+    -- an answer that equals the definition meets the whole contract
+    pub plates-met : {r : RackAnswer} → r ≡ rack-answer s choices lengths widths kinds operands → PlatesPromises s choices lengths widths kinds operands r
+    plates-met e = record { answers = e; outcome = ap (λ a. rack-outcome a) e ∙ outcome-after before plans; checks = subst (RackChecks s choices lengths widths kinds operands) (sym e) checked }
+
+    -- the rack is refused before any plan
+    pub plates-stopped : {v : Checked} {x : Refusal} → v ≡ before → v ≡ Refused x → rack-stopped v ≡ rack-answer s choices lengths widths kinds operands
+    plates-stopped e p = ap rack-stopped p ∙ sym (ap (λ v. rack-by v plans) (sym e ∙ p))
+
+    -- the plans of the job that was read decide
+    pub plates-walked : {v : Checked} {j : JobRecord} → v ≡ before → v ≡ Passed → j ≡ record-of s choices → plans-answer (job-of j) plate n kinds operands ≡ rack-answer s choices lengths widths kinds operands
+    plates-walked e p r = ap (λ (j : JobRecord). plans-answer (job-of j) plate n kinds operands) r ∙ sym (ap (λ v. rack-by v plans) (sym e ∙ p))

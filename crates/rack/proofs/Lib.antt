@@ -1,0 +1,9 @@
+pub mod Racks
+pub mod Totals
+pub mod Own
+pub mod Plans
+pub mod Before
+pub mod Trees
+pub mod Unread
+pub mod Calls
+pub mod Records

@@ -1,0 +1,5 @@
+pub mod Racks
+pub mod Check
+pub mod Plates
+pub mod Promises
+pub mod Records

@@ -1,0 +1,60 @@
+-- What the check of a rack promises: the trees of a rack that passes, and what no set of plans can earn.
+use mathlib.Core.Path.{_≡_}
+use mathlib.Core.List.{List}
+use Prim.Native.Nat.{ℕ, _≤_, _<_}
+use lib.ListN.{length, getD, replicate}
+use Rattle.cutting.specs.Lists.{sum}
+use Rattle.cutting.specs.Tree.{Rect, Tree, IdleFree}
+use Rattle.cutting.specs.Pieces.{Piece}
+use Rattle.cutting.specs.Preorder.{kinds-of, operands-of}
+use Rattle.cutting.specs.Job.{Job, profit, KeepsDemands}
+use Rattle.refusal.specs.Refusals.{first-refusal}
+use Rattle.refusal.specs.declared.Refusal.{Refusal}
+use Rattle.refusal.specs.declared.Checked.the-variants.{Passed, Refused}
+use Rattle.job.specs.declared.Choices.{Choices}
+use Rattle.job.specs.Weights.{block-job}
+use Rattle.rack.specs.declared.RackAnswer.{RackAnswer}
+use Rattle.rack.specs.Racks.{OnPlates, SharesDemands, rack-profit, rack-bound, chained}
+use Rattle.rack.specs.Check.{most-plates, plate-at, order-checks, rack-checks, rack-answer, rack-outcome, rack-said}
+
+-- no check of a job block beside its plate's refuses it
+abbrev pub OrderPasses : List ℕ → Choices → Type 0
+OrderPasses s choices = first-refusal (order-checks s choices) ≡ Passed
+
+-- no check before any plan's refuses the rack
+abbrev pub BeforePasses : List ℕ → Choices → List ℕ → List ℕ → List ℕ → List ℕ → Type 0
+BeforePasses s choices lengths widths kinds operands = first-refusal (rack-checks s choices lengths widths kinds operands) ≡ Passed
+
+-- n plans of a rack: each a guillotine tree on its plate that keeps every demand and has no idle cut; together they share the demands; the
+-- arrays are their preorders, one after another
+pub record RackOf (J : Job) (n : ℕ) (plate : ℕ → Rect) (tree : ℕ → Tree Piece) (kinds operands : List ℕ) : Type 0 where
+  pub on-plates : OnPlates J n plate tree
+  pub keeps : (p : ℕ) → p < n → KeepsDemands J (tree p)
+  pub shares : SharesDemands J n tree
+  pub idle-free : (p : ℕ) → p < n → IdleFree (tree p)
+  pub kinds-are : kinds ≡ chained n (λ p. kinds-of (tree p))
+  pub operands-are : operands ≡ chained n (λ p. operands-of (tree p))
+
+-- two blocks of one length that differ only in the sides of their plates, the first four bytes
+pub record OnlyPlate (s z : List ℕ) : Type 0 where
+  pub same-length : length s ≡ length z
+  pub same-bytes : (k : ℕ) → 4 ≤ k → getD s k 0 ≡ getD z k 0
+
+-- what the check promises of a rack. Where no check before any plan's refuses, it passes exactly for the plans of
+-- trees; it then has the profits of those trees, and else zeros. The job's own plate is not read. No set of plans on the plates that share
+-- the demands earns more than the sum of the plates' bounds, each under weights of its own; nor do the plans that passed
+pub record RackChecks (s : List ℕ) (choices : Choices) (lengths widths kinds operands : List ℕ) (r : RackAnswer) : Type 0 where
+  pub passes : BeforePasses s choices lengths widths kinds operands → (tree : ℕ → Tree Piece) → RackOf (block-job s choices) (length lengths) (plate-at lengths widths) tree kinds operands → r .verdict ≡ Passed
+  pub before : r .verdict ≡ Passed → BeforePasses s choices lengths widths kinds operands
+  pub trees : r .verdict ≡ Passed → (tree : ℕ → Tree Piece) × RackOf (block-job s choices) (length lengths) (plate-at lengths widths) tree kinds operands × ((p : ℕ) → p < length lengths → getD (r .profits) p 0 ≡ profit (block-job s choices) (tree p))
+  pub zeros : (x : Refusal) → r .verdict ≡ Refused x → r .profits ≡ replicate most-plates 0
+  pub unread : (z : List ℕ) → OnlyPlate s z → r ≡ rack-answer z choices lengths widths kinds operands
+  pub bounds : OrderPasses s choices → (tree : ℕ → Tree Piece) → OnPlates (block-job s choices) (length lengths) (plate-at lengths widths) tree → SharesDemands (block-job s choices) (length lengths) tree → (weight : ℕ → ℕ → ℕ)
+      → rack-profit (block-job s choices) (length lengths) tree ≤ rack-bound (block-job s choices) (length lengths) (plate-at lengths widths) weight
+  pub earned : r .verdict ≡ Passed → (weight : ℕ → ℕ → ℕ) → sum (length lengths) (λ p. getD (r .profits) p 0) ≤ rack-bound (block-job s choices) (length lengths) (plate-at lengths widths) weight
+
+-- the promises of the check on the arrays of the plates' sides: answer, number and values are the definitions', and it checks the rack
+pub record PlatesPromises (s : List ℕ) (choices : Choices) (lengths widths kinds operands : List ℕ) (r : RackAnswer) : Type 0 where
+  pub answers : r ≡ rack-answer s choices lengths widths kinds operands
+  pub outcome : rack-outcome r ≡ rack-said s choices lengths widths kinds operands
+  pub checks : RackChecks s choices lengths widths kinds operands r

@@ -1,0 +1,289 @@
+// A rack of plates for one order: plans stand one after another in the two arrays, each is checked on its own plate, and their copies add
+// up against one demand. The job's own plate is not read.
+use idle::idle_cut;
+use job::Choices;
+use job::JobRecord;
+use job::check_arrays;
+use job::check_plateless;
+use job::read_record;
+use job::read_u16;
+use job::sides_outside;
+use job::sizes_end;
+use plan::TreeAnswer;
+use plan::check_left;
+use plan::check_whole;
+use plan::stop_tree;
+use plan::walk_tree;
+use refusal::Checked;
+use refusal::Refusal;
+use refusal::refuse_if;
+ghost use mathlib.Core.Path.{_≡_};
+ghost use mathlib.Core.List.{[], _∷_};
+ghost use Prim.Native.Nat.{_+_, _≤_, _<_};
+ghost use lib.ListN.{length, getD};
+ghost use lib.Dec.{ltb};
+ghost use Rattle.cutting.specs.Limits.{most-kinds};
+ghost use Rattle.refusal.specs.Refusals.{first-refusal};
+ghost use Rattle.job.specs.Block.{job-of};
+ghost use Rattle.plan.specs.Walk.{Walkable};
+ghost use Rattle.rack.specs.Check.{plate-at, size-check, order-checks, plate-checks, rack-checks, own-answer, rack-stopped, plans-answer};
+ghost use Rattle.rack.specs.Promises.{PlatesPromises};
+ghost use Rattle.rack.specs.Plates.{on-plate, OneEach, TotalsAfter};
+ghost use Rattle.rack.specs.Records.{blank, paid, paid-count};
+
+// A plate of a rack: its sides, and how much profit its checked plan brought.
+pub struct Plate {
+    pub length: u16,
+    pub width: u16,
+    pub profit: u64,
+}
+
+// What the check of a rack answers: where it passes, the profit of each of at most 16 plates, and 0 past the last; else zeros.
+pub struct RackAnswer {
+    pub verdict: Checked,
+    pub profits: [u64; 16],
+}
+
+// An answer without profits.
+fn without_profits(verdict: Checked) -> RackAnswer
+    ensures { λ r. ⌜ r ≡ rack-stopped verdict ⌝ }
+{
+    RackAnswer {
+        verdict: verdict,
+        profits: [0u64; 16],
+    }
+}
+
+// A job that was read, on another plate.
+fn on_plate(job: JobRecord, length: u16, width: u16) -> JobRecord
+    ensures { λ r. ⌜ r ≡ on-plate job length width ⌝ }
+{
+    let mut plated = job;
+    plated.length = length;
+    plated.width = width;
+    plated
+}
+
+// Refusal 28.
+fn check_size(lengths: &[u16], widths: &[u16]) -> Checked
+    ensures { λ r. ⌜ r ≡ first-refusal (size-check (now (lengths .entry)) (now (widths .entry)) ∷ []) ⌝ }
+{
+    let n = lengths.len();
+    if n != widths.len() {
+        return Checked::Refused(Refusal::RackSize);
+    }
+    if n < 1 {
+        return Checked::Refused(Refusal::RackSize);
+    }
+    refuse_if(16 < n, Refusal::RackSize)
+}
+
+// The job beside its plate: refusals 1, 3, 27 and 4 to 7.
+fn check_order(block: &[u8], choices: Choices) -> Checked
+    ensures { λ r. ⌜ r ≡ first-refusal (order-checks (now (block .entry)) choices) ⌝ }
+{
+    let header = check_plateless(block, choices.old_block);
+    let Checked::Passed = header else {
+        return header;
+    };
+    let h = sizes_end(choices.old_block);
+    check_arrays(block, h, read_u16(block, 4))
+}
+
+// Refusal 2, of each plate in the rack's order.
+fn check_sides(lengths: &[u16], widths: &[u16]) -> Checked
+    requires { ⌜ OneEach (now lengths) (now widths) ⌝ }
+    ensures { λ r. ⌜ r ≡ first-refusal (plate-checks (plate-at (now (lengths .entry)) (now (widths .entry))) (length (now (lengths .entry)))) ⌝ }
+{
+    for i in 0..lengths.len() {
+        let outside = sides_outside(lengths[i], widths[i]);
+        let sides = refuse_if(outside, Refusal::RackSide(i as u16));
+        let Checked::Passed = sides else {
+            return sides;
+        };
+    }
+    Checked::Passed
+}
+
+// What stands before any plan: refusals 28, 1, 3, 27, 4 to 7, 2, 10 and 11.
+fn check_before(
+    block: &[u8],
+    choices: Choices,
+    lengths: &[u16],
+    widths: &[u16],
+    kinds: &[u8],
+    operands: &[u16],
+) -> Checked
+    ensures { λ r. ⌜ r ≡ first-refusal (rack-checks (now (block .entry)) choices (now (lengths .entry)) (now (widths .entry)) (now (kinds .entry)) (now (operands .entry))) ⌝ }
+{
+    let size = check_size(lengths, widths);
+    let Checked::Passed = size else {
+        return size;
+    };
+    let order = check_order(block, choices);
+    let Checked::Passed = order else {
+        return order;
+    };
+    let sides = check_sides(lengths, widths);
+    let Checked::Passed = sides else {
+        return sides;
+    };
+    check_whole(kinds, operands)
+}
+
+// One plan from node `first` on, by its own checks: refusals 12 to 17, and 26 at its end.
+fn check_own(job: JobRecord, kinds: &[u8], operands: &[u16], first: usize) -> TreeAnswer
+    requires { ⌜ Walkable (now kinds) (now operands) × (job .count ≤ most-kinds) × (first ≤ length (now kinds)) ⌝ }
+    ensures { λ r. ⌜ r ≡ own-answer (job-of job) (now (kinds .entry)) (now (operands .entry)) first ⌝ }
+{
+    let tree = walk_tree(job, kinds, operands, first);
+    let walked = tree.verdict;
+    let Checked::Passed = walked else {
+        return stop_tree(walked);
+    };
+    let past = tree.past;
+    let idle = idle_cut(&kinds[first..past], first);
+    let Checked::Passed = idle else {
+        return stop_tree(idle);
+    };
+    tree
+}
+
+// Whether a kind's copies pass its demand.
+fn passes(total: u16, own: u16, demand: u16) -> bool
+    ensures { λ r. ⌜ r ≡ ltb demand (total + own) ⌝ }
+{
+    (demand as u32) < (total as u32) + (own as u32)
+}
+
+// Copies that do not.
+fn add_within(total: u16, own: u16, demand: u16) -> u16
+    requires { ⌜ total + own ≤ demand ⌝ }
+    ensures { λ r. ⌜ r ≡ total + own ⌝ }
+{
+    total + own
+}
+
+// Refusal 29, of one plate; where it passes, its own copies are in the totals.
+fn add_copies(
+    totals: &mut [u16; 64],
+    own: &[u16; 64],
+    demands: &[u16; 64],
+    count: u16,
+    plate: u16,
+) -> Checked
+    requires { ⌜ count ≤ most-kinds ⌝ }
+    ensures { λ r. ⌜ TotalsAfter count (now (demands .entry)) plate (now (totals .entry)) (now (own .entry)) (now (totals .exit)) r ⌝ }
+{
+    for j in 0..count {
+        let k = j as usize;
+        let total = totals[k];
+        let more = own[k];
+        let demand = demands[k];
+        if passes(total, more, demand) {
+            return Checked::Refused(Refusal::RackDemand(plate));
+        }
+        totals[k] = add_within(total, more, demand);
+    }
+    Checked::Passed
+}
+
+// The plans in the rack's order: refusals 12 to 17, 26 and 29 of each, and 18 after the last.
+fn check_plans(
+    job: JobRecord,
+    lengths: &[u16],
+    widths: &[u16],
+    kinds: &[u8],
+    operands: &[u16],
+) -> RackAnswer
+    requires { ⌜ OneEach (now lengths) (now widths) × Walkable (now kinds) (now operands) × (job .count ≤ most-kinds) ⌝ }
+    ensures { λ r. ⌜ r ≡ plans-answer (job-of job) (plate-at (now (lengths .entry)) (now (widths .entry))) (length (now (lengths .entry))) (now (kinds .entry)) (now (operands .entry)) ⌝ }
+{
+    let demands = job.demands;
+    let mut totals = [0u16; 64];
+    let mut profits = [0u64; 16];
+    let mut k: usize = 0;
+    for i in 0..lengths.len() {
+        let plated = on_plate(job, lengths[i], widths[i]);
+        let a = check_own(plated, kinds, operands, k);
+        let verdict = a.verdict;
+        let Checked::Passed = verdict else {
+            return without_profits(verdict);
+        };
+        let report = a.report;
+        let own = report.copies;
+        let shared = add_copies(&mut totals, &own, &demands, job.count, i as u16);
+        let Checked::Passed = shared else {
+            return without_profits(shared);
+        };
+        profits[i] = report.profit;
+        k = a.past;
+    }
+    let left = check_left(kinds.len(), k);
+    let Checked::Passed = left else {
+        return without_profits(left);
+    };
+    RackAnswer {
+        verdict: Checked::Passed,
+        profits: profits,
+    }
+}
+
+// A rack of plates, by the arrays of their sides, checked for a job block: refusals 28, 1, 3, 27, 4 to 7, 2, 10 and 11; then plan after plan
+// 12 to 17, 26 and 29; then 18.
+pub fn check_plates(
+    block: &[u8],
+    choices: Choices,
+    lengths: &[u16],
+    widths: &[u16],
+    kinds: &[u8],
+    operands: &[u16],
+) -> RackAnswer
+    ensures { λ r. ⌜ PlatesPromises (now (block .entry)) choices (now (lengths .entry)) (now (widths .entry)) (now (kinds .entry)) (now (operands .entry)) r ⌝ }
+{
+    let before = check_before(block, choices, lengths, widths, kinds, operands);
+    let Checked::Passed = before else {
+        return without_profits(before);
+    };
+    let job = read_record(block, choices);
+    check_plans(job, lengths, widths, kinds, operands)
+}
+
+// How many of n profits are written: all where the rack passes, and else none.
+pub fn paid_count(verdict: Checked, n: usize) -> usize
+    ensures { λ r. ⌜ r ≡ paid-count verdict n ⌝ }
+{
+    match verdict {
+        Checked::Passed => n,
+        Checked::Refused(_) => 0,
+    }
+}
+
+// The length of one plate of a rack.
+pub fn length_at(rack: &[Plate], at: usize) -> u16
+    requires { ⌜ at < length (now rack) ⌝ }
+    ensures { λ r. ⌜ r ≡ getD (now (rack .entry)) at blank .length ⌝ }
+{
+    rack[at].length
+}
+
+// Its width.
+pub fn width_at(rack: &[Plate], at: usize) -> u16
+    requires { ⌜ at < length (now rack) ⌝ }
+    ensures { λ r. ⌜ r ≡ getD (now (rack .entry)) at blank .width ⌝ }
+{
+    rack[at].width
+}
+
+// The first profits are written, in the rack's order. With the checker's profits for the sides of the rack, and as many as its verdict gives,
+// the records keep what is promised of a rack (RackPromises of specs/Records, rack-met of proofs/Records).
+pub fn settle(rack: &mut [Plate], profits: &[u64], count: usize)
+    requires { ⌜ (count ≤ length (now rack)) × (count ≤ length (now profits)) ⌝ }
+    ensures { λ _. ⌜ now (rack .exit) ≡ paid (now (rack .entry)) (now (profits .entry)) count ⌝ }
+{
+    let mut i: usize = 0;
+    while i < count {
+        rack[i].profit = profits[i];
+        i += 1;
+    }
+}
