@@ -7,3 +7,4 @@ mod Within
 mod Pairs
 mod Optimum
 mod Rounds
+mod Plates

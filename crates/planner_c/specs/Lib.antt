@@ -4,3 +4,4 @@ pub mod Within
 pub mod Two
 pub mod Exact
 pub mod Found
+pub mod Racks

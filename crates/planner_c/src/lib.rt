@@ -3,6 +3,7 @@
 // function states it returns 100, where the word of choices has a bit that is no choice 101, and changes nothing.
 mod choices;
 mod found;
+mod racks;
 mod short;
 mod staged;
 mod two;

@@ -7,6 +7,7 @@ use exact::ExactReport;
 use neat::NeatAnswer;
 use plan::PlanAnswer;
 use plan::Report;
+use rack::RackAnswer;
 use refusal::Checked;
 use refusal::Refusal;
 use rounds::WeightsFound;
@@ -21,11 +22,12 @@ use writer::WriteReport;
 ghost use mathlib.Core.Path.{_≡_};
 ghost use mathlib.Core.List.{[], _∷_};
 ghost use Prim.Native.Nat.{_+_, _≤_, _<_};
-ghost use lib.ListN.{length, set};
+ghost use lib.ListN.{length, take, set};
 ghost use lib.Seq.{sets};
 ghost use Rattle.cutting.specs.Limits.{most-kinds};
 ghost use Rattle.cutting.specs.Lists.{over};
-ghost use Rattle.refusal.specs.Refusals.{refused-as};
+ghost use Rattle.refusal.specs.Refusals.{by-check, refused-as, outcome-by};
+ghost use Rattle.refusal.specs.declared.Checked.the-variants.{Passed};
 ghost use Rattle.plan.specs.Calls.{plan-values, plan-outcome};
 ghost use Rattle.bound.specs.Bound.{bound-outcome};
 ghost use Rattle.neat.specs.Neat.{neat-outcome};
@@ -40,7 +42,7 @@ ghost use Rattle.rounds.specs.Rounds.{found-values, found-outcome};
 ghost use Rattle.planner_c.specs.Exports.{Gives, GapWithin};
 
 // A refusal: its number is returned, its place put in the first word.
-fn refuse(r: Refusal, answer: &mut [u64]) -> u32
+pub fn refuse(r: Refusal, answer: &mut [u64]) -> u32
     requires { ⌜ 0 < length (now answer) ⌝ }
     ensures { λ n. ⌜ Gives (refused-as r) n (now (answer .entry)) (now (answer .exit)) ⌝ }
 {
@@ -351,6 +353,33 @@ pub fn put_found(a: WeightsFound, answer: &mut [u64]) -> u32
         Checked::Refused(r) => refuse(r, answer),
         Checked::Passed => {
             put_least(a, answer);
+            0
+        }
+    }
+}
+
+// The profits of a rack's plates, at most 16.
+fn copy_profits(values: [u64; 16], profits: &mut [u64])
+    requires { ⌜ length (now profits) ≤ 16 ⌝ }
+    ensures { λ _. ⌜ now (profits .exit) ≡ take (length (now (profits .entry))) values ⌝ }
+{
+    for i in 0..profits.len() {
+        profits[i] = values[i];
+    }
+}
+
+// What the check of a rack answers: a pass has no word and writes the profits.
+pub fn put_profits(a: RackAnswer, profits: &mut [u64], answer: &mut [u64]) -> u32
+    requires { ⌜ (1 ≤ length (now answer)) × (a .verdict ≡ Passed → length (now profits) ≤ 16) ⌝ }
+    ensures words { λ n. ⌜ Gives (outcome-by (a .verdict) []) n (now (answer .entry)) (now (answer .exit)) ⌝ }
+    ensures profits { λ _. ⌜ now (profits .exit) ≡ by-check (a .verdict) (take (length (now (profits .entry))) (a .profits)) (λ r. now (profits .entry)) ⌝ }
+{
+    let verdict = a.verdict;
+    match verdict {
+        Checked::Refused(r) => refuse(r, answer),
+        Checked::Passed => {
+            let values = a.profits;
+            copy_profits(values, profits);
             0
         }
     }

@@ -43,6 +43,11 @@ pub const LIMIT: usize = 12950;
 
 pub const REMARK: usize = 13000;
 
+// The sides of a rack's plates.
+pub const PLATE_LENGTHS: usize = 14000;
+
+pub const PLATE_WIDTHS: usize = 15000;
+
 pub const KINDS: usize = 20000;
 
 pub const OPERANDS: usize = 30000;

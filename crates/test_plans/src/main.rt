@@ -1,8 +1,9 @@
 // Runs the calls on plans by a script (its standard input): the check of plans, the writing of plans, neat plans, certificates, both
-// within a limit of stages too, the saw, the weight rounds.
+// within a limit of stages too, the saw, the weight rounds,
+// racks of plates.
 // `job`, `weights`, `kinds`, `operands` and `plan` set the bytes of the job block, the weights, the plan's two arrays and the plan block;
 // `lend` sets how many entries of the two lists and words of the table a certificate is lent, `neat` how many entries of the two output
-// arrays a neat plan, or a round's plan, is lent, `most` the limit of stages; `turning` sets whether pieces may be turned
+// arrays a neat plan, or a round's plan, is lent, `most` the limit of stages, `x` and `y` the lengths and widths of a rack's plates; `turning` sets whether pieces may be turned
 // from here on, 1 or 0, `full` whether the capacity is that of the full demands (a plan is then written, or certified, by the call of that name), and
 // `before` whether job blocks are old ones, from before the kerf. Then a call runs on what is set:
 // `Arrays` checks the two arrays, `Block` the plan block, `Jobs` and `Plans` every truncation of the job block and of the plan block;
@@ -11,12 +12,14 @@
 // many entries of the lists and words of the table it changed; `Depth` checks the two arrays within the limit of stages, and `Limited`
 // certifies them within it; `Saw` checks the two arrays as the saw does, and `Entries` prints the part of
 // them that belongs to the node which `entry` sets; `Find` finds weights with the arrays as the lent plan, and prints what `Certify` and `Neat` print of memory;
+// `Rack` checks the plans in the arrays as those of the rack, and prints three profits;
 // `Old` reads the job block by the call for old ones. An answer is printed as its values, a refusal as number and place.
 mod certify;
 mod check;
 mod find;
 mod lent;
 mod old_job;
+mod racks;
 mod saw_calls;
 mod tidy;
 mod write;
@@ -37,10 +40,13 @@ use lent::OLD_BLOCK;
 use lent::OPERANDS;
 use lent::OUTPUT;
 use lent::PLAN;
+use lent::PLATE_LENGTHS;
+use lent::PLATE_WIDTHS;
 use lent::REMARK;
 use lent::TURNING;
 use lent::WEIGHTS;
 use old_job::run_old_job;
+use racks::run_rack;
 use saw_calls::run_entries;
 use saw_calls::run_saw;
 use test_tools::Words;
@@ -66,6 +72,8 @@ fn place(letter: u8) -> usize {
         b'n' => OUTPUT,
         b'e' => NODE,
         b'm' => LIMIT,
+        b'x' => PLATE_LENGTHS,
+        b'y' => PLATE_WIDTHS,
         _ => REMARK,
     }
 }
@@ -82,6 +90,7 @@ fn run(t: &mut Words, letter: u8) {
         b'D' => run_staged(t),
         b'L' => run_certify(t, true),
         b'F' => run_find(t),
+        b'R' => run_rack(t),
         b'S' => run_saw(t),
         b'E' => run_entries(t),
         b'O' => run_old_job(t),

@@ -1,0 +1,45 @@
+// The check of a rack of plates.
+use crate::choices;
+use crate::words;
+use refusal::Refusal;
+ghost use mathlib.Core.Path.{_≡_};
+ghost use Rattle.planner_c.specs.Exports.{choices-of, returned, answered, Left};
+ghost use Rattle.planner_c.specs.Racks.{racked-said, ProfitsLeft, RackGiven};
+
+// The plans of a rack of plates for a job block: lengths and widths of the plates, and their profits, which a pass writes. The answer has
+// 1 word, for the place of a refusal.
+#[no_mangle]
+pub extern "C" fn planner_check_rack(
+    block: &[u8],
+    choices: u32,
+    lengths: &[u16],
+    widths: &[u16],
+    profits: &mut [u64],
+    kinds: &[u8],
+    operands: &[u16],
+    answer: &mut [u64],
+) -> u32
+    ensures number { λ n. ⌜ n ≡ returned 1 (now (answer .entry)) choices (racked-said (now (block .entry)) (choices-of choices) (now (lengths .entry)) (now (widths .entry)) (now (profits .entry)) (now (kinds .entry)) (now (operands .entry))) ⌝ }
+    ensures words { λ _. ⌜ now (answer .exit) ≡ answered 1 (now (answer .entry)) choices (racked-said (now (block .entry)) (choices-of choices) (now (lengths .entry)) (now (widths .entry)) (now (profits .entry)) (now (kinds .entry)) (now (operands .entry))) ⌝ }
+    ensures memory { λ _. ⌜ Left 1 (now (answer .entry)) choices
+        (ProfitsLeft (now (block .entry)) (choices-of choices) (now (lengths .entry)) (now (widths .entry)) (now (kinds .entry)) (now (operands .entry)))
+        (now (profits .entry)) (now (profits .exit)) ⌝ }
+    ensures trees { λ n. ⌜ RackGiven (now (block .entry)) choices (now (lengths .entry)) (now (widths .entry)) (now (kinds .entry)) (now (operands .entry)) (now (profits .entry)) (now (profits .exit)) (now (answer .entry)) n ⌝ }
+{
+    let stop = choices::early(answer.len(), 1, choices);
+    if 0 < stop {
+        return stop;
+    }
+    if profits.len() != lengths.len() {
+        return words::refuse(Refusal::RackSize, answer);
+    }
+    let a = rack::check_plates(
+        block,
+        choices::choices_of(choices),
+        lengths,
+        widths,
+        kinds,
+        operands,
+    );
+    words::put_profits(a, profits, answer)
+}
