@@ -95,16 +95,24 @@ extern "C" {
  * or whose next capacity would be above 4095, or round 17. A round after round 0 that planner_write_plan
  * would refuse, by 20 or 21, ends the run too and is not counted.
  *
+ * Rack. From 1 to 16 plates for one order, as three slices of one length: the plates' lengths, their
+ * widths, and the profits that their plans bring. The plans stand one after another in the two arrays, in
+ * the order of the plates and with nodes numbered throughout; each ends where its tree does. The sides of
+ * the job's own plate are not read.
+ *
  * Return value.
  *   0    done; `answer` holds the words that the function names; its later words are kept
- *   1 to 27, 30
+ *   1 to 30
  *        refused, see below; answer[0] is the place; the other words of `answer` are kept
  *   100  `answer` has fewer words than the function names; nothing was changed
  *   101  `choices` has a bit that is no choice, `answer` is long enough; nothing was changed
  *
  * Refusals, in the order of the checks, the first one met, with their places.
+ *   28  rack not of 1 to 16 plates, or its slices not of one   0
+ *       length
  *    1  job of fewer than 8 bytes, an old block of 6           0
- *    2  plate length or width outside 1 to 1000                0
+ *    2  plate length or width outside 1 to 1000; of a rack,    0, or plate
+ *       after 7, that of a plate
  *    3  number of kinds outside 1 to 64                        0
  *   27  kerf above 20                                          0
  *    4  job not 8 + 10n bytes, an old block not 6 + 10n        0
@@ -119,21 +127,23 @@ extern "C" {
  *   22  limit on stages outside 1 to 8                         0
  *   10  plan arrays differ in length, or plan block under      0
  *       2 bytes or not 2 + 3 * count bytes
- *   11  no node, or above 4095                                 0
+ *   11  no node, or above 4095, in a rack over all plans       0
  *   12  kind of node above 3, or above 4 with PLANNER_TURNING  node
  *   13  piece number n or more                                 node
  *   14  cut outside 1 to side - k - 1, or waste operand not 0  node
  *   15  piece does not fit                                     node
  *   16  this copy passes its demand                            node
  *   17  a node is wanted and none is left                      node count
- *   18  nodes left over                                        first of them
+ *   18  nodes left over, in a rack after the last plan         first of them
  *   26  an idle cut: neither of its parts holds a piece        first of them
+ *   29  a kind's copies in this and all earlier plans of the   plate
+ *       rack pass its demand
  *   23  a cut whose path passes the limit on stages            first of them
  *   19  a list too short                                       0
  *   20  table too short                                        words needed
  *   21  plan needs above 4095 nodes, or more than an array     nodes needed
  *       of the plan holds
- * Numbers 1 to 19, 22 to 27 and 30 change no lent memory but answer[0]. On 20 the lists are filled and the
+ * Numbers 1 to 19 and 22 to 30 change no lent memory but answer[0]. On 20 the lists are filled and the
  * table is untouched. On 21 lists and table are filled and the plan arrays untouched. */
 
 enum {
@@ -160,6 +170,7 @@ enum {
     PLANNER_TWO_WORDS = 5,
     PLANNER_EXACT_WORDS = 5,
     PLANNER_FOUND_WORDS = 66,
+    PLANNER_RACK_WORDS = 1,
     PLANNER_SAW_WORDS = 68,
     PLANNER_PART_WORDS = 2
 };
@@ -337,6 +348,23 @@ uint32_t planner_find_weights(
     uint64_t *table, size_t table_len,
     uint8_t *written_kinds, size_t written_kinds_len,
     uint16_t *written_operands, size_t written_operands_len,
+    uint64_t *answer, size_t answer_len);
+
+/* Checks the plans of a rack (refusals 28, 1, 3, 27, 4 to 7, 2, 10, 11; for each plan 12 to 17, 26, 29; at
+ * last 18). For an accepted job and rack and a long enough answer it returns 0 exactly if the arrays are,
+ * plate after plate, the preorder of a guillotine tree on that plate without an idle cut, at most 4095
+ * nodes in all, and no kind has more copies in all the trees together than its demand. Then the profits
+ * are written and nothing else; a refusal changes none of them. Any trees, one on each plate, that share
+ * the demands so earn together no more than the sum of the plates' bounds, each under weights of its own.
+ * answer[0] the place of a refusal; where the rack passes it is kept. */
+uint32_t planner_check_rack(
+    const uint8_t *job, size_t job_len,
+    uint32_t choices,
+    const uint16_t *plate_lengths, size_t plate_lengths_len,
+    const uint16_t *plate_widths, size_t plate_widths_len,
+    uint64_t *profits, size_t profits_len,
+    const uint8_t *kinds, size_t kinds_len,
+    const uint16_t *operands, size_t operands_len,
     uint64_t *answer, size_t answer_len);
 
 /* Checks a plan as the saw does: the price fields of the job are not read, so that they may hold any

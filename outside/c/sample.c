@@ -1,6 +1,6 @@
 /* Job S of the scope from C: the bound, the plan behind it, its check and its certificate, upright
  * and with pieces that may be turned; within a limit on stages; with two weights a kind; weights found
- * in rounds; more copies than the plate can hold; a blade one unit wide.
+ * in rounds; a rack of two plates; more copies than the plate can hold; a blade one unit wide.
  * The script `run` compiles this file against planner.h and compares what it prints with sample.out. */
 #include "planner.h"
 #include <inttypes.h>
@@ -160,6 +160,22 @@ static void certify_staged(uint32_t limit, const uint8_t *kinds, const uint16_t 
                      answer);
 }
 
+/* A plate of this width with kind 0, and one with kinds 1 and 2. */
+static void check_rack(uint16_t width)
+{
+    static const uint16_t plate_lengths[] = {2, 3}, operands[] = {0, 1, 1, 2};
+    static const uint8_t kinds[] = {1, 3, 1, 1};
+    uint16_t plate_widths[] = {width, 3};
+    uint64_t profits[2] = {0, 0}, answer[PLANNER_RACK_WORDS];
+    uint32_t number = planner_check_rack(job, sizeof job, 0, plate_lengths, 2, plate_widths, 2, profits,
+                                         2, kinds, sizeof kinds, operands, sizeof kinds, answer,
+                                         PLANNER_RACK_WORDS);
+    if (number == PLANNER_DONE)
+        printf("profits %" PRIu64 " %" PRIu64 "\n", profits[0], profits[1]);
+    else
+        refused(number, answer);
+}
+
 int main(void)
 {
     static const uint8_t waste[] = {1, 0, 0, 0, 0};
@@ -183,6 +199,9 @@ int main(void)
     find_weights(kinds, operands, nodes, TABLE_WORDS);
     find_weights(kinds, operands, nodes, 59);
     find_weights(kinds, operands, nodes, 19);
+    check_rack(3);
+    check_rack(2);
+    check_rack(1001);
     certify(PLANNER_TURNING, kinds, operands, nodes);
     nodes = write_plan(PLANNER_TURNING, kinds, operands);
     check(PLANNER_TURNING, kinds, operands, nodes);

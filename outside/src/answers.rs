@@ -121,6 +121,10 @@ pub struct Found {
     pub weights: [u64; 64],
 }
 
+/// Every plan of a rack passed: no word is answered.
+#[derive(Clone, Copy, Debug, PartialEq, Eq)]
+pub struct Passed;
+
 /// Bound less profit (0: the plan is best), with both.
 #[derive(Clone, Copy, Debug, PartialEq, Eq)]
 pub struct Certificate {
@@ -140,6 +144,13 @@ pub struct Storage<'a> {
 pub struct PlanArrays<'a> {
     pub kinds: &'a mut [u8],
     pub operands: &'a mut [u16],
+}
+
+/// The lent rack: of each plate its length, its width and the profit that its plan brought.
+pub struct Rack<'a> {
+    pub lengths: &'a [u16],
+    pub widths: &'a [u16],
+    pub profits: &'a mut [u64],
 }
 
 impl Storage<'_> {
@@ -279,6 +290,16 @@ impl Words<FOUND_WORDS> for Found {
 
     fn from_words([bound, rounds, weights @ ..]: [u64; FOUND_WORDS]) -> Found {
         Found { bound, rounds, weights }
+    }
+}
+
+impl Words<0> for Passed {
+    fn to_words(&self) -> [u64; 0] {
+        []
+    }
+
+    fn from_words([]: [u64; 0]) -> Passed {
+        Passed
     }
 }
 

@@ -1,7 +1,7 @@
 // The functions of planner.h on slices: the code that C gets, and the answer as words.
 // Safe: borrowed slices are valid, aligned and do not overlap where they are written.
 use super::foreign;
-use crate::answers::{PlanArrays, Storage};
+use crate::answers::{PlanArrays, Rack, Storage};
 use crate::calls::Calls;
 
 pub const CALLS: Calls = Calls {
@@ -326,6 +326,28 @@ pub fn find_weights(
             storage.table.as_mut_ptr(), storage.table.len(),
             plan.kinds.as_mut_ptr(), plan.kinds.len(),
             plan.operands.as_mut_ptr(), plan.operands.len(),
+            answer.as_mut_ptr(), answer.len(),
+        )
+    }
+}
+
+pub fn check_rack(
+    job: &[u8],
+    choices: u32,
+    rack: Rack,
+    kinds: &[u8],
+    operands: &[u16],
+    answer: &mut [u64],
+) -> u32 {
+    unsafe {
+        foreign::planner_check_rack(
+            job.as_ptr(), job.len(),
+            choices,
+            rack.lengths.as_ptr(), rack.lengths.len(),
+            rack.widths.as_ptr(), rack.widths.len(),
+            rack.profits.as_mut_ptr(), rack.profits.len(),
+            kinds.as_ptr(), kinds.len(),
+            operands.as_ptr(), operands.len(),
             answer.as_mut_ptr(), answer.len(),
         )
     }

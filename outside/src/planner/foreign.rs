@@ -153,4 +153,15 @@ extern "C" {
         written_operands: *mut u16, written_operands_len: usize,
         answer: *mut u64, answer_len: usize,
     ) -> u32;
+
+    pub fn planner_check_rack(
+        job: *const u8, job_len: usize,
+        choices: u32,
+        plate_lengths: *const u16, plate_lengths_len: usize,
+        plate_widths: *const u16, plate_widths_len: usize,
+        profits: *mut u64, profits_len: usize,
+        kinds: *const u8, kinds_len: usize,
+        operands: *const u16, operands_len: usize,
+        answer: *mut u64, answer_len: usize,
+    ) -> u32;
 }

@@ -4,9 +4,12 @@ pub mod calls;
 mod foreign;
 
 use crate::answers::{
-    Bound, BoundTwo, Certificate, Exact, Found, Neat, Part, PlanArrays, Refusal, Report, SawReport,
-    StagedReport, Storage, Words, Written,
+    Bound, BoundTwo, Certificate, Exact, Found, Neat, Part, Passed, PlanArrays, Rack, Refusal, Report,
+    SawReport, StagedReport, Storage, Words, Written, STAGED_REPORT_WORDS,
 };
+
+/// Words of the longest answer.
+const MOST_WORDS: usize = STAGED_REPORT_WORDS;
 
 /// Checks a plan given as two arrays.
 pub fn check_plan(
@@ -171,16 +174,28 @@ pub fn find_weights(
     typed(|answer| calls::find_weights(job, choices, kinds, operands, storage, plan, answer))
 }
 
+/// Checks the plans of a rack of plates against one order, and writes the profits.
+pub fn check_rack(
+    job: &[u8],
+    choices: u32,
+    rack: Rack,
+    kinds: &[u8],
+    operands: &[u16],
+) -> Result<Passed, Refusal> {
+    typed(|answer| calls::check_rack(job, choices, rack, kinds, operands, answer))
+}
+
 fn part_of<T>(array: &[T], part: Part) -> &[T] {
     &array[part.first as usize..][..part.entries as usize]
 }
 
+/// Lends the words of the answer, and one for the place of a refusal where there are none.
 fn typed<const N: usize, A: Words<N>>(
     call: impl FnOnce(&mut [u64]) -> u32,
 ) -> Result<A, Refusal> {
-    let mut words = [0; N];
-    match call(&mut words) {
-        0 => Ok(A::from_words(words)),
+    let mut words = [0; MOST_WORDS];
+    match call(&mut words[..N.max(1)]) {
+        0 => Ok(A::from_words(words[..N].try_into().expect("the words of an answer"))),
         number => Err(Refusal { number, place: words[0] }),
     }
 }

@@ -1,7 +1,7 @@
 // The reference's calls with codes and answer words, as planner.h has them.
 // A short answer is told before anything else is looked at, and then a bit that is no choice.
 use crate::answers::{
-    PlanArrays, Refusal, Storage, Words, ANSWER_TOO_SHORT, FULL_DEMAND, OLD_BLOCK, TURNING,
+    PlanArrays, Rack, Refusal, Storage, Words, ANSWER_TOO_SHORT, FULL_DEMAND, OLD_BLOCK, TURNING,
     UNKNOWN_CHOICE,
 };
 use crate::calls::Calls;
@@ -184,12 +184,24 @@ pub fn find_weights(
     coded(choices, answer, || super::find_weights(job, choices, kinds, operands, storage, plan))
 }
 
+pub fn check_rack(
+    job: &[u8],
+    choices: u32,
+    rack: Rack,
+    kinds: &[u8],
+    operands: &[u16],
+    answer: &mut [u64],
+) -> u32 {
+    coded(choices, answer, || super::check_rack(job, choices, rack, kinds, operands))
+}
+
+/// A refusal needs a word for its place, also where nothing else is answered.
 fn coded<const N: usize, A: Words<N>>(
     choices: u32,
     answer: &mut [u64],
     call: impl FnOnce() -> Result<A, Refusal>,
 ) -> u32 {
-    if answer.len() < N {
+    if answer.len() < N.max(1) {
         return ANSWER_TOO_SHORT;
     }
     if choices & !(TURNING | FULL_DEMAND | OLD_BLOCK) != 0 {

@@ -92,7 +92,7 @@ fn kind((size, pair): (&[u8], &[u8])) -> Kind {
     }
 }
 
-fn is_no_side(side: usize) -> bool {
+pub fn is_no_side(side: usize) -> bool {
     side < 1 || side > 1000
 }
 

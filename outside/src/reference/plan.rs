@@ -3,6 +3,7 @@
 use super::job::{Job, Piece};
 use super::refuse_if;
 use crate::answers::{Refusal, Report};
+use std::ops::Range;
 
 const WASTE: u8 = 0;
 const PIECE: u8 = 1;
@@ -30,20 +31,42 @@ pub fn check_plan_block(job: &[u8], choices: u32, plan: &[u8]) -> Result<Report,
 }
 
 pub fn check(job: &Job, kinds: &[u8], operands: &[u16]) -> Result<Report, Refusal> {
+    check_arrays(kinds, operands)?;
+    let (report, end) = check_tree(job, kinds, operands, 0)?;
+    refuse_if(end < kinds.len(), 18, end)?;
+    check_cuts(kinds, 0..end)?;
+    Ok(report)
+}
+
+/// Refusals 10 and 11.
+pub fn check_arrays(kinds: &[u8], operands: &[u16]) -> Result<(), Refusal> {
     refuse_if(kinds.len() != operands.len(), 10, 0)?;
-    refuse_if(kinds.is_empty() || kinds.len() > 4095, 11, 0)?;
+    refuse_if(kinds.is_empty() || kinds.len() > 4095, 11, 0)
+}
+
+/// Refusals 12 to 17 of the tree that starts at a node; its report, and where it ends.
+pub fn check_tree(
+    job: &Job,
+    kinds: &[u8],
+    operands: &[u16],
+    start: usize,
+) -> Result<(Report, usize), Refusal> {
     let mut walk = Walk::of(job);
-    let mut next = 0;
+    let mut next = start;
     while let Some(rectangle) = walk.waiting.pop() {
         refuse_if(next == kinds.len(), 17, next)?;
         walk.node(next, kinds[next], operands[next].into(), rectangle)?;
         next += 1;
     }
-    refuse_if(next < kinds.len(), 18, next)?;
-    for at in 0..kinds.len() {
+    Ok((walk.report, next))
+}
+
+/// Refusal 26, among these nodes.
+pub fn check_cuts(kinds: &[u8], nodes: Range<usize>) -> Result<(), Refusal> {
+    for at in nodes {
         refuse_if(is_cut(kinds[at]) && !tree(&kinds[at..]).iter().any(is_piece), 26, at)?;
     }
-    Ok(walk.report)
+    Ok(())
 }
 
 pub fn is_cut(kind: u8) -> bool {

@@ -11,6 +11,11 @@ pub struct Amounts {
 }
 
 pub fn optimum(job: &Job) -> u64 {
+    *optima(job).last().expect("a state")
+}
+
+/// The most within each number of copies of every kind.
+pub fn optima(job: &Job) -> Vec<u64> {
     let copies = Amounts::of_copies(job);
     let splits = copies.splits();
     let mut most = vec![vec![vec![0; copies.states]; job.width + 1]; job.length + 1];
@@ -26,7 +31,7 @@ pub fn optimum(job: &Job) -> u64 {
             most[length][width] = best;
         }
     }
-    most[job.length][job.width][copies.states - 1]
+    most.swap_remove(job.length).swap_remove(job.width)
 }
 
 fn single_pieces(job: &Job, copies: &Amounts, length: usize, width: usize) -> Vec<u64> {
@@ -40,7 +45,7 @@ fn single_pieces(job: &Job, copies: &Amounts, length: usize, width: usize) -> Ve
 }
 
 /// Raises each state to the best sum over the ways to share its copies out to two parts.
-fn raise(best: &mut [u64], first: &[u64], second: &[u64], splits: &[(usize, usize)]) {
+pub fn raise(best: &mut [u64], first: &[u64], second: &[u64], splits: &[(usize, usize)]) {
     for &(a, b) in splits {
         best[a + b] = best[a + b].max(first[a] + second[b]);
     }

@@ -36,10 +36,10 @@ pub const SMALL: Scale = Scale {
 
 /// A rectangle and the kerf of the blade that cuts it.
 #[derive(Clone, Copy)]
-struct Rectangle {
-    length: usize,
-    width: usize,
-    kerf: usize,
+pub struct Rectangle {
+    pub length: usize,
+    pub width: usize,
+    pub kerf: usize,
 }
 
 /// An input in the block that the choices name.
@@ -51,7 +51,8 @@ pub fn draw(random: &mut Random, scale: Scale, choices: u32) -> Input {
     let kinds: Vec<Kind> = (0..n).map(|_| draw_kind(random, scale)).collect();
     let heaviest = if random.one_in(4) { 0 } else { scale.weight };
     let weights: Vec<u8> = (0..n).map(|_| random.from(0, heaviest) as u8).collect();
-    let nodes = draw_plan(random, plate, &kinds, choices);
+    let mut left = kinds.iter().map(|kind| kind.3).collect::<Vec<u16>>();
+    let nodes = draw_plan(random, plate, &kinds, choices, &mut left);
     let [length, width, kerf] = [length, width, plate.kerf].map(|field| field as u16);
     let block = if old {
         old_block(length, width, &kinds)
@@ -104,16 +105,22 @@ pub fn short_order(random: &mut Random, input: &Input, work: usize) -> Input {
     order
 }
 
-/// A plan by random cuts. Now and then a node breaks a rule; one plan in four keeps its idle cuts.
-fn draw_plan(random: &mut Random, plate: Rectangle, kinds: &[Kind], choices: u32) -> Vec<Node> {
-    let mut left: Vec<u16> = kinds.iter().map(|kind| kind.3).collect();
+/// A plan by random cuts with copies of which so many are left. Now and then a node breaks a rule; one
+/// plan in four keeps its idle cuts.
+pub fn draw_plan(
+    random: &mut Random,
+    plate: Rectangle,
+    kinds: &[Kind],
+    choices: u32,
+    left: &mut [u16],
+) -> Vec<Node> {
     let mut waiting = vec![plate];
     let mut nodes = Vec::new();
     while let Some(rectangle) = waiting.pop() {
         let node = if random.one_in(40) {
             (random.from(0, 5) as u8, random.from(0, plate.length + 1) as u16)
         } else {
-            draw_node(random, rectangle, kinds, choices, &mut left)
+            draw_node(random, rectangle, kinds, choices, left)
         };
         nodes.push(node);
         waiting.extend(parts(node, rectangle));

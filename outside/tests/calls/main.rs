@@ -15,6 +15,8 @@ mod kerf;
 mod lent;
 mod limits;
 mod neat;
+mod rack;
+mod rack_generated;
 mod readings;
 mod rounds;
 mod rounds_found;
