@@ -27,6 +27,7 @@ pub mod Sawn
 pub mod Members
 pub mod Job
 pub mod Neat
+pub mod Finer
 pub mod Table
 pub mod Laws
 pub mod Bound

@@ -1,7 +1,7 @@
 -- Used sizes and neat trees: the used size lies within the rectangle; the neat tree is a guillotine tree on it with the same pieces, no more
 -- nodes and stages and no idle cut, and is its own neat tree.
 use mathlib.Core.Path.{_≡_, refl, sym, _∙_, ap, ap₂, subst}
-use mathlib.Core.List.{List}
+use mathlib.Core.List.{List, List·Memᴰ}
 use Prim.Native.Nat.{ℕ, zero, suc, _+_, _-_, _*_, _≤_, _<_, max}
 use native.Mathlib.Omega.{arith}
 use Rattle.cutting.specs.declared.Direction.{Direction}
@@ -119,7 +119,20 @@ module _ {P : Type 0} (k : ℕ) (size : P → Rect) where
   neat-again (cut d x a b) = remaining-neat d (side d (used k size a)) (neat k size a) (neat k size b) (piece-count a) (piece-count b)
       (neat-total _ a) (neat-total _ b) (neat-again a) (neat-again b) (sym (ap (side d) (neat-used a)))
 
+-- every piece of a tree is in the list
+abbrev pub AllIn : {P : Type 0} → List P → Tree P → Type 0
+AllIn ps waste = Unit {0}
+AllIn ps (piece p) = List·Memᴰ p ps
+AllIn ps (cut d x a b) = AllIn ps a × AllIn ps b
+
 module _ {P : Type 0} (ps : List P) (price : P → ℕ) (size : P → Rect) (k : ℕ) where
+  -- as the pieces of a guillotine tree are
+  pub all-in : (t : Tree P) (r : Rect) → Guillotine (sized ps price size) (saw k) r t → AllIn ps t
+  unfolding sized
+  all-in waste r g = tt
+  all-in (piece p) r g = g .0
+  all-in (cut d x a b) r g = (all-in a (part d x r) (g .1), all-in b (beyond (saw k) d x r) (g .2))
+
   -- the used size of a cut lies within the rectangle
   joined-within : (d : Direction) (m n : ℕ) (u v r : Rect) (x : ℕ) → x + k < side d r → u ⊑ part d x r → v ⊑ beyond (saw k) d x r → joined k d m n u v ⊑ r
   unfolding saw
@@ -177,24 +190,28 @@ module _ {P : Type 0} (ps : List P) (price : P → ℕ) (size : P → Rect) (k :
           ),
         )
 
-    neat-snug : (t : Tree P) (r : Rect) → On r t → Snug (piece-count t) (used k size t) (neat k size t)
+    neat-snug : (t : Tree P) → AllIn ps t → Snug (piece-count t) (used k size t) (neat k size t)
     unfolding total used neat sized
-    neat-snug waste r g e = absurd (omega (arith, e))
-    neat-snug (piece p) r g e = let z = solid p (g .0) in (z .0, z .1, (g .0, fits-in-true (size p) (size p) (omega arith)))
-    neat-snug (cut d x a b) r g e = joined-snug d (piece-count a) (piece-count b) (used k size a) (used k size b) (neat k size a) (neat k size b)
-        (neat-snug a (part d x r) (g .1)) (neat-snug b (beyond (saw k) d x r) (g .2)) e
+    neat-snug waste g e = absurd (omega (arith, e))
+    neat-snug (piece p) g e = let z = solid p g in (z .0, z .1, (g, fits-in-true (size p) (size p) (omega arith)))
+    neat-snug (cut d x a b) g e = joined-snug d (piece-count a) (piece-count b) (used k size a) (used k size b) (neat k size a) (neat k size b)
+        (neat-snug a (g .0)) (neat-snug b (g .1)) e
 
     -- what holds a piece uses something
     pub used-some : (t : Tree P) (r : Rect) → On r t → 0 < piece-count t → 0 < used k size t .0
-    used-some t r g e = neat-snug t r g e .0
+    used-some t r g e = neat-snug t (all-in t r g) e .0
 
-    -- the neat tree is a guillotine tree on the same rectangle
-    pub neat-guillotine : (t : Tree P) (r : Rect) → On r t → On r (neat k size t)
-    neat-guillotine t r g = go (piece-count t) refl
+    -- the neat tree is a guillotine tree on every rectangle that the used size fits, wherever the tree's own cuts stand
+    pub neat-fits : (t : Tree P) (r : Rect) → AllIn ps t → used k size t ⊑ r → On r (neat k size t)
+    neat-fits t r g u = go (piece-count t) refl
       where
         go : (n : ℕ) → piece-count t ≡ n → On r (neat k size t)
         go zero e = subst (On r) (sym (neat-waste k size t e)) tt
-        go (suc n) e = larger (neat k size t) (used k size t) r (used-within t r g) (neat-snug t r g (omega (arith, e)) .2)
+        go (suc n) e = larger (neat k size t) (used k size t) r u (neat-snug t g (omega (arith, e)) .2)
+
+    -- so it is one on the tree's own rectangle
+    pub neat-guillotine : (t : Tree P) (r : Rect) → On r t → On r (neat k size t)
+    neat-guillotine t r g = neat-fits t r (all-in t r g) (used-within t r g)
 
 module _ (d : Direction) (x : ℕ) (a b : Tree Piece) where
   remaining-nodes : (m n : ℕ) → node-count (remaining d m n x a b) ≤ 1 + node-count a + node-count b

@@ -11,7 +11,7 @@ use Rattle.cutting.specs.Limits.{most-side, most-kerf, most-kinds, most-
 use Rattle.cutting.specs.Lists.{range, sum, only, filter, first, each, pairs}
 use Rattle.cutting.specs.Tree.{Rect, side, Tree, waste, piece, cut, Pieces, Shares, total, copies}
 use Rattle.cutting.specs.Figure.{figure}
-use Rattle.cutting.specs.Pieces.{Piece, upright, turned, kind, ways, lying, wider, fits-in, fits-either, sized}
+use Rattle.cutting.specs.Pieces.{Piece, upright, turned, kind, ways, lying, wider, times, fits-in, fits-either, sized}
 use Rattle.cutting.specs.Saws.{saw, floor, saw-written}
 use Rattle.cutting.specs.Shares.{by-weight}
 use Rattle.cutting.specs.Normal.{normal}
@@ -81,6 +81,11 @@ widened J = record {
   price = J .price;
   demand = J .demand;
 }
+
+-- the job measured in m-ths of a unit: plate, kerf and pieces keep their whole sizes, m times the number, and a whole position of it is a
+-- multiple of one m-th
+abbrev pub finer : ℕ → Job → Job
+finer m J = record { plate = times m (J .plate); kerf = m * J .kerf; turning = J .turning; full-demand = J .full-demand; count = J .count; size = λ i. times m (J .size i); price = J .price; demand = J .demand }
 
 -- the copies of a size q that can lie on a rectangle r: length over length times width over width, each rounded down; where pieces may
 -- be turned, area over area, rounded down, or none if neither way fits

@@ -1,7 +1,7 @@
 -- A piece of a plan, and pieces with a size: when one fits a rectangle.
 use mathlib.Core.Bool.{Bool, true, false, _&&_, _||_}
 use mathlib.Core.List.{List, [], _∷_, List·Memᴰ}
-use Prim.Native.Nat.{ℕ, _+_, _≤_, _<_}
+use Prim.Native.Nat.{ℕ, _+_, _*_, _≤_, _<_}
 use lib.Dec.{leb}
 use Rattle.cutting.specs.Tree.{Rect, Pieces}
 
@@ -31,6 +31,10 @@ lying size (turned i) = quarter (size i)
 -- a rectangle with k added to both sides
 abbrev pub wider : ℕ → Rect → Rect
 wider k r = (r .0 + k, r .1 + k)
+
+-- a rectangle measured in m-ths of a unit
+abbrev pub times : ℕ → Rect → Rect
+times m r = (m * r .0, m * r .1)
 
 infix 30 _⊑_
 -- a rectangle no larger than another

@@ -12,11 +12,19 @@ use Rattle.cutting.specs.Lists.{range, only, greatest}
 use Rattle.cutting.specs.Tree.{side, Tree, Shares}
 use Rattle.cutting.specs.Pieces.{Piece, kind, fits-in}
 use Rattle.cutting.specs.Normal.{Sum, sides}
-use Rattle.cutting.specs.Job.{Job, laid, members, GuillotineTree, OnPlate, KeepsDemands, profit, weight-of, copies-of, widened, plate-copies, figure-of, normal-positions, normal-floor, plan-of, plan-choice, plan-after}
+use Rattle.cutting.specs.Job.{Job, laid, members, GuillotineTree, OnPlate, KeepsDemands, profit, weight-of, copies-of, widened, finer, plate-copies, figure-of, normal-positions, normal-floor, plan-of, plan-choice, plan-after}
 
 -- no guillotine tree on the plate that keeps every demand earns more than n
 abbrev pub NoneAbove : Job → ℕ → Type 0
 NoneAbove J n = (t : Tree Piece) → OnPlate J t → KeepsDemands J t → profit J t ≤ n
+
+-- the same of trees cut at multiples of one m-th of a unit, for every whole m of at least 1
+abbrev pub NoneFiner : Job → ℕ → Type 0
+NoneFiner J n = (m : ℕ) → 1 ≤ m → NoneAbove (finer m J) n
+
+-- no tree on the plate that keeps every demand earns more than n, cut at whole units or finer
+abbrev pub NoneBetter : Job → ℕ → Type 0
+NoneBetter J n = NoneAbove J n × NoneFiner J n
 
 -- no guillotine tree on the plate has more copies of a kind than can lie there by the count of the capacity
 abbrev pub PlateHolds : Job → Type 0
