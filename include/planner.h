@@ -55,6 +55,10 @@ extern "C" {
  * nodes. It earns the sum of its pieces' prices, weighs the sum of their weights, and keeps every
  * demand when no kind has more copies in it, upright and turned together, than its demand.
  *
+ * Cuts between the marks. Where a function says that no tree that keeps every demand earns more, within
+ * a limit or without, that holds of trees cut at multiples of one m-th of a unit too, for every whole m
+ * of at least 1: their pieces keep their whole sizes, and each cut loses the whole kerf.
+ *
  * Normal lengths, all sides taken with k added. 0 and all sums, with repetition, of lengths of
  * ordered kinds that fit the plate, up to the plate's length; normal widths likewise. With
  * PLANNER_TURNING the lengths are those of kinds that fit the plate upright and the widths of kinds

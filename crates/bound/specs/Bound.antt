@@ -10,7 +10,7 @@ use Rattle.cutting.specs.declared.Direction.the-variants.{Length, Width}
 use Rattle.cutting.specs.Limits.{most-figure}
 use Rattle.cutting.specs.Lists.{over}
 use Rattle.cutting.specs.Job.{Job, widened, capacity, at-full-demand, figure-of, bound-of, normal-positions}
-use Rattle.cutting.specs.Promises.{NoneAbove, NoneHeavier, PlateHolds, MostWithin, Recursion, NormalSums, FiguresMost, FloorFigures}
+use Rattle.cutting.specs.Promises.{NoneAbove, NoneFiner, NoneHeavier, PlateHolds, MostWithin, Recursion, NormalSums, FiguresMost, FloorFigures}
 use Rattle.refusal.specs.Refusals.{Check, Outcome, next, first-refusal, by-check, refused-as, outcome-by}
 use Rattle.refusal.specs.declared.Checked.{Checked}
 use Rattle.refusal.specs.declared.Refusal.the-variants.{ListShort, TableShort}
@@ -114,12 +114,13 @@ abbrev pub bound-said : List ℕ → Choices → List ℕ → Memory → Outcome
 bound-said s choices ws m = outcome-by (bound-verdict s choices ws m) (report-values (block-report s choices ws))
 
 -- what a bound n at the capacity q is: the most that a guillotine tree of weight at most q earns; no less than any tree that keeps the
--- demands earns, which weighs at most q; at most 1,000,000,000,000; the recursion's figure, the kerf added to every side, at the plate and
--- q. The capacity is the job's, no tree on the plate has more copies of a kind than it counts as what the plate holds, and capacity and
--- bound of the full demands are no less
+-- demands earns, which weighs at most q, and than any such tree cut finer; at most 1,000,000,000,000; the recursion's figure, the kerf
+-- added to every side, at the plate and q. The capacity is the job's, no tree on the plate has more copies of a kind than it counts as what
+-- the plate holds, and capacity and bound of the full demands are no less
 pub record BoundHolds (J : Job) (weight : ℕ → ℕ) (q n : ℕ) : Type 0 where
   pub most : MostWithin J weight q n
   pub demands : NoneAbove J n
+  pub finer : NoneFiner J n
   pub weighs : NoneHeavier J weight q
   pub ceiling : n ≤ most-figure
   pub figure : n ≡ figure-of (widened J) weight (widened J .plate .0) (widened J .plate .1) q

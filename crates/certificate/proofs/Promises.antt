@@ -4,8 +4,9 @@ use mathlib.Core.List.{List}
 use Prim.Native.Nat.{ℕ, _≤_}
 use native.Mathlib.Omega.{arith}
 use Rattle.cutting.specs.Job.{Job, bound-of, by-kind}
-use Rattle.cutting.specs.Promises.{NoneAbove}
+use Rattle.cutting.specs.Promises.{NoneBetter}
 use Rattle.cutting.proofs.Members.{range-solid}
+use Rattle.cutting.proofs.Finer.{none-finer}
 use Rattle.cutting.proofs.Weights.{by-weight-monotone}
 use Rattle.cutting.proofs.Plan.{plan-bound, plan-idle}
 use Rattle.cutting.proofs.Promises as trees
@@ -63,13 +64,15 @@ bound-exact s choices ws accepted = bound-held (block-job s choices) (weight-in 
 module _ (s : List ℕ) (choices : Choices) (ws kinds operands : List ℕ) (m : Memory) where
   -- where no check refuses, the plan earns its profit, at most the bound, which no tree that keeps every demand passes
   pub compares : certify-verdict s choices ws kinds operands m ≡ Passed → Earns (block-job s choices) kinds operands (plan-answer (block-job s choices) kinds operands .report .profit)
-      × (plan-answer (block-job s choices) kinds operands .report .profit ≤ bound-of (block-job s choices) (weight-in ws)) × NoneAbove (block-job s choices) (bound-of (block-job s choices) (weight-in ws))
+      × (plan-answer (block-job s choices) kinds operands .report .profit ≤ bound-of (block-job s choices) (weight-in ws)) × NoneBetter (block-job s choices) (bound-of (block-job s choices) (weight-in ws))
   compares p =
       let b = behind s choices ws kinds operands m p in
-      (drawn s choices ws kinds operands (b .0) (b .1), drawn-most s choices ws kinds operands (b .0) (b .1), trees.none-above (block-job s choices) (weight-in ws) (read-in-range s choices (b .0)))
+      let h = read-in-range s choices (b .0) in
+      let none = trees.none-above (block-job s choices) (weight-in ws) h in
+      (drawn s choices ws kinds operands (b .0) (b .1), drawn-most s choices ws kinds operands (b .0) (b .1), (none, none-finer (block-job s choices) (range-solid (block-job s choices) h) _ none))
 
 pub certificates-hold : CertificatesHold
 certificates-hold s choices ws kinds operands m =
     let J = block-job s choices in
     let passed = compares s choices ws kinds operands m in
-    (best-among (Earns J kinds operands) (NoneAbove J) _ _ _ passed, gap-among (Earns J kinds operands) (NoneAbove J) _ _ _ passed)
+    (best-among (Earns J kinds operands) (NoneBetter J) _ _ _ passed, gap-among (Earns J kinds operands) (NoneBetter J) _ _ _ passed)

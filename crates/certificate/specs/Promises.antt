@@ -10,7 +10,7 @@ use Rattle.cutting.specs.Lists.{over}
 use Rattle.cutting.specs.Tree.{Tree, IdleFree}
 use Rattle.cutting.specs.Pieces.{Piece}
 use Rattle.cutting.specs.Job.{Job, profit, bound-of, normal-positions, bound-plan, by-kind}
-use Rattle.cutting.specs.Promises.{NoneAbove, EarnsWithin, PlanFollows}
+use Rattle.cutting.specs.Promises.{NoneBetter, EarnsWithin, PlanFollows}
 use Rattle.refusal.specs.Refusals.{Check, number-of, next, first-refusal}
 use Rattle.refusal.specs.declared.Refusal.{Refusal}
 use Rattle.refusal.specs.declared.Checked.{Checked}
@@ -80,13 +80,13 @@ abbrev pub GapAmong : (ℕ → Type 0) → (ℕ → Type 0) → ℕ → Certific
 GapAmong Earned None bound r = (n gap : ℕ) → r ≡ Gap n gap → Earned n × (0 < gap) × (n + gap ≡ bound) × None (n + gap)
 
 -- what certify's "best" says: the plan's arrays are those of a tree that keeps every demand and earns the profit named, which is the
--- bound, and no tree that keeps every demand earns more
+-- bound, and no tree that keeps every demand, cut at whole units or finer, earns more
 abbrev pub BestSaid : Job → (ℕ → ℕ) → List ℕ → List ℕ → Certificate → Type 0
-BestSaid J weight kinds operands r = BestAmong (Earns J kinds operands) (NoneAbove J) (bound-of J weight) r
+BestSaid J weight kinds operands r = BestAmong (Earns J kinds operands) (NoneBetter J) (bound-of J weight) r
 
 -- and its gap, of the same plan and the same trees
 abbrev pub GapSaid : Job → (ℕ → ℕ) → List ℕ → List ℕ → Certificate → Type 0
-GapSaid J weight kinds operands r = GapAmong (Earns J kinds operands) (NoneAbove J) (bound-of J weight) r
+GapSaid J weight kinds operands r = GapAmong (Earns J kinds operands) (NoneBetter J) (bound-of J weight) r
 
 -- what certify promises of its answer and of the memory that it is lent: both are the definitions', number and values too; the plan is
 -- judged by its tree; "best" and a gap say what they say of every tree
@@ -105,6 +105,6 @@ CertificatesHold = (s : List ℕ) (choices : Choices) (ws kinds operands : List 
     × GapSaid (block-job s choices) (weight-in ws) kinds operands (certificate-of s choices ws kinds operands m)
 
 -- part 3, exactness: for every accepted job and weights, storage apart, the bound is the most that a tree within the capacity earns,
--- one earns it, and no tree that keeps every demand earns more
+-- one earns it, and no tree that keeps every demand, cut at whole units or finer, earns more
 abbrev pub BoundExact : Type 0
 BoundExact = (s : List ℕ) (choices : Choices) (ws : List ℕ) → Accepted s choices ws → BlockHolds s choices ws

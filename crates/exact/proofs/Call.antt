@@ -33,7 +33,7 @@ use Rattle.exact.specs.declared.ExactAnswer.the-variants as answer
 use Rattle.exact.specs.Exact.{state-check, ExactLeaves, short-verdict, ShortOrder, exact-verdict, exact-report, answer-by, exact-values, exact-outcome, OptimumHolds, OptimumPlanned, OptimumWritten, ExactPromises}
 use Rattle.exact.specs.Contracts.{StatesCounted, Short, job-report, job-plan, room-verdict, Drawn}
 use Rattle.exact.proofs.States.{states-some}
-use Rattle.exact.proofs.Optimum.{exact-recursion, exact-floors, optimum-earned, optimum-exact, optimum-follows, optimum-idle, bounds-above, two-above}
+use Rattle.exact.proofs.Optimum.{exact-recursion, exact-floors, optimum-earned, optimum-exact, optimum-finer, optimum-follows, optimum-idle, bounds-above, two-above}
 use Rattle.exact.proofs.Accepted.{untouched}
 
 said-by : (v : Checked) (b : ExactReport) → exact-outcome (answer-by v b) ≡ outcome-by v (exact-values b)
@@ -46,7 +46,7 @@ answered-by (Refused x) b e = absurd (let z : _≡_ {A = ℕ} 0 1 = cc in omega 
 
 -- the optimum of a job in range, and its plan
 optimum-holds : (J : Job) → InRange J → OptimumHolds J (optimum J)
-optimum-holds J h = record { most = optimum-exact J h; bounds = bounds-above J h; two-bounds = two-above J h; figure = refl }
+optimum-holds J h = record { most = optimum-exact J h; finer = optimum-finer J h; bounds = bounds-above J h; two-bounds = two-above J h; figure = refl }
 
 optimum-planned : (J : Job) → InRange J → OptimumPlanned J
 optimum-planned J h = record { choice = optimum-follows J h; plan = optimum-earned J h; idle-free = optimum-idle J h }

@@ -11,7 +11,7 @@ use Rattle.cutting.specs.Figure.{leaf, best, step}
 use Rattle.cutting.specs.Pieces.{kind, sized}
 use Rattle.cutting.specs.Saws.{saw}
 use Rattle.cutting.specs.Job.{Job, InRange, profit, weight-of, widened, capacity, at-full-demand, ordered, members, pieces, bound-of}
-use Rattle.cutting.specs.Promises.{NoneAbove, PlanFollows}
+use Rattle.cutting.specs.Promises.{NoneAbove, NoneFiner, PlanFollows}
 use Rattle.cutting.specs.Two.{figure-two, two-bound}
 use Rattle.cutting.specs.Exact.{full-state, by-copies, exact-figure, optimum, optimum-plan, ExactRecursion, ExactFloors, EarnsExactly, MostExact}
 use Rattle.cutting.proofs.Greatest.{greatest-map}
@@ -19,6 +19,7 @@ use Rattle.cutting.proofs.Recursion.{figure-eq}
 use Rattle.cutting.proofs.Saws.{saw-proper}
 use Rattle.cutting.proofs.Members.{range-solid, widened-solid}
 use Rattle.cutting.proofs.Job.{plain-guillotine}
+use Rattle.cutting.proofs.Finer.{none-finer}
 use Rattle.cutting.proofs.Bound.{share-most, capacity-less, bound-less}
 use Rattle.cutting.proofs.Table.{floor-under}
 use Rattle.cutting.proofs.Plan.{plan-saw, plan-within, plan-recursion, plan-idle}
@@ -42,6 +43,10 @@ module _ (J : Job) (h : InRange J) where
   unfolding exact-figure
   optimum-most t g k = share-most J (range-solid J h) (by-copies J) (copies-monotone J (h .kinds .0)) t (J .plate .0) (J .plate .1) (full-state J) g
       (keeps-within J (h .kinds .0) t (saw (J .kerf)) (J .plate) (plain-guillotine J t (J .plate) g) k)
+
+  -- nor does one cut finer
+  pub optimum-finer : NoneFiner J (optimum J)
+  optimum-finer = none-finer J (range-solid J h) (optimum J) optimum-most
 
   -- the plan earns it and keeps them
   pub optimum-earned : EarnsExactly J (optimum J) (optimum-plan J)

@@ -11,7 +11,7 @@ use Rattle.cutting.specs.Tree.{Tree, IdleFree}
 use Rattle.cutting.specs.Pieces.{Piece}
 use Rattle.cutting.specs.Preorder.{kinds-of, operands-of, node-count}
 use Rattle.cutting.specs.Job.{Job, at-full-demand, bound-of, normal-positions}
-use Rattle.cutting.specs.Promises.{NormalSums, PlanFollows}
+use Rattle.cutting.specs.Promises.{NoneFiner, NormalSums, PlanFollows}
 use Rattle.cutting.specs.Two.{two-bound}
 use Rattle.cutting.specs.Exact.{state-count, full-state, by-copies, exact-figure, optimum, optimum-plan, ExactRecursion, ExactFloors, EarnsExactly, MostExact}
 use Rattle.refusal.specs.Refusals.{Check, Outcome, next, first-refusal, by-check, refused-as, outcome-by}
@@ -102,10 +102,11 @@ exact-said s choices m kinds operands = outcome-by (exact-verdict s choices m ki
 abbrev pub array-after : List ℕ → Choices → Memory → List ℕ → List ℕ → List ℕ → List ℕ → List ℕ
 array-after s choices m kinds operands xs old = list-after (exact-verdict s choices m kinds operands) xs old
 
--- what an optimum n of a job is: the most that a guillotine tree on the plate that keeps every demand earns; every bound of one weight a
--- kind or of two, in either form of the capacity, lies at or above it; the last word's figure
+-- what an optimum n of a job is: the most that a guillotine tree on the plate that keeps every demand earns, and no less than one cut finer
+-- earns; every bound of one weight a kind or of two, in either form of the capacity, lies at or above it; the last word's figure
 pub record OptimumHolds (J : Job) (n : ℕ) : Type 0 where
   pub most : MostExact J n
+  pub finer : NoneFiner J n
   pub bounds : (weight : ℕ → ℕ) → (n ≤ bound-of J weight) × (n ≤ bound-of (at-full-demand J) weight)
   pub two-bounds : (first second : ℕ → ℕ) → (n ≤ two-bound J first second) × (n ≤ two-bound (at-full-demand J) first second)
   pub figure : n ≡ optimum J

@@ -4,8 +4,8 @@ use mathlib.Core.List.{List}
 use Prim.Native.Nat.{ℕ, _≤_}
 use native.Mathlib.Omega.{arith}
 use Rattle.cutting.specs.Limits.{most-figure}
-use Rattle.cutting.specs.Promises.{NoneAbove}
-use Rattle.cutting.specs.Staged.{NoneStaged}
+use Rattle.cutting.specs.Promises.{NoneBetter}
+use Rattle.cutting.specs.Staged.{NoneStagedBetter}
 use Rattle.cutting.proofs.Bound.{bound-ceiling}
 use Rattle.cutting.proofs.Staged.{staged-ceiling}
 use Rattle.refusal.specs.declared.Checked.{Checked}
@@ -31,12 +31,12 @@ sums-by Earned None v c e gap most profit g h = omega (arith, gap profit g h .2,
 
 pub certificate-sums : (s : List ℕ) (choices : Choices) (ws kinds operands : List ℕ) {m new : Memory} {r : Certificate} → CertifyPromises s choices ws kinds operands m new r → GapWithin r
 certificate-sums s choices ws kinds operands {m} p =
-    sums-by (Earns (block-job s choices) kinds operands) (NoneAbove (block-job s choices)) (certify-verdict s choices ws kinds operands m) _ (p .answers) (p .gap)
+    sums-by (Earns (block-job s choices) kinds operands) (NoneBetter (block-job s choices)) (certify-verdict s choices ws kinds operands m) _ (p .answers) (p .gap)
     (λ v. bound-ceiling (block-job s choices) (weight-in ws) (read-in-range s choices (behind s choices ws kinds operands m v .0)))
 
 pub staged-sums : (s : List ℕ) (choices : Choices) (ws : List ℕ) (n : ℕ) (kinds operands : List ℕ) {m new : Memory} {r : Certificate} → CertifyStagedPromises s choices ws n kinds operands m new r → GapWithin r
 staged-sums s choices ws n kinds operands {m} p =
-    sums-by (EarnsStaged (block-job s choices) n kinds operands) (NoneStaged (block-job s choices) n) (certify-staged-verdict s choices ws n kinds operands m) _ (p .answers) (p .gap)
+    sums-by (EarnsStaged (block-job s choices) n kinds operands) (NoneStagedBetter (block-job s choices) n) (certify-staged-verdict s choices ws n kinds operands m) _ (p .answers) (p .gap)
     (λ v.
     let a = passed-both (staged-plan-verdict s choices ws n kinds operands) _ v in
     let b = passed-both (limit-verdict s choices ws n) _ (a .0) in

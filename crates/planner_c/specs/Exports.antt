@@ -10,7 +10,7 @@ use Rattle.cutting.specs.Lists.{over}
 use Rattle.cutting.specs.Tree.{Tree, IdleFree}
 use Rattle.cutting.specs.Pieces.{Piece}
 use Rattle.cutting.specs.Job.{Job, bound-of}
-use Rattle.cutting.specs.Promises.{NoneAbove, EarnsWithin}
+use Rattle.cutting.specs.Promises.{NoneBetter, EarnsWithin}
 use Rattle.cutting.specs.Preorder.{kinds-of, operands-of, node-count}
 use Rattle.refusal.specs.Refusals.{Outcome, first-refusal}
 use Rattle.refusal.specs.declared.Refusal.the-variants.{IdleCut}
@@ -129,9 +129,10 @@ pub record Certified (Earned None : ℕ → Type 0) (most profit bound gap : ℕ
 abbrev pub GivenAmong : (Earned None : ℕ → Type 0) → ℕ → (answer : List ℕ) → ℕ → Type 0
 GivenAmong Earned None most answer n = n ≡ 0 → Certified Earned None most (answer-word answer 2) (answer-word answer 1) (answer-word answer 0)
 
--- certify's words: the plan is that of a tree that keeps every demand, and no tree that keeps every demand earns more than the bound
+-- certify's words: the plan is that of a tree that keeps every demand, and no tree that keeps every demand, cut at whole units or finer,
+-- earns more than the bound
 abbrev pub CertificateGiven : Job → (ℕ → ℕ) → (kinds operands answer : List ℕ) → ℕ → Type 0
-CertificateGiven J weight kinds operands answer n = GivenAmong (Earns J kinds operands) (NoneAbove J) (bound-of J weight) answer n
+CertificateGiven J weight kinds operands answer n = GivenAmong (Earns J kinds operands) (NoneBetter J) (bound-of J weight) answer n
 
 -- a bound's words where 0 is returned: the bound, word 0, holds at the capacity, word 1
 abbrev pub BoundGiven : Job → (ℕ → ℕ) → (answer : List ℕ) → ℕ → Type 0

@@ -9,7 +9,7 @@ use Rattle.cutting.specs.Tree.{Tree}
 use Rattle.cutting.specs.Pieces.{Piece}
 use Rattle.cutting.specs.Shares.{stages}
 use Rattle.cutting.specs.Job.{Job}
-use Rattle.cutting.specs.Staged.{staged-bound, NoneStaged}
+use Rattle.cutting.specs.Staged.{staged-bound, NoneStagedBetter}
 use Rattle.refusal.specs.Refusals.{first-refusal}
 use Rattle.refusal.specs.declared.Refusal.the-variants.{ManyStages}
 use Rattle.refusal.specs.declared.Checked.the-variants.{Refused}
@@ -45,6 +45,6 @@ abbrev pub StagedCertificateLeaves : List ℕ → Choices → List ℕ → ℕ �
 StagedCertificateLeaves s choices ws limit kinds operands old new = StagedLeaves (staged-plan-verdict s choices ws limit kinds operands) (wide-job s choices) (weight-in ws) limit (block-capacity s choices ws) old new
 
 -- the staged certificate's words: the plan is that of a tree within the limit that keeps every demand, and no tree within the limit that
--- keeps every demand earns more than the bound
+-- keeps every demand, cut at whole units or finer, earns more than the bound
 abbrev pub StagedCertificateGiven : Job → (ℕ → ℕ) → ℕ → (kinds operands answer : List ℕ) → ℕ → Type 0
-StagedCertificateGiven J weight limit kinds operands answer n = GivenAmong (EarnsStaged J limit kinds operands) (NoneStaged J limit) (staged-bound J weight limit) answer n
+StagedCertificateGiven J weight limit kinds operands answer n = GivenAmong (EarnsStaged J limit kinds operands) (NoneStagedBetter J limit) (staged-bound J weight limit) answer n

@@ -11,6 +11,7 @@ use Rattle.cutting.specs.Job.{Job, InRange, widened, capacity}
 use Rattle.cutting.specs.Staged.{staged-bound}
 use Rattle.cutting.specs.Listed.{heavy-in, pieces-job, PieceArray}
 use Rattle.cutting.proofs.Members.{range-solid, widened-solid}
+use Rattle.cutting.proofs.Finer.{staged-finer}
 use Rattle.cutting.proofs.Staged.{block-recursion, block-floor, staged-most, staged-holds, staged-ceiling}
 use Rattle.cutting.proofs.Promises.{normal-listed}
 use Rattle.refusal.specs.Refusals.{next, first-refusal, outcome-by}
@@ -43,6 +44,7 @@ staged-held : (J : Job) (weight : ℕ → ℕ) (n : ℕ) → InRange J → Stage
 staged-held J weight n h = record {
   most = staged-most J (range-solid J h) weight n;
   demands = staged-holds J (range-solid J h) weight n;
+  finer = staged-finer J (range-solid J h) n (staged-bound J weight n) (staged-holds J (range-solid J h) weight n);
   ceiling = staged-ceiling J weight n h;
   figure = refl;
   capacity-is = refl;

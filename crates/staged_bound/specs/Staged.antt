@@ -9,7 +9,7 @@ use Rattle.cutting.specs.declared.Direction.the-variants.{Length, Width}
 use Rattle.cutting.specs.Limits.{most-figure}
 use Rattle.cutting.specs.Job.{Job, capacity, normal-positions}
 use Rattle.cutting.specs.Promises.{NormalSums}
-use Rattle.cutting.specs.Staged.{block, staged-under, MostStaged, NoneStaged, StagedRecursion, StagedFloors}
+use Rattle.cutting.specs.Staged.{block, staged-under, MostStaged, NoneStaged, NoneStagedFiner, StagedRecursion, StagedFloors}
 use Rattle.refusal.specs.Refusals.{Check, Outcome, next, first-refusal, by-check, outcome-by}
 use Rattle.refusal.specs.declared.Checked.{Checked}
 use Rattle.refusal.specs.declared.Refusal.the-variants.{TableShort}
@@ -71,11 +71,12 @@ abbrev pub staged-said : List ℕ → Choices → List ℕ → ℕ → Memory �
 staged-said s choices ws n m = outcome-by (staged-verdict s choices ws n m) (report-values (staged-block-report s choices ws n))
 
 -- what a staged bound m at the limit n and the capacity q is: the most that a guillotine tree of at most n stages and of weight at most q
--- earns; no less than any tree of at most n stages that keeps the demands earns; at most 1,000,000,000,000; the greater of the two blocks
--- of the limit, the kerf added to every side, at the plate and q. The capacity is the job's
+-- earns; no less than any tree of at most n stages that keeps the demands earns, cut at whole units or finer; at most 1,000,000,000,000; the
+-- greater of the two blocks of the limit, the kerf added to every side, at the plate and q. The capacity is the job's
 pub record StagedHolds (J : Job) (weight : ℕ → ℕ) (n q m : ℕ) : Type 0 where
   pub most : MostStaged J weight n q m
   pub demands : NoneStaged J n m
+  pub finer : NoneStagedFiner J n m
   pub ceiling : m ≤ most-figure
   pub figure : m ≡ staged-under J weight n q
   pub capacity-is : q ≡ capacity J weight

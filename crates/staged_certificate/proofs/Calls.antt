@@ -8,8 +8,9 @@ use native.Mathlib.Omega.{arith}
 use Rattle.cutting.specs.Limits.{most-limit}
 use Rattle.cutting.specs.Shares.{stages}
 use Rattle.cutting.specs.Job.{Job}
-use Rattle.cutting.specs.Staged.{staged-bound, NoneStaged}
+use Rattle.cutting.specs.Staged.{staged-bound, NoneStagedBetter}
 use Rattle.cutting.proofs.Members.{range-solid}
+use Rattle.cutting.proofs.Finer.{staged-finer}
 use Rattle.cutting.proofs.Staged.{staged-holds}
 use Rattle.refusal.specs.Refusals.{next, first-refusal}
 use Rattle.refusal.specs.declared.Refusal.{Refusal}
@@ -64,14 +65,15 @@ module _ (s : List ℕ) (choices : Choices) (ws : List ℕ) (n : ℕ) (kinds ope
   drawn-within good w = let t = staged-tree J (read-in-range s choices good .kinds .1) n kinds operands w in (t .0, t .1, sym (ap (λ (r : Report). r .profit) (t .2 .own)))
 
   -- where no check refuses, it earns at most the staged bound, which no tree within the limit that keeps every demand passes
-  compares : (m : Memory) → certify-staged-verdict s choices ws n kinds operands m ≡ Passed → EarnsStaged J n kinds operands profit × (profit ≤ most) × NoneStaged J n most
+  compares : (m : Memory) → certify-staged-verdict s choices ws n kinds operands m ≡ Passed → EarnsStaged J n kinds operands profit × (profit ≤ most) × NoneStagedBetter J n most
   compares m p =
       let a = passed-both (staged-plan-verdict s choices ws n kinds operands) (first-refusal (staged-checks (wide-job s choices) n (block-capacity s choices ws) m)) p in
       let b = passed-both (limit-verdict s choices ws n) (within-verdict J n kinds operands) (a .0) in
       let c = passed-both (accept-verdict s choices ws) (first-refusal (limit-check n ∷ [])) (b .0) in
       let t = drawn-within (accepted-both s choices ws (c .0) .0) (b .1) in
-      let none = staged-holds J (range-solid J (accepted-in-range s choices ws (c .0))) (weight-in ws) n in
-      (t, omega (arith, t .2, none (t .0) (t .1 .plan .drawn .on-plate, t .1 .within) (t .1 .plan .drawn .demands)), none)
+      let solid = range-solid J (accepted-in-range s choices ws (c .0)) in
+      let none = staged-holds J solid (weight-in ws) n in
+      (t, omega (arith, t .2, none (t .0) (t .1 .plan .drawn .on-plate, t .1 .within) (t .1 .plan .drawn .demands)), (none, staged-finer J solid n most none))
 
   module _ (old : Memory) where
     -- the storage's verdict, and the certificate where no check refuses
@@ -89,8 +91,8 @@ module _ (s : List ℕ) (choices : Choices) (ws : List ℕ) (n : ℕ) (kinds ope
       outcome = ap (λ x. certificate-outcome x) e ∙ said-by (certify-staged-verdict s choices ws n kinds operands old) profit most (λ p. compares old p .1);
       memory = l;
       judged = check-met s choices n kinds operands refl .1 .1;
-      best = λ m f. best-among (EarnsStaged J n kinds operands) (NoneStaged J n) (certify-staged-verdict s choices ws n kinds operands old) profit most (compares old) m (sym e ∙ f);
-      gap = λ m g f. gap-among (EarnsStaged J n kinds operands) (NoneStaged J n) (certify-staged-verdict s choices ws n kinds operands old) profit most (compares old) m g (sym e ∙ f);
+      best = λ m f. best-among (EarnsStaged J n kinds operands) (NoneStagedBetter J n) (certify-staged-verdict s choices ws n kinds operands old) profit most (compares old) m (sym e ∙ f);
+      gap = λ m g f. gap-among (EarnsStaged J n kinds operands) (NoneStagedBetter J n) (certify-staged-verdict s choices ws n kinds operands old) profit most (compares old) m g (sym e ∙ f);
     }
 
     -- a refusal before the storage checks, handed on

@@ -6,7 +6,7 @@ use Prim.Native.Nat.{ℕ}
 use Rattle.cutting.specs.Tree.{Tree}
 use Rattle.cutting.specs.Pieces.{Piece}
 use Rattle.cutting.specs.Job.{Job, profit}
-use Rattle.cutting.specs.Staged.{staged-bound, NoneStaged}
+use Rattle.cutting.specs.Staged.{staged-bound, NoneStagedBetter}
 use Rattle.refusal.specs.Refusals.{Outcome, next, first-refusal, outcome-by}
 use Rattle.refusal.specs.declared.Checked.{Checked}
 use Rattle.job.specs.declared.Choices.{Choices}
@@ -45,13 +45,13 @@ abbrev pub EarnsStaged : Job → ℕ → List ℕ → List ℕ → ℕ → Type 
 EarnsStaged J n kinds operands m = (t : Tree Piece) × StagedPlanOf J n t kinds operands × (profit J t ≡ m)
 
 -- what "best" says within a limit: the plan's arrays are those of a tree of at most n stages that keeps every demand and earns the profit
--- named, which is the staged bound, and no tree of at most n stages that keeps every demand earns more
+-- named, which is the staged bound, and no tree of at most n stages that keeps every demand, cut at whole units or finer, earns more
 abbrev pub BestStaged : Job → (ℕ → ℕ) → ℕ → List ℕ → List ℕ → Certificate → Type 0
-BestStaged J weight n kinds operands r = BestAmong (EarnsStaged J n kinds operands) (NoneStaged J n) (staged-bound J weight n) r
+BestStaged J weight n kinds operands r = BestAmong (EarnsStaged J n kinds operands) (NoneStagedBetter J n) (staged-bound J weight n) r
 
 -- and what a gap says, of the same plan and the same trees
 abbrev pub GapStaged : Job → (ℕ → ℕ) → ℕ → List ℕ → List ℕ → Certificate → Type 0
-GapStaged J weight n kinds operands r = GapAmong (EarnsStaged J n kinds operands) (NoneStaged J n) (staged-bound J weight n) r
+GapStaged J weight n kinds operands r = GapAmong (EarnsStaged J n kinds operands) (NoneStagedBetter J n) (staged-bound J weight n) r
 
 -- what the staged certificate promises of its answer and of the memory that it is lent: both are the definitions', number and values too;
 -- the plan is judged by its tree, as the staged check judges it; "best" and a gap say what they say of every tree within the limit

@@ -10,6 +10,7 @@ use Rattle.cutting.specs.Job.{Job, InRange, widened, capacity}
 use Rattle.cutting.specs.Two.{figure-two, two-bound}
 use Rattle.cutting.specs.Listed.{heavy-in, pieces-job, PieceArray}
 use Rattle.cutting.proofs.Members.{range-solid, widened-solid}
+use Rattle.cutting.proofs.Finer.{none-finer}
 use Rattle.cutting.proofs.Two.{two-recursion, two-floor, two-most, two-holds, two-ceiling}
 use Rattle.cutting.proofs.Promises.{normal-listed}
 use Rattle.refusal.specs.Refusals.{next, first-refusal, outcome-by}
@@ -42,6 +43,7 @@ two-held : (J : Job) (first second : ℕ → ℕ) → InRange J → TwoHolds J f
 two-held J first second h = record {
   most = two-most J first second (range-solid J h) (capacity J first) (capacity J second);
   demands = two-holds J first second (range-solid J h);
+  finer = none-finer J (range-solid J h) (two-bound J first second) (two-holds J first second (range-solid J h));
   ceiling = two-ceiling J first second h;
   figure = refl;
   first-is = refl;

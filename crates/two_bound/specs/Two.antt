@@ -9,7 +9,7 @@ use lib.ListN.{length}
 use Rattle.cutting.specs.declared.Direction.the-variants.{Length, Width}
 use Rattle.cutting.specs.Limits.{most-capacity, most-pairs, most-figure}
 use Rattle.cutting.specs.Job.{Job, capacity, normal-positions}
-use Rattle.cutting.specs.Promises.{NoneAbove, NormalSums}
+use Rattle.cutting.specs.Promises.{NoneAbove, NoneFiner, NormalSums}
 use Rattle.cutting.specs.Two.{figure-two, two-under, two-bound, MostTwo, TwoRecursion, TwoFloors}
 use Rattle.refusal.specs.Refusals.{Check, Outcome, next, first-refusal, by-check, refused-as, outcome-by}
 use Rattle.refusal.specs.declared.Checked.{Checked}
@@ -105,11 +105,12 @@ abbrev pub two-said : List ℕ → Choices → List ℕ → List ℕ → Memory 
 two-said s choices first second m = outcome-by (two-verdict s choices first second m) (two-values (two-block-report s choices first second))
 
 -- what a bound n at the capacities q and q′ is: the most that a guillotine tree of weights at most q and q′ earns; no less than any tree
--- that keeps the demands earns; at most 1,000,000,000,000; the recursion's figure, the kerf added to every side, at the plate, q and q′.
--- The capacities are the job's
+-- that keeps the demands earns, cut at whole units or finer; at most 1,000,000,000,000; the recursion's figure, the kerf added to every
+-- side, at the plate, q and q′. The capacities are the job's
 pub record TwoHolds (J : Job) (first second : ℕ → ℕ) (q q′ n : ℕ) : Type 0 where
   pub most : MostTwo J first second q q′ n
   pub demands : NoneAbove J n
+  pub finer : NoneFiner J n
   pub ceiling : n ≤ most-figure
   pub figure : n ≡ two-under J first second q q′
   pub first-is : q ≡ capacity J first

@@ -2,7 +2,7 @@
 use native.Mathlib.Omega.{arith}
 use denote.Ref.{now}
 use Rattle.cutting.specs.Job.{bound-of}
-use Rattle.cutting.specs.Promises.{NoneAbove}
+use Rattle.cutting.specs.Promises.{NoneBetter}
 use Rattle.job.specs.Weights.{weight-in}
 use Rattle.bound.specs.Bound.{lent}
 use Rattle.certificate.specs.Certificate.{certificate-said}
@@ -46,7 +46,7 @@ returns-2 c =
           called 3 (a .choices) (now (a .answer)) f (CertificateLeaves (now (a .block)) (choices-of (a .choices)) (now (a .weights)) (now (a .kinds)) (now (a .operands))) h
               (e .memory),
           (
-            certificate-given (Earns (job-with (now (a .block)) (a .choices)) (now (a .kinds)) (now (a .operands))) (NoneAbove (job-with (now (a .block)) (a .choices))) (bound-of (job-with (now (a .block)) (a .choices)) (weight-in (now (a .weights)))) (now (a .answer)) _
+            certificate-given (Earns (job-with (now (a .block)) (a .choices)) (now (a .kinds)) (now (a .operands))) (NoneBetter (job-with (now (a .block)) (a .choices))) (bound-of (job-with (now (a .block)) (a .choices)) (weight-in (now (a .weights)))) (now (a .answer)) _
                 (e .best)
                 (e .gap) g,
             plans-judged (now (a .block)) (choices-of (a .choices)) (now (a .kinds)) (now (a .operands)),

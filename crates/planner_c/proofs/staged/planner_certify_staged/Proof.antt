@@ -2,7 +2,7 @@
 use mathlib.Core.Path.{refl}
 use native.Mathlib.Omega.{arith}
 use denote.Ref.{now}
-use Rattle.cutting.specs.Staged.{staged-bound, NoneStaged}
+use Rattle.cutting.specs.Staged.{staged-bound, NoneStagedBetter}
 use Rattle.job.specs.Weights.{weight-in}
 use Rattle.bound.specs.Bound.{lent}
 use Rattle.staged_plan.proofs.Calls.{check-met}
@@ -46,7 +46,7 @@ returns-2 c =
           called 3 (a .choices) (now (a .answer)) f (StagedCertificateLeaves (now (a .block)) (choices-of (a .choices)) (now (a .weights)) (a .limit) (now (a .kinds)) (now (a .operands))) h
               (e .memory),
           (
-            certificate-given (EarnsStaged (job-with (now (a .block)) (a .choices)) (a .limit) (now (a .kinds)) (now (a .operands))) (NoneStaged (job-with (now (a .block)) (a .choices)) (a .limit)) (staged-bound (job-with (now (a .block)) (a .choices)) (weight-in (now (a .weights))) (a .limit)) (now (a .answer)) _
+            certificate-given (EarnsStaged (job-with (now (a .block)) (a .choices)) (a .limit) (now (a .kinds)) (now (a .operands))) (NoneStagedBetter (job-with (now (a .block)) (a .choices)) (a .limit)) (staged-bound (job-with (now (a .block)) (a .choices)) (weight-in (now (a .weights))) (a .limit)) (now (a .answer)) _
                 (e .best)
                 (e .gap) g,
             check-met (now (a .block)) (choices-of (a .choices)) (a .limit) (now (a .kinds)) (now (a .operands)) refl .1 .1,
