@@ -1,7 +1,7 @@
 -- What the bound calls, the writing and certificate calls answer on an accepted job block and weights, and the neat call on a plan that passes, where
 -- the lengths of what is lent are known.
 -- The bound comes from cuts at normal positions, which are quick to compute; cuts at every unit take long.
-use mathlib.Core.Path.{_≡_}
+use mathlib.Core.Path.{_≡_, subst}
 use mathlib.Core.Bool.{false, _||_}
 use mathlib.Core.List.{List, [], _∷_, _++_}
 use Prim.Native.Nat.{ℕ, _+_, _-_, _≤_}
@@ -16,6 +16,10 @@ use Rattle.cutting.specs.Saws.{saw-normal}
 use Rattle.cutting.specs.Preorder.{node-count}
 use Rattle.cutting.specs.Job.{capacity, pieces, by-kind, bound-of, normal-side}
 use Rattle.cutting.proofs.Members.{range-solid, widened-solid}
+use Rattle.cutting.specs.Promises.{NoneFiner}
+use Rattle.cutting.specs.Staged.{staged-bound, NoneStagedFiner}
+use Rattle.cutting.proofs.Finer.{staged-finer}
+use Rattle.cutting.proofs.Staged.{staged-holds}
 use Rattle.cutting.proofs.Table.{figure-normal}
 use Rattle.refusal.specs.Refusals.{first-refusal}
 use Rattle.refusal.specs.declared.Checked.the-variants.{Passed, Refused}
@@ -30,6 +34,7 @@ use Rattle.neat.specs.Neat.{block-neat, neat-said}
 use Rattle.table.specs.Table.{position-count, words-needed}
 use Rattle.table.specs.Staged.{staged-words}
 use Rattle.bound.specs.Bound.{Memory, wide-job, memory-checks, bound-said, report-values}
+use Rattle.bound.proofs.Holds.{bound-held}
 use Rattle.staged_bound.specs.Staged.{staged-block-report, staged-said}
 use Rattle.writer.specs.Write.{block-plan, write-said}
 use Rattle.certificate.specs.Certificate.{certificate-said}
@@ -61,6 +66,10 @@ module _ (choices : Choices) (s ws : List ℕ) where
   module _ (good : Accepted s choices ws) where
     bound-normal : bound-of (block-job s choices) (weight-in ws) ≡ bound-in
     bound-normal = figure-normal (wide-job s choices) (weight-in ws) (widened-solid (block-job s choices) (range-solid (block-job s choices) (accepted-in-range s choices ws good))) _ _ capacity-in (omega arith) (omega arith)
+
+    -- no tree cut finer that keeps the demands earns more
+    pub finer-below : NoneFiner (block-job s choices) bound-in
+    finer-below = subst (NoneFiner (block-job s choices)) bound-normal (bound-held (block-job s choices) (weight-in ws) (accepted-in-range s choices ws good) .finer)
 
     module _ (m : Memory) where
       -- check 19 passes
@@ -106,3 +115,9 @@ pub staged-answered : (s ws : List ℕ) (limit : ℕ) → Accepted s old-block w
 unfolding first-refusal
 staged-answered s ws limit good inside m h =
     simp (good, inside, lists-pass old-block s ws good m (h .0), le-ltb (length (m .table)) (staged-words (wide-job s old-block) (capacity-in old-block s ws) limit) (h .1))
+
+-- no tree cut finer within a limit of stages that keeps the demands earns more than the staged bound
+pub staged-below : (s ws : List ℕ) (limit : ℕ) → Accepted s old-block ws → NoneStagedFiner (block-job s old-block) limit (staged-bound (block-job s old-block) (weight-in ws) limit)
+staged-below s ws limit good =
+    let solid = range-solid (block-job s old-block) (accepted-in-range s old-block ws good) in
+    staged-finer (block-job s old-block) solid limit _ (staged-holds (block-job s old-block) solid (weight-in ws) limit)

@@ -1,5 +1,5 @@
 -- The table of marked examples holds: what is left to compute of each line, the law that a line so computed holds, and the computations.
-use mathlib.Core.Path.{_≡_, refl, _∙_, ap}
+use mathlib.Core.Path.{_≡_, refl, _∙_, ap, subst}
 use mathlib.Core.Bool.{false}
 use mathlib.Core.Logic.{_⊎_, inl, inr}
 use mathlib.Core.List.{List, [], _∷_, List·Memᴰ, List·Memᴰ·not-nil, List·Memᴰ·cases-cons}
@@ -14,19 +14,20 @@ use Rattle.cutting.specs.Figure.{leaf, best, step, after, figure}
 use Rattle.cutting.specs.Pieces.{sized}
 use Rattle.cutting.specs.Saws.{floor, saw-normal, saw-written}
 use Rattle.cutting.specs.Shares.{by-weight, root, stages, stages-below}
-use Rattle.cutting.specs.Staged.{along, block}
+use Rattle.cutting.specs.Promises.{NoneAbove}
+use Rattle.cutting.specs.Staged.{along, block, staged-bound, NoneStaged}
 use Rattle.cutting.specs.Normal.{summed, normal?, sides}
 use Rattle.cutting.specs.Choice.{choice, plan-within, written, sawn}
 use Rattle.cutting.specs.Preorder.{preorder, kinds-of, operands-of, node-count}
 use Rattle.cutting.specs.Neat.{used, neat}
-use Rattle.cutting.specs.Job.{ordered, members, pieces, normal-positions, lossless-plan, plan-of}
+use Rattle.cutting.specs.Job.{finer, ordered, members, pieces, normal-positions, lossless-plan, plan-of}
 use Rattle.refusal.specs.Refusals.{first-refusal}
 use Rattle.refusal.specs.declared.Checked.the-variants.{Passed}
 use Rattle.table.specs.Staged.{staged-words}
 use Rattle.bound.specs.Bound.{wide-job, report-values}
 use Rattle.staged_bound.specs.Staged.{staged-block-report}
 use Rattle.job.specs.Block.{outside, price-at, demand-at, each-kind, job-checks, entries, record-of}
-use Rattle.job.specs.Weights.{block-job, Accepted}
+use Rattle.job.specs.Weights.{block-job, weight-in, Accepted}
 use Rattle.idle.specs.Idle.{pieceless, idle-checks}
 use Rattle.plan.specs.Plan.{walk, walk-answer, plan-answer}
 use Rattle.plan.specs.Trees.{trees-in}
@@ -39,7 +40,7 @@ use Rattle.writer.specs.Write.{block-plan}
 use Rattle.examples.specs.Examples as line
 use Rattle.examples.specs.Examples.{Example, old-block, RefusedAs, PassedTo, ExampleHolds, misfit-job, marked}
 use Rattle.examples.proofs.Calls as call
-use Rattle.examples.proofs.Calls.{capacity-in, words-in, values-in, certificate-in}
+use Rattle.examples.proofs.Calls.{capacity-in, words-in, bound-in, values-in, certificate-in}
 use Rattle.examples.proofs.Plans.{first-verdict, begins-refused, begins-passed}
 use Rattle.examples.proofs.Misfit as misfit
 
@@ -65,6 +66,9 @@ Computed (line.stages-pass s limit kinds operands profit pieces waste trim copie
 Computed (line.stages-refused s limit kinds operands number place) = ExampleHolds (line.stages-refused s limit kinds operands number place)
 Computed (line.stages-bound s ws limit words bound q p r) =
     Accepted s old-block ws × (outside 1 most-limit limit ≡ false) × (staged-words (wide-job s old-block) (capacity-in old-block s ws) limit ≡ words) × (report-values (staged-block-report s old-block ws limit) ≡ bound ∷ q ∷ p ∷ r ∷ [])
+Computed (line.finer-most choices s ws m most) = Accepted s choices ws × (1 ≤ m) × (bound-in choices s ws ≡ most)
+Computed (line.finer-stages s ws limit m most) = Accepted s old-block ws × (1 ≤ m) × (staged-bound (block-job s old-block) (weight-in ws) limit ≡ most)
+Computed (line.finer-passes s m kinds operands profit neat-kinds neat-operands) = ExampleHolds (line.finer-passes s m kinds operands profit neat-kinds neat-operands)
 
 -- a line holds from what is computed of it
 holds : (e : Example) → Computed e → ExampleHolds e
@@ -86,6 +90,9 @@ holds (line.part s kinds operands node first entries) c = c
 holds (line.stages-pass s limit kinds operands profit pieces waste trim copies sawdust stages) c = c
 holds (line.stages-refused s limit kinds operands number place) c = c
 holds (line.stages-bound s ws limit words bound q p r) c = λ m h. call.staged-answered s ws limit (c .0) (c .1) m (rw (c .2) h) ∙ ap (λ vs. (0, vs)) (c .3)
+holds (line.finer-most choices s ws m most) c = subst (NoneAbove (finer m (block-job s choices))) (c .2) (call.finer-below choices s ws (c .0) m (c .1))
+holds (line.finer-stages s ws limit m most) c = subst (NoneStaged (finer m (block-job s old-block)) limit) (c .2) (call.staged-below s ws limit (c .0) m (c .1))
+holds (line.finer-passes s m kinds operands profit neat-kinds neat-operands) c = c
 
 -- the computations of lines, in their order
 data AllComputed : List Example → Type 0 where
@@ -159,6 +166,12 @@ module _ (pair ws : List ℕ) (good : Accepted (misfit-job pair) old-block ws) w
       and refl
       and refl
       and (refl, refl, refl, refl)
+      and (refl, refl, refl, refl)
+      and (refl, omega arith, refl)
+      and (refl, omega arith, refl)
+      and (refl, omega arith, refl)
+      and (refl, omega arith, refl)
+      and (refl, omega arith, refl)
       and (refl, refl, refl, refl)
       and done
 

@@ -8,13 +8,17 @@ use lib.ListN.{length, replicate}
 use Rattle.cutting.specs.declared.Direction.{Direction}
 use Rattle.cutting.specs.declared.Direction.the-variants.{Length, Width}
 use Rattle.cutting.specs.Limits.{most-kinds, most-nodes}
-use Rattle.cutting.specs.Job.{normal-positions}
+use Rattle.cutting.specs.Job.{finer, normal-positions}
 use Rattle.cutting.specs.Preorder.{kinds-of, operands-of}
+use Rattle.cutting.specs.Promises.{NoneAbove}
+use Rattle.cutting.specs.Staged.{NoneStaged}
 use Rattle.refusal.specs.Refusals.{number-of, place-of, refused-as}
 use Rattle.refusal.specs.declared.Checked.{Checked}
 use Rattle.refusal.specs.declared.Checked.the-variants.{Passed, Refused}
 use Rattle.job.specs.declared.Choices.{Choices}
 use Rattle.job.specs.Block.{with-full-demand}
+use Rattle.job.specs.Weights.{block-job}
+use Rattle.plan.specs.Plan.{plan-answer}
 use Rattle.plan.specs.Calls.{arrays-answer}
 use Rattle.saw.specs.Saw.{saw-said}
 use Rattle.saw.specs.Parts.{node-part, part-said}
@@ -55,6 +59,12 @@ pub data Example : Type 0 where
   stages-refused : (job : List ℕ) (limit : ℕ) (kinds operands : List ℕ) (number place : ℕ) → Example
   -- the staged bound call answers the bound, Q, p and r
   stages-bound : (job weights : List ℕ) (limit words bound q p r : ℕ) → Example
+  -- no tree cut at multiples of one m-th of a unit that keeps the demands earns more, by the bound of these weights
+  finer-most : Choices → (job weights : List ℕ) (m most : ℕ) → Example
+  -- no such tree within a limit of stages earns more, by the staged bound
+  finer-stages : (job weights : List ℕ) (limit m most : ℕ) → Example
+  -- a plan cut at m-ths passes the check of the job measured in m-ths, with a profit, and its neat plan at whole units is this one
+  finer-passes : (job : List ℕ) (m : ℕ) (kinds operands : List ℕ) (profit : ℕ) (neat-kinds neat-operands : List ℕ) → Example
 
 -- the marked examples' jobs are old blocks, and make no other choice
 abbrev pub old-block : Choices
@@ -67,6 +77,10 @@ no-choice = record { turning = false; «full_demand» = false; «old_block» = f
 -- the capacity of the full demands
 abbrev pub full : Choices
 full = with-full-demand old-block
+
+-- pieces that may be turned, and a block with a kerf
+abbrev pub turning : Choices
+turning = record { turning = true; «full_demand» = false; «old_block» = false }
 
 -- lent lists that hold every length up to the plate's sides, the kerf added
 abbrev pub LongLists : List ℕ → Choices → Memory → Type 0
@@ -123,6 +137,11 @@ ExampleHolds (stages-pass s limit kinds operands profit pieces waste trim copies
     staged-check-said s old-block limit kinds operands ≡ (0, profit ∷ pieces ∷ waste ∷ trim ∷ ((padded copies ++ (sawdust ∷ [])) ++ (stages ∷ [])))
 ExampleHolds (stages-refused s limit kinds operands number place) = staged-check-said s old-block limit kinds operands ≡ (number, place ∷ [])
 ExampleHolds (stages-bound s ws limit words bound q p r) = (m : Memory) → Enough s old-block words m → staged-said s old-block ws limit m ≡ (0, bound ∷ q ∷ p ∷ r ∷ [])
+ExampleHolds (finer-most choices s ws m most) = NoneAbove (finer m (block-job s choices)) most
+ExampleHolds (finer-stages s ws limit m most) = NoneStaged (finer m (block-job s old-block)) limit most
+ExampleHolds (finer-passes s m kinds operands profit neat-kinds neat-operands) =
+    (plan-answer (finer m (block-job s old-block)) kinds operands .verdict ≡ Passed) × (plan-answer (finer m (block-job s old-block)) kinds operands .report .profit ≡ profit)
+    × (kinds-of (block-neat s old-block kinds operands) ≡ neat-kinds) × (operands-of (block-neat s old-block kinds operands) ≡ neat-operands)
 
 -- job S: plate 5 by 3, three kinds; sizes 2 by 3, 3 by 1, 2 by 2; price 7, demand 1; price 4, demand 2; price 5, demand 1
 abbrev pub job-s : List ℕ
@@ -233,4 +252,13 @@ marked pair ws =
     ∷ stages-refused job-s 1 (2 ∷ 1 ∷ 3 ∷ 1 ∷ 1 ∷ []) (2 ∷ 0 ∷ 1 ∷ 1 ∷ 2 ∷ []) 23 2
     ∷ stages-bound job-s (0 ∷ 1 ∷ 0 ∷ []) 1 180 14 2 5 4
     ∷ stages-bound job-s (0 ∷ 1 ∷ 0 ∷ []) 2 300 16 2 5 4
+    -- Job S cut at tenths: none above 16, within 1 stage none above 14. The plate 3 by 1 with the full demands: none above 3. The plate 5 by 3
+    -- with kerf 1: none above 14, also where the piece may be turned.
+    ∷ finer-most old-block job-s (0 ∷ 1 ∷ 0 ∷ []) 10 16
+    ∷ finer-stages job-s (0 ∷ 1 ∷ 0 ∷ []) 1 10 14
+    ∷ finer-most full loose-job (1 ∷ 1 ∷ []) 10 3
+    ∷ finer-most no-choice sawn-job (0 ∷ []) 10 14
+    ∷ finer-most turning sawn-job (0 ∷ []) 10 14
+    -- Kinds 2 1 1, operands 25 0 2, at tenths: profit 12, and the neat plan at whole units has operands 2 0 2.
+    ∷ finer-passes job-s 10 (2 ∷ 1 ∷ 1 ∷ []) (25 ∷ 0 ∷ 2 ∷ []) 12 (2 ∷ 1 ∷ 1 ∷ []) (2 ∷ 0 ∷ 2 ∷ [])
     ∷ []
