@@ -39,5 +39,6 @@ found-given s choices kinds operands {n = n} old {new} a p g z = go (a .verdict)
               (record { round = l .round; met = l .met; bound-is = l .bound-is; weights-are = l .weights-are; least = l .least; first = l .first });
           rounds = p .rounds;
           demands = p .demands e;
+          finer = p .finer e;
         })
     go (Refused r) e = absurd (omega (arith, number-some r, g .0 ∙ ap (λ (o : Outcome). o .0) (said (Refused r) e), z))

@@ -4,7 +4,7 @@ use Prim.Native.Nat.{ℕ, _≤_}
 use lib.ListN.{take, drop}
 use Rattle.cutting.specs.Limits.{most-kinds}
 use Rattle.cutting.specs.Job.{Job}
-use Rattle.cutting.specs.Promises.{NoneAbove}
+use Rattle.cutting.specs.Promises.{NoneAbove, NoneFiner}
 use Rattle.rounds.specs.declared.WeightsFound.{WeightsFound}
 use Rattle.rounds.specs.Rounds.{answer-of, LeastMet}
 use Rattle.planner_c.specs.Exports.{answer-word}
@@ -14,8 +14,9 @@ abbrev pub found-in : List ℕ → WeightsFound
 found-in answer = answer-of (answer-word answer 0) (answer-word answer 1) (take most-kinds (drop 2 answer))
 
 -- weights found where 0 is returned: the bound is the least met, with the weights that first gave it; at most 18 rounds were run; no
--- guillotine tree on the plate that keeps every demand earns more than the bound
+-- guillotine tree on the plate that keeps every demand, cut at whole units or finer, earns more than the bound
 pub record FoundGiven (J : Job) (lower : ℕ) (answer : List ℕ) : Type 0 where
   pub least : LeastMet J lower (found-in answer)
   pub rounds : answer-word answer 1 ≤ 18
   pub demands : NoneAbove J (answer-word answer 0)
+  pub finer : NoneFiner J (answer-word answer 0)

@@ -8,6 +8,9 @@ use native.Mathlib.Omega.{arith}
 use borrow.Author.Tests.{ltb-true, ltb-false}
 use lib.Dec.{ltb}
 use Rattle.cutting.specs.Job.{Job, bound-of}
+use Rattle.cutting.specs.Promises.{NoneAbove}
+use Rattle.cutting.proofs.Members.{range-solid}
+use Rattle.cutting.proofs.Finer.{none-finer}
 use Rattle.cutting.proofs.Promises.{none-above}
 use Rattle.refusal.specs.Refusals.{next, first-refusal, outcome-by}
 use Rattle.refusal.specs.declared.Refusal.{Refusal}
@@ -145,6 +148,7 @@ module _ (s : List ℕ) (choices : Choices) (kinds operands : List ℕ) where
           least = λ p. unlike (sym (ap (λ (x : WeightsFound). x .verdict) e) ∙ p);
           rounds = omega (arith, ap (λ (x : WeightsFound). x .rounds) e);
           demands = λ p. unlike (sym (ap (λ (x : WeightsFound). x .verdict) e) ∙ p);
+          finer = λ p. unlike (sym (ap (λ (x : WeightsFound). x .verdict) e) ∙ p);
           steps = step-rules;
           stop = stop-rules J lower old;
         }
@@ -175,13 +179,16 @@ module _ (s : List ℕ) (choices : Choices) (kinds operands : List ℕ) where
             let f : profit ≡ lower = l ∙ sym (ap (λ (a : PlanAnswer). a .report .profit) walked) in
             let e = a ∙ ap (λ n. run-answer J n old) f in
             let best : r .verdict ≡ Passed → LeastMet J lower r = λ p. subst (LeastMet J lower) (sym e) (run-least J lower old (sym (ap (λ (x : WeightsFound). x .verdict) e) ∙ p)) in
+            let range = read-in-range s choices good in
+            let none : r .verdict ≡ Passed → NoneAbove J (r .bound) = λ p t g k. (let b = best p in omega (arith, b .bound-is, none-above J (weight-at J lower (b .round)) range t g k)) in
             record {
               answers = e ∙ sym run-is;
               outcome = ap (λ x. found-outcome x) (e ∙ sym run-is) ∙ said;
               memory = rw before-passed (subst (λ n. RunLeaves J n old new) f m);
               least = best;
               rounds = omega (arith, ap (λ (x : WeightsFound). x .rounds) e, run-few J lower old);
-              demands = λ p t g k. (let b = best p in omega (arith, b .bound-is, none-above J (weight-at J lower (b .round)) (read-in-range s choices good) t g k));
+              demands = none;
+              finer = λ p. none-finer J (range-solid J range) (r .bound) (none p);
               steps = step-rules;
               stop = stop-rules J lower old;
             }

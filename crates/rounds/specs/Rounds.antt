@@ -10,7 +10,7 @@ use Rattle.cutting.specs.Limits.{most-kinds, most-capacity}
 use Rattle.cutting.specs.Lists.{range, sum, only, any}
 use Rattle.cutting.specs.Preorder.{kinds-of, operands-of}
 use Rattle.cutting.specs.Job.{Job, KeepsDemands, copies-of, widened, capacity, bound-of, bound-plan}
-use Rattle.cutting.specs.Promises.{NoneAbove}
+use Rattle.cutting.specs.Promises.{NoneAbove, NoneFiner}
 use Rattle.refusal.specs.Refusals.{Outcome, next, first-refusal, by-check, outcome-by}
 use Rattle.refusal.specs.declared.Checked.{Checked}
 use Rattle.refusal.specs.declared.Checked.the-variants.{Passed, Refused}
@@ -193,8 +193,8 @@ pub record StopRules (J : Job) (lower : ℕ) (m : Lent) : Type 0 where
   pub first : (k : ℕ) → k < last-round J lower m → last-here J lower m k ≡ false
 
 -- what the call promises of its answer and of all that it is lent: both are the definitions', number and values too; an answered bound is
--- the least met, with the weights that first gave it, at most 18 rounds are run, and no guillotine tree on the plate that keeps every demand
--- earns more than the answered bound. Steps and stop follow their rules
+-- the least met, with the weights that first gave it, at most 18 rounds are run, and no guillotine tree on the plate that keeps every demand,
+-- cut at whole units or finer, earns more than the answered bound. Steps and stop follow their rules
 pub record FindPromises (s : List ℕ) (choices : Choices) (kinds operands : List ℕ) (old new : Lent) (r : WeightsFound) : Type 0 where
   pub answers : r ≡ find-answer s choices kinds operands old
   pub outcome : found-outcome r ≡ find-said s choices kinds operands old
@@ -202,5 +202,6 @@ pub record FindPromises (s : List ℕ) (choices : Choices) (kinds operands : Lis
   pub least : r .verdict ≡ Passed → LeastMet (block-job s choices) (lower-figure s choices kinds operands) r
   pub rounds : r .rounds ≤ 18
   pub demands : r .verdict ≡ Passed → NoneAbove (block-job s choices) (r .bound)
+  pub finer : r .verdict ≡ Passed → NoneFiner (block-job s choices) (r .bound)
   pub steps : StepRules
   pub stop : StopRules (block-job s choices) (lower-figure s choices kinds operands) old
