@@ -43,7 +43,7 @@ passed-by (Refused r) e z = absurd (omega (arith, number-some r, e, z))
 module _ (s : List ℕ) (choices : ℕ) (lengths widths kinds operands old : List ℕ) (answer : List ℕ) where
   -- nothing is said of a rack where another number than 0 is returned, and none that passes is there
   pub rack-unsaid : {n : ℕ} (profits : List ℕ) → 0 < n → (1 ≤ length answer → unknown choices ≡ false → length old ≡ length lengths → ⊥) → RackGiven s choices lengths widths kinds operands old profits answer n
-  rack-unsaid profits h never = record { trees = λ z. absurd (omega (arith, h, z)); passes = λ a u e. absurd (never a u e); bounds = λ z. absurd (omega (arith, h, z)) }
+  rack-unsaid profits h never = record { trees = λ z. absurd (omega (arith, h, z)); passes = λ a u e. absurd (never a u e); bounds = λ z. absurd (omega (arith, h, z)); finer = λ z. absurd (omega (arith, h, z)) }
 
   -- the call is stopped
   pub rack-stopped : {before : ℕ} → before ≡ early 1 (length answer) choices → 0 < before → RackGiven s choices lengths widths kinds operands old old answer before
@@ -61,4 +61,5 @@ module _ (s : List ℕ) (choices : ℕ) (lengths widths kinds operands old : Lis
         (t .0, t .1, λ i h. ap (λ xs. getD xs i 0) (w ∙ ap (λ v. by-check v (take (length old) (a .profits)) (λ r. old)) p) ∙ getD-take (length old) (a .profits) i 0 (omega (arith, l, h)) ∙ t .2 i h));
     passes = λ k u m b tree o. e ∙ ap (λ v. outcome-by v [] .0) (c .passes b tree o);
     bounds = λ z. c .bounds (before-passed s (choices-of choices) lengths widths kinds operands (c .before (passed-by (a .verdict) e z)) .1);
+    finer = λ z. c .finer (before-passed s (choices-of choices) lengths widths kinds operands (c .before (passed-by (a .verdict) e z)) .1);
   }

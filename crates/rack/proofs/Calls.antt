@@ -31,7 +31,7 @@ use Rattle.rack.specs.declared.RackAnswer.{RackAnswer}
 use Rattle.rack.specs.Racks.{plated, OnPlates, SharesDemands, rack-profit, rack-bound, chained}
 use Rattle.rack.specs.Check.{plate-at, size-check, order-checks, plate-checks, rack-checks, own-answer, total-checks, with-own, rack-passed, rack-stopped, rack-by, rack-walk, plans-answer, rack-answer, rack-outcome, rack-said}
 use Rattle.rack.specs.Promises.{OrderPasses, BeforePasses, RackOf, RackChecks, PlatesPromises}
-use Rattle.rack.proofs.Racks.{rack-keeps, rack-holds}
+use Rattle.rack.proofs.Racks.{rack-keeps, rack-holds, rack-finer}
 use Rattle.rack.proofs.Before.{before-passed, size-passed}
 use Rattle.rack.proofs.Trees.{by-passed, racked, passing}
 use Rattle.rack.proofs.Unread.{same-answer}
@@ -174,6 +174,7 @@ module _ (s : List ℕ) (choices : Choices) where
           zeros = by-zeros before plans (walk-zeros J plate kinds operands 0 n 0 _ _);
           unread = λ z h. same-answer choices s z h lengths widths kinds operands;
           bounds = bounded;
+          finer = λ p m pos tree on shares weight. rack-finer J n tree shares (order-solid p) plate m pos on weight;
           earned = λ p weight. (let t = trees p in let o = parts (by-passed before plans p .0) .1 in
               let a = sum-le n (λ q. getD (rack-by before plans .profits) q 0) (λ q. profit J (t .0 q)) (λ q l. omega (arith, t .2 q l)) in
               let c = bounded o (t .0) (t .1 .on-plates) (t .1 .shares) weight in omega (arith, a, c));

@@ -1,5 +1,5 @@
--- A rack of plates: plans that share the demands earn no more than the sum of the plates' bounds, each under weights of its own, and than
--- any other sum of numbers that bound each plate's trees.
+-- A rack of plates: plans that share the demands, cut at whole units or finer, earn no more than the sum of the plates' bounds, each under
+-- weights of its own, and than any other sum of numbers that bound each plate's trees.
 use mathlib.Core.Path.{_≡_, _∙_, refl, sym, ap}
 use Prim.Native.Nat.{ℕ, zero, suc, _+_, _≤_, _<_}
 use native.Mathlib.Decide.{ℕ-discrete}
@@ -10,7 +10,8 @@ use Rattle.cutting.specs.Pieces.{Piece}
 use Rattle.cutting.specs.Job.{Job, profit, copies-of, KeepsDemands, bound-of, SolidKinds}
 use Rattle.cutting.proofs.Demands.{sum-le}
 use Rattle.cutting.proofs.Bound.{bound-holds}
-use Rattle.rack.specs.Racks.{plated, OnPlates, SharesDemands, rack-profit, rack-bound}
+use Rattle.cutting.proofs.Finer.{none-finer}
+use Rattle.rack.specs.Racks.{plated, OnPlates, OnFinerPlates, SharesDemands, rack-profit, rack-bound}
 
 -- one term of a sum is at most the sum
 sum-one : (n : ℕ) (f : ℕ → ℕ) (p : ℕ) → p < n → f p ≤ sum n f
@@ -40,3 +41,8 @@ module _ (J : Job) (n : ℕ) (tree : ℕ → Tree Piece) (shares : SharesDemands
   -- no set of plans that share the demands earns more than the sum of the plates' bounds, each under weights of its own
   pub rack-holds : SolidKinds J → (plate : ℕ → Rect) → OnPlates J n plate tree → (weight : ℕ → ℕ → ℕ) → rack-profit J n tree ≤ rack-bound J n plate weight
   rack-holds solid plate on weight = rack-any (λ p. bound-of (plated J (plate p)) (weight p)) (λ p l k. bound-holds (plated J (plate p)) (weight p) solid (tree p) (on p l) k)
+
+  -- nor where they are cut at multiples of one m-th of a unit
+  pub rack-finer : SolidKinds J → (plate : ℕ → Rect) (m : ℕ) → 1 ≤ m → OnFinerPlates J m n plate tree → (weight : ℕ → ℕ → ℕ) → rack-profit J n tree ≤ rack-bound J n plate weight
+  rack-finer solid plate m pos on weight = rack-any (λ p. bound-of (plated J (plate p)) (weight p))
+      (λ p l k. none-finer (plated J (plate p)) solid (bound-of (plated J (plate p)) (weight p)) (λ t. bound-holds (plated J (plate p)) (weight p) solid t) m pos (tree p) (on p l) k)

@@ -14,7 +14,7 @@ use Rattle.refusal.specs.declared.Checked.the-variants.{Passed, Refused}
 use Rattle.job.specs.declared.Choices.{Choices}
 use Rattle.job.specs.Weights.{block-job}
 use Rattle.rack.specs.declared.RackAnswer.{RackAnswer}
-use Rattle.rack.specs.Racks.{OnPlates, SharesDemands, rack-profit, rack-bound, chained}
+use Rattle.rack.specs.Racks.{OnPlates, OnFinerPlates, SharesDemands, rack-profit, rack-bound, chained}
 use Rattle.rack.specs.Check.{most-plates, plate-at, order-checks, rack-checks, rack-answer, rack-outcome, rack-said}
 
 -- no check of a job block beside its plate's refuses it
@@ -42,7 +42,8 @@ pub record OnlyPlate (s z : List ℕ) : Type 0 where
 
 -- what the check promises of a rack. Where no check before any plan's refuses, it passes exactly for the plans of
 -- trees; it then has the profits of those trees, and else zeros. The job's own plate is not read. No set of plans on the plates that share
--- the demands earns more than the sum of the plates' bounds, each under weights of its own; nor do the plans that passed
+-- the demands, cut at whole units or finer, earns more than the sum of the plates' bounds, each under weights of its own; nor do the plans that
+-- passed
 pub record RackChecks (s : List ℕ) (choices : Choices) (lengths widths kinds operands : List ℕ) (r : RackAnswer) : Type 0 where
   pub passes : BeforePasses s choices lengths widths kinds operands → (tree : ℕ → Tree Piece) → RackOf (block-job s choices) (length lengths) (plate-at lengths widths) tree kinds operands → r .verdict ≡ Passed
   pub before : r .verdict ≡ Passed → BeforePasses s choices lengths widths kinds operands
@@ -50,6 +51,8 @@ pub record RackChecks (s : List ℕ) (choices : Choices) (lengths widths kinds o
   pub zeros : (x : Refusal) → r .verdict ≡ Refused x → r .profits ≡ replicate most-plates 0
   pub unread : (z : List ℕ) → OnlyPlate s z → r ≡ rack-answer z choices lengths widths kinds operands
   pub bounds : OrderPasses s choices → (tree : ℕ → Tree Piece) → OnPlates (block-job s choices) (length lengths) (plate-at lengths widths) tree → SharesDemands (block-job s choices) (length lengths) tree → (weight : ℕ → ℕ → ℕ)
+      → rack-profit (block-job s choices) (length lengths) tree ≤ rack-bound (block-job s choices) (length lengths) (plate-at lengths widths) weight
+  pub finer : OrderPasses s choices → (m : ℕ) → 1 ≤ m → (tree : ℕ → Tree Piece) → OnFinerPlates (block-job s choices) m (length lengths) (plate-at lengths widths) tree → SharesDemands (block-job s choices) (length lengths) tree → (weight : ℕ → ℕ → ℕ)
       → rack-profit (block-job s choices) (length lengths) tree ≤ rack-bound (block-job s choices) (length lengths) (plate-at lengths widths) weight
   pub earned : r .verdict ≡ Passed → (weight : ℕ → ℕ → ℕ) → sum (length lengths) (λ p. getD (r .profits) p 0) ≤ rack-bound (block-job s choices) (length lengths) (plate-at lengths widths) weight
 

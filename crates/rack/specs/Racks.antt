@@ -5,7 +5,7 @@ use Prim.Native.Nat.{ℕ, zero, suc, _≤_, _<_}
 use Rattle.cutting.specs.Lists.{sum}
 use Rattle.cutting.specs.Tree.{Rect, Tree}
 use Rattle.cutting.specs.Pieces.{Piece}
-use Rattle.cutting.specs.Job.{Job, OnPlate, profit, copies-of, bound-of}
+use Rattle.cutting.specs.Job.{Job, OnPlate, profit, copies-of, bound-of, finer}
 
 -- the job on another plate
 abbrev pub plated : Job → Rect → Job
@@ -14,6 +14,10 @@ plated J r = record { plate = r; kerf = J .kerf; turning = J .turning; full-dema
 -- each of n plans is a guillotine tree on its plate
 abbrev pub OnPlates : Job → ℕ → (ℕ → Rect) → (ℕ → Tree Piece) → Type 0
 OnPlates J n plate tree = (p : ℕ) → p < n → OnPlate (plated J (plate p)) (tree p)
+
+-- each of n plans is such a tree cut at multiples of one m-th of a unit
+abbrev pub OnFinerPlates : Job → ℕ → ℕ → (ℕ → Rect) → (ℕ → Tree Piece) → Type 0
+OnFinerPlates J m n plate tree = (p : ℕ) → p < n → OnPlate (finer m (plated J (plate p))) (tree p)
 
 -- n plans share the demands: no kind has more copies in all of them together than its demand
 abbrev pub SharesDemands : Job → ℕ → (ℕ → Tree Piece) → Type 0
