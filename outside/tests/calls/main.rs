@@ -7,6 +7,7 @@ mod damage;
 mod deep;
 mod exact;
 mod examples;
+mod finer;
 mod forms;
 mod generated;
 mod idle;

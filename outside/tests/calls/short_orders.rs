@@ -2,14 +2,14 @@
 // the optimum against every tree within the demands, the bounds and the plan check.
 use crate::capacity::{done, words};
 use crate::deep::many_kinds;
-use crate::exact::{optimum, Amounts};
+use crate::exact::Amounts;
 use crate::examples::{answers, input, leaves_plan, refuses, Node};
 use crate::inputs::{draw, short_order, Scale, SMALL};
 use crate::lent::{Lent, Sizes, AMPLE};
 use crate::run::{compare, Call, Input, ALL_CHOICES};
 use crate::stack::on_small_stack;
 use crate::trees::{most, MOST_STAGES};
-use crate::widened::{changed, saw, widened};
+use crate::widened::{saw, widened};
 use outside::answers::{Words, FULL_DEMAND, TURNING};
 use outside::blocks::{job_block, job_s, kerf_block, Kind};
 use outside::random::Random;
@@ -229,7 +229,7 @@ fn generated(seed: u64, count: usize, scale: Scale) -> impl Iterator<Item = (Inp
     })
 }
 
-/// Some tree within the demands earns the optimum, none of those more; at halves and thirds neither.
+/// Some tree within the demands earns the optimum, none of those more.
 #[test]
 fn the_optimum_is_the_most_of_every_tree_within_the_demands() {
     for (input, job) in generated(91, 400, TINY) {
@@ -237,11 +237,6 @@ fn the_optimum_is_the_most_of_every_tree_within_the_demands() {
         let copies = Amounts::of_copies(&job);
         let every = most(&job, &copies, &copies.copies_of_each(job.kinds.len()))[MOST_STAGES];
         assert_eq!((answer[0], answer[1]), (every, copies.states as u64), "{input:?}");
-        for m in [2, 3].into_iter().filter(|m| m * job.kerf <= 20) {
-            let block = changed(&job, m * job.kerf, |side| m * side, |demand| demand);
-            let finer = optimum(&Job::read(&block, input.choices).expect("a finer job"));
-            assert_eq!(finer, every, "{input:?} at one {m}-th of a unit");
-        }
     }
 }
 

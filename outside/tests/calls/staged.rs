@@ -3,12 +3,12 @@
 use crate::capacity::{done, words};
 use crate::exact::Amounts;
 use crate::examples::{answers, input, refuses, Node};
+use crate::finer::most_within;
 use crate::inputs::{draw, Scale, SMALL};
 use crate::lent::{Lent, Sizes, AMPLE};
 use crate::neat::{nodes, stages};
 use crate::run::{compare, Call, Input, ALL_CHOICES, STAGED_CALLS};
 use crate::trees::{most, MOST_STAGES};
-use crate::widened::changed;
 use outside::answers::{Words, TURNING};
 use outside::blocks::{job_block, job_s, kerf_block, Kind};
 use outside::planner;
@@ -369,7 +369,7 @@ fn the_bound_is_the_most_of_every_tree_within_limit_and_capacity() {
     assert!(rises[..6].iter().all(|&times| times >= 4));
 }
 
-/// Cut at whole units and at halves; the certificate's gap is no less than what is missing.
+/// Cut at whole units; the certificate's gap is no less than what is missing.
 #[test]
 fn no_tree_within_limit_and_demands_earns_more() {
     let (random, mut earned) = (&mut Random::new(73), 0);
@@ -378,14 +378,9 @@ fn no_tree_within_limit_and_demands_earns_more() {
         let input = draw(random, tiny, ALL_CHOICES[i % 4]);
         let job = Job::read(&input.job, input.choices).expect("a job");
         let bounds = bounds(&input);
-        for m in [1, 2].into_iter().filter(|m| m * job.kerf <= 20) {
-            let block = changed(&job, m * job.kerf, |side| m * side, |demand| demand);
-            let finer = Job::read(&block, input.choices).expect("a finer job");
-            let amounts = Amounts::of_copies(&finer);
-            let most = most(&finer, &amounts, &amounts.copies_of_each(job.kinds.len()));
-            assert!(most[1..].iter().zip(&bounds).all(|(most, bound)| most <= bound), "{input:?}");
-            earned += usize::from(m == 1 && most[1..] == bounds);
-        }
+        let most = most_within(&job, 1);
+        assert!(most[1..].iter().zip(&bounds).all(|(most, bound)| most <= bound), "{input:?}");
+        earned += usize::from(most[1..] == bounds);
     }
     println!("{earned} of 200 jobs have every bound earned within the demands");
     assert!(earned >= 50);

