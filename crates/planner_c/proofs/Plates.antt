@@ -4,7 +4,6 @@ use mathlib.Core.Bool.{Bool, false, not}
 use mathlib.Core.List.{List, [], _∷_}
 use Prim.Native.Nat.{ℕ, _≤_, _<_}
 use native.Mathlib.Omega.{arith}
-use lib.Dec.{eqb}
 use lib.ListN.{length, take, getD}
 use lib.Seq.{getD-take}
 use borrow.Author.Tests.{eq-eqb, ne-eqb}
@@ -18,7 +17,8 @@ use Rattle.rack.specs.declared.RackAnswer.{RackAnswer}
 use Rattle.rack.specs.Check.{rack-answer}
 use Rattle.rack.specs.Promises.{RackChecks}
 use Rattle.rack.proofs.Before.{before-passed, size-passed}
-use Rattle.planner_c.specs.Exports.{choices-of, unknown, early, Gives}
+use Rattle.rack.proofs.Calls.{plates-met}
+use Rattle.planner_c.specs.Exports.{choices-of, unknown, early}
 use Rattle.planner_c.specs.Racks.{racked-verdict, RackGiven}
 use Rattle.planner_c.proofs.Exports.{going}
 
@@ -41,9 +41,13 @@ passed-by Passed e z = refl
 passed-by (Refused r) e z = absurd (omega (arith, number-some r, e, z))
 
 module _ (s : List ℕ) (choices : ℕ) (lengths widths kinds operands old : List ℕ) (answer : List ℕ) where
+  -- what holds of a rack whatever is lent for its check
+  any-rack : RackChecks s (choices-of choices) lengths widths kinds operands (rack-answer s (choices-of choices) lengths widths kinds operands)
+  any-rack = plates-met s (choices-of choices) lengths widths kinds operands refl .checks
+
   -- nothing is said of a rack where another number than 0 is returned, and none that passes is there
   pub rack-unsaid : {n : ℕ} (profits : List ℕ) → 0 < n → (1 ≤ length answer → unknown choices ≡ false → length old ≡ length lengths → ⊥) → RackGiven s choices lengths widths kinds operands old profits answer n
-  rack-unsaid profits h never = record { trees = λ z. absurd (omega (arith, h, z)); passes = λ a u e. absurd (never a u e); bounds = λ z. absurd (omega (arith, h, z)); finer = λ z. absurd (omega (arith, h, z)) }
+  rack-unsaid profits h never = record { trees = λ z. absurd (omega (arith, h, z)); passes = λ a u e. absurd (never a u e); bounds = any-rack .bounds; finer = any-rack .finer; unread = any-rack .unread }
 
   -- the call is stopped
   pub rack-stopped : {before : ℕ} → before ≡ early 1 (length answer) choices → 0 < before → RackGiven s choices lengths widths kinds operands old old answer before
@@ -60,6 +64,7 @@ module _ (s : List ℕ) (choices : ℕ) (lengths widths kinds operands old : Lis
     trees = λ z. (let p = passed-by (a .verdict) e z in let t = c .trees p in
         (t .0, t .1, λ i h. ap (λ xs. getD xs i 0) (w ∙ ap (λ v. by-check v (take (length old) (a .profits)) (λ r. old)) p) ∙ getD-take (length old) (a .profits) i 0 (omega (arith, l, h)) ∙ t .2 i h));
     passes = λ k u m b tree o. e ∙ ap (λ v. outcome-by v [] .0) (c .passes b tree o);
-    bounds = λ z. c .bounds (before-passed s (choices-of choices) lengths widths kinds operands (c .before (passed-by (a .verdict) e z)) .1);
-    finer = λ z. c .finer (before-passed s (choices-of choices) lengths widths kinds operands (c .before (passed-by (a .verdict) e z)) .1);
+    bounds = any-rack .bounds;
+    finer = any-rack .finer;
+    unread = any-rack .unread;
   }

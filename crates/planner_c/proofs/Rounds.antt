@@ -16,7 +16,7 @@ use Rattle.job.proofs.Entries.{entries-length}
 use Rattle.rounds.specs.declared.WeightsFound.{WeightsFound}
 use Rattle.rounds.specs.Rounds.{Lent, answer-of, lower-figure, found-values, found-outcome, LeastMet, FindPromises}
 use Rattle.planner_c.specs.Exports.{Gives}
-use Rattle.planner_c.specs.Found.{found-in, FoundGiven}
+use Rattle.planner_c.specs.Found.{FoundGiven}
 
 pub found-given : (s : List ℕ) (choices : Choices) (kinds operands : List ℕ) {m new-m : Lent} {n : ℕ} (old : List ℕ) {new : List ℕ} (a : WeightsFound)
     → FindPromises s choices kinds operands m new-m a → Gives (found-outcome a) n old new

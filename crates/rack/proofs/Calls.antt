@@ -6,7 +6,6 @@ use Prim.Native.Nat.{ℕ, zero, suc, _+_, _≤_, _<_}
 use native.Mathlib.Nat.{zero-add}
 use native.Mathlib.Omega.{arith}
 use lib.ListN.{length, getD, set, replicate, length-replicate, getD-replicate}
-use Rattle.cutting.specs.Lists.{sum}
 use Rattle.cutting.specs.Tree.{Rect, Tree}
 use Rattle.cutting.specs.Pieces.{Piece}
 use Rattle.cutting.specs.Preorder.{preorder, kinds-of, operands-of}
@@ -29,7 +28,7 @@ use Rattle.plan.proofs.Preorder.{written, firsts, seconds, arrays-written, kind
 use Rattle.plan.proofs.Whole.{whole-counts}
 use Rattle.rack.specs.declared.RackAnswer.{RackAnswer}
 use Rattle.rack.specs.Racks.{plated, OnPlates, SharesDemands, rack-profit, rack-bound, chained}
-use Rattle.rack.specs.Check.{plate-at, size-check, order-checks, plate-checks, rack-checks, own-answer, total-checks, with-own, rack-passed, rack-stopped, rack-by, rack-walk, plans-answer, rack-answer, rack-outcome, rack-said}
+use Rattle.rack.specs.Check.{plate-at, size-check, order-checks, plate-checks, rack-checks, own-answer, total-checks, with-own, rack-passed, rack-stopped, rack-by, rack-walk, plans-answer, rack-answer, rack-outcome}
 use Rattle.rack.specs.Promises.{OrderPasses, BeforePasses, RackOf, RackChecks, PlatesPromises}
 use Rattle.rack.proofs.Racks.{rack-keeps, rack-holds, rack-finer}
 use Rattle.rack.proofs.Before.{before-passed, size-passed}

@@ -1,12 +1,12 @@
 -- The loop over the plates: where it stands before plate i, and what that plate's plan makes of the answer.
-use mathlib.Core.Path.{_≡_, _∙_, refl, sym, ap, ap₂}
+use mathlib.Core.Path.{_≡_, _∙_, sym, ap}
 use mathlib.Core.List.{List, [], _∷_}
 use Prim.Native.Nat.{ℕ, suc, _+_, _-_, _≤_, _<_}
 use native.Mathlib.Omega.{arith}
 use lib.ListN.{length, set, replicate, length-set, length-replicate}
 use Rattle.cutting.specs.Tree.{Rect}
 use Rattle.cutting.specs.Job.{Job}
-use Rattle.refusal.specs.Refusals.{by-check, next, first-refusal}
+use Rattle.refusal.specs.Refusals.{next, first-refusal}
 use Rattle.refusal.specs.declared.Refusal.{Refusal}
 use Rattle.refusal.specs.declared.Checked.{Checked}
 use Rattle.refusal.specs.declared.Checked.the-variants.{Passed, Refused}

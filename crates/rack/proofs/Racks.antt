@@ -1,6 +1,6 @@
 -- A rack of plates: plans that share the demands, cut at whole units or finer, earn no more than the sum of the plates' bounds, each under
 -- weights of its own, and than any other sum of numbers that bound each plate's trees.
-use mathlib.Core.Path.{_≡_, _∙_, refl, sym, ap}
+use mathlib.Core.Path.{_≡_}
 use Prim.Native.Nat.{ℕ, zero, suc, _+_, _≤_, _<_}
 use native.Mathlib.Decide.{ℕ-discrete}
 use native.Mathlib.Omega.{arith}

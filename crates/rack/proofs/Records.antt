@@ -1,26 +1,22 @@
 -- What writing profits changes, the profit of each plate written and nothing else; and that the checker's answer for the sides of a rack and
 -- the records that `settle` leaves keep all that is promised.
 use mathlib.Core.Path.{_≡_, refl, sym, _∙_, ap, subst}
-use mathlib.Core.List.{List, [], map}
+use mathlib.Core.List.{List, []}
 use Prim.Native.Nat.{ℕ, zero, suc, _≤_, _<_}
 use native.Mathlib.Decide.{ℕ-discrete}
 use native.Mathlib.Omega.{arith}
 use lib.ListN.{length, getD, set, length-set, length-map}
 use lib.Seq.{getD-set-same, getD-set-other}
-use Rattle.cutting.specs.Tree.{Tree}
-use Rattle.cutting.specs.Pieces.{Piece}
 use Rattle.cutting.specs.Job.{profit}
-use Rattle.refusal.specs.Refusals.{by-check, first-refusal, outcome-by}
-use Rattle.refusal.specs.declared.Refusal.{Refusal}
+use Rattle.refusal.specs.Refusals.{by-check, outcome-by}
 use Rattle.refusal.specs.declared.Checked.{Checked}
 use Rattle.refusal.specs.declared.Checked.the-variants.{Passed, Refused}
 use Rattle.job.specs.declared.Choices.{Choices}
 use Rattle.job.specs.Weights.{block-job}
-use Rattle.plan.proofs.Parse.{no-pass}
 use Rattle.rack.specs.declared.Plate.{Plate}
 use Rattle.rack.specs.declared.RackAnswer.{RackAnswer}
-use Rattle.rack.specs.Check.{plate-at, rack-answer}
-use Rattle.rack.specs.Promises.{RackOf, RackChecks, PlatesPromises}
+use Rattle.rack.specs.Check.{plate-at}
+use Rattle.rack.specs.Promises.{RackOf, RackChecks}
 use Rattle.rack.specs.Records.{blank, with-profit, paid, paid-count, lengths-of, widths-of, records-answer, rack-after, RackPromises}
 use Rattle.rack.proofs.Before.{before-passed, size-passed}
 use Rattle.rack.proofs.Calls.{plates-met}

@@ -1,5 +1,5 @@
 -- The totals of the kinds over the rack, with a plan's own copies added kind after kind.
-use mathlib.Core.Path.{_≡_, _∙_, refl, sym, ap, subst}
+use mathlib.Core.Path.{_≡_, _∙_, refl, sym, ap}
 use mathlib.Core.Bool.{Bool}
 use mathlib.Core.List.{List}
 use Prim.Native.Nat.{ℕ, zero, suc, _+_, _≤_, _<_}
@@ -12,7 +12,6 @@ use lib.Seq.{getD-set-same, getD-set-other}
 use borrow.Author.Tests.{ltb-false}
 use Rattle.refusal.specs.Refusals.{Check, refuse-when, first-refusal}
 use Rattle.refusal.specs.declared.Refusal.the-variants.{RackDemand}
-use Rattle.refusal.specs.declared.Checked.{Checked}
 use Rattle.refusal.specs.declared.Checked.the-variants.{Passed, Refused}
 use Rattle.job.specs.Block.{each-kind}
 use Rattle.job.proofs.Checks.{Decides, begins, passes, stops, ends, check-last, cons-passed, each-passed}

@@ -5,15 +5,15 @@ use mathlib.Core.List.{List, [], _∷_, _++_, map, map-map}
 use Prim.Native.Nat.{ℕ, zero, suc, _+_, _-_, _≤_, _<_}
 use native.Mathlib.Omega.{arith}
 use lib.Dec.{ltb}
-use lib.ListN.{length, take, drop, getD, set, replicate, length-set, length-drop, take-append-drop, drop-of-length-le}
-use lib.Seq.{getD-set-same, getD-set-other, drop-drop, drop-nil, drop-append-seam, take-append-seam}
+use lib.ListN.{length, take, drop, getD, set, length-set, length-drop, take-append-drop, drop-of-length-le}
+use lib.Seq.{getD-set-same, getD-set-other, drop-drop, drop-append-seam, take-append-seam}
 use borrow.Author.Tests.{ltb-false, le-ltb}
 use Rattle.cutting.specs.Lists.{sum}
 use Rattle.cutting.specs.Tree.{Rect, Tree, waste, IdleFree}
 use Rattle.cutting.specs.Pieces.{Piece}
 use Rattle.cutting.specs.Preorder.{preorder, node-count, kinds-of}
 use Rattle.cutting.specs.Job.{Job, OnPlate, profit, copies-of, KeepsDemands}
-use Rattle.refusal.specs.Refusals.{Check, next, refuse-when, first-refusal}
+use Rattle.refusal.specs.Refusals.{Check, next, first-refusal}
 use Rattle.refusal.specs.declared.Refusal.the-variants.{RackDemand}
 use Rattle.refusal.specs.declared.Checked.{Checked}
 use Rattle.refusal.specs.declared.Checked.the-variants.{Passed, Refused}
@@ -32,7 +32,7 @@ use Rattle.plan.proofs.Parse.{no-pass}
 use Rattle.plan.proofs.Among.{Drawn, tree-drawn, drawn-tree}
 use Rattle.rack.specs.declared.RackAnswer.{RackAnswer}
 use Rattle.rack.specs.Racks.{plated, chained}
-use Rattle.rack.specs.Check.{walked-at, idle-at, own-answer, total-check, total-checks, with-own, rack-passed, rack-stopped, rack-by, rack-walk}
+use Rattle.rack.specs.Check.{walked-at, idle-at, own-answer, total-check, total-checks, with-own, rack-passed, rack-by, rack-walk}
 use Rattle.rack.proofs.Racks.{sum-first}
 use Rattle.rack.proofs.Totals.{with-own-length, with-own-in, totals-within}
 use Rattle.rack.proofs.Own.{own-decides, own-passed}

@@ -1,18 +1,18 @@
 -- Between blocks that differ only in the sides of their plates the checks before any plan's are equal, and so is everything that the rack
 -- answers.
 use mathlib.Core.Path.{_≡_, _∙_, refl, sym, ap, ap₂}
-use mathlib.Core.Bool.{Bool, true, false, _||_, not}
+use mathlib.Core.Bool.{Bool, true, false, not}
 use mathlib.Core.List.{List, [], _∷_, _++_}
-use Prim.Native.Nat.{ℕ, zero, suc, _+_, _*_, _≤_, _<_}
+use Prim.Native.Nat.{ℕ, zero, suc, _+_, _*_, _≤_}
 use native.Mathlib.Omega.{arith}
 use lib.Dec.{ltb, eqb}
-use lib.ListN.{length, getD, set}
+use lib.ListN.{length, set}
 use Rattle.cutting.specs.Tree.{Rect}
 use Rattle.cutting.specs.Job.{Job}
 use Rattle.refusal.specs.declared.Refusal.the-variants.{ShortHeader, KindCount, Kerf, BlockLength, KindSide, Price, Demand}
 use Rattle.refusal.specs.Refusals.{next, first-refusal}
 use Rattle.job.specs.declared.Choices.{Choices}
-use Rattle.job.specs.Block.{u16-at, u32-at, count-at, kerf-at, sizes-end, length-at, width-at, price-at, demand-at, outside, sides-outside, plateless-checks, size-check, pair-checks, each-kind, entries, record-of, job-from}
+use Rattle.job.specs.Block.{u16-at, u32-at, count-at, kerf-at, sizes-end, length-at, width-at, price-at, demand-at, outside, sides-outside, each-kind, entries, record-of, job-from}
 use Rattle.job.specs.Weights.{block-job}
 use Rattle.job.proofs.Read.{sizes-least}
 use Rattle.plan.specs.Plan.{plan-checks}

@@ -1,12 +1,10 @@
 -- What only the inner contracts of the rack cite: a job that was read on another plate, arrays of the sides of 1 to 16 plates, and the totals
 -- after a plan.
 use mathlib.Core.Path.{_≡_}
-use mathlib.Core.List.{List, [], _∷_}
-use Prim.Native.Nat.{ℕ, _+_, _≤_}
-use lib.Dec.{ltb}
+use mathlib.Core.List.{List}
+use Prim.Native.Nat.{ℕ, _≤_}
 use lib.ListN.{length, getD}
-use Rattle.refusal.specs.Refusals.{Check, first-refusal}
-use Rattle.refusal.specs.declared.Refusal.the-variants.{RackDemand}
+use Rattle.refusal.specs.Refusals.{first-refusal}
 use Rattle.refusal.specs.declared.Checked.{Checked}
 use Rattle.refusal.specs.declared.Checked.the-variants.{Passed}
 use Rattle.job.specs.declared.JobRecord.{JobRecord}

@@ -156,7 +156,7 @@ fn passes(total: u16, own: u16, demand: u16) -> bool
     (demand as u32) < (total as u32) + (own as u32)
 }
 
-// Copies that do not.
+// Copies that pass no demand, added.
 fn add_within(total: u16, own: u16, demand: u16) -> u16
     requires { ⌜ total + own ≤ demand ⌝ }
     ensures { λ r. ⌜ r ≡ total + own ⌝ }

@@ -1,4 +1,4 @@
--- The definitions have the papers' rules: the halving of the factor, the step as a whole root, the test of the demands, the last round.
+-- The definitions have the scope's rules: the halving of the factor, the step as a whole root, the test of the demands, the last round.
 use mathlib.Core.Path.{_≡_, refl, sym, _∙_, ap}
 use mathlib.Core.Bool.{Bool, true, false, _||_, not}
 use Prim.Native.Nat.{ℕ, zero, suc, _+_, _-_, _*_, _/_, _^_, _≤_, _<_, min}
@@ -30,6 +30,10 @@ pub factor-tabled : (k : ℕ) → k < 18 → getD factors k 0 ≡ factor k
 unfolding any range
 factor-tabled k h = eqb-true (getD factors k 0) (factor k) (not-false _ (none-passes (λ k. not (eqb (getD factors k 0) (factor k))) 18 k refl h))
 
+-- so each entry of the table is half of the entry three before it
+table-halved : (k : ℕ) → k < 15 → getD factors (k + 3) 0 ≡ getD factors k 0 / 2
+table-halved k h = factor-tabled (k + 3) (omega arith) ∙ factor-halved k ∙ sym (ap (λ n. n / 2) (factor-tabled k (omega arith)))
+
 -- the step is the whole part of the square root of d · s, and 255 where that is above
 step-whole : (f gap squares d x : ℕ) → WholeRoot (d * scale f gap squares) (16 * squares) x → step f gap squares d ≡ min 255 x
 step-whole f gap squares d x h = root-whole 255 (d * scale f gap squares) (16 * squares) x h
@@ -40,6 +44,7 @@ step-rules = record {
   first = factor-first;
   halved = factor-halved;
   tabled = factor-tabled;
+  table-halved = table-halved;
   whole = step-whole;
   exists = λ f gap squares d h. root-exists (d * scale f gap squares) (16 * squares) (omega arith);
 }

@@ -50,10 +50,11 @@ abbrev pub adjusted : ℕ → ℕ → ℕ → ℕ → ℕ → ℕ → ℕ
 adjusted f gap squares weight copies demand = stepped (ltb demand copies) weight (step f gap squares (distance copies demand))
 
 -- the rules of the steps: the factor is 2 in rounds 0 to 2 and is halved after every third round, and each entry of the table is its round's
--- factor; a step is the whole part of the square root of d · s, and 255 where that is above; where the summed squares are not 0 there is such a root
+-- factor, half of the entry three before it; a step is the whole part of the square root of d · s, and 255 where that is above; where the summed squares are not 0 there is such a root
 pub record StepRules : Type 0 where
   pub first : (k : ℕ) → k < 3 → factor k ≡ 32
   pub halved : (k : ℕ) → factor (k + 3) ≡ factor k / 2
   pub tabled : (k : ℕ) → k < 18 → getD factors k 0 ≡ factor k
+  pub table-halved : (k : ℕ) → k < 15 → getD factors (k + 3) 0 ≡ getD factors k 0 / 2
   pub whole : (f gap squares d x : ℕ) → WholeRoot (d * scale f gap squares) (16 * squares) x → step f gap squares d ≡ min 255 x
   pub exists : (f gap squares d : ℕ) → 1 ≤ squares → (x : ℕ) × WholeRoot (d * scale f gap squares) (16 * squares) x

@@ -12,7 +12,7 @@ use Rattle.cutting.specs.Staged.{staged-bound}
 use Rattle.cutting.specs.Listed.{heavy-in, pieces-job, PieceArray}
 use Rattle.cutting.proofs.Members.{range-solid, widened-solid}
 use Rattle.cutting.proofs.Finer.{staged-finer}
-use Rattle.cutting.proofs.Staged.{block-recursion, block-floor, staged-most, staged-holds, staged-ceiling}
+use Rattle.cutting.proofs.Staged.{block-recursion, block-floor, staged-most, staged-holds, staged-more, staged-less, staged-ceiling}
 use Rattle.cutting.proofs.Promises.{normal-listed}
 use Rattle.refusal.specs.Refusals.{next, first-refusal, outcome-by}
 use Rattle.refusal.specs.declared.Refusal.{Refusal}
@@ -48,6 +48,8 @@ staged-held J weight n h = record {
   ceiling = staged-ceiling J weight n h;
   figure = refl;
   capacity-is = refl;
+  more = λ k l. staged-more J (range-solid J h) weight (capacity J weight) n k l;
+  less = staged-less J (range-solid J h) weight n;
 }
 
 said-by : (v : Checked) (b : BoundReport) → bound-outcome (answer-by v b) ≡ outcome-by v (report-values b)
@@ -64,6 +66,7 @@ module _ (s : List ℕ) (choices : Choices) (ws : List ℕ) (n : ℕ) (old : Mem
     exact = λ b f. held b (sym e ∙ f);
     recursion = block-recursion (wide-job s choices) (weight-in ws);
     normal = normal-listed (wide-job s choices);
+    accepted = λ a. staged-held (block-job s choices) (weight-in ws) n (accepted-in-range s choices ws a);
     floor = λ a. block-floor (wide-job s choices) (weight-in ws) (widened-solid (block-job s choices) (range-solid (block-job s choices) (accepted-in-range s choices ws a)));
   }
     where

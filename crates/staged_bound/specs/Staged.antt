@@ -7,9 +7,9 @@ use lib.Dec.{ltb}
 use lib.ListN.{length}
 use Rattle.cutting.specs.declared.Direction.the-variants.{Length, Width}
 use Rattle.cutting.specs.Limits.{most-figure}
-use Rattle.cutting.specs.Job.{Job, capacity, normal-positions}
+use Rattle.cutting.specs.Job.{Job, capacity, bound-of, normal-positions}
 use Rattle.cutting.specs.Promises.{NormalSums}
-use Rattle.cutting.specs.Staged.{block, staged-under, MostStaged, NoneStaged, NoneStagedFiner, StagedRecursion, StagedFloors}
+use Rattle.cutting.specs.Staged.{block, staged-under, staged-bound, MostStaged, NoneStaged, NoneStagedFiner, StagedRecursion, StagedFloors}
 use Rattle.refusal.specs.Refusals.{Check, Outcome, next, first-refusal, by-check, outcome-by}
 use Rattle.refusal.specs.declared.Checked.{Checked}
 use Rattle.refusal.specs.declared.Refusal.the-variants.{TableShort}
@@ -72,7 +72,8 @@ staged-said s choices ws n m = outcome-by (staged-verdict s choices ws n m) (rep
 
 -- what a staged bound m at the limit n and the capacity q is: the most that a guillotine tree of at most n stages and of weight at most q
 -- earns; no less than any tree of at most n stages that keeps the demands earns, cut at whole units or finer; at most 1,000,000,000,000; the
--- greater of the two blocks of the limit, the kerf added to every side, at the plate and q. The capacity is the job's
+-- greater of the two blocks of the limit, the kerf added to every side, at the plate and q. The capacity is the job's. A higher
+-- limit gives no less, and the bound without a limit is no less
 pub record StagedHolds (J : Job) (weight : ℕ → ℕ) (n q m : ℕ) : Type 0 where
   pub most : MostStaged J weight n q m
   pub demands : NoneStaged J n m
@@ -80,6 +81,8 @@ pub record StagedHolds (J : Job) (weight : ℕ → ℕ) (n q m : ℕ) : Type 0 w
   pub ceiling : m ≤ most-figure
   pub figure : m ≡ staged-under J weight n q
   pub capacity-is : q ≡ capacity J weight
+  pub more : (k : ℕ) → n ≤ k → m ≤ staged-under J weight k q
+  pub less : m ≤ bound-of J weight
 
 -- what the staged bound call promises of its answer and of the memory that it is lent
 pub record StagedPromises (s : List ℕ) (choices : Choices) (ws : List ℕ) (n : ℕ) (old new : Memory) (r : BoundAnswer) : Type 0 where
@@ -89,4 +92,5 @@ pub record StagedPromises (s : List ℕ) (choices : Choices) (ws : List ℕ) (n 
   pub exact : (b : BoundReport) → r ≡ answer.Answered b → StagedHolds (block-job s choices) (weight-in ws) n (b .capacity) (b .bound)
   pub recursion : StagedRecursion (wide-job s choices) (weight-in ws)
   pub normal : NormalSums (wide-job s choices)
+  pub accepted : Accepted s choices ws → StagedHolds (block-job s choices) (weight-in ws) n (block-capacity s choices ws) (staged-bound (block-job s choices) (weight-in ws) n)
   pub floor : Accepted s choices ws → StagedFloors (wide-job s choices) (weight-in ws)

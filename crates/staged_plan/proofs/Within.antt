@@ -3,6 +3,7 @@ use mathlib.Core.Path.{_≡_, refl, sym, _∙_, ap, ap₂, subst}
 use mathlib.Core.List.{List}
 use Prim.Native.Nat.{ℕ, _≤_}
 use lib.ListN.{length}
+use Rattle.cutting.proofs.Staged.{stages-paths}
 use Rattle.cutting.specs.Limits.{most-nodes}
 use Rattle.cutting.specs.Tree.{Tree}
 use Rattle.cutting.specs.Pieces.{Piece}
@@ -99,6 +100,7 @@ staged-after Passed {J} {n} {kinds} {operands} f =
       passes = λ b t h. same ∙ judged J few n kinds operands t (h .plan) ∙ within-passed t n (h .within);
       before = λ p. refl;
       tree = λ p. passed-tree few (sym same ∙ p);
+      paths-most = stages-paths;
       zeros = λ r e. zeros-by w s k r (sym same ∙ e);
       past = λ b t h. same ∙ judged J few n kinds operands t h;
       refused = λ b r e. same ∙ ap (λ v. next v (stage-verdict n kinds operands)) e;
@@ -114,6 +116,7 @@ staged-after (Refused x) f =
       passes = λ b t h. cc;
       before = λ p. p;
       tree = λ p. no-pass p;
+      paths-most = stages-paths;
       zeros = λ r e. (refl, refl);
       past = λ b t h. cc;
       refused = λ b r e. cc;

@@ -3,9 +3,11 @@
 use mathlib.Core.Path.{_≡_}
 use mathlib.Core.List.{List, [], _∷_, _++_}
 use Prim.Native.Nat.{ℕ, _≤_}
+use Rattle.cutting.specs.Lists.{greatest}
 use Rattle.cutting.specs.Tree.{Tree}
 use Rattle.cutting.specs.Pieces.{Piece}
 use Rattle.cutting.specs.Shares.{stages}
+use Rattle.cutting.specs.Staged.{paths, path-stages}
 use Rattle.cutting.specs.Job.{Job}
 use Rattle.refusal.specs.declared.Refusal.{Refusal}
 use Rattle.refusal.specs.declared.Checked.{Checked}
@@ -77,12 +79,13 @@ pub record StagedPlanOf (J : Job) (n : ℕ) (t : Tree Piece) (kinds operands : L
   pub within : stages t ≤ n
 
 -- where what stands before the plan's checks holds, an answer passes exactly for the plan of a tree of at most n stages; it then reports
--- that tree and its stages, and a refusal reports zeros. The plan of a tree of more stages is refused for the first cut in preorder whose
+-- that tree and its stages, which are the most changes of direction on a path plus one, and a refusal reports zeros. The plan of a tree of more stages is refused for the first cut in preorder whose
 -- path passes the limit, and what the plan check refuses is refused as there
 pub record ChecksStaged (Before : Type 0) (J : Job) (n : ℕ) (kinds operands : List ℕ) (a : StagedAnswer) : Type 0 where
   pub passes : Before → (t : Tree Piece) → StagedPlanOf J n t kinds operands → a .verdict ≡ Passed
   pub before : a .verdict ≡ Passed → Before
   pub tree : a .verdict ≡ Passed → (t : Tree Piece) × StagedPlanOf J n t kinds operands × Reports J t (a .report) × (a .stages ≡ stages t)
+  pub paths-most : (t : Tree Piece) → stages t ≡ greatest path-stages (paths t)
   pub zeros : (r : Refusal) → a .verdict ≡ Refused r → (a .report ≡ empty-report) × (a .stages ≡ 0)
   pub past : Before → (t : Tree Piece) → PlanOf J t kinds operands → a .verdict ≡ first-refusal (limit-checks n t)
   pub refused : Before → (r : Refusal) → plan-answer J kinds operands .verdict ≡ Refused r → a .verdict ≡ Refused r

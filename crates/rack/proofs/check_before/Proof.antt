@@ -1,8 +1,7 @@
 -- `rack::check_before` meets its contract: 28, the job's checks, those of the plates, then 10 and 11.
-use mathlib.Core.Path.{_∙_, sym, ap}
+use mathlib.Core.Path.{_∙_, sym}
 use denote.Ref.{now}
 use borrow.Author.Needs.{needs}
-use Rattle.refusal.specs.Refusals.{next}
 use Rattle.job.proofs.Checks.{next-stops, next-passes}
 use Rattle.rack.proofs.Before.{before-parts, size-passed}
 use Rattle.rack.proofs.check_before.Statement.{statement}

@@ -1,5 +1,4 @@
 -- `rack::check_size` meets its contract.
-use mathlib.Core.Path.{_∙_}
 use denote.Ref.{now}
 use lib.ListN.{length}
 use borrow.Author.Needs.{needs}

@@ -1,15 +1,15 @@
 -- `rack::settle` meets its contract: a walk of its MIR, by hand, with a loop over the plates to be written. The borrow of the rack is opened once, before the loop, and closed once, after it; the shared borrow of the profits is opened in each turn.
-use mathlib.Core.Path.{_≡_, refl, sym, ap, subst, _∙_}
-use Prim.Native.Nat.{ℕ, zero, suc, _<_, _≤_, _^_, _*_, _+_, _-_}
-use native.Mathlib.Nat.{mul-le-mul-right, lt-irrefl}
+use mathlib.Core.Path.{_≡_, refl, sym, ap, subst}
+use Prim.Native.Nat.{ℕ, suc, _<_, _≤_, _^_, _*_, _+_, _-_}
+use native.Mathlib.Nat.{mul-le-mul-right}
 use native.Mathlib.Numerals.{add-one}
-use mathlib.Core.Bool.{Bool, true, false}
+use mathlib.Core.Bool.{Bool}
 use native.Mathlib.Decide.{decLt}
 use lib.WfN.{Nat·lt-wfRel}
-use lib.Dec.{T, ltb, lit<}
+use lib.Dec.{T, lit<}
 use borrow.Author.Tests.{lt-ltb, le-ltb}
-use lib.ListN.{length, getD, set, length-set}
-use mir.Syntax.{Ty, Body as MBody, named, mut, imm, w16, w64, tyPtr, tyInt, tyBool, tyUnit, tyRef, deref, field, place, unsigned, copy, int, skip as skipᴹ, seq, assign, block, loop, cond, exit, return, rvOpd, opdUnit, op2, add, mul, lt, offset}
+use lib.ListN.{length, getD}
+use mir.Syntax.{Ty, Body as MBody, named, mut, imm, w16, w64, tyPtr, tyInt, tyBool, tyUnit, tyRef, deref, field, place, unsigned, copy, int, skip as skipᴹ, seq, assign, loop, cond, exit, return, rvOpd, opdUnit, op2, add, mul, lt, offset}
 use mir.Val.{Val, vunit, vbool, vint, vptr, vstruct, vnil, vcons}
 use base.Logic.{SProp, ent, ex, guard, via, exI, exE, guardI, guardE}
 use base.Fml.{Lft, Share, GName, Fml, ftrue, fsep, fat, froom, fdies, flft, fobs, fauth, fres, fbor, fobor, fshr-bor}
@@ -20,7 +20,7 @@ use types.Run.{look, init, store, forget, stop, hop, fld, from, load, lit, unit-
 use types.Share.{arr-parts}
 use denote.Laws.{Is, shows}
 use denote.Memory.{shares, pointee}
-use denote.Plain.{uint-makes, uint-vals, uint-tells, uint-copy}
+use denote.Plain.{uint-vals, uint-tells, uint-copy}
 use denote.Slice.{sliceTy, sliceVal, MutSlice, ShrSlice, Room, heres, codedHoleys, at-slice, slice-vals, mut-slice-tells, shr-slice-tells}
 use denote.Index.{place-is, row, elem-out, elem-back, elem-put, opens-slice, closes-slice, looks-slice, shuts-slice}
 use denote.Triple.Walked.{says, needs, Stays, stay-slice, stay-none, stay-none-slice, walkOf, AllGo, goes-slice, goes-none, goes-none-slice, Walks, ends-at, walked, walk-meets}
