@@ -1,4 +1,4 @@
-// The bound printer: reads a job block and then its weights from standard input, at most 711 bytes, until full or the end of input,
+// The bound printer: reads an old job block (without a kerf) and then its weights from standard input, at most 711 bytes, until full or the end of input,
 // and prints the bound and the plan behind it, or the refusal.
 
 fn main() {

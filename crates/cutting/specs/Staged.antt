@@ -43,8 +43,8 @@ unfoldable pub along : Direction → (ℕ → ℕ → ℕ → ℕ) → ℕ → �
 along d P zero l w c = P l w c
 along d P (suc n) l w c = max (P l w c) (cuts-between d (along d P n) l w c)
 
--- the figure within k stages whose first cuts go in direction d, for a job cut without loss: no cut without a stage; then the greatest of
--- the other direction's with one stage fewer and of cuts between figures of its own block (block-eq of proofs/Staged)
+-- the figure of direction d at stage k, for a job cut without loss: no cut without a stage; then the greatest of the other direction's with
+-- one stage fewer and of cuts in direction d between figures of its own block (block-eq of proofs/Staged)
 unfoldable pub block : Job → (ℕ → ℕ) → ℕ → Direction → ℕ → ℕ → ℕ → ℕ
 block J weight zero d l w c = no-cut J weight l w c
 block J weight (suc k) d l w c = along d (block J weight k (other d)) (side d (l, w)) l w c
