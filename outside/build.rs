@@ -1,10 +1,9 @@
-// Links the proved archive and the project's C, which the script `run` builds.
+// Links the project's C, which the script `run` builds.
 use std::path::Path;
 
 fn main() {
     let here = std::env::var("CARGO_MANIFEST_DIR").expect("cargo names the project's folder");
     let here = Path::new(&here);
-    link(&here.join("../target/staticlib"), "planner_c");
     for name in ["baseline_c", "stack"] {
         link(&here.join("target/c"), name);
     }

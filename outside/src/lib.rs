@@ -1,9 +1,8 @@
 // The planner as a Rust program sees it: the wrapper over planner.h, an independent reference
 // implementation of the same calls, and the baselines that the benchmark measures against.
-pub mod answers;
 pub mod baseline;
-pub mod blocks;
 pub mod calls;
-pub mod planner;
 pub mod random;
 pub mod reference;
+
+pub use ::planner::{answers, blocks, slices as planner};

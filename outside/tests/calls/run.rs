@@ -5,8 +5,7 @@ use outside::answers::{
     FOUND_WORDS, FULL_DEMAND, OLD_BLOCK, REPORT_WORDS, STAGED_REPORT_WORDS, TURNING,
 };
 use outside::blocks::plan_block;
-use outside::calls::Calls;
-use outside::planner;
+use outside::calls::{Calls, PROVED};
 use outside::reference;
 
 #[derive(Clone, Copy, Debug, PartialEq, Eq, PartialOrd, Ord)]
@@ -106,7 +105,7 @@ impl Input {
 }
 
 /// The implementations that must pass every example.
-pub const IMPLEMENTATIONS: [Calls; 2] = [reference::calls::CALLS, planner::calls::CALLS];
+pub const IMPLEMENTATIONS: [Calls; 2] = [reference::calls::CALLS, PROVED];
 
 impl Call {
     /// The words of its answer.

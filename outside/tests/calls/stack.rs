@@ -2,7 +2,7 @@
 // has no more than planner.h promises to be enough.
 use crate::lent::{Lent, Sizes};
 use crate::run::{Call, Input, STAGED_CALLS};
-use outside::planner::calls::CALLS;
+use outside::calls::PROVED;
 use std::ffi::c_void;
 use std::thread;
 
@@ -28,7 +28,7 @@ pub fn on_small_stack(call: Call, input: &Input, sizes: Sizes) -> (u32, Lent) {
     }
     fits_small_stack(&what, || {
         let mut lent = Lent::new(sizes);
-        let code = call.run(&CALLS, input, &mut lent);
+        let code = call.run(&PROVED, input, &mut lent);
         (code, lent)
     })
 }
@@ -36,7 +36,7 @@ pub fn on_small_stack(call: Call, input: &Input, sizes: Sizes) -> (u32, Lent) {
 /// The bytes of stack that a proved call needs.
 pub fn needed_by(call: Call, input: &Input, sizes: Sizes) -> usize {
     let mut lent = Lent::new(sizes);
-    measured(|| _ = call.run(&CALLS, input, &mut lent))
+    measured(|| _ = call.run(&PROVED, input, &mut lent))
 }
 
 /// Runs proved work on a thread with a small stack, having measured that it fits.

@@ -2,23 +2,6 @@
 // Safe: borrowed slices are valid, aligned and do not overlap where they are written.
 use super::foreign;
 use crate::answers::{PlanArrays, Rack, Storage};
-use crate::calls::Calls;
-
-pub const CALLS: Calls = Calls {
-    name: "proved",
-    check_plan,
-    check_plan_block,
-    bound,
-    write_plan,
-    neat_plan,
-    certify,
-    check_plan_staged,
-    bound_staged,
-    certify_staged,
-    bound_two,
-    exact,
-    find_weights,
-};
 
 pub fn check_plan(
     job: &[u8],
