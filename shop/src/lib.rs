@@ -1,0 +1,15 @@
+// The shop's command as a library, so that tests can use its parts: orders, the search, and what is
+// given of a plan.
+pub mod commands;
+pub mod json;
+pub mod layout;
+pub mod millimetres;
+pub mod options;
+pub mod order;
+pub mod outcome;
+pub mod search;
+mod sheet;
+pub mod stamp;
+pub mod summary;
+pub mod svg;
+pub mod verdict;

@@ -1,0 +1,54 @@
+// An order: the plate, the saw and the panels in millimetres, and the job that it makes in whole units of
+// the fence. Piece sides and the kerf are rounded up, the plate down: what is planned can be cut.
+mod cells;
+mod checks;
+mod fault;
+mod reader;
+
+pub use fault::Fault;
+pub use reader::read;
+
+use crate::millimetres::Millimetres;
+use planner::{Choices, Job, Kind};
+
+/// A panel of the order, of which `count` copies are wanted. Without a price its area counts.
+#[derive(Clone, Debug, PartialEq, Eq)]
+pub struct Piece {
+    pub name: String,
+    pub sides: [Millimetres; 2],
+    pub count: u16,
+    pub price: Option<u32>,
+}
+
+/// An order that has no fault: its job is one that the planner accepts.
+#[derive(Clone, Debug, PartialEq, Eq)]
+pub struct Order {
+    pub plate: [Millimetres; 2],
+    pub kerf: Millimetres,
+    pub unit: Millimetres,
+    pub turning: bool,
+    pub pieces: Vec<Piece>,
+}
+
+impl Order {
+    pub fn job(&self) -> Job {
+        let [length, width] = self.plate.map(|side| side.units_down(self.unit) as u16);
+        let kerf = self.kerf.units_up(self.unit) as u16;
+        Job { length, width, kerf, kinds: self.pieces.iter().map(|p| self.kind(p)).collect() }
+    }
+
+    pub fn choices(&self) -> Choices {
+        Choices { turning: self.turning, ..Choices::default() }
+    }
+
+    /// The length of so many units.
+    pub fn length_of(&self, units: u16) -> Millimetres {
+        self.unit.times(units.into())
+    }
+
+    fn kind(&self, piece: &Piece) -> Kind {
+        let [length, width] = piece.sides.map(|side| side.units_up(self.unit) as u16);
+        let price = piece.price.unwrap_or(u32::from(length) * u32::from(width));
+        Kind { length, width, price, demand: piece.count }
+    }
+}

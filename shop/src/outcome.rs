@@ -1,0 +1,60 @@
+// A judged plan of an order, as it is given: in words, as a drawing, for machines and as a stamp.
+use crate::layout::{Layout, Rect};
+use crate::order::Order;
+use crate::search::Proof;
+use crate::stamp::Stamp;
+use crate::verdict::Verdict;
+use planner::{Job, Plan};
+
+pub struct Outcome {
+    pub order: Order,
+    pub job: Job,
+    pub plan: Plan,
+    pub layout: Layout,
+    pub verdict: Verdict,
+    pub proof: Proof,
+}
+
+impl Outcome {
+    /// The outcome of a plan that passed its check.
+    pub fn new(order: Order, plan: Plan, verdict: Verdict, proof: Proof) -> Outcome {
+        let job = order.job();
+        let tree = plan.tree().expect("a plan that passes is a tree");
+        let layout = Layout::new(&job, &tree);
+        Outcome { order, job, plan, layout, verdict, proof }
+    }
+
+    pub fn sentence(&self) -> String {
+        self.verdict.sentence(&format!("steps of {} mm", self.order.unit))
+    }
+
+    /// The copies cut of a kind.
+    pub fn copies(&self, kind: usize) -> u64 {
+        self.verdict.report.copies[kind]
+    }
+
+    /// Length and width of a rectangle in millimetres.
+    pub fn size(&self, rect: Rect) -> String {
+        let [length, width] = [rect.length, rect.width].map(|units| self.order.length_of(units));
+        format!("{length} x {width}")
+    }
+
+    /// Pieces, waste, trim and sawdust, in tenths of a per cent of the plate.
+    pub fn shares(&self) -> [(&'static str, u64); 4] {
+        let report = &self.verdict.report;
+        let plate = u64::from(self.job.length) * u64::from(self.job.width);
+        let share = |area: u64| (1000 * area + plate / 2) / plate;
+        [
+            ("used", share(report.pieces)),
+            ("waste", share(report.waste)),
+            ("trim", share(report.trim)),
+            ("sawdust", share(report.sawdust)),
+        ]
+    }
+
+    pub fn stamp(&self) -> Stamp {
+        let choices = self.order.choices();
+        let (job, plan) = (self.job.block(choices), self.plan.block());
+        Stamp { choices: choices.word(), job, proof: self.proof.clone(), plan }
+    }
+}

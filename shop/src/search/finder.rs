@@ -1,0 +1,151 @@
+// The search itself: the exact call where the order is short, else weight rounds from several starting weights,
+// each round's plan repaired and improved. Nothing here is proved or need be: proved calls judge what it finds.
+use super::effort::Effort;
+use super::found::{Found, Limit, Proof};
+use super::improve::{improve, Dice};
+use super::repair::repaired;
+use super::stock::Stock;
+use super::weights::{adjusted, by_price, halved, on_excess, FACTORS};
+use planner::{Choices, Job, Planner, Tree};
+use std::sync::{Arc, Mutex};
+use std::time::Instant;
+
+/// Steps of improvement before the rounds, after each, and at the end.
+const FIRST_STEPS: u32 = 20_000;
+const ROUND_STEPS: u32 = 4_000;
+const LAST_STEPS: u32 = 100_000;
+
+pub struct Finder {
+    planner: Planner,
+    stock: Stock,
+    dice: Dice,
+    effort: Effort,
+    found: Arc<Mutex<Found>>,
+}
+
+/// What a round gives: its bound and the copies of its plan.
+struct Round {
+    bound: u64,
+    copies: Vec<u16>,
+}
+
+impl Finder {
+    /// A search for a job. One that is `timed` does not end by itself before its rounds do.
+    pub fn new(
+        job: &Job,
+        choices: Choices,
+        memory: u64,
+        timed: bool,
+        found: Arc<Mutex<Found>>,
+    ) -> Finder {
+        let planner = Planner::new(job.block(choices), choices.word(), memory);
+        let stock = Stock::new(job, choices);
+        Finder { planner, stock, dice: Dice::new(1), effort: Effort::new(memory, timed), found }
+    }
+
+    /// Searches to the end, or until the plan is known to be best.
+    pub fn run(mut self) {
+        self.offer(Tree::Waste, FIRST_STEPS);
+        let none = vec![0; self.stock.demands.len()];
+        let Some(first) = self.round(&none) else { return };
+        if self.is_best() || self.exact() {
+            return;
+        }
+        let excess = on_excess(&self.stock, &first.copies);
+        let starts = [none, excess, by_price(&self.stock, 4), by_price(&self.stock, 16)];
+        for weights in starts {
+            self.rounds(weights);
+            if self.is_best() {
+                return;
+            }
+        }
+        self.two_weights();
+        let best = self.update(|found| found.plan.tree());
+        for tree in [best, Some(Tree::Waste)].into_iter().flatten() {
+            self.offer(tree, if self.is_best() { 0 } else { LAST_STEPS });
+        }
+    }
+
+    /// The exact answer, where the order is short and its table fits.
+    fn exact(&mut self) -> bool {
+        if !self.effort.allows_exact(&self.stock) {
+            return false;
+        }
+        let start = Instant::now();
+        let Ok((exact, plan)) = self.planner.exact() else { return false };
+        self.keep_limit(exact.optimum, Proof::Exact, start);
+        plan.tree().into_iter().for_each(|tree| self.offer(tree, 0));
+        true
+    }
+
+    /// Rounds from these weights, which are halved until their table fits.
+    fn rounds(&mut self, mut weights: Vec<u8>) {
+        for factor in FACTORS {
+            while !self.effort.allows(self.stock.capacity(&weights)) {
+                weights = halved(&weights);
+            }
+            if self.effort.is_spent() || self.is_best() {
+                return;
+            }
+            let Some(round) = self.round(&weights) else { return };
+            let gap = round.bound - self.update(|found| found.profit);
+            weights = adjusted(&weights, &round.copies, &self.stock.demands, factor, gap);
+        }
+    }
+
+    /// Bound and plan under weights, or nothing where the planner refuses them or the table does not fit.
+    fn round(&mut self, weights: &[u8]) -> Option<Round> {
+        let start = Instant::now();
+        let (bound, plan) = self.planner.write_plan(weights).ok()?;
+        self.effort.spend(bound.capacity, bound.lengths, bound.widths);
+        self.keep_limit(bound.bound, Proof::Weights(weights.to_vec()), start);
+        let tree = plan.tree()?;
+        let copies = self.stock.copies(&tree);
+        self.offer(repaired(&self.stock, tree), ROUND_STEPS);
+        Some(Round { bound: bound.bound, copies })
+    }
+
+    /// Bounds of two weights a kind: the weights of the least bound so far, and second weights on the kinds of which
+    /// its plan still has too many copies.
+    fn two_weights(&mut self) {
+        let least = self.update(|found| found.limit.clone());
+        let Some(Limit { proof: Proof::Weights(first), .. }) = least else { return };
+        let Ok((_, plan)) = self.planner.write_plan(&first) else { return };
+        let Some(tree) = plan.tree() else { return };
+        let excess = on_excess(&self.stock, &self.stock.copies(&tree));
+        let pairs = self.stock.capacity(&excess) + 1;
+        let mut first = first;
+        while !self.effort.allows((self.stock.capacity(&first) + 1) * pairs - 1) {
+            first = halved(&first);
+        }
+        let start = Instant::now();
+        if let Ok(two) = self.planner.bound_two(&first, &excess) {
+            self.keep_limit(two.bound, Proof::TwoWeights(first, excess), start);
+        }
+    }
+
+    /// Improves a tree within the demands and keeps its neat plan if it is the best so far.
+    fn offer(&mut self, tree: Tree, steps: u32) {
+        let tree = improve(&self.stock, tree, steps, &mut self.dice);
+        let Ok(plan) = self.planner.neat(&tree.plan()) else { return };
+        if let Ok(report) = self.planner.check(&plan) {
+            self.update(|found| found.keep_plan(plan, report.profit));
+        }
+    }
+
+    fn keep_limit(&self, bound: u64, proof: Proof, start: Instant) {
+        let took = start.elapsed();
+        self.update(|found| {
+            found.rounds += 1;
+            found.keep_limit(Limit { bound, proof, took });
+        });
+    }
+
+    fn is_best(&self) -> bool {
+        self.update(|found| found.is_best())
+    }
+
+    fn update<A>(&self, change: impl FnOnce(&mut Found) -> A) -> A {
+        change(&mut self.found.lock().expect("the thread that waits has not failed"))
+    }
+}

@@ -1,0 +1,30 @@
+// Makes a plan behind a bound keep the demands: copies above the demand become waste, cuts that then free only
+// waste go, and what is left is filled with what is still wanted.
+use super::fill::{CutOrder, Filler};
+use super::stock::Stock;
+use planner::Tree;
+
+pub fn repaired(stock: &Stock, tree: Tree) -> Tree {
+    let mut left = stock.demands.clone();
+    let kept = within(tree, &mut left);
+    let favours = vec![1; stock.demands.len()];
+    Filler::beside(stock, &kept, favours, CutOrder::KeepGreater).refill(kept, stock.plate)
+}
+
+fn within(tree: Tree, left: &mut [u16]) -> Tree {
+    match tree {
+        Tree::Piece { kind, .. } if left[usize::from(kind)] == 0 => Tree::Waste,
+        Tree::Piece { kind, turned } => {
+            left[usize::from(kind)] -= 1;
+            Tree::Piece { kind, turned }
+        }
+        Tree::Cut { direction, at, first, second } => {
+            let (first, second) = (within(*first, left), within(*second, left));
+            match (&first, &second) {
+                (Tree::Waste, Tree::Waste) => Tree::Waste,
+                _ => Tree::cut(direction, at, first, second),
+            }
+        }
+        Tree::Waste => Tree::Waste,
+    }
+}

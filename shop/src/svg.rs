@@ -1,0 +1,282 @@
+// The drawing of a plan for the saw, on an A4 sheet: pieces named and dimensioned, waste hatched, the kerf in its
+// true width, cuts numbered in the order of sawing, a legend. All numbers on the plate are millimetres.
+use crate::layout::{Cut, Laid, Rect};
+use crate::millimetres::Millimetres;
+use crate::outcome::Outcome;
+use crate::sheet::{fitted, text_width, Sheet, Turn};
+use planner::Direction;
+use std::fmt::Write;
+
+pub fn svg(outcome: &Outcome) -> String {
+    let order = &outcome.order;
+    let plate = [outcome.job.length, outcome.job.width].map(|units| order.length_of(units));
+    let sheet = Sheet::new(plate.map(Millimetres::as_f64), order.pieces.len());
+    let mut drawing = Drawing { outcome, sheet, text: String::new() };
+    drawing.open(plate);
+    drawing.heading();
+    drawing.plate(plate);
+    drawing.legend();
+    drawing.text + "</svg>\n"
+}
+
+struct Drawing<'a> {
+    outcome: &'a Outcome,
+    sheet: Sheet,
+    text: String,
+}
+
+impl Drawing<'_> {
+    fn put(&mut self, line: impl AsRef<str>) {
+        writeln!(self.text, "{}", line.as_ref()).expect("a string takes all text");
+    }
+
+    fn open(&mut self, plate: [Millimetres; 2]) {
+        let Sheet { page: [wide, high], scale, .. } = self.sheet;
+        let hatch = 4.0 / scale;
+        let kerf = self.outcome.order.length_of(self.outcome.job.kerf);
+        self.put(format!(
+            "<svg xmlns=\"http://www.w3.org/2000/svg\" width=\"{wide}mm\" height=\"{high}mm\" \
+             viewBox=\"0 0 {:.3} {:.3}\" font-family=\"sans-serif\" data-kerf=\"{kerf}\" \
+             data-plate=\"{} {}\">",
+            wide / scale, high / scale, plate[0], plate[1],
+        ));
+        for (name, spacing, ink) in [("waste", hatch, "#555"), ("trim", hatch / 2.0, "#aaa")] {
+            self.put(format!(
+                "<pattern id=\"{name}\" width=\"{spacing:.3}\" height=\"{spacing:.3}\" \
+                 patternUnits=\"userSpaceOnUse\" patternTransform=\"rotate(45)\">\
+                 <path d=\"M0 0V{spacing:.3}\" stroke=\"{ink}\" stroke-width=\"{:.3}\"/></pattern>",
+                hatch / 6.0,
+            ));
+        }
+        self.put("<rect width=\"100%\" height=\"100%\" fill=\"white\"/>");
+    }
+
+    fn heading(&mut self) {
+        let order = &self.outcome.order;
+        let title = format!(
+            "Plate {} x {} mm, steps of {} mm, kerf {} mm, scale 1 : {:.1}",
+            order.plate[0], order.plate[1], order.unit,
+            order.length_of(self.outcome.job.kerf), 1.0 / self.sheet.scale,
+        );
+        let shares = self.outcome.shares().map(|(name, tenths)| {
+            format!("{name} {}.{} %", tenths / 10, tenths % 10)
+        });
+        let below = format!("{}; {}", shares.join(", "), self.outcome.sentence());
+        let [x, y] = self.sheet.heading();
+        self.words(x, y, 4.2, "start", &title);
+        self.words(x, y + 5.2 / self.sheet.scale, 3.2, "start", &below);
+    }
+
+    /// Words of a height on paper, in millimetres.
+    fn words(&mut self, x: f64, y: f64, height: f64, anchor: &str, words: &str) {
+        let size = height / self.sheet.scale;
+        let words = escaped(words);
+        self.put(format!(
+            "<text x=\"{x:.3}\" y=\"{y:.3}\" font-size=\"{size:.3}\" text-anchor=\"{anchor}\">{words}</text>"
+        ));
+    }
+
+    fn plate(&mut self, [length, width]: [Millimetres; 2]) {
+        let [x, y] = self.sheet.plate;
+        let gap = 1.2 / self.sheet.scale;
+        self.put(format!("<g transform=\"translate({x:.3} {y:.3})\">"));
+        self.words(length.as_f64() / 2.0, -gap, 3.0, "middle", &format!("{length}"));
+        let across = width.as_f64() / 2.0;
+        self.put(format!("<g transform=\"translate({:.3} {across:.3}) rotate(-90)\">", -gap));
+        self.words(0.0, 0.0, 3.0, "middle", &format!("{width}"));
+        self.put("</g>");
+        let thin = 0.3 / self.sheet.scale;
+        self.put(format!(
+            "<rect class=\"plate\" x=\"0\" y=\"0\" width=\"{length}\" height=\"{width}\" \
+             fill=\"white\" stroke=\"black\" stroke-width=\"{thin:.3}\"/>"
+        ));
+        let layout = &self.outcome.layout;
+        layout.waste.iter().for_each(|waste| self.area("waste", *waste));
+        layout.pieces.iter().flat_map(Laid::trim).for_each(|trim| self.area("trim", trim));
+        layout.pieces.iter().for_each(|laid| self.piece(laid));
+        layout.cuts.iter().for_each(|cut| self.cut(cut));
+        let mut taken = Vec::new();
+        for (index, cut) in layout.cuts.iter().enumerate() {
+            self.number(index + 1, cut, &mut taken);
+        }
+        self.put("</g>");
+    }
+
+    /// The place of a rectangle as attributes, in exact millimetres.
+    fn place(&self, rect: Rect) -> String {
+        let of = |units| self.outcome.order.length_of(units);
+        let (x, y, length, width) = (of(rect.x), of(rect.y), of(rect.length), of(rect.width));
+        format!("x=\"{x}\" y=\"{y}\" width=\"{length}\" height=\"{width}\"")
+    }
+
+    fn area(&mut self, class: &str, rect: Rect) {
+        let place = self.place(rect);
+        self.put(format!("<rect class=\"{class}\" {place} fill=\"url(#{class})\"/>"));
+    }
+
+    fn piece(&mut self, laid: &Laid) {
+        let (place, fill) = (self.place(laid.piece), colour(laid.kind));
+        let thin = 0.2 / self.sheet.scale;
+        let ordered = &self.outcome.order.pieces[laid.kind];
+        let name = escaped(&ordered.name);
+        self.put(format!(
+            "<rect class=\"piece\" {place} fill=\"{fill}\" stroke=\"black\" \
+             stroke-width=\"{thin:.3}\" data-name=\"{name}\"/>"
+        ));
+        let turned = if laid.turned { " turned" } else { "" };
+        let size = format!("{} x {}{turned}", ordered.sides[0], ordered.sides[1]);
+        self.label(laid, &[ordered.name.as_str(), size.as_str()]);
+    }
+
+    /// Name and size inside a piece, upright or along its width; its number in the legend where they do not fit.
+    fn label(&mut self, laid: &Laid, lines: &[&str]) {
+        let of = |units| self.outcome.order.length_of(units).as_f64();
+        let Rect { x, y, length, width } = laid.piece;
+        let (length, width) = (of(length), of(width));
+        let middle = [of(x) + length / 2.0, of(y) + width / 2.0];
+        let number = (laid.kind + 1).to_string();
+        let (height, turn, lines) = match fitted(&self.sheet, lines, length, width) {
+            Some((height, turn)) => (height, turn, lines.to_vec()),
+            None => (self.sheet.least_text(length, width), Turn::Upright, vec![number.as_str()]),
+        };
+        let turned = match turn {
+            Turn::Upright => String::new(),
+            Turn::Quarter => " rotate(-90)".to_string(),
+        };
+        self.put(format!("<g transform=\"translate({:.3} {:.3}){turned}\">", middle[0], middle[1]));
+        let line = 1.2 * height / self.sheet.scale;
+        let top = line * (0.8 - lines.len() as f64 / 2.0);
+        for (row, words) in lines.iter().enumerate() {
+            self.words(0.0, top + line * row as f64, height, "middle", words);
+        }
+        self.put("</g>");
+    }
+
+    /// A cut as a line of the blade's width; a hair line where the blade has none.
+    fn cut(&mut self, cut: &Cut) {
+        let order = &self.outcome.order;
+        let kerf = order.length_of(self.outcome.job.kerf).as_f64();
+        let wide = if kerf > 0.0 { kerf } else { 0.3 / self.sheet.scale };
+        let [from, to] = self.ends(cut);
+        self.put(format!(
+            "<line class=\"cut\" x1=\"{}\" y1=\"{}\" x2=\"{}\" y2=\"{}\" stroke=\"#222\" stroke-width=\"{wide}\"/>",
+            from[0], from[1], to[0], to[1],
+        ));
+    }
+
+    /// Where the middle of the blade enters and leaves.
+    fn ends(&self, cut: &Cut) -> [[f64; 2]; 2] {
+        let of = |units| self.outcome.order.length_of(units).as_f64();
+        let blade = of(cut.at) + of(self.outcome.job.kerf) / 2.0;
+        let Rect { x, y, length, width } = cut.of;
+        match cut.direction {
+            Direction::Length => {
+                let x = of(x) + blade;
+                [[x, of(y)], [x, of(y + width)]]
+            }
+            Direction::Width => {
+                let y = of(y) + blade;
+                [[of(x), y], [of(x + length), y]]
+            }
+        }
+    }
+
+    /// The number of a cut in a circle on the blade's way, near where it enters.
+    fn number(&mut self, number: usize, cut: &Cut, taken: &mut Vec<[f64; 2]>) {
+        let radius = 1.7 / self.sheet.scale;
+        let [x, y] = free_place(self.ends(cut), radius, taken);
+        taken.push([x, y]);
+        let thin = 0.2 / self.sheet.scale;
+        self.put(format!(
+            "<circle cx=\"{x:.3}\" cy=\"{y:.3}\" r=\"{radius:.3}\" fill=\"white\" stroke=\"#222\" \
+             stroke-width=\"{thin:.3}\"/>"
+        ));
+        self.words(x, y + 0.7 / self.sheet.scale, 2.0, "middle", &number.to_string());
+    }
+
+    fn legend(&mut self) {
+        let key = [
+            ("url(#waste)", "waste"),
+            ("url(#trim)", "trim"),
+            ("#222", "kerf; the numbers are the order of the cuts"),
+        ];
+        for (column, (fill, words)) in key.into_iter().enumerate() {
+            let [x, y] = self.sheet.key(column);
+            self.entry(x, y, fill, words);
+        }
+        for (kind, piece) in self.outcome.order.pieces.iter().enumerate() {
+            let [x, y] = self.sheet.entry(kind);
+            let size = format!("{} x {}", piece.sides[0], piece.sides[1]);
+            let copies = format!("{} of {}", self.outcome.copies(kind), piece.count);
+            let (before, after) = (format!("{} ", kind + 1), format!(" {size}, {copies}"));
+            let room = self.sheet.entry_room() - text_width(&before) - text_width(&after);
+            let words = format!("{before}{}{after}", shortened(&piece.name, room));
+            self.entry(x, y, &colour(kind), &words);
+        }
+    }
+
+    fn entry(&mut self, x: f64, y: f64, fill: &str, words: &str) {
+        let side = self.sheet.legend_text() / self.sheet.scale;
+        let thin = 0.15 / self.sheet.scale;
+        self.put(format!(
+            "<rect class=\"key\" x=\"{x:.3}\" y=\"{:.3}\" width=\"{:.3}\" height=\"{side:.3}\" fill=\"{fill}\" \
+             stroke=\"black\" stroke-width=\"{thin:.3}\"/>",
+            y - 0.85 * side, 1.6 * side,
+        ));
+        self.words(x + 2.2 * side, y, self.sheet.legend_text(), "start", words);
+    }
+}
+
+/// The first place on a line, from its start on, where a circle overlaps none of those taken; its start where there
+/// is none.
+fn free_place([from, to]: [[f64; 2]; 2], radius: f64, taken: &[[f64; 2]]) -> [f64; 2] {
+    let length = (to[0] - from[0]) + (to[1] - from[1]);
+    let at = |on: f64| {
+        let share = (on / length).min(0.5);
+        [from[0] + share * (to[0] - from[0]), from[1] + share * (to[1] - from[1])]
+    };
+    let is_free = |place: &[f64; 2]| {
+        taken.iter().all(|other| (place[0] - other[0]).hypot(place[1] - other[1]) >= 2.0 * radius)
+    };
+    let steps = (1..20).map(|step| at(f64::from(step) * radius));
+    steps.clone().find(is_free).unwrap_or(at(radius))
+}
+
+/// A light colour for a kind; neighbours in the order differ most.
+fn colour(kind: usize) -> String {
+    let light = [88, 78, 93][kind / 8 % 3];
+    format!("hsl({},60%,{light}%)", kind * 137 % 360)
+}
+
+/// A name cut to a width, in heights of its letters.
+fn shortened(name: &str, room: f64) -> String {
+    if text_width(name) <= room {
+        return name.to_string();
+    }
+    let mut short = String::new();
+    for letter in name.chars() {
+        short.push(letter);
+        if text_width(&short) + 1.0 > room {
+            break;
+        }
+    }
+    short.pop();
+    short + "…"
+}
+
+/// Text as XML has it; characters that XML has not become a mark.
+fn escaped(text: &str) -> String {
+    let mut safe = String::new();
+    for letter in text.chars() {
+        match letter {
+            '&' => safe.push_str("&amp;"),
+            '<' => safe.push_str("&lt;"),
+            '>' => safe.push_str("&gt;"),
+            '"' => safe.push_str("&quot;"),
+            '\u{fffe}' | '\u{ffff}' => safe.push('\u{fffd}'),
+            control if control.is_control() => safe.push('\u{fffd}'),
+            letter => safe.push(letter),
+        }
+    }
+    safe
+}
