@@ -159,7 +159,8 @@ impl Drawing<'_> {
         let wide = if kerf > 0.0 { kerf } else { 0.3 / self.sheet.scale };
         let [from, to] = self.ends(cut);
         self.put(format!(
-            "<line class=\"cut\" x1=\"{}\" y1=\"{}\" x2=\"{}\" y2=\"{}\" stroke=\"#222\" stroke-width=\"{wide}\"/>",
+            "<line class=\"cut\" x1=\"{:.4}\" y1=\"{:.4}\" x2=\"{:.4}\" y2=\"{:.4}\" \
+             stroke=\"#222\" stroke-width=\"{wide:.4}\"/>",
             from[0], from[1], to[0], to[1],
         ));
     }

@@ -1,0 +1,11 @@
+// Tests of the shop's command: orders and their faults, the sample, drawings replayed cut by cut, filed plans,
+// and generated orders against an exhaustive search.
+mod drawings;
+mod exhaustive;
+mod faults;
+mod filed;
+mod generated;
+mod orders;
+mod sample;
+mod scratch;
+mod xml;

@@ -1,0 +1,48 @@
+// The sample order through the program itself, in a pipe: its output and drawing are the stored ones, with and
+// without turning, in time.
+use crate::drawings::shown;
+use crate::scratch::{shop, Scratch};
+use std::path::Path;
+use std::process::Command;
+use std::time::{Duration, Instant};
+
+/// What the program prints on the sample, and how long it took.
+fn printed(words: &[&str]) -> (String, Duration) {
+    let start = Instant::now();
+    let sample = concat!(env!("CARGO_MANIFEST_DIR"), "/../samples/wardrobe.csv");
+    let program = Command::new(env!("CARGO_BIN_EXE_shop")).arg(sample).args(words).output();
+    let output = program.expect("the program runs");
+    assert!(output.status.success());
+    assert_eq!(String::from_utf8_lossy(&output.stderr), "", "no progress in a pipe");
+    (String::from_utf8(output.stdout).expect("UTF-8"), start.elapsed())
+}
+
+fn stored(file: &str) -> String {
+    let path = Path::new(env!("CARGO_MANIFEST_DIR")).join(file);
+    std::fs::read_to_string(path).expect("a stored output")
+}
+
+#[test]
+fn the_sample_is_planned_in_time() {
+    let scratch = Scratch::new("sample");
+    let [svg, json, stamp] = ["svg", "json", "stamp"].map(|kind| scratch.path(kind));
+    let (text, took) = printed(&["--svg", &svg, "--json", &json, "--stamp", &stamp]);
+    assert_eq!(text, stored("tests/wardrobe.out"));
+    assert!(took < Duration::from_secs(10), "{took:?}");
+    let same = scratch.read("svg") == stored("../docs/pictures/wardrobe.svg");
+    assert!(same, "docs/pictures/wardrobe.svg is not the sample's drawing");
+    shown(&scratch.read("svg")).replay();
+    let again = shop(&["recheck", &stamp]).expect("a stamp");
+    assert!(again.contains("best: no guillotine plan"), "{again}");
+    println!("the sample took {took:?}");
+}
+
+#[test]
+fn the_sample_is_planned_with_turning() {
+    let scratch = Scratch::new("turned");
+    let svg = scratch.path("svg");
+    let (text, took) = printed(&["--turning", "yes", "--svg", &svg]);
+    assert_eq!(text, stored("tests/wardrobe-turned.out"));
+    shown(&scratch.read("svg")).replay();
+    println!("the sample with turning took {took:?}");
+}
