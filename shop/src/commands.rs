@@ -10,7 +10,7 @@ use crate::summary::summary;
 use crate::svg::svg;
 use crate::verdict::Verdict;
 use planner::answers::Refusal;
-use planner::{Choices, Error, Job, Plan, Planner, Tree};
+use planner::{Choices, Direction, Error, Job, Plan, Planner, Tree};
 use std::fs;
 use std::io::{stderr, IsTerminal};
 use std::path::Path;
@@ -77,22 +77,25 @@ fn check(file: &Path, plan: &Path, options: &Options) -> Done<String> {
     let proof = filed.proof.unwrap_or(Proof::Weights(vec![0; job.kinds.len()]));
     match Verdict::new(&mut planner, &job, &plan, &proof) {
         Ok(verdict) => Ok(summary(&Outcome::new(order, plan, verdict, proof))),
-        Err(Error::Refused(refusal)) => Err(in_order(&refusal, &order, &plan)),
+        Err(Error::Refused(refusal)) => Err(in_order(&refusal, &order, &filed.tree)),
         Err(error) => Err(error.to_string()),
     }
 }
 
 /// A refusal with its node, in the words of the order.
-fn in_order(refusal: &Refusal, order: &Order, plan: &Plan) -> String {
-    let Some(node) = refusal.node() else { return refusal.to_string() };
-    let operand = plan.operands.get(node as usize).copied().unwrap_or(0);
-    let what = match plan.kinds.get(node as usize) {
-        Some(1 | 4) => format!(", the piece {}", order.pieces[usize::from(operand)].name),
-        Some(2) => format!(", the cut of the length at {}", order.length_of(operand)),
-        Some(3) => format!(", the cut of the width at {}", order.length_of(operand)),
+fn in_order(refusal: &Refusal, order: &Order, tree: &Tree) -> String {
+    let Some(place) = refusal.node() else { return refusal.to_string() };
+    let what = match tree.nodes().get(place as usize) {
+        Some(Tree::Piece { kind, .. }) => format!(", {}", order.pieces[usize::from(*kind)].name),
+        Some(Tree::Cut { direction: Direction::Length, at, .. }) => {
+            format!(", the cut of the length at {}", order.length_of(*at))
+        }
+        Some(Tree::Cut { direction: Direction::Width, at, .. }) => {
+            format!(", the cut of the width at {}", order.length_of(*at))
+        }
         _ => String::new(),
     };
-    format!("refusal {} at node {node}{what}: {}", refusal.number, refusal.words())
+    format!("refusal {} at node {place}{what}: {}", refusal.number, refusal.words())
 }
 
 fn recheck(file: &Path, memory: u64) -> Done<String> {

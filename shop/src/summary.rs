@@ -48,7 +48,7 @@ fn areas(outcome: &Outcome, text: &mut String) {
 
 fn cuts(outcome: &Outcome, text: &mut String) {
     if outcome.layout.cuts.is_empty() {
-        line(text, "\nno cuts");
+        line(text, format!("\nno cuts, {}", becomes(outcome, &outcome.layout.plate)));
         return;
     }
     line(text, "\ncuts in the order of sawing");

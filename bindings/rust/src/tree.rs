@@ -41,6 +41,18 @@ impl Tree {
         plan
     }
 
+    /// All nodes in preorder: the numbers that refusals give.
+    pub fn nodes(&self) -> Vec<&Tree> {
+        let (mut nodes, mut waiting) = (Vec::new(), vec![self]);
+        while let Some(tree) = waiting.pop() {
+            nodes.push(tree);
+            if let Tree::Cut { first, second, .. } = tree {
+                waiting.extend([&**second, &**first]);
+            }
+        }
+        nodes
+    }
+
     fn write(&self, plan: &mut Plan) {
         match self {
             Tree::Waste => plan.push(WASTE, 0),

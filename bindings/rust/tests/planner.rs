@@ -29,6 +29,9 @@ fn trees_are_plans_in_preorder() {
     let plan = best().plan();
     assert_eq!(plan, Plan { kinds: vec![2, 1, 3, 1, 1], operands: vec![2, 0, 1, 1, 2] });
     assert_eq!(plan.tree(), Some(best()));
+    let tree = best();
+    let nodes = tree.nodes();
+    assert!(nodes.len() == 5 && *nodes[0] == tree && *nodes[1] == piece(0) && *nodes[4] == piece(2));
     assert_eq!(Plan::from_block(&plan.block()), Some(plan.clone()));
     for nodes in 0..plan.kinds.len() {
         let kinds = plan.kinds[..nodes].to_vec();

@@ -2,13 +2,10 @@
 // always gets the same plan. One unit takes a tenth to a third of a nanosecond.
 use super::stock::Stock;
 
-/// The work of all rounds together, and of one.
+/// The work of all rounds together, of one, and of an exact call.
 const ALL: u64 = 40_000_000_000;
 const ONE: u64 = ALL / 8;
-
-/// The most words of the table of an exact call, and the most work of one.
-const EXACT_WORDS: u64 = 16_000_000;
-const EXACT: u64 = 100_000_000_000;
+const EXACT: u64 = ALL;
 
 /// The greatest capacity and number of states that the planner accepts.
 const MOST_CAPACITY: u64 = 4_095;
@@ -45,8 +42,9 @@ impl Effort {
         capacity == 0 || capacity <= MOST_CAPACITY && fits && self.work(capacity) <= ONE
     }
 
-    /// Whether the exact call can be tried: its work grows with the ways to share copies out to two parts.
-    pub fn allows_exact(&self, stock: &Stock) -> bool {
+    /// Whether the exact call can be tried: its work grows with the ways to share copies out to two parts. Where the
+    /// clock ends the search, it may be as long as it likes `in_the_end`.
+    pub fn allows_exact(&self, stock: &Stock, in_the_end: bool) -> bool {
         let (mut states, mut shares) = (1_u64, 1_u64);
         for demand in stock.demands.iter().map(|demand| u64::from(*demand)) {
             states *= demand + 1;
@@ -55,9 +53,9 @@ impl Effort {
                 return false;
             }
         }
-        let words = self.cells * states;
         let work = (self.cells * self.cuts).saturating_mul(shares);
-        8 * words <= self.memory && words <= EXACT_WORDS && work <= EXACT
+        let short = work <= EXACT || in_the_end && self.left.is_none();
+        8 * self.cells * states <= self.memory && short
     }
 
     fn work(&self, capacity: u64) -> u64 {

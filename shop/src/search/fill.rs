@@ -1,7 +1,7 @@
 // Fills waste greedily with pieces that are still wanted: a piece into a corner, then what the two cuts
 // beside it leave. Which piece is taken follows a favour for each kind, so that the same waste can be filled in
 // many ways.
-use super::stock::{along, Lying, Sides, Stock};
+use super::stock::{along, Lying, Note, Sides, Stock};
 use planner::{Direction, Tree};
 
 /// The most pieces of a plan of 4,095 nodes.
@@ -113,31 +113,32 @@ impl<'a> Filler<'a> {
     /// Draws a tree together on its rectangle, dropping cuts that free only waste, and fills what is left beside
     /// its pieces.
     pub fn refill(&mut self, tree: Tree, sides: Sides) -> Tree {
-        let Some(used) = self.stock.used(&tree) else { return self.fill(sides) };
+        let notes = self.stock.notes(&tree);
+        self.refill_node(tree, &notes, sides)
+    }
+
+    /// The same for the tree whose notes come first.
+    fn refill_node(&mut self, tree: Tree, notes: &[Note], sides: Sides) -> Tree {
+        let Some(used) = notes[0].used else { return self.fill(sides) };
         for direction in self.cut_order(sides, used) {
             let at = along(used, direction);
             let Some((part, rest)) = self.stock.parts(sides, direction, at) else { continue };
             let rest = self.fill(rest);
             if rest != Tree::Waste || self.frees_waste {
-                return Tree::cut(direction, at, self.refill(tree, part), rest);
+                return Tree::cut(direction, at, self.refill_node(tree, notes, part), rest);
             }
         }
-        match tree {
-            Tree::Cut { direction, first, second, .. } => {
-                self.refill_parts(direction, *first, *second, sides)
-            }
-            leaf => leaf,
-        }
-    }
-
-    fn refill_parts(&mut self, direction: Direction, first: Tree, second: Tree, sides: Sides) -> Tree {
-        let (Some(used), Some(_)) = (self.stock.used(&first), self.stock.used(&second)) else {
-            let other = if self.stock.used(&first).is_none() { second } else { first };
-            return self.refill(other, sides);
+        let Tree::Cut { direction, first, second, .. } = tree else { return tree };
+        let (first_notes, second_notes) = notes[1..].split_at(notes[1].nodes);
+        let Some(used) = first_notes[0].used else {
+            return self.refill_node(*second, second_notes, sides);
         };
+        if second_notes[0].used.is_none() {
+            return self.refill_node(*first, first_notes, sides);
+        }
         let at = along(used, direction);
         let parts = self.stock.parts(sides, direction, at).expect("the second part has a piece");
-        let first = self.refill(first, parts.0);
-        Tree::cut(direction, at, first, self.refill(second, parts.1))
+        let first = self.refill_node(*first, first_notes, parts.0);
+        Tree::cut(direction, at, first, self.refill_node(*second, second_notes, parts.1))
     }
 }

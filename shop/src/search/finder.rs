@@ -5,15 +5,19 @@ use super::found::{Found, Limit, Proof};
 use super::improve::{improve, Dice};
 use super::repair::repaired;
 use super::stock::Stock;
-use super::weights::{adjusted, by_price, halved, on_excess, FACTORS};
+use super::weights::{adjusted, by_price, halved, on_excess, sum, FACTORS};
 use planner::{Choices, Job, Planner, Tree};
 use std::sync::{Arc, Mutex};
 use std::time::Instant;
 
-/// Steps of improvement before the rounds, after each, and at the end.
-const FIRST_STEPS: u32 = 20_000;
-const ROUND_STEPS: u32 = 4_000;
-const LAST_STEPS: u32 = 100_000;
+/// The work of improvement before the rounds, after each, and at the end, in nodes. A million takes a tenth of a
+/// second.
+const FIRST: usize = 1_000_000;
+const IN_ROUND: usize = 200_000;
+const LAST: usize = 5_000_000;
+
+/// Rounds of two weights a kind.
+const TWO_ROUNDS: usize = 4;
 
 pub struct Finder {
     planner: Planner,
@@ -45,10 +49,10 @@ impl Finder {
 
     /// Searches to the end, or until the plan is known to be best.
     pub fn run(mut self) {
-        self.offer(Tree::Waste, FIRST_STEPS);
+        self.offer(Tree::Waste, FIRST);
         let none = vec![0; self.stock.demands.len()];
         let Some(first) = self.round(&none) else { return };
-        if self.is_best() || self.exact() {
+        if self.is_best() || self.exact(false) {
             return;
         }
         let excess = on_excess(&self.stock, &first.copies);
@@ -60,15 +64,23 @@ impl Finder {
             }
         }
         self.two_weights();
+        self.improve_more();
+        if !self.is_best() {
+            self.exact(true);
+        }
+    }
+
+    /// Improves the best plan, and once more from nothing.
+    fn improve_more(&mut self) {
         let best = self.update(|found| found.plan.tree());
         for tree in [best, Some(Tree::Waste)].into_iter().flatten() {
-            self.offer(tree, if self.is_best() { 0 } else { LAST_STEPS });
+            self.offer(tree, if self.is_best() { 0 } else { LAST });
         }
     }
 
     /// The exact answer, where the order is short and its table fits.
-    fn exact(&mut self) -> bool {
-        if !self.effort.allows_exact(&self.stock) {
+    fn exact(&mut self, in_the_end: bool) -> bool {
+        if !self.effort.allows_exact(&self.stock, in_the_end) {
             return false;
         }
         let start = Instant::now();
@@ -101,32 +113,53 @@ impl Finder {
         self.keep_limit(bound.bound, Proof::Weights(weights.to_vec()), start);
         let tree = plan.tree()?;
         let copies = self.stock.copies(&tree);
-        self.offer(repaired(&self.stock, tree), ROUND_STEPS);
+        self.offer(repaired(&self.stock, tree), IN_ROUND);
         Some(Round { bound: bound.bound, copies })
     }
 
-    /// Bounds of two weights a kind: the weights of the least bound so far, and second weights on the kinds of which
-    /// its plan still has too many copies.
+    /// Rounds of two weights a kind: first the weights of the least bound, second weights on the kinds of which the plan
+    /// behind the sum of both still has too many copies.
     fn two_weights(&mut self) {
         let least = self.update(|found| found.limit.clone());
         let Some(Limit { proof: Proof::Weights(first), .. }) = least else { return };
-        let Ok((_, plan)) = self.planner.write_plan(&first) else { return };
-        let Some(tree) = plan.tree() else { return };
-        let excess = on_excess(&self.stock, &self.stock.copies(&tree));
-        let pairs = self.stock.capacity(&excess) + 1;
-        let mut first = first;
-        while !self.effort.allows((self.stock.capacity(&first) + 1) * pairs - 1) {
-            first = halved(&first);
-        }
-        let start = Instant::now();
-        if let Ok(two) = self.planner.bound_two(&first, &excess) {
-            self.keep_limit(two.bound, Proof::TwoWeights(first, excess), start);
+        let mut second = vec![0; first.len()];
+        for _ in 0..TWO_ROUNDS {
+            let both = sum(&first, &second);
+            if !self.effort.allows(self.stock.capacity(&both)) {
+                return;
+            }
+            let Some(round) = self.round(&both) else { return };
+            second = sum(&second, &on_excess(&self.stock, &round.copies));
+            let Some(fitting) = self.fitting(first.clone(), &second) else { return };
+            if self.is_best() || !self.bound_two(fitting, second.clone()) {
+                return;
+            }
         }
     }
 
+    /// The first weights, halved until the table of both fits.
+    fn fitting(&self, mut first: Vec<u8>, second: &[u8]) -> Option<Vec<u8>> {
+        let shares = self.stock.capacity(second) + 1;
+        while !self.effort.allows((self.stock.capacity(&first) + 1) * shares - 1) {
+            if self.stock.capacity(&first) == 0 {
+                return None;
+            }
+            first = halved(&first);
+        }
+        Some(first)
+    }
+
+    /// Keeps the bound of two weights a kind; says whether there is one.
+    fn bound_two(&mut self, first: Vec<u8>, second: Vec<u8>) -> bool {
+        let start = Instant::now();
+        let Ok(two) = self.planner.bound_two(&first, &second) else { return false };
+        self.keep_limit(two.bound, Proof::TwoWeights(first, second), start);
+        true
+    }
+
     /// Improves a tree within the demands and keeps its neat plan if it is the best so far.
-    fn offer(&mut self, tree: Tree, steps: u32) {
-        let tree = improve(&self.stock, tree, steps, &mut self.dice);
+    fn offer(&mut self, tree: Tree, work: usize) {
+        let tree = improve(&self.stock, tree, work, &mut self.dice);
         let Ok(plan) = self.planner.neat(&tree.plan()) else { return };
         if let Ok(report) = self.planner.check(&plan) {
             self.update(|found| found.keep_plan(plan, report.profit));

@@ -7,6 +7,9 @@ use planner::Tree;
 /// Steps without a better plan after which the search goes back to the best.
 const PATIENCE: u32 = 2_000;
 
+/// What a step takes beside its nodes.
+const LEAST_WORK: usize = 20;
+
 /// Numbers that look random (xorshift).
 pub struct Dice(u64);
 
@@ -24,19 +27,18 @@ impl Dice {
     }
 }
 
-/// The best tree of so many steps from this one.
-pub fn improve(stock: &Stock, tree: Tree, steps: u32, dice: &mut Dice) -> Tree {
+/// The best tree that is met from this one. `work` is what may be done, counted in nodes.
+pub fn improve(stock: &Stock, tree: Tree, work: usize, dice: &mut Dice) -> Tree {
     let worth = stock.worth();
     let mut best = (stock.profit(&tree), tree);
     let mut now = best.clone();
-    let mut idle = 0;
-    for step in 0..steps {
-        if best.0 == worth {
-            break;
-        }
-        let next = changed(stock, now.1.clone(), dice);
+    let (mut done, mut idle) = (0, 0);
+    while done < work && best.0 < worth {
+        let nodes = now.1.nodes().len();
+        done += nodes + LEAST_WORK;
+        let next = changed(stock, now.1.clone(), nodes, dice);
         let profit = stock.profit(&next);
-        let slack = best.0 / 50 * u64::from(steps - step) / u64::from(steps);
+        let slack = best.0 / 50 * work.saturating_sub(done) as u64 / work as u64;
         if profit + slack >= best.0 {
             now = (profit, next);
         }
@@ -52,32 +54,28 @@ pub fn improve(stock: &Stock, tree: Tree, steps: u32, dice: &mut Dice) -> Tree {
     best.1
 }
 
-/// The tree with one to three of its parts taken out, filled anew.
-fn changed(stock: &Stock, mut tree: Tree, dice: &mut Dice) -> Tree {
-    for _ in 0..=dice.below(3) {
-        let node = dice.below(nodes(&tree));
-        take_out(&mut tree, node);
-    }
+/// The tree with one to three of its nodes taken out, filled anew.
+fn changed(stock: &Stock, tree: Tree, nodes: usize, dice: &mut Dice) -> Tree {
+    let out: Vec<_> = (0..=dice.below(3)).map(|_| dice.below(nodes)).collect();
+    let tree = without(tree, &mut 0, &out);
     let favours = stock.demands.iter().map(|_| 64 + dice.below(64) as u64).collect();
     let order = CUT_ORDERS[dice.below(CUT_ORDERS.len())];
     Filler::beside(stock, &tree, favours, order).refill(tree, stock.plate)
 }
 
-fn nodes(tree: &Tree) -> usize {
+/// Makes waste of nodes, by their numbers in preorder. `next` is the number of the tree's own node.
+fn without(tree: Tree, next: &mut usize, out: &[usize]) -> Tree {
+    let here = *next;
+    *next += 1;
     match tree {
-        Tree::Cut { first, second, .. } => 1 + nodes(first) + nodes(second),
-        _ => 1,
-    }
-}
-
-/// Makes waste of the node of this number in preorder.
-fn take_out(tree: &mut Tree, node: usize) {
-    if node == 0 {
-        *tree = Tree::Waste;
-    } else if let Tree::Cut { first, second, .. } = tree {
-        match node - 1 {
-            node if node < nodes(first) => take_out(first, node),
-            node => take_out(second, node - nodes(first)),
+        tree if out.contains(&here) => {
+            *next = here + tree.nodes().len();
+            Tree::Waste
         }
+        Tree::Cut { direction, at, first, second } => {
+            let first = without(*first, next, out);
+            Tree::cut(direction, at, first, without(*second, next, out))
+        }
+        leaf => leaf,
     }
 }

@@ -22,6 +22,15 @@ pub struct Stock {
     pub demands: Vec<u16>,
     pub prices: Vec<u64>,
     pub lying: Vec<Lying>,
+    upright: Vec<Sides>,
+}
+
+/// What is known of a node of a tree: what the pieces in and below it take up, nothing where there are none, and how
+/// many nodes it and those below it are.
+#[derive(Clone, Copy, Debug)]
+pub struct Note {
+    pub used: Option<Sides>,
+    pub nodes: usize,
 }
 
 impl Stock {
@@ -43,14 +52,14 @@ impl Stock {
             demands: job.kinds.iter().map(|kind| kind.demand).collect(),
             prices: job.kinds.iter().map(|kind| kind.price.into()).collect(),
             lying,
+            upright: job.kinds.iter().map(|kind| (kind.length, kind.width)).collect(),
         }
     }
 
     /// The capacity of weights: of each kind the lesser of its demand and the copies that the plate can hold.
     pub fn capacity(&self, weights: &[u8]) -> u64 {
-        let upright = self.lying.iter().filter(|lying| !lying.turned);
-        let counted = |lying: &Lying| u64::from(self.demands[lying.kind]).min(self.held(lying.sides));
-        upright.map(|lying| u64::from(weights[lying.kind]) * counted(lying)).sum()
+        let counted = |kind: usize| u64::from(self.demands[kind]).min(self.held(self.upright[kind]));
+        weights.iter().enumerate().map(|(kind, weight)| u64::from(*weight) * counted(kind)).sum()
     }
 
     /// The copies that the plate can hold of a piece, all sides taken with the kerf added.
@@ -86,22 +95,34 @@ impl Stock {
         self.demands.iter().zip(self.copies(tree)).map(|(demand, copies)| demand - copies).collect()
     }
 
-    /// What the pieces of a tree take up: nothing where it has none.
-    pub fn used(&self, tree: &Tree) -> Option<Sides> {
-        match tree {
-            Tree::Waste => None,
+    /// The notes of all nodes, in preorder.
+    pub fn notes(&self, tree: &Tree) -> Vec<Note> {
+        let mut notes = Vec::new();
+        self.note(tree, &mut notes);
+        notes
+    }
+
+    fn note(&self, tree: &Tree, notes: &mut Vec<Note>) -> Note {
+        let index = notes.len();
+        notes.push(Note { used: None, nodes: 1 });
+        let note = match tree {
+            Tree::Waste => notes[index],
             Tree::Piece { kind, turned } => {
-                let same = |l: &&Lying| l.kind == usize::from(*kind) && l.turned == *turned;
-                let upright = |l: &&Lying| l.kind == usize::from(*kind);
-                self.lying.iter().find(same).or(self.lying.iter().find(upright)).map(|l| l.sides)
+                let (length, width) = self.upright[usize::from(*kind)];
+                let used = if *turned { (width, length) } else { (length, width) };
+                Note { used: Some(used), nodes: 1 }
             }
             Tree::Cut { direction, first, second, .. } => {
-                match (self.used(first), self.used(second)) {
+                let (first, second) = (self.note(first, notes), self.note(second, notes));
+                let used = match (first.used, second.used) {
                     (Some(first), Some(second)) => Some(self.joined(*direction, first, second)),
                     (first, second) => first.or(second),
-                }
+                };
+                Note { used, nodes: 1 + first.nodes + second.nodes }
             }
-        }
+        };
+        notes[index] = note;
+        note
     }
 
     fn joined(&self, direction: Direction, first: Sides, second: Sides) -> Sides {

@@ -52,3 +52,8 @@ pub fn adjusted(
 pub fn halved(weights: &[u8]) -> Vec<u8> {
     weights.iter().map(|weight| weight / 2).collect()
 }
+
+/// Both weights of every kind together.
+pub fn sum(first: &[u8], second: &[u8]) -> Vec<u8> {
+    first.iter().zip(second).map(|(first, second)| first.saturating_add(*second)).collect()
+}

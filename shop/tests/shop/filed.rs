@@ -32,11 +32,11 @@ fn plans_of_others_are_judged() {
 #[test]
 fn refusals_are_said_in_words() {
     for (index, (from, to, words)) in [
-        ("\"c\"", "\"a\"", "refusal 15 at node 4, the piece a: the piece does not fit its rectangle"),
+        ("\"c\"", "\"a\"", "refusal 15 at node 4, a: the piece does not fit its rectangle"),
         ("\"at\": 20", "\"at\": 50", "refusal 14 at node 0, the cut of the length at 50: the cut leaves"),
         ("\"at\": 10", "\"at\": 9990", "refusal 14 at node 2, the cut of the width at 9990: the cut leaves"),
-        ("{\"piece\": \"a\"}", "{\"piece\": \"c\"}", "refusal 16 at node 4, the piece c: this copy"),
-        ("\"piece\": \"a\"", "\"piece\": \"a\", \"turned\": true", "refusal 12 at node 1, the piece a: no"),
+        ("{\"piece\": \"a\"}", "{\"piece\": \"c\"}", "refusal 16 at node 4, c: this copy"),
+        ("\"piece\": \"a\"", "\"piece\": \"a\", \"turned\": true", "refusal 12 at node 1, a: no"),
     ]
     .into_iter()
     .enumerate()

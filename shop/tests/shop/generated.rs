@@ -66,6 +66,19 @@ fn keeps_the_order(shown: &Shown, small: &Small, unit: i64) {
     }
 }
 
+/// The plan that cuts nothing is best under the same weights only where nothing can be earned.
+fn no_other_plan_is_best(scratch: &Scratch, order: &str, document: &Value, most: u64) {
+    let weights = ["weights", "second_weights", "exact"].map(|name| {
+        let value = document.get(name).cloned().unwrap_or(Value::Null);
+        (name, value)
+    });
+    let [first, second, exact] = weights;
+    let waste = ("plan", Value::object([("waste", Value::Truth(true))]));
+    let file = scratch.write("waste.json", Value::object([waste, first, second, exact]).to_string());
+    let judged = shop(&["check", order, &file]).expect("a plan that cuts nothing passes");
+    assert_eq!(judged.contains("\nbest: "), most == 0, "{judged}");
+}
+
 #[test]
 fn generated_orders_are_planned_as_well_as_the_verdict_says() {
     let scratch = Scratch::new("generated");
@@ -90,6 +103,7 @@ fn generated_orders_are_planned_as_well_as_the_verdict_says() {
         let again = shop(&["recheck", &scratch.path("plan.stamp")]).expect("a stamp");
         let head = format!("earns {profit}, no plan earns more than {ceiling}\n");
         assert!(again.starts_with(&head) && again.contains("best: ") == says_best, "{again}\n{summary}");
+        no_other_plan_is_best(&scratch, &order, &document, most);
         best += usize::from(says_best);
         whole += usize::from(summary.contains("every piece"));
         exact += usize::from(document.get("exact") == Some(&Value::Truth(true)));
