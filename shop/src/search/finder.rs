@@ -51,13 +51,13 @@ impl Finder {
     pub fn run(mut self) {
         self.offer(Tree::Waste, FIRST);
         let none = vec![0; self.stock.demands.len()];
-        let Some(first) = self.round(&none) else { return };
+        let first = self.round(&none);
         if self.is_best() || self.exact(false) {
             return;
         }
-        let excess = on_excess(&self.stock, &first.copies);
-        let starts = [none, excess, by_price(&self.stock, 4), by_price(&self.stock, 16)];
-        for weights in starts {
+        let excess = first.map(|round| on_excess(&self.stock, &round.copies));
+        let by_price = [4, 16].map(|most| Some(by_price(&self.stock, most)));
+        for weights in [Some(none), excess].into_iter().chain(by_price).flatten() {
             self.rounds(weights);
             if self.is_best() {
                 return;
@@ -105,20 +105,23 @@ impl Finder {
         }
     }
 
-    /// Bound and plan under weights, or nothing where the planner refuses them or the table does not fit.
+    /// Bound and plan under weights; of a plan with too many nodes the bound alone is kept.
     fn round(&mut self, weights: &[u8]) -> Option<Round> {
         let start = Instant::now();
-        let (bound, plan) = self.planner.write_plan(weights).ok()?;
+        let (bound, plan) = match self.planner.write_plan(weights) {
+            Ok((bound, plan)) => (bound, Some(plan)),
+            Err(_) => (self.planner.bound(weights).ok()?, None),
+        };
         self.effort.spend(bound.capacity, bound.lengths, bound.widths);
         self.keep_limit(bound.bound, Proof::Weights(weights.to_vec()), start);
-        let tree = plan.tree()?;
+        let tree = plan?.tree()?;
         let copies = self.stock.copies(&tree);
         self.offer(repaired(&self.stock, tree), IN_ROUND);
         Some(Round { bound: bound.bound, copies })
     }
 
-    /// Rounds of two weights a kind: first the weights of the least bound, second weights on the kinds of which the plan
-    /// behind the sum of both still has too many copies.
+    /// Rounds of two weights a kind: first the weights of the least bound, second weights on the kinds of which the
+    /// plan behind the sum of both still has too many copies.
     fn two_weights(&mut self) {
         let least = self.update(|found| found.limit.clone());
         let Some(Limit { proof: Proof::Weights(first), .. }) = least else { return };

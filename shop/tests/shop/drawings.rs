@@ -1,6 +1,6 @@
 // A drawing replayed from its own numbers: every cut spans what it divides, and in the parts that are left pieces,
 // waste and trim lie side by side. All numbers are ten-thousandths of a millimetre.
-use crate::scratch::{shop, Scratch};
+use crate::scratch::{program, Scratch};
 use crate::xml::{elements, Element};
 
 #[derive(Clone, Copy, Debug, PartialEq, Eq)]
@@ -156,14 +156,25 @@ fn drawings_can_be_cut() {
     }
 }
 
+/// Plans an order within two seconds, by the program, and replays its drawing.
+fn planned_in_time(name: &str, head: &str, panels: &str) -> Shown {
+    let scratch = Scratch::new(name);
+    let order = scratch.write("order.csv", format!("{head}name, length, width, count\n{panels}"));
+    program(&[&order, "--svg", &scratch.path("plan.svg"), "--seconds", "2"]);
+    let shown = shown(&scratch.read("plan.svg"));
+    shown.replay();
+    shown
+}
+
 #[test]
 fn a_drawing_of_64_panels_is_replayed() {
-    let scratch = Scratch::new("many");
     let panel = |i: usize| format!("panel with a long name {i}, {}, {}, 2\n", 100 + 7 * i, 50 + 5 * i);
     let panels: String = (0..64).map(panel).collect();
-    let head = "plate, 2440 x 1220\nsaw, kerf 3\nname, length, width, count\n";
-    let order = scratch.write("many.csv", format!("{head}{panels}"));
-    let svg = scratch.path("plan.svg");
-    shop(&[&order, "--svg", &svg, "--seconds", "1"]).expect("an order without fault");
-    shown(&scratch.read("plan.svg")).replay();
+    planned_in_time("many", "plate, 2440 x 1220\nsaw, kerf 3\n", &panels);
+}
+
+#[test]
+fn plans_with_too_many_nodes_are_left_out() {
+    let shown = planned_in_time("small", "plate, 300 x 300\n", "a, 5, 5, 255\nb, 7, 4, 255\n");
+    assert_eq!(shown.pieces.len(), 510);
 }

@@ -1,9 +1,8 @@
 // The sample order through the program itself, in a pipe: its output and drawing are the stored ones, with and
 // without turning, in time.
 use crate::drawings::shown;
-use crate::scratch::{shop, Scratch};
+use crate::scratch::{program, shop, Scratch};
 use std::path::Path;
-use std::process::Command;
 use std::time::{Duration, Instant};
 
 /// The time in which the sample must be planned; a busy machine gets three tries.
@@ -13,11 +12,8 @@ const LIMIT: Duration = Duration::from_secs(10);
 fn printed(words: &[&str]) -> (String, Duration) {
     let start = Instant::now();
     let sample = concat!(env!("CARGO_MANIFEST_DIR"), "/../samples/wardrobe.csv");
-    let program = Command::new(env!("CARGO_BIN_EXE_shop")).arg(sample).args(words).output();
-    let output = program.expect("the program runs");
-    assert!(output.status.success());
-    assert_eq!(String::from_utf8_lossy(&output.stderr), "", "no progress in a pipe");
-    (String::from_utf8(output.stdout).expect("UTF-8"), start.elapsed())
+    let text = program(&[&[sample], words].concat());
+    (text, start.elapsed())
 }
 
 fn stored(file: &str) -> String {

@@ -1,8 +1,9 @@
-// A folder of its own for a test's files, and the command run on them.
+// A folder of its own for a test's files, and the command run on them, in the test or as a program.
 use shop::commands::run;
 use shop::options::Options;
 use std::fs;
 use std::path::{Path, PathBuf};
+use std::process::Command;
 
 pub struct Scratch(PathBuf);
 
@@ -39,4 +40,13 @@ impl Scratch {
 /// The command with these words.
 pub fn shop(words: &[&str]) -> Result<String, String> {
     run(&Options::read(words.iter().map(|word| word.to_string()))?)
+}
+
+/// What the program itself prints with these words, in a pipe.
+pub fn program(words: &[&str]) -> String {
+    let output = Command::new(env!("CARGO_BIN_EXE_shop")).args(words).output();
+    let output = output.expect("the program runs");
+    assert_eq!(String::from_utf8_lossy(&output.stderr), "", "no progress in a pipe");
+    assert!(output.status.success());
+    String::from_utf8(output.stdout).expect("UTF-8")
 }
