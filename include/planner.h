@@ -32,7 +32,7 @@ extern "C" {
  *
  * Weights. One byte for each kind. The capacity is the sum, over the kinds, of weight times the
  * lesser of the demand and the copies that the plate can hold. With PLANNER_FULL_DEMAND it is the
- * sum of weight times demand, as it was in certificates filed before the plate was counted.
+ * sum of weight times demand, as filed certificates may have it.
  *
  * Copies that the plate can hold, all sides taken with k added. Plate length over piece length, times
  * width over width, each rounded down. With PLANNER_TURNING plate area over piece area, rounded down,
@@ -75,19 +75,23 @@ extern "C" {
  * one; a tree without a cut has none. A limit is from 1 to 8.
  *
  * Storage within a limit n on stages. `table` needs (2n + 1) * p * r * (capacity + 1) words, blocks of
- * the layout above one after another: block 0 has the figures without a cut, block 2k - 1 those of at
- * most k stages whose first cuts go across the length, block 2k those whose first cuts go across the
- * width. All else is as above.
+ * the layout above one after another: block 0 has the figures without a cut. Block 2k - 1 is length
+ * first at stage k: a word is the greatest of that of width first with one stage fewer (block 2k - 2)
+ * and of all cuts of the length between figures of its own block, the share divided in every way. Block
+ * 2k is width first likewise, over length first with one stage fewer (block 2k - 3, for k = 1 block 0).
+ * Lists and later words are as above.
  *
  * Two weights. Each kind has a first and a second weight, and there are two capacities Q and R, each
  * counted from its own weights. `table` needs p * r * (Q + 1) * (R + 1) words; word ((a * r + b) *
- * (Q + 1) + c) * (R + 1) + d has the most that a tree of first weight at most c and second weight at
- * most d earns. All else is as above.
+ * (Q + 1) + c) * (R + 1) + d has the figure of the recursion that shares out both: the greatest of 0, of
+ * a piece that fits and weighs at most c and d, and of the two parts' figures over all cuts and all
+ * divisions of both. Lists and later words are as above.
  *
  * States. The remaining copies of every kind as one number in mixed radix, kind 0 lowest; the digit of
  * a kind has demand + 1 values, and there are S states. `table` of the exact call needs p * r * S words;
- * word (a * r + b) * S + s has the most that a tree earns which takes of no kind more copies than remain
- * in state s. All else is as above.
+ * word (a * r + b) * S + s has the figure of the recursion over the remaining copies: the greatest of 0, of
+ * a piece that fits and of which a copy remains, and of the two parts' figures over all cuts and all
+ * divisions of the copies. Lists and later words are as above.
  *
  * Rounds. At most 18, numbered from 0; a lower figure is given. Round 0 has all weights 0. A round
  * writes the plan behind the bound of its weights and gives each kind a step: the whole part of the
@@ -127,7 +131,7 @@ extern "C" {
  *   24  not n second weights                                   0
  *    9  capacity above 4095, of two weights either             0
  *   25  both capacities, each plus 1, multiply to above 65536  0
- *   30  the demands, each plus 1, multiply to above 4096        0
+ *   30  the demands, each plus 1, multiply to above 4096       0
  *   22  limit on stages outside 1 to 8                         0
  *   10  plan arrays differ in length, or plan block under      0
  *       2 bytes or not 2 + 3 * count bytes
@@ -262,8 +266,9 @@ uint32_t planner_certify(
     uint64_t *table, size_t table_len,
     uint64_t *answer, size_t answer_len);
 
-/* Checks a plan within a limit on stages (refusals 1 to 7, 27, 22, 10 to 18, 26, 23). It returns 0 exactly
- * where planner_check_plan does and the tree has at most that many stages.
+/* Checks a plan within a limit on stages (refusals 1 to 7, 27, 22, 10 to 18, 26, 23). For a limit from
+ * 1 to 8 and a long enough answer it returns 0 exactly where planner_check_plan does and the tree has at
+ * most that many stages.
  * answer[0] to answer[68] as planner_check_plan; answer[69] the tree's stages. */
 uint32_t planner_check_plan_staged(
     const uint8_t *job, size_t job_len,

@@ -35,6 +35,8 @@ impl Refusal {
             25 => "both capacities, each plus 1, multiply to above 65,536",
             26 => "the cut is idle: neither of its parts holds a piece",
             27 => "the kerf is above 20 units",
+            28 => "the rack has not 1 to 16 plates, or not one entry a plate in each array",
+            29 => "copies over the plans so far pass a demand",
             30 => "the demands, each plus 1, multiply to above 4,096",
             ANSWER_TOO_SHORT => "the answer has too few words",
             UNKNOWN_CHOICE => "a choice has no meaning",
@@ -51,6 +53,11 @@ impl Refusal {
     pub fn node(&self) -> Option<u64> {
         matches!(self.number, 12..=18 | 23 | 26).then_some(self.place)
     }
+
+    /// The plate of a rack whose plan passes a demand, if one does.
+    pub fn plate(&self) -> Option<u64> {
+        (self.number == 29).then_some(self.place)
+    }
 }
 
 impl fmt::Display for Refusal {
@@ -60,6 +67,7 @@ impl fmt::Display for Refusal {
         match number {
             5..=7 => write!(f, " at kind {place}")?,
             12..=18 | 23 | 26 => write!(f, " at node {place}")?,
+            29 => write!(f, " at plate {place}")?,
             20 => write!(f, ", {place} words are needed")?,
             21 => write!(f, ", {place} nodes are needed")?,
             _ => {}

@@ -96,7 +96,7 @@ fn refusals_say_their_place() {
 
 #[test]
 fn every_number_has_words_of_its_own() {
-    let numbers = (1..=27).chain([30, 100, 101]);
+    let numbers = (1..=30).chain([100, 101]);
     let mut words: Vec<_> = numbers.map(|number| Refusal { number, place: 0 }.words()).collect();
     words.push(Refusal { number: 99, place: 0 }.words());
     let all = words.len();

@@ -1,4 +1,4 @@
-// Weights found in rounds: formulas 12 and 13 of source document 001 in fractions. A round is a call of
+// Weights found in rounds: formulas 12 and 13 of Morabito and Pureza in fractions. A round is a call of
 // the writer; the copies in its plan and its bound give the next weights.
 use super::job::Job;
 use super::plan::check;

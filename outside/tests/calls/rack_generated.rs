@@ -78,7 +78,7 @@ fn generated_racks_agree() {
             *met.entry(rack.agrees(answer).0).or_default() += 1;
         }
     }
-    println!("racks: {inputs} inputs, {inputs} calls compared, {met:?}");
+    println!("of racks: {inputs} inputs, {inputs} calls compared, {met:?}");
     let expected = (0..=7).chain(10..=18).chain(26..=29).chain([100, 101]);
     assert!(expected.eq(met.keys().copied()), "{met:?}");
     assert!(met.values().all(|&times| times >= 20) && met[&0] >= 4000, "{met:?}");

@@ -1,5 +1,5 @@
 // Searches for a plan: a thread searches, this one waits, shows the progress and ends the search in time.
-// Without a limit in seconds no clock is read, and the same order always gets the same plan.
+// Without a limit in seconds no clock decides, and the same order always gets the same plan.
 mod effort;
 mod fill;
 mod finder;
