@@ -7,3 +7,6 @@ pub mod Trees
 pub mod Unread
 pub mod Calls
 pub mod Records
+pub mod Read
+pub mod Loop
+pub mod Share

@@ -18,7 +18,6 @@ use Rattle.rack.specs.declared.RackAnswer.{RackAnswer}
 use Rattle.rack.specs.Check.{plate-at}
 use Rattle.rack.specs.Promises.{RackOf, RackChecks}
 use Rattle.rack.specs.Records.{blank, with-profit, paid, paid-count, lengths-of, widths-of, records-answer, rack-after, RackPromises}
-use Rattle.rack.proofs.Before.{before-passed, size-passed}
 use Rattle.rack.proofs.Calls.{plates-met}
 
 module _ (rack : List Plate) (profits : List ℕ) where
@@ -53,6 +52,11 @@ module _ (rack : List Plate) (profits : List ℕ) where
       go (yes e) ih = rw e (getD-set-same (paid rack profits n) n (with-profit (getD (paid rack profits n) n blank) (getD profits n 0)) blank (omega (arith, paid-length n)) ∙ ap (λ p. with-profit p (getD profits n 0)) (paid-past n n (omega arith)))
       go (no e) ih = getD-set-other (paid rack profits n) n i (with-profit (getD (paid rack profits n) n blank) (getD profits n 0)) blank e ∙ ih (omega arith)
 
+-- no more profits are written than there are plates
+pub paid-few : (v : Checked) (n : ℕ) → paid-count v n ≤ n
+paid-few Passed n = omega arith
+paid-few (Refused x) n = omega arith
+
 -- the records after a verdict, by the number of profits written
 after-count : (rack : List Plate) (profits : List ℕ) (v : Checked) → paid rack profits (paid-count v (length rack)) ≡ by-check v (paid rack profits (length rack)) (λ x. rack)
 after-count rack profits Passed = refl
@@ -64,12 +68,6 @@ module _ (s : List ℕ) (choices : Choices) (rack : List Plate) (kinds operands 
 
   abbrev checks : RackChecks s choices (lengths-of rack) (widths-of rack) kinds operands answer
   checks = plates-met s choices (lengths-of rack) (widths-of rack) kinds operands refl .checks
-
-  -- a rack that passes has at most 16 plates, so that there is a profit for each
-  pub few-plates : answer .verdict ≡ Passed → length rack ≤ 16
-  few-plates p =
-      let h = size-passed (lengths-of rack) (widths-of rack) (before-passed s choices (lengths-of rack) (widths-of rack) kinds operands (checks .before p) .0) in
-      omega (arith, h .2, length-map rack (λ q. q .length))
 
   -- the checker's answer and what `settle` leaves
   pub rack-met : {r : RackAnswer} {after : List Plate} → r ≡ answer → after ≡ paid rack (r .profits) (paid-count (r .verdict) (length rack)) → RackPromises s choices rack after kinds operands (r .verdict)

@@ -3,3 +3,4 @@ pub mod Check
 pub mod Plates
 pub mod Promises
 pub mod Records
+pub mod Read

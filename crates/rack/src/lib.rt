@@ -26,10 +26,11 @@ ghost use Rattle.cutting.specs.Limits.{most-kinds};
 ghost use Rattle.refusal.specs.Refusals.{first-refusal};
 ghost use Rattle.job.specs.Block.{job-of};
 ghost use Rattle.plan.specs.Walk.{Walkable};
-ghost use Rattle.rack.specs.Check.{plate-at, size-check, order-checks, plate-checks, rack-checks, own-answer, rack-stopped, plans-answer};
+ghost use Rattle.rack.specs.Check.{most-plates, plate-at, size-check, order-checks, plate-checks, rack-checks, own-answer, rack-stopped, plans-answer};
 ghost use Rattle.rack.specs.Promises.{PlatesPromises};
 ghost use Rattle.rack.specs.Plates.{on-plate, OneEach, TotalsAfter};
-ghost use Rattle.rack.specs.Records.{blank, paid, paid-count};
+ghost use Rattle.rack.specs.Records.{paid, paid-count, RackPromises};
+ghost use Rattle.rack.specs.Read.{read-count, no-sides, with-plate, sides-of, first-answer};
 
 // A plate of a rack: its sides, and how much profit its checked plan brought.
 pub struct Plate {
@@ -42,6 +43,12 @@ pub struct Plate {
 pub struct RackAnswer {
     pub verdict: Checked,
     pub profits: [u64; 16],
+}
+
+// The sides of at most 16 plates as they were read, and 0 past the last.
+pub struct RackSides {
+    pub lengths: [u16; 16],
+    pub widths: [u16; 16],
 }
 
 // An answer without profits.
@@ -249,41 +256,144 @@ pub fn check_plates(
     check_plans(job, lengths, widths, kinds, operands)
 }
 
-// How many of n profits are written: all where the rack passes, and else none.
-pub fn paid_count(verdict: Checked, n: usize) -> usize
-    ensures { λ r. ⌜ r ≡ paid-count verdict n ⌝ }
+// How many of n plates are read: all of a rack of at most 16, and else none.
+fn read_count(n: usize) -> usize
+    ensures { λ r. ⌜ r ≡ read-count n ⌝ }
 {
+    if 16 < n { 0 } else { n }
+}
+
+// The sides of no plate.
+fn no_sides() -> RackSides
+    ensures { λ r. ⌜ r ≡ no-sides ⌝ }
+{
+    RackSides {
+        lengths: [0u16; 16],
+        widths: [0u16; 16],
+    }
+}
+
+// The sides with those of one more plate.
+fn with_plate(sides: RackSides, at: usize, plate: Plate) -> RackSides
+    requires { ⌜ at < most-plates ⌝ }
+    ensures { λ r. ⌜ r ≡ with-plate sides at plate ⌝ }
+{
+    let mut lengths = sides.lengths;
+    let mut widths = sides.widths;
+    lengths[at] = plate.length;
+    widths[at] = plate.width;
+    RackSides {
+        lengths: lengths,
+        widths: widths,
+    }
+}
+
+// The sides of a rack's plates.
+fn read_sides(rack: &[Plate]) -> RackSides
+    ensures { λ r. ⌜ r ≡ sides-of (now (rack .entry)) (read-count (length (now (rack .entry)))) ⌝ }
+{
+    let count = read_count(rack.len());
+    let mut sides = no_sides();
+    let mut i: usize = 0;
+    while i < count {
+        sides = with_plate(sides, i, rack[i]);
+        i += 1;
+    }
+    sides
+}
+
+// A rack of n plates by the arrays that their sides were read to; more than 16 are refused unread.
+fn check_first(
+    block: &[u8],
+    choices: Choices,
+    lengths: [u16; 16],
+    widths: [u16; 16],
+    n: usize,
+    kinds: &[u8],
+    operands: &[u16],
+) -> RackAnswer
+    ensures { λ r. ⌜ r ≡ first-answer (now (block .entry)) choices lengths widths n (now (kinds .entry)) (now (operands .entry)) ⌝ }
+{
+    if 16 < n {
+        return without_profits(Checked::Refused(Refusal::RackSize));
+    }
+    check_plates(block, choices, &lengths[..n], &widths[..n], kinds, operands)
+}
+
+// A rack of n plates by the sides that were read of them.
+fn check_read(
+    block: &[u8],
+    choices: Choices,
+    sides: RackSides,
+    n: usize,
+    kinds: &[u8],
+    operands: &[u16],
+) -> RackAnswer
+    ensures { λ r. ⌜ r ≡ first-answer (now (block .entry)) choices (sides .lengths) (sides .widths) n (now (kinds .entry)) (now (operands .entry)) ⌝ }
+{
+    let lengths = sides.lengths;
+    let widths = sides.widths;
+    check_first(block, choices, lengths, widths, n, kinds, operands)
+}
+
+// The verdict alone.
+fn verdict_of(a: RackAnswer) -> Checked
+    ensures { λ r. ⌜ r ≡ a .verdict ⌝ }
+{
+    a.verdict
+}
+
+// How many profits are written to n plates: all where the rack passes, and else none.
+fn paid_count(a: RackAnswer, n: usize) -> usize
+    ensures { λ r. ⌜ r ≡ paid-count (a .verdict) n ⌝ }
+{
+    let verdict = a.verdict;
     match verdict {
         Checked::Passed => n,
         Checked::Refused(_) => 0,
     }
 }
 
-// The length of one plate of a rack.
-pub fn length_at(rack: &[Plate], at: usize) -> u16
-    requires { ⌜ at < length (now rack) ⌝ }
-    ensures { λ r. ⌜ r ≡ getD (now (rack .entry)) at blank .length ⌝ }
+// One of the profits, and 0 past the last.
+fn profit_at(profits: [u64; 16], at: usize) -> u64
+    ensures { λ r. ⌜ r ≡ getD profits at 0 ⌝ }
 {
-    rack[at].length
+    if at < 16 { profits[at] } else { 0 }
 }
 
-// Its width.
-pub fn width_at(rack: &[Plate], at: usize) -> u16
-    requires { ⌜ at < length (now rack) ⌝ }
-    ensures { λ r. ⌜ r ≡ getD (now (rack .entry)) at blank .width ⌝ }
+// The profit of one plate.
+fn profit_of(a: RackAnswer, at: usize) -> u64
+    ensures { λ r. ⌜ r ≡ getD (a .profits) at 0 ⌝ }
 {
-    rack[at].width
+    let profits = a.profits;
+    profit_at(profits, at)
 }
 
-// The first profits are written, in the rack's order. With the checker's profits for the sides of the rack, and as many as its verdict gives,
-// the records keep what is promised of a rack (RackPromises of specs/Records, rack-met of proofs/Records).
-pub fn settle(rack: &mut [Plate], profits: &[u64], count: usize)
-    requires { ⌜ (count ≤ length (now rack)) × (count ≤ length (now profits)) ⌝ }
-    ensures { λ _. ⌜ now (rack .exit) ≡ paid (now (rack .entry)) (now (profits .entry)) count ⌝ }
+// Where the rack passes the profits are written, in the rack's order.
+fn settle(rack: &mut [Plate], a: RackAnswer)
+    ensures { λ _. ⌜ now (rack .exit) ≡ paid (now (rack .entry)) (a .profits) (paid-count (a .verdict) (length (now (rack .entry)))) ⌝ }
 {
+    let count = paid_count(a, rack.len());
     let mut i: usize = 0;
     while i < count {
-        rack[i].profit = profits[i];
+        rack[i].profit = profit_of(a, i);
         i += 1;
     }
+}
+
+// A rack of plates checked for a job block as `check_plates` does; where it passes, the profit of each plan is in its plate's record, and else
+// no record is changed.
+pub fn check_rack(
+    block: &[u8],
+    choices: Choices,
+    rack: &mut [Plate],
+    kinds: &[u8],
+    operands: &[u16],
+) -> Checked
+    ensures { λ r. ⌜ RackPromises (now (block .entry)) choices (now (rack .entry)) (now (rack .exit)) (now (kinds .entry)) (now (operands .entry)) r ⌝ }
+{
+    let sides = read_sides(rack);
+    let a = check_read(block, choices, sides, rack.len(), kinds, operands);
+    settle(rack, a);
+    verdict_of(a)
 }
