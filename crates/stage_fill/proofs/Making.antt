@@ -24,10 +24,10 @@ use Rattle.table.proofs.Weighed.{plain-order}
 use Rattle.table.proofs.Complete.{singles}
 use Rattle.table.proofs.Staged.{sided, block-above, block-larger, block-uncut, block-single, sided-above, sided-larger, sided-prior, sided-joins, block-complete}
 use Rattle.state_fill.specs.declared.parts.Line.{Line}
-use Rattle.state_fill.specs.Cells.{held, Level, Levelled, Rises, Flagged, Listed, Low, Ready, Finished, FlaggedBelow}
+use Rattle.state_fill.specs.Cells.{held, Level, Levelled, Rises, Flagged, Listed, Low, Ready, Steps, Finished, FlaggedBelow}
 use Rattle.state_fill.proofs.Growing.{outside-chain}
 use Rattle.state_fill.proofs.Joining.{held-kept, note-kept, listed-kept}
-use Rattle.state_fill.proofs.Making.{covers-more, covers-same, start-covers, level-past, side-low, side-taken}
+use Rattle.state_fill.proofs.Making.{covers-more, covers-same, covers-steps, start-covers, level-past, side-low, side-taken}
 use Rattle.stage_fill.specs.Cells.{Made, UncutSteps, LaterSteps}
 use Rattle.stage_fill.proofs.Steps.{rises-same, started, start-topped}
 
@@ -76,14 +76,19 @@ either-covers words some more flag f g b f′ g′ top is low low′ rises flags
     go (yes x) (no y) z p q = second (omega arith) (omega arith) q
 
 -- a cell whose flags cover its figures is made when they have become its list
-made-done : {words at : ℕ} {f g h : ℕ → ℕ} {xs new : List ℕ} → Finished at words xs new → ((s : ℕ) → s < words → held xs at s ≡ f s) → Covers leb words (Flagged xs at) f g → Covers leb words (Flagged xs at) f h → Made words at f g h new
-made-done {words} {at} done figures first second = record {
+made-done : {words at : ℕ} {f g h : ℕ → ℕ} {xs new : List ℕ} → Finished 0 at words xs new → ((s : ℕ) → s < words → held xs at s ≡ f s) → Rises leb words g → Rises leb words h → Covers leb words (Flagged xs at) f g → Covers leb words (Flagged xs at) f h → Made words at f g h new
+made-done {words} {at} {f} {g} {h} {xs} {new} done figures under-first under-second first second = record {
   figures = λ s l. done .same s l ∙ figures s l;
   notes = done .notes;
   ended = done .ended;
-  first = covers-more leb words _ _ _ _ (done .listed) first;
-  second = covers-more leb words _ _ _ _ (done .listed) second;
+  first = listed g under-first first;
+  second = listed h under-second second;
 }
+  where
+    listed : (g : ℕ → ℕ) → Rises leb words g → Covers leb words (Flagged xs at) f g → Covers leb words (Listed new at words) f g
+    listed g r c = covers-more leb words (λ t. Flagged xs at t × Steps 0 f t) (Listed new at words) f g
+        (λ t l x. done .listed t l (x .0) (λ e k. omega (arith, x .1 e k, figures t l, figures (t - 1) (omega arith))))
+        (covers-steps leb 0 words (Flagged xs at) f g (λ e t s l. le→leb t s l) leb→le r c)
 
 -- the figures of one cell are the same from the next state on
 levelled : {words flat top next : ℕ} {f g : ℕ → ℕ} {at : ℕ} {xs : List ℕ} → flat ≤ words → next ≡ max flat top → Rises leb words f → ((s : ℕ) → g s ≤ f s) → FlaggedBelow at words top xs → Covers leb words (Flagged xs at) f g → Level words flat g
@@ -218,7 +223,7 @@ module _ {J : Job} {own : ℕ → ℕ} {k : ℕ} {d : Direction} {count : ℕ} {
   first-covers = covers-same leb words _ _ _ _ figures (steps .taken .grown .covers (F (a - 1)) start-rising covers-along)
 
   pub later-made : Made words (line .at) (F a) (F (a - 1)) B new
-  later-made = made-done (steps .done) figures first-covers (covers-same leb words _ _ _ _ figures (steps .taken .grown .covers B start-rising covers-across))
+  later-made = made-done (steps .done) figures (rising (a - 1)) (λ t s h l. sided-above J leb own plain-order (spot .fit) d (suc k) d o′ (getD positions a 0) t s l) first-covers (covers-same leb words _ _ _ _ figures (steps .taken .grown .covers B start-rising covers-across))
 
   pub later-level : flat ≤ words → Level words flat (F (a - 1)) → Levelled words flat next (F a)
   later-level most level = levelled most (steps .flat-is) (rising a) (λ s. sided-larger J leb own plain-order (spot .fit) d (suc k) d o o (getD positions (a - 1) 0) (getD positions a 0) s (omega arith) shorter)
@@ -317,7 +322,7 @@ module _ {J : Job} {own : ℕ → ℕ} {e : Direction} {length-count columns : �
   uncut-first = covers-same leb words _ _ _ _ uncut-figures (steps .placed .grown .covers (C (a - 1) b) begun-rises covers-shorter)
 
   pub uncut-made : Made words at (C a b) (C (a - 1) b) (C a (b - 1)) new
-  uncut-made = made-done (steps .done) uncut-figures uncut-first (covers-same leb words _ _ _ _ uncut-figures (steps .placed .grown .covers (C a (b - 1)) begun-rises covers-narrower))
+  uncut-made = made-done (steps .done) uncut-figures (rising-cell (a - 1) b) (rising-cell a (b - 1)) uncut-first (covers-same leb words _ _ _ _ uncut-figures (steps .placed .grown .covers (C a (b - 1)) begun-rises covers-narrower))
 
   pub uncut-level : flat ≤ words → Level words flat (C (a - 1) b) → Levelled words flat next (C a b)
   uncut-level most level = levelled most (steps .flat-is) (rising-cell a b) (λ s. longer b s) (start-topped (at - stride) (at - words) at words old (steps .t1) (steps .started) (steps .topped)) uncut-first level

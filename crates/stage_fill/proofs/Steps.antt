@@ -8,7 +8,7 @@ use lib.Dec.{leb, leb→le}
 use lib.ListN.{length, getD}
 use Rattle.table.specs.States.{below}
 use Rattle.table.specs.Words.{Run}
-use Rattle.state_fill.specs.Cells.{figure-in, note-in, held, under, Rises, Flagged, Growing, FlaggedBelow, Topped}
+use Rattle.state_fill.specs.Cells.{figure-in, note-in, held, under, Summed, Rises, Flagged, Growing, FlaggedBelow, Topped}
 use Rattle.state_fill.proofs.Noted.{figure-small, figure-plain, note-plain}
 use Rattle.state_fill.proofs.Ties.{one-digit}
 use Rattle.stage_fill.specs.Cells.{States}
@@ -25,6 +25,10 @@ rises-same e r t s h l = omega (arith, e s h, e t (omega (arith, leb→le t s l)
 -- a cell whose figures rise can grow
 pub growing : {words at : ℕ} {xs : List ℕ} → States words → at + words ≤ length xs → Rises leb words (held xs at) → Growing (words ∷ []) 0 words at xs
 growing {words} states room rises = record { digits = one-digit words (states .0) (states .1); room = room; rises = rw (one-order (words ∷ [])) rises }
+
+-- one digit needs no digit sums
+pub unsummed : {blocks : List ℕ} {d words at : ℕ} {xs : List ℕ} → d ≡ 0 → Summed blocks d words at xs
+unsummed e = record { before = λ h. absurd (omega arith); sums = λ h. absurd (omega arith) }
 
 -- the start from two cells
 module _ (first second at words : ℕ) (old new : List ℕ) (run : Run (λ s. max (held old first s) (held old second s)) at words old new) where

@@ -18,12 +18,13 @@ use Rattle.table.proofs.Words.{cell-before, words-past}
 use Rattle.table.proofs.Halves.{half-ready, half-next}
 use Rattle.table.proofs.Figures.{entry-is, positions-axis}
 use Rattle.table.specs.States.{figure-at}
-use Rattle.state_fill.specs.Cells.{figure-in, note-in, held, note, under, Digits, Level, Levelled}
+use Rattle.state_fill.specs.Cells.{figure-in, note-in, held, note, under, Digits, Summed, FirstRow, Level, Levelled}
 use Rattle.state_fill.specs.Tables.{tabled, cell, Made, Rows, Cells, LevelRows, LevelCells, CellsLent, Counted, RowSpot, Spot, Figures, Bare, Plain}
 use Rattle.state_fill.proofs.Noted.{figure-plain, note-plain, plain-word}
 use Rattle.table.proofs.Across.{no-side}
 use Rattle.state_fill.proofs.Growing.{outside-same, order-of}
-use Rattle.state_fill.proofs.Making.{made-kept, level-later}
+use Rattle.state_fill.proofs.Carries.{summed-before}
+use Rattle.state_fill.proofs.Making.{made-same, made-kept, level-later}
 
 -- there is a state
 some-state : {blocks : List ℕ} {d words : ℕ} → Digits blocks d words → 1 ≤ words
@@ -44,6 +45,10 @@ cell-room J words a b room h l w = omega (
 )
 
 module _ {J : Job} (own : ℕ → ℕ) {normal-lengths length-floors normal-widths width-floors blocks : List ℕ} {d words : ℕ} {t0 : List ℕ} (lent : CellsLent J normal-lengths length-floors normal-widths width-floors blocks d words t0) where
+  -- all cells of the rows below a are made
+  abbrev AllMade : ℕ → List ℕ → Type 0
+  AllMade a xs = (i j : ℕ) → i < a → j < position-count J Width → Made J (under blocks d) own normal-lengths normal-widths words i j xs
+
   -- a cell of zeros, where the figures are 0, is made
   zeros-made : (i j : ℕ) (xs : List ℕ) → ((s : ℕ) → tabled J (under blocks d) own normal-lengths normal-widths i j s ≡ 0) → ((s : ℕ) → s < words → getD xs (cell J words i j + s) 0 ≡ 0) → Made J (under blocks d) own normal-lengths normal-widths words i j xs
   zeros-made i j xs f z = record {
@@ -75,13 +80,13 @@ module _ {J : Job} (own : ℕ → ℕ) {normal-lengths length-floors normal-widt
   level-first-cell a flat j l s k m = let e : j ≡ 0 = omega arith in rw e (zero-width a s ∙ sym (zero-width a flat))
 
   -- the row of length 0
-  pub first-row : (m : ℕ) (old new : List ℕ) → m ≡ position-count J Width * words → Run (λ j. 0) 0 m old new → Rows J (under blocks d) own normal-lengths normal-widths words 1 new
-  first-row m old new e w i j l h = go (ℕ-discrete i 0)
+  pub first-row : (m : ℕ) (old new : List ℕ) → m ≡ position-count J Width * words → FirstRow blocks d words m old new → Rows J (under blocks d) own normal-lengths normal-widths words 1 new
+  first-row m old new e w i j l h some = go (ℕ-discrete i 0)
     where
       go : Dec (i ≡ 0) → Made J (under blocks d) own normal-lengths normal-widths words i j new
       go (no q) = absurd (omega arith)
       go (yes q) = rw q (zeros-made 0 j new (zero-length j)
-          (λ s k. (let z : 0 + (cell J words 0 j + s) ≡ cell J words 0 j + s = omega arith in rw z at (w .here (cell J words 0 j + s) (omega (arith, cell-before j (position-count J Width) words h))))))
+          (λ s k. w .zeros (cell J words 0 j + s) (omega (arith, cell-before 0 j words (omega arith))) (omega (arith, cell-before j (position-count J Width) words h))))
 
   -- the first cell of a row
   pub first-cell : (a at : ℕ) (old new : List ℕ) → at ≡ cell J words a 0 → Run (λ j. 0) at words old new → Cells J (under blocks d) own normal-lengths normal-widths words a 1 new
@@ -93,7 +98,7 @@ module _ {J : Job} (own : ℕ → ℕ) {normal-lengths length-floors normal-widt
 
   -- earlier rows, where words from row a on are written
   pub rows-kept : (a at end : ℕ) (old new : List ℕ) → cell J words a 0 ≤ at → Outside at end old new → Rows J (under blocks d) own normal-lengths normal-widths words a old → Rows J (under blocks d) own normal-lengths normal-widths words a new
-  rows-kept a at end old new h o w i j l m = made-kept before o (w i j l m)
+  rows-kept a at end old new h o w i j l m some = made-kept before o (w i j l m some)
     where
       before : cell J words i j + words ≤ at
       before = omega (arith, cell-before (i * position-count J Width + j) (a * position-count J Width + 0) words (omega (arith, cell-before i a (position-count J Width) l)))
@@ -128,14 +133,28 @@ module _ {J : Job} (own : ℕ → ℕ) {normal-lengths length-floors normal-widt
       go (no q) = w i j (omega arith) l
 
   pub rows-more : (a columns : ℕ) (xs : List ℕ) → columns ≡ position-count J Width → Rows J (under blocks d) own normal-lengths normal-widths words a xs → Cells J (under blocks d) own normal-lengths normal-widths words a columns xs → Rows J (under blocks d) own normal-lengths normal-widths words (a + 1) xs
-  rows-more a columns xs e w m i j h l = go (ℕ-discrete i a)
+  rows-more a columns xs e w m i j h l some = go (ℕ-discrete i a)
     where
       go : Dec (i ≡ a) → Made J (under blocks d) own normal-lengths normal-widths words i j xs
       go (yes q) = rw q (m j (omega arith))
-      go (no q) = w i j (omega arith) l
+      go (no q) = w i j (omega arith) l some
+
+  -- with the first cell cleared, all cells are made
+  pub rows-all : (a : ℕ) (old new : List ℕ) → Rows J (under blocks d) own normal-lengths normal-widths words a old → Run (λ j. 0) 0 words old new → AllMade a new
+  rows-all a old new w run i j h l = go (decLe 1 (i + j))
+    where
+      go : Dec (1 ≤ i + j) → Made J (under blocks d) own normal-lengths normal-widths words i j new
+      go (yes some) = made-same (λ s k. run .rest .after (cell J words i j + s) (omega (arith, cell-before 0 (i * position-count J Width + j) words (past some)))) (w i j h l some)
+        where
+          past : 1 ≤ i + j → 0 < i * position-count J Width + j
+          past m = omega (arith, mul-le-mul-right {m = 1} {n = position-count J Width} i (positions-some J Width))
+      go (no none) =
+          let p : i ≡ 0 = omega arith in
+          let q : j ≡ 0 = omega arith in
+          rw (p, q) (zeros-made 0 0 new (zero-length 0) (λ s k. (let z : cell J words 0 0 + s ≡ 0 + s = omega arith in rw z (run .here s k))))
 
   -- nothing is noted past the ends of the lists
-  pub rows-bare : (s : ℕ) (xs : List ℕ) → s ≡ position-count J Length * position-count J Width → 1 ≤ position-count J Width → Rows J (under blocks d) own normal-lengths normal-widths words (position-count J Length) xs → Bare s words xs
+  pub rows-bare : (s : ℕ) (xs : List ℕ) → s ≡ position-count J Length * position-count J Width → 1 ≤ position-count J Width → AllMade (position-count J Length) xs → Bare s words xs
   rows-bare s xs e some w i j k h l m z =
       let r = position-count J Width in
       let q = div-add-mod' i r in
@@ -143,7 +162,7 @@ module _ {J : Job} (own : ℕ → ℕ) {normal-lengths length-floors normal-widt
       rw q at (w (i / r) (i % r) y (mod-lt i {m = r} some) .ended j k l m (rw q z))
 
   -- the table without its lists holds the figures
-  pub rows-figures : (s a : ℕ) (old new : List ℕ) → s ≡ position-count J Length * position-count J Width → a ≡ position-count J Length → Rows J (under blocks d) own normal-lengths normal-widths words a old → Plain s words old new → Figures J (under blocks d) own words new
+  pub rows-figures : (s a : ℕ) (old new : List ℕ) → s ≡ position-count J Length * position-count J Width → a ≡ position-count J Length → AllMade a old → Plain s words old new → Figures J (under blocks d) own words new
   rows-figures s k old new e f w u a b c ha hb hc =
       u .plain (a * position-count J Width + b) c (omega (arith, cell-before a (position-count J Length) (position-count J Width) ha)) hc
       ∙ w a b (omega arith) hb .figures c hc
@@ -196,6 +215,7 @@ pub record InRow (J : Job) (own : ℕ → ℕ) (normal-lengths normal-widths blo
   pub column-is : column ≡ b * words
   pub same : length new ≡ length old
   pub rows : Rows J (under blocks d) own normal-lengths normal-widths words a new
+  pub summed : Summed blocks d words words new
   pub cells : Cells J (under blocks d) own normal-lengths normal-widths words a b new
   pub flat-most : flat ≤ words
   pub level-rows : LevelRows J (under blocks d) own normal-lengths normal-widths words flat a
@@ -216,6 +236,10 @@ module _ {J : Job} {own : ℕ → ℕ} {normal-lengths length-floors normal-widt
     omega (arith, spot .counted .stride-is, cell-before b columns words h),
   )
 
+  -- the row lies past the first cell
+  row-past : words ≤ at
+  row-past = omega (arith, spot .at-is, cell-before 0 (a * position-count J Width + 0) words (omega (arith, mul-le-mul-right {m = 1} {n = position-count J Width} a (positions-some J Width), spot .length-in .0)))
+
   pub row-first : at + words ≤ length t0
   row-first = omega (arith, row-room 0 row-some .0)
 
@@ -228,6 +252,7 @@ module _ {J : Job} {own : ℕ → ℕ} {normal-lengths length-floors normal-widt
     column-is = omega arith;
     same = refl;
     rows = rows-kept own (spot .lent) a at (at + words) t0 t1 (omega (arith, spot .at-is)) (w .rest) (spot .rows);
+    summed = summed-before row-past (w .rest) (spot .summed);
     cells = first-cell own (spot .lent) a at t0 t1 (spot .at-is) w;
     flat-most = spot .flat-most;
     level-rows = spot .level-rows;
@@ -251,6 +276,7 @@ module _ {J : Job} {own : ℕ → ℕ} {normal-lengths length-floors normal-widt
       at-is = omega (arith, spot .at-is, so .column-is);
       column-is = so .column-is;
       rows = so .rows;
+      summed = so .summed;
       cells = so .cells;
       flat-most = so .flat-most;
       level-rows = so .level-rows;
@@ -270,6 +296,7 @@ module _ {J : Job} {own : ℕ → ℕ} {normal-lengths length-floors normal-widt
       column-is = omega (arith, so .column-is);
       same = e ∙ so .same;
       rows = rows-kept own (spot .lent) a (at + column) (at + column + words) t2 t3 (omega (arith, spot .at-is)) o (so .rows);
+      summed = summed-before (omega (arith, row-past)) o (so .summed);
       cells = cells-more own (spot .lent) a b (at + column) t2 t3 (omega (arith, spot .at-is, so .column-is)) (so .cells) made o;
       flat-most = flat-from .most;
       level-rows = λ i j h l. level-later (flat-from .more) (so .level-rows i j h l);
@@ -298,6 +325,7 @@ pub record InTable (J : Job) (own : ℕ → ℕ) (normal-lengths normal-widths b
   pub at-is : at ≡ a * stride
   pub same : length new ≡ length old
   pub rows : Rows J (under blocks d) own normal-lengths normal-widths words a new
+  pub summed : Summed blocks d words words new
   pub flat-most : flat ≤ words
   pub level-rows : LevelRows J (under blocks d) own normal-lengths normal-widths words flat a
   pub rest : (i : ℕ) → length-count * stride ≤ i → getD new i 0 ≡ getD old i 0
@@ -319,13 +347,16 @@ module _ {J : Job} {normal-lengths length-floors normal-widths width-floors bloc
   table-row-room : (a : ℕ) → a < length-count → a * stride + stride ≤ length t0
   table-row-room a h = omega (arith, table-words, lent .room, cell-before a length-count stride h)
 
-  pub table-room : stride ≤ length t0
+  table-room : stride ≤ length t0
   table-room = omega (arith, table-row-room 0 table-some)
 
   pub table-cells : length-count * columns ≤ length t0
   table-cells = omega (arith, table-words, lent .room, mul-le-mul-right {m = 1} {n = words} (length-count * columns) (some-state (lent .digits)))
 
-  pub table-start : (own : ℕ → ℕ) (t1 : List ℕ) → Run (λ j. 0) 0 stride t0 t1 → InTable J own normal-lengths normal-widths blocks d words length-count stride stride 1 0 1 t1 t1
+  pub table-first : Digits blocks d words × (words ≤ stride) × (stride ≤ length t0)
+  table-first = (lent .digits, omega (arith, counted .stride-is, counted .widths, cell-before 0 columns words (omega (arith, counted .widths, positions-some J Width))), table-room)
+
+  pub table-start : (own : ℕ → ℕ) (t1 : List ℕ) → FirstRow blocks d words stride t0 t1 → InTable J own normal-lengths normal-widths blocks d words length-count stride stride 1 0 1 t1 t1
   table-start own t1 w = record {
     inside = (omega arith, table-some);
     halved = (omega arith, omega arith);
@@ -333,6 +364,7 @@ module _ {J : Job} {normal-lengths length-floors normal-widths width-floors bloc
     at-is = omega arith;
     same = refl;
     rows = first-row own lent stride t0 t1 (counted .stride-is ∙ ap (λ columns. columns * words) (counted .widths)) w;
+    summed = record { before = λ h. omega arith; sums = λ h. w .sums };
     flat-most = omega arith;
     level-rows = level-first-row own lent 0;
     rest = λ i h. refl;
@@ -351,6 +383,7 @@ module _ {J : Job} {normal-lengths length-floors normal-widths width-floors bloc
       length-half = half;
       at-is = so .at-is ∙ (ap (λ x. a * x) (counted .stride-is ∙ ap (λ columns. columns * words) (counted .widths)) ∙ omega arith);
       rows = so .rows;
+      summed = so .summed;
       flat-most = so .flat-most;
       level-rows = so .level-rows;
     }
@@ -368,28 +401,36 @@ module _ {J : Job} {normal-lengths length-floors normal-widths width-floors bloc
       at-is = omega (arith, so .at-is);
       same = e ∙ so .same;
       rows = made;
+      summed = summed-before (omega (arith, so .at-is, so .inside .0, table-first .1, mul-le-mul-right {m = 1} {n = a} stride (so .inside .0))) o (so .summed);
       flat-most = most;
       level-rows = level;
       rest = λ i h. o .after i (omega (arith, so .at-is, cell-before a length-count stride ha)) ∙ so .rest i h;
     }
 
-  -- all rows are made, and the lists are taken off
-  module _ {own : ℕ → ℕ} {t1 t2 : List ℕ} {at length-half-end flat a : ℕ} (w : Run (λ j. 0) 0 stride t0 t1) (one : length t1 ≡ length t0) (ha : length-count ≤ a) (so : InTable J own normal-lengths normal-widths blocks d words length-count stride at length-half-end flat a t1 t2) where
+  -- all rows are made; the digit sums and then the lists are taken off
+  module _ {own : ℕ → ℕ} {t1 t2 : List ℕ} {at length-half-end flat a : ℕ} (w : FirstRow blocks d words stride t0 t1) (one : length t1 ≡ length t0) (ha : length-count ≤ a) (so : InTable J own normal-lengths normal-widths blocks d words length-count stride at length-half-end flat a t1 t2) where
     cells-are : length-count * columns ≡ position-count J Length * position-count J Width
     cells-are = ap₂ (λ i j. i * j) (counted .lengths) (counted .widths)
 
-    pub table-bare : (length-count * columns * words ≤ length t2) × Bare (length-count * columns) words t2
-    table-bare =
-        let q : a ≡ position-count J Length = omega (arith, counted .lengths, so .inside .1) in
-        (omega (arith, table-words, lent .room, so .same, one), rows-bare own lent (length-count * columns) t2 cells-are (positions-some J Width) (rw q at (so .rows)))
+    pub table-clear : words ≤ length t2
+    table-clear = omega (arith, table-first, so .same, one)
 
-    pub table-end : (t3 : List ℕ) → length t3 ≡ length t2 → Plain (length-count * columns) words t2 t3
-        → Figures J (under blocks d) own words t3 × Kept (position-count J Length * position-count J Width * words) t0 t3
-    table-end t3 e u = (
-      rows-figures own lent (length-count * columns) a t2 t3 cells-are (omega (arith, counted .lengths, so .inside .1)) (so .rows) u,
-      words-past (position-count J Length * position-count J Width * words) t0 t3 (e ∙ (so .same ∙ one)) (λ i h. u .rest i (omega (arith, table-words)) ∙ (so .rest i (omega (arith, table-words))
-          ∙ w .rest .after i (omega (arith, table-words, cell-before 0 length-count stride table-some)))),
-    )
+    module _ {t3 : List ℕ} (cleared : Run (λ j. 0) 0 words t2 t3) (two : length t3 ≡ length t2) where
+      pub table-bare : (length-count * columns * words ≤ length t3) × Bare (length-count * columns) words t3
+      table-bare =
+          let q : a ≡ position-count J Length = omega (arith, counted .lengths, so .inside .1) in
+          (omega (arith, table-words, lent .room, so .same, one, two), rows-bare own lent (length-count * columns) t3 cells-are (positions-some J Width) (rw q at (rows-all own lent a t2 t3 (so .rows) cleared)))
+
+      pub table-end : (t4 : List ℕ) → length t4 ≡ length t3 → Plain (length-count * columns) words t3 t4
+          → Figures J (under blocks d) own words t4 × Kept (position-count J Length * position-count J Width * words) t0 t4
+      table-end t4 e u = (
+        rows-figures own lent (length-count * columns) a t3 t4 cells-are (omega (arith, counted .lengths, so .inside .1)) (rows-all own lent a t2 t3 (so .rows) cleared) u,
+        words-past (position-count J Length * position-count J Width * words) t0 t4 (e ∙ (two ∙ (so .same ∙ one))) (λ i h. u .rest i (omega (arith, table-words)) ∙ (cleared .rest .after i (omega (arith, table-words, table-first .1, past)) ∙ (so .rest i (omega (arith, table-words))
+            ∙ w .rest i (omega (arith, table-words, past))))),
+      )
+        where
+          past : stride ≤ length-count * stride
+          past = omega (arith, cell-before 0 length-count stride table-some)
 
 -- what the fill is lent, as the code counts the positions
 pub lent-of : {J : Job} {normal-lengths length-floors normal-widths width-floors blocks : List ℕ} {d words length-count columns stride : ℕ} {t0 : List ℕ} → InTableRange J → Digits blocks d words → Positions J Length length-count normal-lengths length-floors → Positions J Width columns normal-widths width-floors

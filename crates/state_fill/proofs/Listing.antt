@@ -7,7 +7,7 @@ use native.Mathlib.Omega.{arith}
 use lib.ListN.{length, getD, set, length-set}
 use lib.Seq.{getD-set-same, getD-set-other}
 use Rattle.table.specs.Words.{Outside, Run}
-use Rattle.state_fill.specs.Cells.{figure-in, note-in, held, note, Flagged, FlaggedBelow, Inherited, Finished}
+use Rattle.state_fill.specs.Cells.{figure-in, note-in, held, note, Flagged, FlaggedBelow, Inherited, Steps, Finished}
 use Rattle.state_fill.proofs.Noted.{figure-small, figure-plain, note-plain, figure-noted, note-noted, figure-flagged, note-flagged}
 use Rattle.state_fill.proofs.Growing.{outside-same}
 use Rattle.state_fill.proofs.Joining.{held-kept, note-kept}
@@ -89,18 +89,18 @@ module _ (first second at words : ℕ) (rx : first + words ≤ at) (ry : second 
   pub inherit-end : (k : ℕ) (old new : List ℕ) → ((i u : ℕ) → i < words → note old first i ≡ u + 1 → i < k) → Inherit first second at words k old new → Inherited first second at words old new
   inherit-end k old new done p = record { same = p .same; kept = p .kept; flags = λ t l f. p .flags (l .0) t (done (l .0) t (l .1) (l .2)) (l .2) f; rest = p .rest }
 
--- the flags of the first s words are off, and their states are the first k entries of the list
-pub record Listing (at words s k : ℕ) (old new : List ℕ) : Type 0 where
+-- the flags of the first s words are off, and those of their states that are to be listed are the first k entries of the list
+pub record Listing (d at words s k : ℕ) (old new : List ℕ) : Type 0 where
   pub most : k ≤ s
   pub same : (j : ℕ) → j < words → held new at j ≡ held old at j
   pub some : (j : ℕ) → j < k → (1 ≤ note new at j) × (note new at j ≤ words)
   pub none : (j : ℕ) → k ≤ j → j < s → note new at j ≡ 0
   pub left : (j : ℕ) → s ≤ j → j < words → getD new (at + j) 0 ≡ getD old (at + j) 0
-  pub found : (t : ℕ) → t < s → Flagged old at t → (i : ℕ) × (i < k) × (note new at i ≡ t + 1)
+  pub found : (t : ℕ) → t < s → Flagged old at t → Steps d (held old at) t → (i : ℕ) × (i < k) × (note new at i ≡ t + 1)
   pub rest : Outside at (at + words) old new
 
-module _ (at words : ℕ) where
-  pub listing-none : (xs : List ℕ) → Listing at words 0 0 xs xs
+module _ (d at words : ℕ) where
+  pub listing-none : (xs : List ℕ) → Listing d at words 0 0 xs xs
   listing-none xs = record {
     most = omega arith;
     same = λ j h. refl;
@@ -112,14 +112,14 @@ module _ (at words : ℕ) where
   }
 
   -- a word without a flag
-  pub listing-passed : (s k : ℕ) (old xs : List ℕ) → s < words → note xs at s ≡ 0 → Listing at words s k old xs → Listing at words (s + 1) k old xs
+  pub listing-passed : (s k : ℕ) (old xs : List ℕ) → s < words → note xs at s ≡ 0 → Listing d at words s k old xs → Listing d at words (s + 1) k old xs
   listing-passed s k old xs hs z p = record {
     most = omega (arith, p .most);
     same = p .same;
     some = p .some;
     none = λ j h l. none j h l (ℕ-discrete j s);
     left = λ j h l. p .left j (omega arith) l;
-    found = λ t h f. found t h f (ℕ-discrete t s);
+    found = λ t h f g. found t h f g (ℕ-discrete t s);
     rest = p .rest;
   }
     where
@@ -127,12 +127,52 @@ module _ (at words : ℕ) where
       none j h l (yes e) = rw e z
       none j h l (no e) = p .none j h (omega arith)
 
-      found : (t : ℕ) → t < s + 1 → Flagged old at t → Dec (t ≡ s) → (i : ℕ) × (i < k) × (note xs at i ≡ t + 1)
-      found t h f (yes e) = absurd (omega (arith, ap (λ t. note old at t) e, ap note-in (p .left s (omega arith) hs)))
-      found t h f (no e) = p .found t (omega arith) f
+      found : (t : ℕ) → t < s + 1 → Flagged old at t → Steps d (held old at) t → Dec (t ≡ s) → (i : ℕ) × (i < k) × (note xs at i ≡ t + 1)
+      found t h f g (yes e) = absurd (omega (arith, ap (λ t. note old at t) e, ap note-in (p .left s (omega arith) hs)))
+      found t h f g (no e) = p .found t (omega arith) f g
 
-  -- a flagged word
-  module _ (s k w v : ℕ) (old xs : List ℕ) (room : at + words ≤ length xs) (hs : s < words) (hw : w ≡ held xs at s) (hv : v ≡ held (set xs (at + s) w) at k) (p : Listing at words s k old xs) where
+  -- a flagged word that is not to be listed
+  pub listing-left : (s k w : ℕ) (old xs : List ℕ) → at + words ≤ length xs → s < words → w ≡ held xs at s → (d ≡ 0) × (1 ≤ s) × (w ≤ held (set xs (at + s) w) at (s - 1)) → Listing d at words s k old xs
+      → Listing d at words (s + 1) k old (set xs (at + s) w)
+  listing-left s k w old xs room hs hw repeats p = record {
+    most = omega (arith, p .most);
+    same = λ j h. same j h (ℕ-discrete j s);
+    some = λ j h. (let q = p .some j h in omega (arith, ap note-in (older j (λ z. omega (arith, p .most)))));
+    none = λ j h l. none j h l (ℕ-discrete j s);
+    left = λ j h l. older j (λ z. omega arith) ∙ p .left j (omega arith) l;
+    found = λ t h f g. found t h f g (ℕ-discrete t s);
+    rest = record {
+      before = λ i l. getD-set-other xs (at + s) i w 0 (λ z. omega arith) ∙ p .rest .before i l;
+      after = λ i l. getD-set-other xs (at + s) i w 0 (λ z. omega arith) ∙ p .rest .after i l;
+    };
+  }
+    where
+      low : w < 2199023255552
+      low = omega (arith, hw, figure-small (getD xs (at + s) 0))
+
+      put : getD (set xs (at + s) w) (at + s) 0 ≡ w
+      put = getD-set-same xs (at + s) w 0 (omega arith)
+
+      older : (j : ℕ) → (j ≡ s → ⊥) → getD (set xs (at + s) w) (at + j) 0 ≡ getD xs (at + j) 0
+      older j h = getD-set-other xs (at + s) (at + j) w 0 (λ z. h (omega arith))
+
+      same : (j : ℕ) → j < words → Dec (j ≡ s) → held (set xs (at + s) w) at j ≡ held old at j
+      same j h (yes e) = rw e (ap figure-in put ∙ (figure-plain w low ∙ (hw ∙ p .same s hs)))
+      same j h (no e) = ap figure-in (older j e) ∙ p .same j h
+
+      none : (j : ℕ) → k ≤ j → j < s + 1 → Dec (j ≡ s) → note (set xs (at + s) w) at j ≡ 0
+      none j h l (yes e) = rw e (ap note-in put ∙ note-plain w low)
+      none j h l (no e) = ap note-in (older j e) ∙ p .none j h (omega arith)
+
+      found : (t : ℕ) → t < s + 1 → Flagged old at t → Steps d (held old at) t → Dec (t ≡ s) → (i : ℕ) × (i < k) × (note (set xs (at + s) w) at i ≡ t + 1)
+      found t h f g (yes e) = absurd (omega (arith, rises (rw e at g), same (s - 1) (omega arith) (ℕ-discrete (s - 1) s), hw, p .same s hs, repeats .2))
+        where
+          rises : Steps d (held old at) s → held old at (s - 1) < held old at s
+          rises g = g (repeats .0) (repeats .1)
+      found t h f g (no e) = let q = p .found t (omega arith) f g in (q .0, q .1, ap note-in (older (q .0) (λ z. omega (arith, q .1, p .most))) ∙ q .2)
+
+  -- a flagged word that is
+  module _ (s k w v : ℕ) (old xs : List ℕ) (room : at + words ≤ length xs) (hs : s < words) (hw : w ≡ held xs at s) (hv : v ≡ held (set xs (at + s) w) at k) (p : Listing d at words s k old xs) where
     abbrev ys : List ℕ
     ys = set xs (at + s) w
 
@@ -180,18 +220,18 @@ module _ (at words : ℕ) where
     none j h l (yes e) = rw e (ap note-in (before s (λ z. omega arith) ∙ put) ∙ note-plain w low)
     none j h l (no e) = ap note-in (before j (λ z. omega arith) ∙ older j e) ∙ p .none j (omega arith) (omega arith)
 
-    found : (t : ℕ) → t < s + 1 → Flagged old at t → Dec (t ≡ s) → (i : ℕ) × (i < k + 1) × (note zs at i ≡ t + 1)
-    found t h f (yes e) = (k, omega arith, own ∙ ap (λ t. t + 1) (sym e))
-    found t h f (no e) = let q = p .found t (omega arith) f in (q .0, omega (arith, q .1), earlier (q .0) (q .1) ∙ q .2)
+    found : (t : ℕ) → t < s + 1 → Flagged old at t → Steps d (held old at) t → Dec (t ≡ s) → (i : ℕ) × (i < k + 1) × (note zs at i ≡ t + 1)
+    found t h f g (yes e) = (k, omega arith, own ∙ ap (λ t. t + 1) (sym e))
+    found t h f g (no e) = let q = p .found t (omega arith) f g in (q .0, omega (arith, q .1), earlier (q .0) (q .1) ∙ q .2)
 
-    pub listing-more : Listing at words (s + 1) (k + 1) old zs
+    pub listing-more : Listing d at words (s + 1) (k + 1) old zs
     listing-more = record {
       most = omega (arith, p .most);
       same = λ j h. same j h (ℕ-discrete j k);
       some = λ j h. some j h (ℕ-discrete j k);
       none = λ j h l. none j h l (ℕ-discrete j s);
       left = λ j h l. before j (λ z. omega (arith, p .most)) ∙ (older j (λ z. omega arith) ∙ p .left j (omega arith) l);
-      found = λ t h f. found t h f (ℕ-discrete t s);
+      found = λ t h f g. found t h f g (ℕ-discrete t s);
       rest = record {
         before = λ i l. getD-set-other ys (at + k) i (v + 2199023255552 * (s + 1)) 0 (λ z. omega arith) ∙ (getD-set-other xs (at + s) i w 0 (λ z. omega arith) ∙ p .rest .before i l);
         after = λ i l. getD-set-other ys (at + k) i (v + 2199023255552 * (s + 1)) 0 (λ z. omega (arith, p .most)) ∙ (getD-set-other xs (at + s) i w 0 (λ z. omega arith) ∙ p .rest .after i l);
@@ -199,10 +239,10 @@ module _ (at words : ℕ) where
     }
 
   -- all flagged states are listed
-  pub listing-end : (s k : ℕ) (old new : List ℕ) → FlaggedBelow at words s old → Listing at words s k old new → Finished at words old new
+  pub listing-end : (s k : ℕ) (old new : List ℕ) → FlaggedBelow at words s old → Listing d at words s k old new → Finished d at words old new
   listing-end s k old new below p = record {
     same = p .same;
-    listed = λ t h f. (let q = p .found t (below .flags t h f) f in (q .0, omega (arith, q .1, p .most, below .most), q .2));
+    listed = λ t h f g. (let q = p .found t (below .flags t h f) f g in (q .0, omega (arith, q .1, p .most, below .most), q .2));
     notes = λ j h. notes j h (decLe k j);
     ended = λ i j h l z. none j l (past i j h z (decLe k i));
     rest = p .rest;

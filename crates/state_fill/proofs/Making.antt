@@ -4,8 +4,8 @@ use mathlib.Core.Path.{_≡_, refl, sym, _∙_, ap, ap₂}
 use mathlib.Core.Logic.{_⊎_, inl, inr}
 use mathlib.Core.Bool.{Bool}
 use mathlib.Core.List.{List}
-use Prim.Native.Nat.{ℕ, _+_, _-_, _*_, _≤_, _<_, max}
-use native.Mathlib.Decide.{decLe}
+use Prim.Native.Nat.{ℕ, zero, suc, _+_, _-_, _*_, _≤_, _<_, max}
+use native.Mathlib.Decide.{ℕ-discrete, decLe}
 use native.Mathlib.Omega.{arith}
 use lib.Dec.{T}
 use lib.ListN.{length, getD}
@@ -24,14 +24,15 @@ use Rattle.table.proofs.Words.{cell-before}
 use Rattle.table.proofs.Halves.{half-cuts, half-parts}
 use Rattle.table.proofs.Figures.{positions-axis}
 use Rattle.table.specs.States.{Order, Covers}
-use Rattle.state_fill.specs.Cells.{figure-in, note-in, held, under, Level, Startable, Levelled, Rises, Flagged, Listed, Low, Grown, Growing, Ready, Cuttable, CutAt, Placed, Inherited, Finished, FlaggedBelow, Topped}
+use Rattle.state_fill.specs.Cells.{figure-in, note-in, held, under, Summed, Level, Startable, Levelled, Rises, Flagged, Listed, Low, Grown, Growing, Ready, Cuttable, CutAt, Placed, Inherited, Steps, Finished, FlaggedBelow, Topped}
 use Rattle.state_fill.specs.Tables.{tabled, cell, Made, Spot}
 use Rattle.state_fill.proofs.Noted.{figure-small, figure-plain, note-plain}
 use Rattle.table.proofs.Across.{across, across-joins, state-above, state-low, more-side, piece-most}
 use Rattle.table.proofs.Covered.{Joins}
 use Rattle.table.proofs.Complete.{along, side-covered, complete}
 use Rattle.state_fill.proofs.Growing.{outside-same, outside-chain, grown-then, order-of, under-zero, last-state}
-use Rattle.state_fill.proofs.Joining.{held-kept, note-kept, listed-kept}
+use Rattle.state_fill.proofs.Carries.{summed-kept}
+use Rattle.state_fill.proofs.Joining.{held-kept, listed-kept}
 
 -- what some states cover, more states cover
 pub covers-more : (le : ℕ → ℕ → Bool) (words : ℕ) (some more : ℕ → Type 0) (f g : ℕ → ℕ) → ((t : ℕ) → t < words → some t → more t) → Covers le words some f g → Covers le words more f g
@@ -59,6 +60,35 @@ start-covers le words some flag f g h top is low rises flags c s l = go (decLe (
     go (no k) (inl x) = absurd (omega (arith, low s))
     go (no k) (inr x) = inr (x .0, x .1, x .2, flags (x .0) (x .1) (x .3) (omega (arith, rises (x .0) s l (x .2), x .4)), omega (arith, is s l, is (x .0) (x .1), x .4))
 
+-- of one digit, those states suffice at which the values rise over the state before
+module _ (le : ℕ → ℕ → Bool) (d words : ℕ) (some : ℕ → Type 0) (f g : ℕ → ℕ) (plain : d ≡ 0 → (t s : ℕ) → t ≤ s → T (le t s)) (less : (t s : ℕ) → T (le t s) → t ≤ s) (rises : Rises le words g) (c : Covers le words some f g) where
+  abbrev Stepwise : ℕ → Type 0
+  Stepwise s = (f s ≤ g s) ⊎ ((t : ℕ) × (t < words) × T (le t s) × (some t × Steps d f t) × (f s ≤ f t))
+
+  -- the state before one that covers s is covered by a state that covers s too
+  steps-lower : (s t : ℕ) → s < words → d ≡ 0 → t ≤ s → f s ≤ f t → Stepwise t → Stepwise s
+  steps-lower s t h e m v (inl x) = inl (omega (arith, x, rises t s h (plain e t s m)))
+  steps-lower s t h e m v (inr x) = inr (x .0, x .1, plain e (x .0) s (omega (arith, less (x .0) t (x .2))), x .3, omega (arith, x .4))
+
+  steps-pick : (s : ℕ) → s < words → ((u : ℕ) → u < s → Stepwise u) → (f s ≤ g s) ⊎ ((t : ℕ) × (t < words) × T (le t s) × some t × (f s ≤ f t)) → Stepwise s
+  steps-pick s h before (inl x) = inl x
+  steps-pick s h before (inr x) = decide (ℕ-discrete d 0) (decLe 1 (x .0)) (decLe (f (x .0)) (f (x .0 - 1)))
+    where
+      decide : Dec (d ≡ 0) → Dec (1 ≤ x .0) → Dec (f (x .0) ≤ f (x .0 - 1)) → Stepwise s
+      decide (no e) k m = inr (x .0, x .1, x .2, (x .3, λ z y. absurd (e z)), x .4)
+      decide (yes e) (no k) m = inr (x .0, x .1, x .2, (x .3, λ z y. absurd (k y)), x .4)
+      decide (yes e) (yes k) (no m) = inr (x .0, x .1, x .2, (x .3, λ z y. omega arith), x .4)
+      decide (yes e) (yes k) (yes m) =
+          let l = less (x .0) s (x .2) in
+          steps-lower s (x .0 - 1) h e (omega arith) (omega (arith, x .4)) (before (x .0 - 1) (omega arith))
+
+  steps-all : (n s : ℕ) → s < n → s < words → Stepwise s
+  steps-all zero s l h = absurd (omega arith)
+  steps-all (suc n) s l h = steps-pick s h (λ u k. steps-all n u (omega arith) (omega arith)) (c s h)
+
+  pub covers-steps : Covers le words (λ t. some t × Steps d f t) f g
+  covers-steps s h = steps-all (s + 1) s (omega arith) h
+
 -- figures that some states cover are the same past all of these, where the figures covered over are
 pub level-past : (le : ℕ → ℕ → Bool) → ((t s : ℕ) → t ≤ s → T (le t s)) → (words flat top : ℕ) (some : ℕ → Type 0) (f g : ℕ → ℕ) → Rises le words f → ((s : ℕ) → g s ≤ f s)
     → ((t : ℕ) → t < words → some t → t < top) → Covers le words some f g → Level words flat g → Level words (max flat top) f
@@ -75,16 +105,21 @@ level-past le plain words flat top some f g rises low below c level s h l = go (
 pub level-later : {words flat high : ℕ} {f : ℕ → ℕ} → flat ≤ high → Level words flat f → Level words high f
 level-later {words} {flat} {high} {f} h level s k l = level s (omega arith) l ∙ sym (level high h (omega arith))
 
--- a cell that is made stays so where words after it are written
+-- a cell that is made stays so where its words do
+pub made-same : {J : Job} {le : ℕ → ℕ → Bool} {own : ℕ → ℕ} {normal-lengths normal-widths : List ℕ} {words i j : ℕ} {old new : List ℕ}
+    → ((s : ℕ) → s < words → getD new (cell J words i j + s) 0 ≡ getD old (cell J words i j + s) 0) → Made J le own normal-lengths normal-widths words i j old → Made J le own normal-lengths normal-widths words i j new
+made-same {J} {le} {own} {normal-lengths} {normal-widths} {words} {i} {j} {old} {new} e w = record {
+  figures = λ s l. ap figure-in (e s l) ∙ w .figures s l;
+  notes = λ k l. omega (arith, ap note-in (e k l), w .notes k l);
+  ended = λ x k l m z. ap note-in (e k m) ∙ w .ended x k l m (sym (ap note-in (e x (omega arith))) ∙ z);
+  longer = covers-more le words _ _ _ _ (λ t l s. (s .0, s .1, ap note-in (e (s .0) (s .1)) ∙ s .2)) (w .longer);
+  wider = covers-more le words _ _ _ _ (λ t l s. (s .0, s .1, ap note-in (e (s .0) (s .1)) ∙ s .2)) (w .wider);
+}
+
+-- so it does where words after it are written
 pub made-kept : {J : Job} {le : ℕ → ℕ → Bool} {own : ℕ → ℕ} {normal-lengths normal-widths : List ℕ} {words i j at end : ℕ} {old new : List ℕ}
     → cell J words i j + words ≤ at → Outside at end old new → Made J le own normal-lengths normal-widths words i j old → Made J le own normal-lengths normal-widths words i j new
-made-kept {J} {le} {own} {normal-lengths} {normal-widths} {words} {i} {j} {at} {end} {old} {new} h o w = record {
-  figures = λ s l. held-kept at end old new o (cell J words i j) s (omega arith) ∙ w .figures s l;
-  notes = λ k l. omega (arith, note-kept at end old new o (cell J words i j) k (omega arith), w .notes k l);
-  ended = λ x k l m z. note-kept at end old new o (cell J words i j) k (omega arith) ∙ w .ended x k l m (sym (note-kept at end old new o (cell J words i j) x (omega arith)) ∙ z);
-  longer = covers-more le words _ _ _ _ (λ t l s. listed-kept at end old new o (cell J words i j) words t h s) (w .longer);
-  wider = covers-more le words _ _ _ _ (λ t l s. listed-kept at end old new o (cell J words i j) words t h s) (w .wider);
-}
+made-kept {J} {le} {own} {normal-lengths} {normal-widths} {words} {i} {j} h o w = made-same (λ s l. o .before (cell J words i j + s) (omega arith)) w
 
 -- the cuts of one side, along which a cell of length x has the figures h x
 module _ (J : Job) (le : ℕ → ℕ → Bool) (order : Order le) (fit : InTableRange J) (d : Direction) (count : ℕ) (positions floors : List ℕ) (given : Positions J d count positions floors)
@@ -215,7 +250,7 @@ module _ {J : Job} {own : ℕ → ℕ} {normal-lengths length-floors normal-widt
 
   -- cells of the column and of the row, in a table where words from here on were written
   earlier-row : (xs : List ℕ) → Outside at (at + words) t0 xs → (i : ℕ) → i < a → Ready xs (cell J words i b) words at
-  earlier-row xs o i h = ready i b xs (omega (arith, spot .length-in .1)) (spot .width-in .1) (made-kept (row-earlier i h) o (spot .rows i b h (spot .width-in .1))) (row-earlier i h)
+  earlier-row xs o i h = ready i b xs (omega (arith, spot .length-in .1)) (spot .width-in .1) (made-kept (row-earlier i h) o (spot .rows i b h (spot .width-in .1) (omega (arith, spot .width-in .0)))) (row-earlier i h)
 
   earlier-cell : (xs : List ℕ) → Outside at (at + words) t0 xs → (j : ℕ) → j < b → Ready xs (cell J words a j) words at
   earlier-cell xs o j h = ready a j xs (spot .length-in .1) (omega (arith, spot .width-in .1)) (made-kept (cell-earlier j h) o (spot .cells j h)) (cell-earlier j h)
@@ -226,12 +261,16 @@ module _ {J : Job} {own : ℕ → ℕ} {normal-lengths length-floors normal-widt
   cell-ready : (xs : List ℕ) → Outside at (at + words) t0 xs → (j : ℕ) → j < b → Ready xs (at - column + j * words) words at
   cell-ready xs o j h = rw (cell-word j) (earlier-cell xs o j h)
 
+  -- the digit sums stand before it
+  pub sums-there : (xs : List ℕ) → Outside at (at + words) t0 xs → Summed blocks d words at xs
+  sums-there xs o = summed-kept o (record { before = λ h. omega (arith, row-fits, cell-fits .0); sums = spot .summed .sums })
+
   -- so the cuts of its two sides can be taken
   pub length-cuttable : (xs : List ℕ) → Outside at (at + words) t0 xs → Growing blocks d words at xs → Cuttable blocks normal-lengths length-floors d words a 1 length-half-end column stride at xs
-  length-cuttable xs o g = record { growing = g; first = omega arith; cuts = length-cuts-are; ready = row-ready xs o }
+  length-cuttable xs o g = record { growing = g; first = omega arith; cuts = length-cuts-are; ready = row-ready xs o; summed = sums-there xs o }
 
   pub width-cuttable : (xs : List ℕ) → Outside at (at + words) t0 xs → Growing blocks d words at xs → Cuttable blocks normal-widths width-floors d words b 1 width-half-end (at - column) words at xs
-  width-cuttable xs o g = record { growing = g; first = omega arith; cuts = width-cuts-are; ready = cell-ready xs o }
+  width-cuttable xs o g = record { growing = g; first = omega arith; cuts = width-cuts-are; ready = cell-ready xs o; summed = sums-there xs o }
 
   -- the two cells before it
   pub shorter-ready : (xs : List ℕ) → Outside at (at + words) t0 xs → Ready xs (at - stride) words at
@@ -257,7 +296,7 @@ module _ {J : Job} {own : ℕ → ℕ} {normal-lengths length-floors normal-widt
 
   -- the figures of the two cells before it
   shorter-figure : (s : ℕ) → s < words → held t0 (at - stride) s ≡ F (a - 1) b s
-  shorter-figure s h = rw shorter-word (spot .rows (a - 1) b (omega (arith, spot .length-in .0)) (spot .width-in .1) .figures s h)
+  shorter-figure s h = rw shorter-word (spot .rows (a - 1) b (omega (arith, spot .length-in .0)) (spot .width-in .1) (omega (arith, spot .width-in .0)) .figures s h)
 
   narrower-figure : (s : ℕ) → s < words → held t0 (at - words) s ≡ F a (b - 1) s
   narrower-figure s h = rw narrower-word (spot .cells (b - 1) (omega (arith, spot .width-in .0)) .figures s h)
@@ -322,7 +361,7 @@ module _ {J : Job} {own : ℕ → ℕ} {normal-lengths length-floors normal-widt
           (λ s h. omega (arith, same s h, started s h)) (λ s. longer (a - 1) a (b - 1) s (omega arith) (spot .length-in .1)) (rising a (b - 1))
           (λ t h l m. second .flags t (listed-kept at (at + words) t0 t2 kept (at - stride) words t (shorter-ready t0 none .before) (rw shorter-word l))
           (omega (arith, shorter-figure t h, narrower-figure t h, held-kept at (at + words) t0 t2 kept (at - words) t (omega (arith, narrower-ready t0 none .before)), held-kept at (at + words) t0 t2 kept (at - stride) t (omega (arith, shorter-ready t0 none .before)))))
-          (spot .rows (a - 1) b (omega (arith, spot .length-in .0)) (spot .width-in .1) .wider)
+          (spot .rows (a - 1) b (omega (arith, spot .length-in .0)) (spot .width-in .1) (omega (arith, spot .width-in .0)) .wider)
         where
           none : Outside at (at + words) t0 t0
           none = record { before = λ i h. refl; after = λ i h. refl }
@@ -332,7 +371,7 @@ module _ {J : Job} {own : ℕ → ℕ} {normal-lengths length-floors normal-widt
 
       -- the kinds and the cuts
       module _ (t4 t5 t6 t7 : List ℕ) (kinds : Placed (under blocks d) J own (J .count) (getD normal-lengths a 0) (getD normal-widths b 0) at words t3 t4)
-          (length-cuts : CutAt (under blocks d) normal-lengths length-floors a 1 length-half-end column stride at words t4 t5) (width-cuts : CutAt (under blocks d) normal-widths width-floors b 1 width-half-end (at - column) words at words t5 t6) (done : Finished at words t6 t7) where
+          (length-cuts : CutAt (under blocks d) normal-lengths length-floors a 1 length-half-end column stride at words t4 t5) (width-cuts : CutAt (under blocks d) normal-widths width-floors b 1 width-half-end (at - column) words at words t5 t6) (done : Finished d at words t6 t7) where
         o4 : Outside at (at + words) t0 t4
         o4 = outside-chain at (at + words) t0 t3 t4 inherited-rest (kinds .grown .rest)
 
@@ -346,10 +385,10 @@ module _ {J : Job} {own : ℕ → ℕ} {normal-lengths length-floors normal-widt
         made-rest = outside-chain at (at + words) t0 t6 t7 (outside-chain at (at + words) t0 t3 t6 inherited-rest (grown .rest)) (done .rest)
 
         length-figures : (i s : ℕ) → i < a → s < words → held t4 (column + i * stride) s ≡ F i b s
-        length-figures i s h l = rw (row-word i) (made-kept (row-earlier i h) o4 (spot .rows i b h (spot .width-in .1)) .figures s l)
+        length-figures i s h l = rw (row-word i) (made-kept (row-earlier i h) o4 (spot .rows i b h (spot .width-in .1) (omega (arith, spot .width-in .0))) .figures s l)
 
         length-covers : (i : ℕ) → i < a → Covers (under blocks d) words (Listed t4 (column + i * stride) words) (F i b) (F (i - 1) b)
-        length-covers i h = rw (row-word i) (made-kept (row-earlier i h) o4 (spot .rows i b h (spot .width-in .1)) .longer)
+        length-covers i h = rw (row-word i) (made-kept (row-earlier i h) o4 (spot .rows i b h (spot .width-in .1) (omega (arith, spot .width-in .0))) .longer)
 
         width-figures : (j s : ℕ) → j < b → s < words → held t5 (at - column + j * words) s ≡ F a j s
         width-figures j s h l = rw (cell-word j) (made-kept (cell-earlier j h) o5 (spot .cells j h) .figures s l)
@@ -407,9 +446,11 @@ module _ {J : Job} {own : ℕ → ℕ} {normal-lengths length-floors normal-widt
           figures = λ s h. rw (← spot .at-is) (done .same s h ∙ figures s h);
           notes = λ k h. rw (← spot .at-is) (done .notes k h);
           ended = λ j k h l z. rw (← spot .at-is) (done .ended j k h l (rw (← spot .at-is) at z));
-          longer = covers-more (under blocks d) words (Flagged t6 at) (Listed t7 (cell J words a b) words) (F a b) (F (a - 1) b) listed covers-length;
-          wider = covers-more (under blocks d) words (Flagged t6 at) (Listed t7 (cell J words a b) words) (F a b) (F a (b - 1)) listed covers-width;
+          longer = listed (F (a - 1) b) (rising (a - 1) b) covers-length;
+          wider = listed (F a (b - 1)) (rising a (b - 1)) covers-width;
         }
           where
-            listed : (t : ℕ) → t < words → Flagged t6 at t → Listed t7 (cell J words a b) words t
-            listed t h f = rw (← spot .at-is) (done .listed t h f)
+            listed : (g : ℕ → ℕ) → Rises (under blocks d) words g → Covers (under blocks d) words (Flagged t6 at) (F a b) g → Covers (under blocks d) words (Listed t7 (cell J words a b) words) (F a b) g
+            listed g r c = covers-more (under blocks d) words (λ t. Flagged t6 at t × Steps d (F a b) t) (Listed t7 (cell J words a b) words) (F a b) g
+                (λ t h f. rw (← spot .at-is) (done .listed t h (f .0) (λ e k. omega (arith, f .1 e k, figures t h, figures (t - 1) (omega arith)))))
+                (covers-steps (under blocks d) d words (Flagged t6 at) (F a b) g (under-zero blocks d) (order .less) r c)

@@ -5,7 +5,7 @@ use mathlib.Core.Path.{_≡_}
 use mathlib.Core.Logic.{_⊎_}
 use mathlib.Core.Bool.{Bool}
 use mathlib.Core.List.{List}
-use Prim.Native.Nat.{ℕ, _+_, _-_, _*_, _/_, _%_, _≤_, _<_}
+use Prim.Native.Nat.{ℕ, zero, suc, _+_, _-_, _*_, _/_, _%_, _≤_, _<_}
 use lib.Dec.{T}
 use lib.ListN.{length, getD}
 use Rattle.cutting.specs.Limits.{most-wide-figure}
@@ -39,6 +39,31 @@ pub record Digits (blocks : List ℕ) (d words : ℕ) : Type 0 where
   pub listed : d < length blocks
   pub states : words ≡ getD blocks d 0
   pub most : words ≤ 65536
+
+-- the sum of the digits of a number whose last digit is digit d
+unfoldable pub digit-sum : (ℕ → ℕ) → ℕ → ℕ → ℕ
+digit-sum B zero s = s
+digit-sum B (suc d) s = s / B d + digit-sum B d (s % B d)
+
+-- the table's first words hold the sums of the digits of the states below n
+abbrev pub Sums : List ℕ → ℕ → ℕ → List ℕ → Type 0
+Sums blocks d n xs = (s : ℕ) → s < n → getD xs s 0 ≡ digit-sum (λ i. getD blocks i 0) d s
+
+-- where states have several digits, the table's first words, all before `at`, hold their digit sums
+pub record Summed (blocks : List ℕ) (d words at : ℕ) (xs : List ℕ) : Type 0 where
+  pub before : 1 ≤ d → words ≤ at
+  pub sums : 1 ≤ d → Sums blocks d words xs
+
+-- the words below `end` are values f that those below `size` were and that gain 1 with `size` words, whatever f; the rest is as it was
+pub record Stepped (size end : ℕ) (old new : List ℕ) : Type 0 where
+  pub steps : (f : ℕ → ℕ) → ((s : ℕ) → s < size → getD old s 0 ≡ f s) → ((s : ℕ) → size ≤ s → s < end → f s ≡ f (s - size) + 1) → (s : ℕ) → s < end → getD new s 0 ≡ f s
+  pub rest : (i : ℕ) → end ≤ i → getD new i 0 ≡ getD old i 0
+
+-- the row of length 0 is written: 0, but for its first cell, which has the digit sums
+pub record FirstRow (blocks : List ℕ) (d words stride : ℕ) (old new : List ℕ) : Type 0 where
+  pub sums : Sums blocks d words new
+  pub zeros : (i : ℕ) → words ≤ i → i < stride → getD new i 0 ≡ 0
+  pub rest : (i : ℕ) → stride ≤ i → getD new i 0 ≡ getD old i 0
 
 -- figures are the same from state `flat` on
 abbrev pub Level : ℕ → ℕ → (ℕ → ℕ) → Type 0
@@ -135,6 +160,7 @@ pub record Joinable (blocks : List ℕ) (d words at second t v : ℕ) (xs : List
   pub ready : Ready xs second words at
   pub state : t < words
   pub small : v ≤ most-wide-figure
+  pub summed : Summed blocks d words at xs
 
 -- the cell has taken v at state t with the figure of each state on the list of the cell from `second` on
 pub record JoinedWith (le : ℕ → ℕ → Bool) (at words t v second : ℕ) (old new : List ℕ) : Type 0 where
@@ -155,6 +181,7 @@ pub record Cuttable (blocks positions floors : List ℕ) (d words a from end bas
   pub first : 1 ≤ from
   pub cuts : Cuts positions floors a end
   pub ready : (j : ℕ) → j < a → Ready xs (base + j * stride) words at
+  pub summed : Summed blocks d words at xs
 
 -- the cell has taken the cuts of entry a at the entries from `from` to `end` less 1 whose parts make up the whole, where the cell of
 -- entry i begins at word base + i · stride
@@ -180,10 +207,14 @@ pub record Inherited (first second at words : ℕ) (old new : List ℕ) : Type 0
   pub flags : (t : ℕ) → Listed old first words t → held old second t < held old first t → Flagged new at t
   pub rest : Outside at (at + words) old new
 
--- the flagged states of the cell have become its list
-pub record Finished (at words : ℕ) (old new : List ℕ) : Type 0 where
+-- where states have one digit, the figures f rise at state t over the state before
+abbrev pub Steps : ℕ → (ℕ → ℕ) → ℕ → Type 0
+Steps d f t = d ≡ 0 → 1 ≤ t → f (t - 1) < f t
+
+-- the flagged states of the cell have become its list, of one digit those at which its figures rise
+pub record Finished (d at words : ℕ) (old new : List ℕ) : Type 0 where
   pub same : (s : ℕ) → s < words → held new at s ≡ held old at s
-  pub listed : (t : ℕ) → t < words → Flagged old at t → Listed new at words t
+  pub listed : (t : ℕ) → t < words → Flagged old at t → Steps d (held old at) t → Listed new at words t
   pub notes : (k : ℕ) → k < words → note new at k ≤ words
   pub ended : (j k : ℕ) → j ≤ k → k < words → note new at j ≡ 0 → note new at k ≡ 0
   pub rest : Outside at (at + words) old new

@@ -15,7 +15,7 @@ use Rattle.table.specs.States.{figure-at, Covers}
 use Rattle.state_fill.specs.declared.shape.Shape.{Shape}
 use Rattle.state_fill.specs.declared.cells.Place.{Place}
 use Rattle.state_fill.specs.declared.parts.Line.{Line}
-use Rattle.state_fill.specs.Cells.{held, note, under, Digits, Listed, Level}
+use Rattle.state_fill.specs.Cells.{held, note, under, Digits, Summed, Listed, Level}
 
 -- the cells of a cell's width, along the lengths
 abbrev pub length-line : Shape → Place → Line
@@ -46,9 +46,9 @@ pub record Made (J : Job) (le : ℕ → ℕ → Bool) (own : ℕ → ℕ) (norma
   pub longer : Covers le words (Listed xs (cell J words a b) words) (tabled J le own normal-lengths normal-widths a b) (tabled J le own normal-lengths normal-widths (a - 1) b)
   pub wider : Covers le words (Listed xs (cell J words a b) words) (tabled J le own normal-lengths normal-widths a b) (tabled J le own normal-lengths normal-widths a (b - 1))
 
--- the cells of the rows below a are made
+-- the cells of the rows below a are made, but for the first, which no cut reads
 abbrev pub Rows : Job → (ℕ → ℕ → Bool) → (ℕ → ℕ) → List ℕ → List ℕ → ℕ → ℕ → List ℕ → Type 0
-Rows J le own normal-lengths normal-widths words a xs = (i j : ℕ) → i < a → j < position-count J Width → Made J le own normal-lengths normal-widths words i j xs
+Rows J le own normal-lengths normal-widths words a xs = (i j : ℕ) → i < a → j < position-count J Width → 1 ≤ i + j → Made J le own normal-lengths normal-widths words i j xs
 
 -- the cells of row a below cell b are made
 abbrev pub Cells : Job → (ℕ → ℕ → Bool) → (ℕ → ℕ) → List ℕ → List ℕ → ℕ → ℕ → ℕ → List ℕ → Type 0
@@ -84,6 +84,7 @@ pub record RowSpot (J : Job) (own : ℕ → ℕ) (normal-lengths length-floors n
   pub length-half : Half normal-lengths a length-half-end
   pub at-is : at ≡ cell J words a 0
   pub rows : Rows J (under blocks d) own normal-lengths normal-widths words a table
+  pub summed : Summed blocks d words words table
   pub flat-most : flat ≤ words
   pub level-rows : LevelRows J (under blocks d) own normal-lengths normal-widths words flat a
 
@@ -99,6 +100,7 @@ pub record Spot (J : Job) (own : ℕ → ℕ) (normal-lengths length-floors norm
   pub column-is : column ≡ b * words
   pub rows : Rows J (under blocks d) own normal-lengths normal-widths words a table
   pub cells : Cells J (under blocks d) own normal-lengths normal-widths words a b table
+  pub summed : Summed blocks d words words table
   pub flat-most : flat ≤ words
   pub level-rows : LevelRows J (under blocks d) own normal-lengths normal-widths words flat a
   pub level-cells : LevelCells J (under blocks d) own normal-lengths normal-widths words flat a b

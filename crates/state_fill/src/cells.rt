@@ -12,12 +12,13 @@ use table::set_run;
 use table::widen;
 ghost use mathlib.Core.Path.{_≡_};
 ghost use mathlib.Core.Logic.{_⊎_};
-ghost use Prim.Native.Nat.{_+_, _≤_, max};
+ghost use mathlib.Core.Bool.{false};
+ghost use Prim.Native.Nat.{_+_, _-_, _≤_, _<_, max};
 ghost use lib.ListN.{length};
 ghost use Rattle.cutting.specs.Limits.{most-pieces};
 ghost use Rattle.cutting.specs.Listed.{heavy-in};
 ghost use Rattle.table.specs.Words.{Outside, Run};
-ghost use Rattle.state_fill.specs.Cells.{held, note, under, Startable, Levelled, Growing, Taken, Ready, Inherited, Placed, Finished, FlaggedBelow, Topped};
+ghost use Rattle.state_fill.specs.Cells.{held, note, under, Summed, Startable, Levelled, Growing, Taken, Ready, Inherited, Placed, Finished, FlaggedBelow, Topped};
 ghost use Rattle.state_fill.specs.Tables.{job-in, length-line, width-line, tabled, Made, Spot};
 
 // The first words of the cell become the greater of the figures of the cells before it.
@@ -80,7 +81,7 @@ fn place_piece(
     price: u32,
     top: usize,
 ) -> usize
-    requires { ⌜ Growing (now blocks) d words at (now table) ⌝ }
+    requires { ⌜ Growing (now blocks) d words at (now table) × Summed (now blocks) d words at (now table) ⌝ }
     ensures { λ r. ⌜ Taken (under (now (blocks .entry)) d) at words state 0 price (now (table .entry)) (now (table .exit)) × Topped at words top r (now (table .entry)) (now (table .exit)) ⌝ }
 {
     let t = state as usize;
@@ -101,7 +102,7 @@ pub fn place_pieces(
     w: u32,
     top: usize,
 ) -> usize
-    requires { ⌜ Growing (now blocks) (shape .d) (shape .words) at (now table) × (shape .count ≤ most-pieces) ⌝ }
+    requires { ⌜ Growing (now blocks) (shape .d) (shape .words) at (now table) × (shape .count ≤ most-pieces) × Summed (now blocks) (shape .d) (shape .words) at (now table) ⌝ }
     ensures { λ r. ⌜ Placed (under (now (blocks .entry)) (shape .d)) (job-in shape (now (pieces .entry))) (heavy-in (now (pieces .entry))) (shape .count) l w at (shape .words) (now (table .entry)) (now (table .exit))
         × Topped at (shape .words) top r (now (table .entry)) (now (table .exit)) ⌝ }
 {
@@ -119,18 +120,38 @@ pub fn place_pieces(
     high
 }
 
-// The flagged states, all below `top`, become the cell's list: the k-th one, plus 1, above the figure of word k.
-pub fn finish(table: &mut [u64], at: usize, words: usize, top: usize)
+// Whether state s is to be listed: not where states have one digit and the state before has as much.
+fn starts(table: &[u64], d: usize, at: usize, s: usize, v: u64) -> bool
+    requires { ⌜ at + s < length (now table) ⌝ }
+    ensures { λ r. ⌜ (r ≡ false → (d ≡ 0) × (1 ≤ s) × (v ≤ held (now (table .entry)) at (s - 1))) ⌝ }
+{
+    if 0 < d {
+        return true;
+    }
+    if s == 0 {
+        return true;
+    }
+    if v <= figure(table[at + (s - 1)]) {
+        return false;
+    }
+    true
+}
+
+// The flagged states that are to be listed, all below `top`, become the cell's list: the k-th one, plus 1, above the figure of word k.
+pub fn finish(table: &mut [u64], d: usize, at: usize, words: usize, top: usize)
     requires { ⌜ (at + words ≤ length (now table)) × (words ≤ 65536) × FlaggedBelow at words top (now table) ⌝ }
-    ensures { λ _. ⌜ Finished at words (now (table .entry)) (now (table .exit)) ⌝ }
+    ensures { λ _. ⌜ Finished d at words (now (table .entry)) (now (table .exit)) ⌝ }
 {
     let mut k: usize = 0;
     for s in 0..top {
         let word = table[at + s];
         if 0 < note(word) {
-            table[at + s] = figure(word);
-            table[at + k] = figure(table[at + k]) + 2199023255552 * ((s as u64) + 1);
-            k = k + 1;
+            let v = figure(word);
+            table[at + s] = v;
+            if starts(&table[..], d, at, s, v) {
+                table[at + k] = figure(table[at + k]) + 2199023255552 * ((s as u64) + 1);
+                k = k + 1;
+            }
         }
     }
 }
@@ -238,6 +259,6 @@ pub fn make_cell(
         by_width,
         top,
     );
-    finish(table, at, words, top);
+    finish(table, shape.d, at, words, top);
     flat_after(shape.d, words, place.flat, top)
 }

@@ -6,6 +6,7 @@ mod parts;
 mod raise;
 mod rows;
 mod shape;
+mod sums;
 mod weights;
 mod words;
 

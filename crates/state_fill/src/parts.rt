@@ -4,7 +4,7 @@ use crate::words::figure;
 use crate::words::note;
 use table::entry;
 ghost use Prim.Native.Nat.{_+_};
-ghost use Rattle.state_fill.specs.Cells.{under, Growing, Ready, Joinable, JoinedWith, Joined, Cuttable, CutAt, Topped};
+ghost use Rattle.state_fill.specs.Cells.{under, Summed, Growing, Ready, Joinable, JoinedWith, Joined, Cuttable, CutAt, Topped};
 
 // The cell takes v at state t together with the figure of each state that the cell from `second` on lists. Nothing is to be taken where
 // even the greatest figure of that cell, at its last state, gives no more than state t has.
@@ -50,7 +50,7 @@ fn join(
     second: usize,
     top: usize,
 ) -> usize
-    requires { ⌜ Growing (now blocks) d words at (now table) × Ready (now table) first words at × Ready (now table) second words at ⌝ }
+    requires { ⌜ Growing (now blocks) d words at (now table) × Ready (now table) first words at × Ready (now table) second words at × Summed (now blocks) d words at (now table) ⌝ }
     ensures { λ r. ⌜ Joined (under (now (blocks .entry)) d) at words first second (now (table .entry)) (now (table .exit)) × Topped at words top r (now (table .entry)) (now (table .exit)) ⌝ }
 {
     let mut high = top;

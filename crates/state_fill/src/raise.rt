@@ -1,14 +1,15 @@
 // The order of states, and raising a cell at a state and at all states above.
+use crate::sums::apart;
 use crate::words::figure;
 ghost use mathlib.Core.Path.{_≡_};
 ghost use Prim.Native.Nat.{_+_, _≤_, _<_, max};
 ghost use lib.Dec.{leb};
 ghost use lib.ListN.{length, getD};
 ghost use Rattle.table.specs.States.{Blocks};
-ghost use Rattle.state_fill.specs.Cells.{held, under, Rises, Growing, Lifted, Raised, Taken, Topped};
+ghost use Rattle.state_fill.specs.Cells.{held, under, Rises, Summed, Growing, Lifted, Raised, Taken, Topped};
 
 // The number of states that the digits from 0 to i have together.
-fn block(blocks: &[u32], i: usize) -> usize
+pub fn block(blocks: &[u32], i: usize) -> usize
     requires { ⌜ i < length (now blocks) ⌝ }
     ensures { λ r. ⌜ (r ≡ getD (now (blocks .entry)) i 0) × (r < 4294967296) ⌝ }
 {
@@ -101,13 +102,13 @@ pub fn take(
     v: u64,
     top: usize,
 ) -> usize
-    requires { ⌜ Growing (now blocks) d words at (now table) × (t + u < 131072) × (v < 2199023255552) ⌝ }
+    requires { ⌜ Growing (now blocks) d words at (now table) × (t + u < 131072) × (v < 2199023255552) × Summed (now blocks) d words at (now table) ⌝ }
     ensures { λ r. ⌜ Taken (under (now (blocks .entry)) d) at words t u v (now (table .entry)) (now (table .exit)) × Topped at words top r (now (table .entry)) (now (table .exit)) ⌝ }
 {
     let s = t + u;
     if s < words {
-        if figure(table[at + s]) < v {
-            if below(blocks, d, t, s) {
+        if apart(&table[..], blocks, d, t, u) {
+            if figure(table[at + s]) < v {
                 raise(table, blocks, d, words, at, s, v);
                 return past(top, s);
             }

@@ -2,6 +2,7 @@
 use crate::cells::Place;
 use crate::cells::make_cell;
 use crate::shape::Shape;
+use crate::sums::first_row;
 use crate::words::figure;
 use crate::words::note;
 use table::half;
@@ -115,7 +116,7 @@ pub fn fill(
     ensures { λ _. ⌜ Figures (job-in shape (now (pieces .entry))) (under (now (blocks .entry)) (shape .d)) (heavy-in (now (pieces .entry))) (shape .words) (now (table .exit))
         × Kept (position-count (job-in shape (now (pieces .entry))) Length * position-count (job-in shape (now (pieces .entry))) Width * shape .words) (now (table .entry)) (now (table .exit)) ⌝ }
 {
-    set_run(table, 0, shape.stride, 0);
+    first_row(table, blocks, shape.d, shape.words, shape.stride);
     let mut at = shape.stride;
     let mut half_end: usize = 1;
     let mut flat: usize = 0;
@@ -140,5 +141,6 @@ pub fn fill(
         );
         at = at + shape.stride;
     }
+    set_run(table, 0, shape.words, 0);
     strip_all(table, shape.length_count * shape.columns, shape.words);
 }

@@ -1,12 +1,12 @@
 -- `stage_fill::cells::make_later` meets its contract: each step leaves what the next one asks.
 use borrow.Author.Needs.{needs}
 use native.Mathlib.Omega.{arith}
-use mathlib.Core.Path.{_∙_}
+use mathlib.Core.Path.{refl, _∙_}
 use mathlib.Core.List.{[], _∷_}
 use Rattle.state_fill.proofs.Growing.{outside-chain}
 use Rattle.state_fill.proofs.Joining.{ready-kept}
 use Rattle.state_fill.proofs.Topping.{topped-then}
-use Rattle.stage_fill.proofs.Steps.{one-order, rises-same, growing, start-rises, start-topped}
+use Rattle.stage_fill.proofs.Steps.{one-order, rises-same, growing, unsummed, start-rises, start-topped}
 use Rattle.stage_fill.proofs.cells.make_later.Statement.{statement}
 use Rattle.stage_fill.proofs.cells.make_later.Tie as tie
 
@@ -43,6 +43,7 @@ cut-requires c κs =
       first = omega arith;
       cuts = p .cuts;
       ready = λ j h. ready-kept _ _ _ _ (outside-chain _ _ _ _ _ (outside-chain _ _ _ _ _ (outside-chain _ _ _ _ _ (started .ensures .rest) (first .ensures .0 .rest)) (second .ensures .0 .rest)) (third .ensures .0 .rest)) _ _ (p .ready j h);
+      summed = unsummed refl;
     }
 
 finish-requires : tie.Need-finish-requires

@@ -6,7 +6,7 @@ use mathlib.Core.List.{[], _∷_}
 use Rattle.state_fill.proofs.Growing.{outside-chain}
 use Rattle.state_fill.proofs.Joining.{ready-kept}
 use Rattle.state_fill.proofs.Topping.{topped-then}
-use Rattle.stage_fill.proofs.Steps.{one-order, rises-same, growing, start-rises, start-topped}
+use Rattle.stage_fill.proofs.Steps.{one-order, rises-same, growing, unsummed, start-rises, start-topped}
 use Rattle.stage_fill.proofs.cells.make_uncut.Statement.{statement}
 use Rattle.stage_fill.proofs.cells.make_uncut.Tie as tie
 
@@ -32,6 +32,7 @@ place-pieces-requires c κs =
       rw (p .one-digit) (growing (p .states) (omega (arith, p .starts .room, started .kept .0, first .kept .0, second .kept .0))
           (rises-same (λ s h. second .ensures .0 .same s h ∙ first .ensures .0 .same s h) (start-rises _ _ _ _ _ _ (started .ensures) (p .shorter-rises) (p .narrower-rises)))),
       p .few,
+      unsummed (p .one-digit),
     )
 
 finish-requires : tie.Need-finish-requires

@@ -4,7 +4,7 @@ use mathlib.Core.Path.{_∙_}
 use Rattle.state_fill.proofs.Growing.{outside-chain}
 use Rattle.state_fill.proofs.Topping.{topped-then}
 use Rattle.state_fill.proofs.Joining.{growing-kept}
-use Rattle.state_fill.proofs.Making.{room, row-fits, cell-fits, few, length-cuts-are, width-cuts-are, shorter-ready, narrower-ready, startable, length-cuttable, width-cuttable, start-topped, inherited-rest, inherited-growing, levelled, made, made-rest}
+use Rattle.state_fill.proofs.Making.{room, row-fits, cell-fits, few, length-cuts-are, width-cuts-are, shorter-ready, narrower-ready, startable, sums-there, length-cuttable, width-cuttable, start-topped, inherited-rest, inherited-growing, levelled, made, made-rest}
 use Rattle.state_fill.proofs.cells.make_cell.Statement.{statement}
 use Rattle.state_fill.proofs.cells.make_cell.Tie as tie
 
@@ -56,7 +56,7 @@ place-pieces-requires c κs =
     let first = c .before .before .before .before .before .before .before .before .before .before .before .inherit in
     let second = c .before .before .before .before .before .before .before .inherit2 in
     let growing = inherited-growing spot _ (started .ensures) _ _ (first .ensures .0) (second .ensures .0) (second .kept .0 ∙ (first .kept .0 ∙ started .kept .0)) in
-    (growing, spot .lent .range .kinds)
+    (growing, spot .lent .range .kinds, sums-there spot _ (inherited-rest spot _ (started .ensures) _ _ (first .ensures .0) (second .ensures .0)))
 
 length-line-requires : tie.Need-length-line-requires
 length-line-requires c κs = tt

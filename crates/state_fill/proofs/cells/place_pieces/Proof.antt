@@ -11,6 +11,7 @@ use Rattle.state_fill.specs.Cells.{under, Placed, Topped}
 use Rattle.state_fill.specs.Tables.{job-in}
 use Rattle.state_fill.proofs.Growing.{order-of}
 use Rattle.state_fill.proofs.Joining.{growing-kept, placed-none, placed-other, placed-more}
+use Rattle.state_fill.proofs.Carries.{summed-kept}
 use Rattle.state_fill.proofs.Topping.{topped-none, topped-then}
 use Rattle.state_fill.proofs.cells.place_pieces.Statement.{statement}
 use Rattle.state_fill.proofs.cells.place_pieces.Tie as tie
@@ -27,7 +28,8 @@ loop-holds c = (omega arith, refl, refl, placed-none _ _ _ _ _ _ _ _, topped-non
 place-piece-requires : tie.Need-place-piece-requires Inv-loop μ-loop
 place-piece-requires c κs =
     let inv = c .before .before .before .before .before .before .before .before .loop .inv in
-    growing-kept (c .before .before .before .before .before .before .before .before .before .before .before .pre .0) (inv .2) (inv .3 .grown)
+    let given = c .before .before .before .before .before .before .before .before .before .before .before .pre in
+    (growing-kept (given .0) (inv .2) (inv .3 .grown), summed-kept (inv .3 .grown .rest) (given .2))
 
 loop-again : tie.Need-loop-again Inv-loop μ-loop
 loop-again c =

@@ -6,6 +6,7 @@ use Prim.Native.Nat.{_-_, _≤_}
 use lib.ListN.{length}
 use Rattle.state_fill.specs.Cells.{under, CutAt, Topped}
 use Rattle.state_fill.proofs.Joining.{ready-kept, growing-kept, cut-none, cut-then, cuts-fewer}
+use Rattle.state_fill.proofs.Carries.{summed-kept}
 use Rattle.state_fill.proofs.Topping.{topped-none, topped-then}
 use Rattle.state_fill.proofs.parts.cut.Statement.{statement}
 use Rattle.state_fill.proofs.parts.cut.Tie as tie
@@ -28,6 +29,7 @@ cut-at-requires c κs =
       first = inv .1;
       cuts = cuts-fewer _ _ _ _ _ (omega arith) (omega arith) (given .cuts);
       ready = λ j h. ready-kept _ _ _ _ (inv .4 .grown .rest) _ _ (given .ready j h);
+      summed = summed-kept (inv .4 .grown .rest) (given .summed);
     }
 
 loop-again : tie.Need-loop-again Inv-loop μ-loop

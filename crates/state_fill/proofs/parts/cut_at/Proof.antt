@@ -45,7 +45,7 @@ add-second c =
 join-requires : tie.Need-join-requires
 join-requires c κs =
     let given = c .before .before .before .before .before .before .before .before .before .before .before .before .before .before .pre in
-    (given .growing, first-part given, given .ready _ (second-entry given _ _ _ (c .before .before .before .before .before .before .before .before .before .entry .ensures .0) (c .before .before .before .before .before .before .before .before .entry2 .ensures .0) (c .before .before .before .before .before .before .before .entry3 .ensures .0) .1))
+    (given .growing, first-part given, given .ready _ (second-entry given _ _ _ (c .before .before .before .before .before .before .before .before .before .entry .ensures .0) (c .before .before .before .before .before .before .before .before .entry2 .ensures .0) (c .before .before .before .before .before .before .before .entry3 .ensures .0) .1), given .summed)
 
 returns : tie.Need-returns
 returns c =

@@ -6,6 +6,7 @@ use Prim.Native.Nat.{_-_, _≤_}
 use lib.ListN.{length}
 use Rattle.state_fill.specs.Cells.{under, note, Topped}
 use Rattle.state_fill.proofs.Joining.{note-kept, ready-kept, growing-kept, entry-state, past-end, Join, join-none, join-more, join-end}
+use Rattle.state_fill.proofs.Carries.{summed-kept}
 use Rattle.state_fill.proofs.Topping.{topped-none, topped-then}
 use Rattle.state_fill.proofs.parts.join.Statement.{statement}
 use Rattle.state_fill.proofs.parts.join.Tie as tie
@@ -56,6 +57,7 @@ join-with-requires c κs =
       ready = ready-kept _ _ _ _ kept _ _ (given .2);
       state = state;
       small = omega (arith, c .before .figure .ensures .0, ready-kept _ _ _ _ kept _ _ (given .1) .small (c .before .before .before .before .note .result - 1) state);
+      summed = summed-kept kept (given .3);
     }
 
 loop-again : tie.Need-loop-again Inv-loop μ-loop

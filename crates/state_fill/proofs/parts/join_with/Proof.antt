@@ -6,6 +6,7 @@ use Prim.Native.Nat.{_-_, _≤_}
 use lib.ListN.{length}
 use Rattle.state_fill.specs.Cells.{under, note, Topped}
 use Rattle.state_fill.proofs.Joining.{note-kept, ready-kept, growing-kept, entry-state, past-end, With, with-none, with-more, with-end, with-skip}
+use Rattle.state_fill.proofs.Carries.{summed-kept}
 use Rattle.state_fill.proofs.Topping.{topped-none, topped-then}
 use Rattle.state_fill.proofs.parts.join_with.Statement.{statement}
 use Rattle.state_fill.proofs.parts.join_with.Tie as tie
@@ -52,7 +53,7 @@ take-requires c κs =
     let loop = c .before .before .before .before .before .before .before .loop in
     let state = entry-state (given .ready) (loop .inv .2 .grown .rest) (loop .k) _ (omega arith) (c .before .before .before .before .note .ensures .0) in
     let ready = ready-kept _ _ _ _ (loop .inv .2 .grown .rest) _ _ (given .ready) in
-    (growing-kept (given .growing) (loop .inv .1) (loop .inv .2 .grown), omega (arith, given .growing .digits .most, given .state), omega (arith, given .small, c .before .figure3 .ensures .0, ready .small (c .before .before .before .before .note .result - 1) state))
+    (growing-kept (given .growing) (loop .inv .1) (loop .inv .2 .grown), omega (arith, given .growing .digits .most, given .state), omega (arith, given .small, c .before .figure3 .ensures .0, ready .small (c .before .before .before .before .note .result - 1) state), summed-kept (loop .inv .2 .grown .rest) (given .summed))
 
 loop-again : tie.Need-loop-again Inv-loop μ-loop
 loop-again c =
