@@ -31,13 +31,14 @@ use Rattle.table.specs.States.{by-state}
 use Rattle.state_fill.specs.Cells.{under}
 use Rattle.choice.specs.declared.Cell.{Cell}
 use Rattle.choice.specs.declared.Chosen.{Chosen}
+use Rattle.choice.specs.declared.Place.{Place}
 use Rattle.choice.specs.declared.PieceFound.{PieceFound}
 use Rattle.choice.specs.declared.PieceFound.the-variants as piece
 use Rattle.choice.specs.declared.CutFound.{CutFound}
 use Rattle.choice.specs.declared.CutFound.the-variants as found
-use Rattle.choice.specs.Search.{piece-test, piece-found, pair-test, first-index, cut-found, or-width-cut, or-length-cut, Searchable}
+use Rattle.choice.specs.Search.{piece-test, piece-found, pair-test, first-index, cut-found, or-width-cut, or-length-cut, length-search, width-search, cut-chosen, Searchable}
 use Rattle.choice.specs.Choice.{Tabled, ChoiceInput, Inside, chosen-of, chosen-at}
-use Rattle.choice.proofs.Rows.{stride-of, base-of, shares-of, rect-figure, row-figure, mapped-figure, cell-figure, cell-there, cell-sizes, searchable}
+use Rattle.choice.proofs.Rows.{shares-of, search-for, rect-figure, row-figure, mapped-figure, cell-figure, cell-there, cell-sizes, searchable}
 
 -- an entry of a mapped list
 module _ {A B : Type 0} where
@@ -115,14 +116,13 @@ module _ {J : Job} {le : ℕ → ℕ → Bool} {own : ℕ → ℕ} {columns q : 
 
     -- the test of a pair reads the figures of its two parts
     pair-same : (i k : ℕ) → i < position-count J d → k ≤ c → (pair-earns J (shares-of le own) d l w c (pair-of positions c (i, k)) && le k c)
-        ≡ pair-test le positions floors table (side d (l, w)) (stride-of columns q d) (base-of columns q d (getD length-floors l 0) (getD width-floors w 0)) c whole (i, k)
+        ≡ pair-test le positions floors table (search-for t l w on-length on-width d floors c whole) (i, k)
     pair-same i k h g = ap (λ b. b && le k c) (pair-figures J le own d l w c (pair-of positions c (i, k)) ∙ ap₂ (λ a b. eqb (a + b) whole)
         (ap (λ x. rect-figure J le own (part d x (l, w)) k) (listed .1 i h) ∙ sym (row-figure t l w on-length on-width d i k h (omega arith)))
         (sym (mapped-figure t l w on-length on-width d floors mapped (side d (l, w) - getD positions i 0) (c - k) (omega (arith, on-side)) (omega arith))))
 
     -- the search over indexes answers the definition's search
-    pair-index : first-pair J (shares-of le own) d l w c ≡ through (pair-of positions c)
-        (first-index le positions floors table (side d (l, w)) (getD floors (side d (l, w)) 0) (stride-of columns q d) (base-of columns q d (getD length-floors l 0) (getD width-floors w 0)) c whole)
+    pair-index : first-pair J (shares-of le own) d l w c ≡ through (pair-of positions c) (first-index le positions floors table (search-for t l w on-length on-width d floors c whole))
     unfolding first-pair first-index by-state
     pair-index =
         let a = getD floors (side d (l, w)) 0 in
@@ -173,19 +173,13 @@ module _ (le : ℕ → ℕ → Bool) (size : TableSize) (pieces normal-lengths n
   abbrev pub piece-search : Option ℕ
   piece-search = first (piece-test le pieces cell value) (range 0 (size .count))
 
-  abbrev pub length-search : Option (ℕ × ℕ)
-  length-search = first-index le normal-lengths floors table (cell .sides .length) row-of (size .columns * (size .capacity + 1)) (column-of * (size .capacity + 1)) (cell .share) value
-
-  abbrev pub width-search : Option (ℕ × ℕ)
-  width-search = first-index le normal-widths (drop 1021 floors) table (cell .sides .width) column-of (size .capacity + 1) (row-of * (size .columns * (size .capacity + 1))) (cell .share) value
-
-  -- a cut that they find, or waste
-  abbrev pub cut-answer : Chosen
-  cut-answer = or-length-cut (cut-found normal-lengths length-search) (or-width-cut (cut-found normal-widths width-search))
+  -- where the cell stands
+  abbrev pub place-of : Place
+  place-of = record { a = row-of; b = column-of; value = value }
 
   -- their answer: waste where the value is 0, or the piece, or the length cut, or the width cut
   abbrev pub answer : Chosen
-  answer = or-none (eqb value 0) (or-laid (piece-found pieces piece-search) cut-answer)
+  answer = or-none (eqb value 0) (or-laid (piece-found pieces piece-search) (cut-chosen le normal-lengths normal-widths floors table size cell place-of))
 
 -- the answer is the choice
 module _ {size : TableSize} {blocks : List ℕ} {d : ℕ} {pieces normal-lengths normal-widths floors table : List ℕ} (t : ChoiceInput size blocks d pieces normal-lengths normal-widths floors table) {cell : Cell} (at : Inside (size-job size pieces) size cell) where
@@ -203,7 +197,8 @@ module _ {size : TableSize} {blocks : List ℕ} {d : ℕ} {pieces normal-lengths
       let v = figure-under N (array-shares le pieces) (cell .sides .length) (cell .sides .width) (cell .share) in
       let pairs-of : (d : Direction) (positions floors : List ℕ) → Listed N d positions → Mapped N d floors → _ = pair-index (t .tabled) (cell .sides .length) (cell .sides .width) (cell .share) (at .on-length) (at .on-width) (at .in-capacity) in
       sym (searched pieces normal-lengths normal-widths (cell .share) (eqb v 0) (piece-search le size pieces normal-lengths normal-widths floors table cell v)
-      (length-search le size pieces normal-lengths normal-widths floors table cell v) (width-search le size pieces normal-lengths normal-widths floors table cell v)
+      (first-index le normal-lengths floors table (length-search size cell (place-of le size pieces normal-lengths normal-widths floors table cell v)))
+      (first-index le normal-widths (drop 1021 floors) table (width-search size cell (place-of le size pieces normal-lengths normal-widths floors table cell v)))
       (plain-first (size .length, size .width) (size .count) (size-in pieces) (price-in pieces) (laid-earns N (array-shares le pieces) (cell .sides .length) (cell .sides .width) (cell .share)))
       (pairs-of Length normal-lengths floors (t .tabled .lengths-are) (t .tabled .lengths-floored)) (pairs-of Width normal-widths (drop 1021 floors) (t .tabled .widths-are) (t .tabled .widths-floored)))
 
@@ -215,12 +210,11 @@ module _ {size : TableSize} {blocks : List ℕ} {d : ℕ} {pieces normal-lengths
   pub there : getD floors (cell .sides .length) 0 * (size .columns * (size .capacity + 1)) + getD (drop 1021 floors) (cell .sides .width) 0 * (size .capacity + 1) + cell .share < length table
   there = cell-there (t .tabled) (cell .sides .length) (cell .sides .width) (at .on-length) (at .on-width) (cell .share) (at .in-capacity)
 
-  pub cuts-searchable : {a b : ℕ} → a ≡ getD floors (cell .sides .length) 0 → b ≡ getD (drop 1021 floors) (cell .sides .width) 0
-      → Searchable normal-lengths floors table (cell .sides .length) a (size .columns * (size .capacity + 1)) (b * (size .capacity + 1)) (cell .share)
-      × Searchable normal-widths (drop 1021 floors) table (cell .sides .width) b (size .capacity + 1) (a * (size .columns * (size .capacity + 1))) (cell .share)
-  cuts-searchable e f = rw (e, f) (
-    searchable (t .tabled) (cell .sides .length) (cell .sides .width) (at .on-length) (at .on-width) Length normal-lengths floors (t .tabled .lengths-are) (t .tabled .lengths-floored) (omega (arith, t .floors-there)) (cell .share) (at .in-capacity),
-    searchable (t .tabled) (cell .sides .length) (cell .sides .width) (at .on-length) (at .on-width) Width normal-widths (drop 1021 floors) (t .tabled .widths-are) (t .tabled .widths-floored) (omega (arith, t .floors-there, length-drop 1021 floors)) (cell .share) (at .in-capacity),
+  pub cuts-searchable : {a b : ℕ} (value : ℕ) → a ≡ getD floors (cell .sides .length) 0 → b ≡ getD (drop 1021 floors) (cell .sides .width) 0
+      → Searchable normal-lengths floors table (length-search size cell (record { a = a; b = b; value = value })) × Searchable normal-widths (drop 1021 floors) table (width-search size cell (record { a = a; b = b; value = value }))
+  cuts-searchable value e f = rw (e, f) (
+    searchable (t .tabled) (cell .sides .length) (cell .sides .width) (at .on-length) (at .on-width) Length normal-lengths floors (t .tabled .lengths-are) (t .tabled .lengths-floored) (omega (arith, t .floors-there)) (cell .share) value (at .in-capacity),
+    searchable (t .tabled) (cell .sides .length) (cell .sides .width) (at .on-length) (at .on-width) Width normal-widths (drop 1021 floors) (t .tabled .widths-are) (t .tabled .widths-floored) (omega (arith, t .floors-there, length-drop 1021 floors)) (cell .share) value (at .in-capacity),
   )
 
   -- the value of the cell
@@ -243,8 +237,6 @@ module _ {size : TableSize} {blocks : List ℕ} {d : ℕ} {pieces normal-lengths
       pub piece-chosen : {n : Node} → piece-found pieces (piece-search le size pieces normal-lengths normal-widths floors table cell value) ≡ piece.Laid n → record { node = n; share = 0 } ≡ chosen-at le size pieces cell
       piece-chosen k = sym (exit-piece _ _ _ (ne-eqb value 0 z) k) ∙ ap (λ v. answer le size pieces normal-lengths normal-widths floors table cell v) word-is ∙ answer-choice
 
-      pub cut-chosen : {r : Chosen} → piece-found pieces (piece-search le size pieces normal-lengths normal-widths floors table cell value) ≡ piece.Missing
-          → r ≡ or-length-cut (cut-found normal-lengths (first-index le normal-lengths floors table (cell .sides .length) a (size .columns * (size .capacity + 1)) (b * (size .capacity + 1)) (cell .share) value))
-          (or-width-cut (cut-found normal-widths (first-index le normal-widths (drop 1021 floors) table (cell .sides .width) b (size .capacity + 1) (a * (size .columns * (size .capacity + 1))) (cell .share) value)))
-          → r ≡ chosen-at le size pieces cell
-      cut-chosen k c = rw (e, f) at c ∙ sym (exit-cut _ _ _ (ne-eqb value 0 z) k) ∙ ap (λ v. answer le size pieces normal-lengths normal-widths floors table cell v) word-is ∙ answer-choice
+      pub cut-taken : {r : Chosen} → piece-found pieces (piece-search le size pieces normal-lengths normal-widths floors table cell value) ≡ piece.Missing
+          → r ≡ cut-chosen le normal-lengths normal-widths floors table size cell (record { a = a; b = b; value = value }) → r ≡ chosen-at le size pieces cell
+      cut-taken k c = rw (e, f) at c ∙ sym (exit-cut _ _ _ (ne-eqb value 0 z) k) ∙ ap (λ v. answer le size pieces normal-lengths normal-widths floors table cell v) word-is ∙ answer-choice

@@ -22,6 +22,7 @@ use Rattle.table.specs.Table.{position-count, position, words-needed, word}
 use Rattle.table.specs.Contracts.{Listed, Mapped}
 use Rattle.table.specs.States.{by-state, figure-at}
 use Rattle.table.proofs.Shares.{by-state-monotone}
+use Rattle.choice.specs.declared.CutSearch.{CutSearch}
 use Rattle.choice.specs.Search.{Row, Searchable}
 use Rattle.choice.specs.Choice.{Tabled}
 
@@ -69,6 +70,10 @@ module _ {J : Job} {le : ℕ → ℕ → Bool} {own : ℕ → ℕ} {columns q : 
   abbrev pub b-of : ℕ
   b-of = getD width-floors w 0
 
+  -- the search in a direction for a cut of the rectangle at a share that earns a value
+  abbrev pub search-for : Direction → List ℕ → ℕ → ℕ → CutSearch
+  search-for d floors c v = record { side = side d (l, w); last = getD floors (side d (l, w)) 0; stride = stride-of columns q d; base = base-of columns q d a-of b-of; share = c; value = v }
+
   -- the figure of a rectangle on the plate is that of its largest normal sides
   floored : (x y k : ℕ) → x ≤ J .plate .0 → y ≤ J .plate .1 → figure-under J (shares-of le own) x y k ≡ figure-under J (shares-of le own) (normal-floor J Length x) (normal-floor J Width y) k
   floored = floor-under J (shares-of le own) (by-state-monotone le (t .order) _) (table-solid J (t .in-range))
@@ -102,8 +107,8 @@ module _ {J : Job} {le : ℕ → ℕ → Bool} {own : ℕ → ℕ} {columns q : 
   row-figure d i k h g = row-cell d i k h g .1
 
   -- a row's words are there
-  row-there : (d : Direction) (c i : ℕ) → c ≤ q → i < position-count J d → Row table (stride-of columns q d) (base-of columns q d a-of b-of) c i
-  row-there d c i g h k m =
+  row-there : (d : Direction) (floors : List ℕ) (c v i : ℕ) → c ≤ q → i < position-count J d → Row table (search-for d floors c v) i
+  row-there d floors c v i g h k m =
       let e = row-cell d i k h (omega arith) in
       let o = part-on d i h in
       (omega (arith, e .0, t .words-there), omega (arith, e .1, figure-most J le own (t .in-range) (part d (position J d i) (l, w)) k (o .0) (o .1)))
@@ -130,17 +135,16 @@ module _ {J : Job} {le : ℕ → ℕ → Bool} {own : ℕ → ℕ} {columns q : 
   cell-figure c h = mapped-figure Length length-floors (t .lengths-floored) l c on-length h
 
   -- a cut in one direction can be searched for
-  pub searchable : (d : Direction) (positions floors : List ℕ) → Listed J d positions → Mapped J d floors → 1020 < length floors → (c : ℕ) → c ≤ q
-      → Searchable positions floors table (side d (l, w)) (getD floors (side d (l, w)) 0) (stride-of columns q d) (base-of columns q d a-of b-of) c
-  searchable d positions floors listed mapped there c h =
+  pub searchable : (d : Direction) (positions floors : List ℕ) → Listed J d positions → Mapped J d floors → 1020 < length floors → (c v : ℕ) → c ≤ q → Searchable positions floors table (search-for d floors c v)
+  searchable d positions floors listed mapped there c v h =
       let on : (side d (l, w) ≤ side d (J .plate)) × (side d (J .plate) ≤ 1020) = elim d [ Length ↦ (on-length, t .in-range .plate-length .1) | Width ↦ (on-width, t .in-range .plate-width .1) ] in
       let last = mapped (side d (l, w)) (on .0) in
       record {
         mapped = omega (arith, on);
         shares = omega (arith, t .capacity-most);
         listed = λ i g. (omega (arith, listed .0, last .0), omega (arith, listed .1 i (omega (arith, last .0)), positions-rise J d i (getD floors (side d (l, w)) 0) g (last .0), last .1, floor-le (normal-side J d) (side d (l, w))));
-        rows = λ i g. row-there d c i h (omega (arith, last .0));
-        remainders = λ x g. row-there d c (getD floors x 0) h (mapped x (omega (arith, on)) .0);
+        rows = λ i g. row-there d floors c v i h (omega (arith, last .0));
+        remainders = λ x g. row-there d floors c v (getD floors x 0) h (mapped x (omega (arith, on)) .0);
       }
 
   -- no index, and no word where a row begins, is large

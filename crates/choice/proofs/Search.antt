@@ -10,6 +10,7 @@ use lib.Dec.{eqb}
 use lib.ListN.{length, getD}
 use Rattle.cutting.specs.Limits.{most-wide-figure}
 use Rattle.cutting.specs.Lists.{range, first, pairs}
+use Rattle.choice.specs.declared.CutSearch.{CutSearch}
 use Rattle.choice.specs.Search.{pair-test, Row, Searchable}
 
 -- a run of numbers from i to n, and what is left of it
@@ -80,31 +81,31 @@ module _ (f : ℕ × ℕ → Bool) (m n i : ℕ) where
   row-ends k h = ap (λ ys. first f (map (λ y. (i, y)) ys ++ pairs (range (i + 1) (m - (i + 1))) (range 0 n))) (run-end k n h)
 
 -- the search for a cut: i is the position's index, x the position, and rest the row of the remainder
-module _ {positions floors table : List ℕ} {side last stride base c : ℕ} (s : Searchable positions floors table side last stride base c) where
+module _ {positions floors table : List ℕ} {cut : CutSearch} (s : Searchable positions floors table cut) where
   -- the words of the remainder's row are there
-  pub second-word : (i k : ℕ) {x rest : ℕ} → x ≡ getD positions i 0 → rest ≡ getD floors (side - x) 0 → k < c + 1
-      → (rest * stride + base + c < length table) × (rest * stride + base + c - k < length table) × (getD table (rest * stride + base + c - k) 0 ≤ most-wide-figure)
+  pub second-word : (i k : ℕ) {x rest : ℕ} → x ≡ getD positions i 0 → rest ≡ getD floors (cut .side - x) 0 → k < cut .share + 1
+      → (rest * cut .stride + cut .base + cut .share < length table) × (rest * cut .stride + cut .base + cut .share - k < length table) × (getD table (rest * cut .stride + cut .base + cut .share - k) 0 ≤ most-wide-figure)
   second-word i k {x} {rest} e f h =
-      let r : Row table stride base c rest = rw f (s .remainders (side - x) (omega arith)) in
-      let g : rest * stride + base + c - k ≡ rest * stride + base + (c - k) = omega arith in
-      let u = r (c - k) (omega arith) in
-      (r c (omega arith) .0, rw g (u .0), rw g (u .1))
+      let r : Row table cut rest = rw f (s .remainders (cut .side - x) (omega arith)) in
+      let g : rest * cut .stride + cut .base + cut .share - k ≡ rest * cut .stride + cut .base + (cut .share - k) = omega arith in
+      let u = r (cut .share - k) (omega arith) in
+      (r (cut .share) (omega arith) .0, rw g (u .0), rw g (u .1))
 
   module _ (le : ℕ → ℕ → Bool) where
     -- the test of a pair as the loop makes it
-    pair-sum : (value i k x rest : ℕ) → x ≡ getD positions i 0 → rest ≡ getD floors (side - x) 0 → k < c + 1
-        → pair-test le positions floors table side stride base c value (i, k) ≡ (eqb (getD table (i * stride + base + k) 0 + getD table (rest * stride + base + c - k) 0) value && le k c)
-    pair-sum value i k x rest e f h =
-        let g : rest * stride + base + c - k ≡ rest * stride + base + (c - k) = omega arith in
+    pair-sum : (i k x rest : ℕ) → x ≡ getD positions i 0 → rest ≡ getD floors (cut .side - x) 0 → k < cut .share + 1
+        → pair-test le positions floors table cut (i, k) ≡ (eqb (getD table (i * cut .stride + cut .base + k) 0 + getD table (rest * cut .stride + cut .base + cut .share - k) 0) (cut .value) && le k (cut .share))
+    pair-sum i k x rest e f h =
+        let g : rest * cut .stride + cut .base + cut .share - k ≡ rest * cut .stride + cut .base + (cut .share - k) = omega arith in
         rw (g, f, e) refl
 
     -- a pair that does not earn the value is left out, and the first that does is found
-    pub pair-fails : (value i k : ℕ) {x rest : ℕ} → x ≡ getD positions i 0 → rest ≡ getD floors (side - x) 0 → k < c + 1
-        → (eqb (getD table (i * stride + base + k) 0 + getD table (rest * stride + base + c - k) 0) value && le k c) ≡ false
-        → row-left (pair-test le positions floors table side stride base c value) last (c + 1) i k ≡ row-left (pair-test le positions floors table side stride base c value) last (c + 1) i (k + 1)
-    pair-fails value i k {x} {rest} e f h t = row-fails (pair-test le positions floors table side stride base c value) last (c + 1) i k h (pair-sum value i k x rest e f h ∙ t)
+    pub pair-fails : (i k : ℕ) {x rest : ℕ} → x ≡ getD positions i 0 → rest ≡ getD floors (cut .side - x) 0 → k < cut .share + 1
+        → (eqb (getD table (i * cut .stride + cut .base + k) 0 + getD table (rest * cut .stride + cut .base + cut .share - k) 0) (cut .value) && le k (cut .share)) ≡ false
+        → row-left (pair-test le positions floors table cut) (cut .last) (cut .share + 1) i k ≡ row-left (pair-test le positions floors table cut) (cut .last) (cut .share + 1) i (k + 1)
+    pair-fails i k {x} {rest} e f h t = row-fails (pair-test le positions floors table cut) (cut .last) (cut .share + 1) i k h (pair-sum i k x rest e f h ∙ t)
 
-    pub pair-passes : (value i k : ℕ) {x rest : ℕ} → x ≡ getD positions i 0 → rest ≡ getD floors (side - x) 0 → k < c + 1
-        → (eqb (getD table (i * stride + base + k) 0 + getD table (rest * stride + base + c - k) 0) value && le k c) ≡ true
-        → row-left (pair-test le positions floors table side stride base c value) last (c + 1) i k ≡ some (i, k)
-    pair-passes value i k {x} {rest} e f h t = row-passes (pair-test le positions floors table side stride base c value) last (c + 1) i k h (pair-sum value i k x rest e f h ∙ t)
+    pub pair-passes : (i k : ℕ) {x rest : ℕ} → x ≡ getD positions i 0 → rest ≡ getD floors (cut .side - x) 0 → k < cut .share + 1
+        → (eqb (getD table (i * cut .stride + cut .base + k) 0 + getD table (rest * cut .stride + cut .base + cut .share - k) 0) (cut .value) && le k (cut .share)) ≡ true
+        → row-left (pair-test le positions floors table cut) (cut .last) (cut .share + 1) i k ≡ some (i, k)
+    pair-passes i k {x} {rest} e f h t = row-passes (pair-test le positions floors table cut) (cut .last) (cut .share + 1) i k h (pair-sum i k x rest e f h ∙ t)

@@ -5,7 +5,7 @@ use mathlib.Core.Option.{Option, none, some}
 use mathlib.Core.List.{List}
 use Prim.Native.Nat.{ℕ, _+_, _-_, _*_, _/_, _%_, _≤_, _<_}
 use lib.Dec.{eqb}
-use lib.ListN.{length, getD}
+use lib.ListN.{length, getD, drop}
 use Rattle.cutting.specs.declared.Direction.the-variants.{Length, Width}
 use Rattle.cutting.specs.declared.Node.{Node}
 use Rattle.cutting.specs.declared.Node.the-variants.{Waste, Piece, Turned, Cut}
@@ -15,7 +15,10 @@ use Rattle.cutting.specs.Pieces.{fits-in}
 use Rattle.cutting.specs.Sides.{rect-of}
 use Rattle.cutting.specs.Listed.{size-in, price-in, heavy-in, node-in}
 use Rattle.table.specs.States.{Blocks}
+use Rattle.table.specs.declared.TableSize.{TableSize}
 use Rattle.choice.specs.declared.Cell.{Cell}
+use Rattle.choice.specs.declared.Place.{Place}
+use Rattle.choice.specs.declared.CutSearch.{CutSearch}
 use Rattle.choice.specs.declared.Chosen.{Chosen}
 use Rattle.choice.specs.declared.PieceFound.{PieceFound}
 use Rattle.choice.specs.declared.PieceFound.the-variants as piece
@@ -49,15 +52,15 @@ pub record Numbered (count : ℕ) (pieces : List ℕ) : Type 0 where
   pub counted : count ≤ most-pieces
   pub nodes : (j : ℕ) → j < count → node-in pieces j < 128
 
--- whether the i-th position with share k for the first part, within share c, earns the value: the first part has row i of the table, the
+-- whether the i-th position with share k for the first part, within the share, earns the value: the first part has row i of the table, the
 -- second the row of the floor of the true remainder
-abbrev pub pair-test : (ℕ → ℕ → Bool) → List ℕ → List ℕ → List ℕ → ℕ → ℕ → ℕ → ℕ → ℕ → ℕ × ℕ → Bool
-pair-test le positions floors table side stride base c value u =
-    eqb (getD table (u .0 * stride + base + u .1) 0 + getD table (getD floors (side - getD positions (u .0) 0) 0 * stride + base + (c - u .1)) 0) value && le (u .1) c
+abbrev pub pair-test : (ℕ → ℕ → Bool) → List ℕ → List ℕ → List ℕ → CutSearch → ℕ × ℕ → Bool
+pair-test le positions floors table cut u =
+    eqb (getD table (u .0 * cut .stride + cut .base + u .1) 0 + getD table (getD floors (cut .side - getD positions (u .0) 0) 0 * cut .stride + cut .base + (cut .share - u .1)) 0) (cut .value) && le (u .1) (cut .share)
 
 -- the first pair that earns the value: the positions from the first to the last but one rising, and for each the shares rising
-unfoldable pub first-index : (ℕ → ℕ → Bool) → List ℕ → List ℕ → List ℕ → ℕ → ℕ → ℕ → ℕ → ℕ → ℕ → Option (ℕ × ℕ)
-first-index le positions floors table side last stride base c value = first (pair-test le positions floors table side stride base c value) (pairs (range 1 (last - 1)) (range 0 (c + 1)))
+unfoldable pub first-index : (ℕ → ℕ → Bool) → List ℕ → List ℕ → List ℕ → CutSearch → Option (ℕ × ℕ)
+first-index le positions floors table cut = first (pair-test le positions floors table cut) (pairs (range 1 (cut .last - 1)) (range 0 (cut .share + 1)))
 
 -- the cut that a search found: its position and the first part's share
 abbrev pub cut-found : List ℕ → Option (ℕ × ℕ) → CutFound
@@ -74,15 +77,29 @@ abbrev pub or-length-cut : CutFound → Chosen → Chosen
 or-length-cut cut.Missing r = r
 or-length-cut (cut.At x k) r = record { node = Cut Length x; share = k }
 
--- a row of the table, from a share up to c: its words are there, and the sum of two of them does not wrap
-abbrev pub Row : List ℕ → ℕ → ℕ → ℕ → ℕ → Type 0
-Row table stride base c i = (k : ℕ) → k ≤ c → (i * stride + base + k < length table) × (getD table (i * stride + base + k) 0 ≤ most-wide-figure)
+-- the search for a length cut of a cell, and for a width cut
+abbrev pub length-search : TableSize → Cell → Place → CutSearch
+length-search size cell at =
+    record { side = cell .sides .length; last = at .a; stride = size .columns * (size .capacity + 1); base = at .b * (size .capacity + 1); share = cell .share; value = at .value }
+
+abbrev pub width-search : TableSize → Cell → Place → CutSearch
+width-search size cell at =
+    record { side = cell .sides .width; last = at .b; stride = size .capacity + 1; base = at .a * (size .columns * (size .capacity + 1)); share = cell .share; value = at .value }
+
+-- the length cut, or failing it the width cut, or waste; the floors of the widths stand from entry 1021 on
+abbrev pub cut-chosen : (ℕ → ℕ → Bool) → List ℕ → List ℕ → List ℕ → List ℕ → TableSize → Cell → Place → Chosen
+cut-chosen le normal-lengths normal-widths floors table size cell at = or-length-cut (cut-found normal-lengths (first-index le normal-lengths floors table (length-search size cell at)))
+    (or-width-cut (cut-found normal-widths (first-index le normal-widths (drop 1021 floors) table (width-search size cell at))))
+
+-- a row of the table, from share 0 up to that of the search: its words are there, and the sum of two of them does not wrap
+abbrev pub Row : List ℕ → CutSearch → ℕ → Type 0
+Row table cut i = (k : ℕ) → k ≤ cut .share → (i * cut .stride + cut .base + k < length table) × (getD table (i * cut .stride + cut .base + k) 0 ≤ most-wide-figure)
 
 -- what the search for a cut reads: the positions below the last are listed and not above the side, and their rows and those of the
 -- remainders are there
-pub record Searchable (positions floors table : List ℕ) (side last stride base c : ℕ) : Type 0 where
-  pub mapped : side < length floors
-  pub shares : c ≤ most-capacity
-  pub listed : (i : ℕ) → i < last → (i < length positions) × (getD positions i 0 ≤ side)
-  pub rows : (i : ℕ) → i < last → Row table stride base c i
-  pub remainders : (x : ℕ) → x ≤ side → Row table stride base c (getD floors x 0)
+pub record Searchable (positions floors table : List ℕ) (cut : CutSearch) : Type 0 where
+  pub mapped : cut .side < length floors
+  pub shares : cut .share ≤ most-capacity
+  pub listed : (i : ℕ) → i < cut .last → (i < length positions) × (getD positions i 0 ≤ cut .side)
+  pub rows : (i : ℕ) → i < cut .last → Row table cut i
+  pub remainders : (x : ℕ) → x ≤ cut .side → Row table cut (getD floors x 0)

@@ -16,7 +16,7 @@ ghost use Rattle.cutting.specs.Pieces.{fits-in};
 ghost use Rattle.cutting.specs.Sides.{rect-of};
 ghost use Rattle.table.specs.Contracts.{size-job};
 ghost use Rattle.state_fill.specs.Cells.{under};
-ghost use Rattle.choice.specs.Search.{numbered-node, piece-test, piece-found, Numbered, first-index, cut-found, or-width-cut, or-length-cut, Ordered, Searchable};
+ghost use Rattle.choice.specs.Search.{numbered-node, piece-test, piece-found, Numbered, Ordered, first-index, cut-found, length-search, width-search, cut-chosen, Searchable};
 ghost use Rattle.choice.specs.Choice.{ChoiceInput, Inside, chosen-at};
 
 // A cell: a rectangle and a share.
@@ -41,6 +41,24 @@ pub enum PieceFound {
 pub enum CutFound {
     At(u16, u16),
     Missing,
+}
+
+// Where a cell stands in the table: the indexes of its tabled length and width, and its figure.
+struct Place {
+    pub a: usize,
+    pub b: usize,
+    pub value: u64,
+}
+
+// A search for a cut of a cell in one direction: the side that is cut and the index of its tabled length, the words from one row of the
+// table to the next and the word where row 0 begins, the share that is divided and the value that is to be earned.
+struct CutSearch {
+    pub side: usize,
+    pub last: usize,
+    pub stride: usize,
+    pub base: usize,
+    pub share: usize,
+    pub value: u64,
 }
 
 // A number as an index.
@@ -147,26 +165,24 @@ fn find_cut(
     table: &[u64],
     blocks: &[u32],
     d: usize,
-    side: usize,
-    last: usize,
-    stride: usize,
-    base: usize,
-    c: usize,
-    value: u64,
+    cut: CutSearch,
 ) -> CutFound
-    requires { ⌜ Searchable (now positions) (now floors) (now table) side last stride base c × Ordered (now blocks) d ⌝ }
-    ensures { λ r. ⌜ r ≡ cut-found (now (positions .entry)) (first-index (under (now (blocks .entry)) d) (now (positions .entry)) (now (floors .entry)) (now (table .entry)) side last stride base c value) ⌝ }
+    requires { ⌜ Searchable (now positions) (now floors) (now table) cut × Ordered (now blocks) d ⌝ }
+    ensures { λ r. ⌜ r ≡ cut-found (now (positions .entry)) (first-index (under (now (blocks .entry)) d) (now (positions .entry)) (now (floors .entry)) (now (table .entry)) cut) ⌝ }
 {
+    let stride = cut.stride;
+    let base = cut.base;
+    let c = cut.share;
     let shares = c + 1;
     let mut found = CutFound::Missing;
-    'search: for i in 1..last {
+    'search: for i in 1..cut.last {
         let x = positions[i];
-        let rest = widen(floors[side - widen(x)]);
+        let rest = widen(floors[cut.side - widen(x)]);
         let first = i * stride + base;
         let second = rest * stride + base + c;
         for k in 0..shares {
             let sum = table[first + k] + table[second - k];
-            if pair_earns(blocks, d, k, c, sum, value) {
+            if pair_earns(blocks, d, k, c, sum, cut.value) {
                 found = CutFound::At(x, k as u16);
                 break 'search;
             }
@@ -175,13 +191,11 @@ fn find_cut(
     found
 }
 
-// The first length cut that earns a value, or failing all the first width cut, or waste. A row of the table has the words of one normal
-// length, the a-th; those of one normal width in it, the b-th, stand together.
+// The first length cut that earns a cell's figure, or failing all the first width cut, or waste. A row of the table has the words of one
+// normal length, the a-th; those of one normal width in it, the b-th, stand together.
 fn choose_cut(
     cell: Cell,
-    value: u64,
-    a: usize,
-    b: usize,
+    place: Place,
     size: TableSize,
     normal_lengths: &[u16],
     normal_widths: &[u16],
@@ -190,50 +204,36 @@ fn choose_cut(
     blocks: &[u32],
     d: usize,
 ) -> Chosen
-    requires { ⌜ Searchable (now «normal_lengths») (now floors) (now table) (cell .sides .length) a (size .columns * (size .capacity + 1)) (b * (size .capacity + 1)) (cell .share)
-        × Searchable (now «normal_widths») (drop 1021 (now floors)) (now table) (cell .sides .width) b (size .capacity + 1) (a * (size .columns * (size .capacity + 1))) (cell .share) × Ordered (now blocks) d ⌝ }
-    ensures { λ r. ⌜ r ≡ or-length-cut
-        (cut-found (now («normal_lengths» .entry)) (first-index (under (now (blocks .entry)) d) (now («normal_lengths» .entry)) (now (floors .entry)) (now (table .entry)) (cell .sides .length) a (size .columns * (size .capacity + 1)) (b * (size .capacity + 1)) (cell .share) value))
-        (or-width-cut (cut-found (now («normal_widths» .entry)) (first-index (under (now (blocks .entry)) d) (now («normal_widths» .entry)) (drop 1021 (now (floors .entry))) (now (table .entry)) (cell .sides .width) b (size .capacity + 1) (a * (size .columns * (size .capacity + 1))) (cell .share) value))) ⌝ }
+    requires { ⌜ Searchable (now «normal_lengths») (now floors) (now table) (length-search size cell place)
+        × Searchable (now «normal_widths») (drop 1021 (now floors)) (now table) (width-search size cell place) × Ordered (now blocks) d ⌝ }
+    ensures { λ r. ⌜ r ≡ cut-chosen (under (now (blocks .entry)) d) (now («normal_lengths» .entry)) (now («normal_widths» .entry)) (now (floors .entry)) (now (table .entry)) size cell place ⌝ }
 {
-    let l = cell.sides.length as usize;
-    let w = cell.sides.width as usize;
-    let c = cell.share as usize;
+    let share = cell.share as usize;
     let shares = size.capacity as usize + 1;
     let row = size.columns as usize * shares;
-    let column = b * shares;
-    let start = a * row;
-    let width_floors = &floors[1021..];
-    let along = find_cut(
-        normal_lengths,
-        floors,
-        table,
-        blocks,
-        d,
-        l,
-        a,
-        row,
-        column,
-        c,
-        value,
-    );
-    if let CutFound::At(x, k) = along {
+    let along = CutSearch {
+        side: cell.sides.length as usize,
+        last: place.a,
+        stride: row,
+        base: place.b * shares,
+        share: share,
+        value: place.value,
+    };
+    let length_cut = find_cut(normal_lengths, floors, table, blocks, d, along);
+    if let CutFound::At(x, k) = length_cut {
         return choice_of(Node::Cut(Direction::Length, x), k);
     }
-    let across = find_cut(
-        normal_widths,
-        width_floors,
-        table,
-        blocks,
-        d,
-        w,
-        b,
-        shares,
-        start,
-        c,
-        value,
-    );
-    if let CutFound::At(x, k) = across {
+    let width_floors = &floors[1021..];
+    let across = CutSearch {
+        side: cell.sides.width as usize,
+        last: place.b,
+        stride: shares,
+        base: place.a * row,
+        share: share,
+        value: place.value,
+    };
+    let width_cut = find_cut(normal_widths, width_floors, table, blocks, d, across);
+    if let CutFound::At(x, k) = width_cut {
         return choice_of(Node::Cut(Direction::Width, x), k);
     }
     choice_of(Node::Waste, 0)
@@ -267,11 +267,14 @@ pub fn choose(
     if let PieceFound::Laid(node) = alone {
         return choice_of(node, 0);
     }
+    let place = Place {
+        a: a,
+        b: b,
+        value: value,
+    };
     choose_cut(
         cell,
-        value,
-        a,
-        b,
+        place,
         size,
         normal_lengths,
         normal_widths,

@@ -1,5 +1,5 @@
 -- `choice::choose` meets its contract.
-use Rattle.choice.proofs.Choice.{sizes, there, cuts-searchable, none-chosen, piece-chosen, cut-chosen}
+use Rattle.choice.proofs.Choice.{sizes, there, cuts-searchable, none-chosen, piece-chosen, cut-taken}
 use native.Mathlib.Omega.{arith}
 use lib.Seq.{getD-drop}
 use lib.ListN.{getD, drop}
@@ -77,13 +77,13 @@ find-piece-requires c κs =
 choose-cut-requires : tie.Need-choose-cut-requires
 choose-cut-requires c κs =
     let e = c .before .before .before .before .before .before .before .before .before .before .before .before .before .before .before .before .before in
-    let ready = cuts-searchable (e .pre .0) (e .pre .1) refl (column e) in
+    let ready = cuts-searchable (e .pre .0) (e .pre .1) _ refl (column e) in
     (ready .0, ready .1, e .pre .0 .ordered)
 
 returns-3 : tie.Need-returns-3
 returns-3 c =
     let e = c .before .before .before .before .before .before .before .before .before .before .before .before .before .before .before .before .before .before in
-    cut-chosen (e .pre .0) (e .pre .1) refl (column e) refl (c .before .before .before .before .if1 .left) (sym (c .before .before .before .find-piece .ensures) ∙ c .before .enum-told .given .1) (c .choose-cut .ensures)
+    cut-taken (e .pre .0) (e .pre .1) refl (column e) refl (c .before .before .before .before .if1 .left) (sym (c .before .before .before .find-piece .ensures) ∙ c .before .enum-told .given .1) (c .choose-cut .ensures)
 
 pub choose-spec : {M : Type 1} → statement M
 choose-spec =
