@@ -247,18 +247,18 @@ fn exact_accepted(
     match filled {
         BoundAnswer::Refused(r) => ExactAnswer::Refused(r),
         BoundAnswer::Answered(report) => exact_of(plan_of_pieces(
-            table_of(plate, count, report),
-            &pieces,
             Sawing {
+                size: table_of(plate, count, report),
                 report: report,
+                d: d,
                 kerf: job.kerf,
             },
+            &pieces,
             &normal_lengths[..],
             &normal_widths[..],
             &floors[..],
             &table[..],
             &blocks[..],
-            d,
             kinds,
             operands,
         )),

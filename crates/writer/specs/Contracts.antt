@@ -21,11 +21,13 @@ use Rattle.refusal.specs.Refusals.{next, first-refusal}
 use Rattle.refusal.specs.declared.Checked.{Checked}
 use Rattle.table.specs.declared.TableSize.{TableSize}
 use Rattle.table.specs.Contracts.{size-job}
+use Rattle.state_fill.specs.Cells.{under}
 use Rattle.bound.specs.declared.BoundReport.{BoundReport}
 use Rattle.bound.specs.Bound.{Memory, memory-checks, list-after}
 use Rattle.choice.specs.declared.Cell.{Cell}
 use Rattle.choice.specs.declared.Chosen.{Chosen}
-use Rattle.choice.specs.Choice.{Inside, chosen-at}
+use Rattle.choice.specs.Choice.{ChoiceInput, Inside, chosen-at}
+use Rattle.writer.specs.declared.Sawing.{Sawing}
 use Rattle.writer.specs.declared.nodes.Settled.{Settled}
 use Rattle.writer.specs.declared.nodes.Step.{Step}
 use Rattle.writer.specs.declared.WriteAnswer.{WriteAnswer}
@@ -86,6 +88,15 @@ pub record SettledAt (le : ℕ → ℕ → Bool) (kerf : ℕ) (size : TableSize)
 -- every side of the pieces is above the kerf, which was added to it
 abbrev pub Thick : ℕ → TableSize → List ℕ → Type 0
 Thick kerf size pieces = KindsAbove kerf (size-job size pieces)
+
+-- what a plan is read from: a filled table with its lists and floors, of pieces above the kerf
+abbrev pub Readable : Sawing → (blocks pieces normal-lengths normal-widths floors table : List ℕ) → Type 0
+Readable sawing blocks pieces normal-lengths normal-widths floors table =
+    ChoiceInput (sawing .size) blocks (sawing .d) pieces normal-lengths normal-widths floors table × Thick (sawing .kerf) (sawing .size) pieces
+
+-- the plan that is read
+abbrev pub sawn-plan : Sawing → List ℕ → List ℕ → Tree laid.Piece
+sawn-plan sawing blocks pieces = whole-plan (under blocks (sawing .d)) (sawing .kerf) (sawing .size) pieces
 
 -- each of the first n cells lies on the plate, and its half perimeter and its place are at most the plate's half perimeter
 pub record Waiting (size : TableSize) (pieces waiting : List ℕ) (n : ℕ) : Type 0 where

@@ -24,9 +24,7 @@ ghost use Rattle.job.specs.Block.{with-full-demand, job-of};
 ghost use Rattle.job.specs.Weights.{weight-in};
 ghost use Rattle.refusal.specs.declared.Checked.the-variants.{Passed};
 ghost use Rattle.bound.specs.Bound.{lent, Leaves, bound-report};
-ghost use Rattle.state_fill.specs.Cells.{under};
-ghost use Rattle.choice.specs.Choice.{ChoiceInput};
-ghost use Rattle.writer.specs.Contracts.{table-of, whole-plan, Thick, Weighed, room-verdict, Planned};
+ghost use Rattle.writer.specs.Contracts.{table-of, Readable, sawn-plan, Weighed, room-verdict, Planned};
 ghost use Rattle.writer.specs.Write.{reported, nodes-verdict, WritePromises};
 
 // What the writing call reports: what the bound call does, and the number of the plan's nodes.
@@ -70,43 +68,42 @@ fn with_nodes(report: BoundReport, nodes: u64) -> WriteReport
     }
 }
 
-// The bound's report, and the kerf that the plan loses at each cut.
+// What a plan is read from, beside lists and table: the table's size, the bound's report, the last digit of the states and the kerf that
+// the plan loses at each cut.
 pub struct Sawing {
+    pub size: TableSize,
     pub report: BoundReport,
+    pub d: usize,
     pub kerf: u16,
 }
 
 // The plan of pieces whose lists, floors and table are filled, over the states of the digits up to d: refusal 21 with the nodes needed, or
 // the plan in preorder.
 pub fn plan_of_pieces(
-    size: TableSize,
-    pieces: &[u32; 640],
     sawing: Sawing,
+    pieces: &[u32; 640],
     normal_lengths: &[u16],
     normal_widths: &[u16],
     floors: &[u16],
     table: &[u64],
     blocks: &[u32],
-    d: usize,
     kinds: &mut [u8],
     operands: &mut [u16],
 ) -> WriteAnswer
-    requires { ⌜ ChoiceInput size (now blocks) d (now pieces) (now «normal_lengths») (now «normal_widths») (now floors) (now table) × Thick (sawing .kerf) size (now pieces) ⌝ }
-    ensures { λ r. ⌜ Planned (nodes-verdict (whole-plan (under (now (blocks .entry)) d) (sawing .kerf) size (now (pieces .entry))) (now (kinds .entry)) (now (operands .entry))) (sawing .report) (whole-plan (under (now (blocks .entry)) d) (sawing .kerf) size (now (pieces .entry)))
+    requires { ⌜ Readable sawing (now blocks) (now pieces) (now «normal_lengths») (now «normal_widths») (now floors) (now table) ⌝ }
+    ensures { λ r. ⌜ Planned (nodes-verdict (sawn-plan sawing (now (blocks .entry)) (now (pieces .entry))) (now (kinds .entry)) (now (operands .entry))) (sawing .report) (sawn-plan sawing (now (blocks .entry)) (now (pieces .entry)))
         (now (kinds .entry)) (now (operands .entry)) (now (kinds .exit)) (now (operands .exit)) r ⌝ }
 {
     let mut own_kinds = [0u8; 4095];
     let mut own_operands = [0u16; 4095];
     let count = list_nodes(
-        sawing.kerf,
-        size,
+        sawing,
         pieces,
         normal_lengths,
         normal_widths,
         floors,
         table,
         blocks,
-        d,
         &mut own_kinds[..],
         &mut own_operands[..],
     );
@@ -170,18 +167,18 @@ fn write_accepted(
     match bounded {
         BoundAnswer::Refused(r) => WriteAnswer::Refused(r),
         BoundAnswer::Answered(report) => plan_of_pieces(
-            table_of(plate, count, report),
-            &pieces,
             Sawing {
+                size: table_of(plate, count, report),
                 report: report,
+                d: 0,
                 kerf: job.kerf,
             },
+            &pieces,
             &normal_lengths[..],
             &normal_widths[..],
             &floors[..],
             &table[..],
             &blocks,
-            0,
             kinds,
             operands,
         ),

@@ -3,6 +3,7 @@
 // cut whose second part would be below 1 is left out: the walk goes on with its first part. Cells have the kerf added to their sides.
 // The half perimeter of a waiting cell and its place are at most the plate's half perimeter, so at most 2,039 cells wait, and one array of
 // 6,120 entries holds them.
+use crate::Sawing;
 use choice::Cell;
 use choice::Chosen;
 use choice::choose;
@@ -21,8 +22,8 @@ ghost use Rattle.cutting.specs.Preorder.{kind-of, operand-of};
 ghost use Rattle.cutting.specs.Sides.{rect-of};
 ghost use Rattle.table.specs.Contracts.{size-job};
 ghost use Rattle.state_fill.specs.Cells.{under};
-ghost use Rattle.choice.specs.Choice.{ChoiceInput, Inside};
-ghost use Rattle.writer.specs.Contracts.{cell-at, with-cell, plate-cell, whole-plan, left-out, first-of, SettledAt, Thick, Waiting, Stepped, NodesListed, Copyable};
+ghost use Rattle.choice.specs.Choice.{Inside};
+ghost use Rattle.writer.specs.Contracts.{cell-at, with-cell, plate-cell, left-out, first-of, SettledAt, Readable, sawn-plan, Waiting, Stepped, NodesListed, Copyable};
 
 // A cell and the choice there, which is no cut that is left out.
 struct Settled {
@@ -103,19 +104,19 @@ fn first_cell(cell: Cell, chosen: Chosen) -> Cell
 // The cell that the plan of a cell goes on with: past the cuts that are left out, first part after first part.
 fn settle(
     cell: Cell,
-    kerf: u16,
-    size: TableSize,
+    sawing: Sawing,
     pieces: &[u32; 640],
     normal_lengths: &[u16],
     normal_widths: &[u16],
     floors: &[u16],
     table: &[u64],
     blocks: &[u32],
-    d: usize,
 ) -> Settled
-    requires { ⌜ ChoiceInput size (now blocks) d (now pieces) (now «normal_lengths») (now «normal_widths») (now floors) (now table) × Thick kerf size (now pieces) × Inside (size-job size (now pieces)) size cell ⌝ }
-    ensures { λ r. ⌜ SettledAt (under (now (blocks .entry)) d) kerf size (now (pieces .entry)) cell r ⌝ }
+    requires { ⌜ Readable sawing (now blocks) (now pieces) (now «normal_lengths») (now «normal_widths») (now floors) (now table) × Inside (size-job (sawing .size) (now pieces)) (sawing .size) cell ⌝ }
+    ensures { λ r. ⌜ SettledAt (under (now (blocks .entry)) (sawing .d)) (sawing .kerf) (sawing .size) (now (pieces .entry)) cell r ⌝ }
 {
+    let size = sawing.size;
+    let d = sawing.d;
     let mut at = cell;
     let mut chosen = choose(
         at,
@@ -128,7 +129,7 @@ fn settle(
         blocks,
         d,
     );
-    while left_out(at, chosen, kerf) {
+    while left_out(at, chosen, sawing.kerf) {
         at = first_cell(at, chosen);
         chosen = choose(
             at,
@@ -152,31 +153,27 @@ fn settle(
 fn next_node(
     waiting: &mut [u16; 6120],
     depth: usize,
-    kerf: u16,
-    size: TableSize,
+    sawing: Sawing,
     pieces: &[u32; 640],
     normal_lengths: &[u16],
     normal_widths: &[u16],
     floors: &[u16],
     table: &[u64],
     blocks: &[u32],
-    d: usize,
 ) -> Step
-    requires { ⌜ ChoiceInput size (now blocks) d (now pieces) (now «normal_lengths») (now «normal_widths») (now floors) (now table) × Thick kerf size (now pieces) × Waiting size (now pieces) (now waiting) depth × (0 < depth) ⌝ }
-    ensures { λ r. ⌜ Stepped (under (now (blocks .entry)) d) kerf size (now (pieces .entry)) (now (waiting .entry)) (now (waiting .exit)) depth r ⌝ }
+    requires { ⌜ Readable sawing (now blocks) (now pieces) (now «normal_lengths») (now «normal_widths») (now floors) (now table) × Waiting (sawing .size) (now pieces) (now waiting) depth × (0 < depth) ⌝ }
+    ensures { λ r. ⌜ Stepped (under (now (blocks .entry)) (sawing .d)) (sawing .kerf) (sawing .size) (now (pieces .entry)) (now (waiting .entry)) (now (waiting .exit)) depth r ⌝ }
 {
     let top = depth - 1;
     let settled = settle(
         waiting_cell(waiting, top),
-        kerf,
-        size,
+        sawing,
         pieces,
         normal_lengths,
         normal_widths,
         floors,
         table,
         blocks,
-        d,
     );
     let cell = settled.cell;
     let chosen = settled.chosen;
@@ -195,7 +192,7 @@ fn next_node(
     put_cell(waiting, top, second);
     put_cell(waiting, depth, first_cell(cell, chosen));
     Step {
-        node: Node::Cut(d, x - kerf),
+        node: Node::Cut(d, x - sawing.kerf),
         depth: depth + 1,
     }
 }
@@ -220,23 +217,21 @@ fn put_operand(operands: &mut [u16], at: usize, node: Node)
 
 // The number of nodes of the plan from the plate downward; lists them in preorder from the first entries on, as far as the lists go.
 pub fn list_nodes(
-    kerf: u16,
-    size: TableSize,
+    sawing: Sawing,
     pieces: &[u32; 640],
     normal_lengths: &[u16],
     normal_widths: &[u16],
     floors: &[u16],
     table: &[u64],
     blocks: &[u32],
-    d: usize,
     kinds: &mut [u8],
     operands: &mut [u16],
 ) -> usize
-    requires { ⌜ ChoiceInput size (now blocks) d (now pieces) (now «normal_lengths») (now «normal_widths») (now floors) (now table) × Thick kerf size (now pieces) ⌝ }
-    ensures { λ r. ⌜ NodesListed (whole-plan (under (now (blocks .entry)) d) kerf size (now (pieces .entry))) (now (kinds .entry)) (now (operands .entry)) (now (kinds .exit)) (now (operands .exit)) r ⌝ }
+    requires { ⌜ Readable sawing (now blocks) (now pieces) (now «normal_lengths») (now «normal_widths») (now floors) (now table) ⌝ }
+    ensures { λ r. ⌜ NodesListed (sawn-plan sawing (now (blocks .entry)) (now (pieces .entry))) (now (kinds .entry)) (now (operands .entry)) (now (kinds .exit)) (now (operands .exit)) r ⌝ }
 {
     let mut waiting = [0u16; 6120];
-    let plate = plate_cell(size);
+    let plate = plate_cell(sawing.size);
     put_cell(&mut waiting, 0, plate);
     let mut depth: usize = 1;
     let mut nodes: usize = 0;
@@ -244,15 +239,13 @@ pub fn list_nodes(
         let step = next_node(
             &mut waiting,
             depth,
-            kerf,
-            size,
+            sawing,
             pieces,
             normal_lengths,
             normal_widths,
             floors,
             table,
             blocks,
-            d,
         );
         let node = step.node;
         put_kind(kinds, nodes, node);

@@ -14,36 +14,36 @@ use Rattle.writer.proofs.nodes.settle.Statement.{statement}
 use Rattle.writer.proofs.nodes.settle.Tie as tie
 
 abbrev Inv-loop : tie.InvT-loop
-Inv-loop kerf size pieces normal-lengths normal-widths floors table blocks d at₀ chosen₀ at chosen =
-    (plan-at (under blocks d) kerf size pieces at₀ ≡ plan-at (under blocks d) kerf size pieces at) × (chosen ≡ chosen-at (under blocks d) size pieces at) × Inside (size-job size pieces) size at × (half-of at ≤ half-of at₀)
+Inv-loop sawing pieces normal-lengths normal-widths floors table blocks size d at₀ chosen₀ at chosen =
+    (plan-at (under blocks d) (sawing .kerf) size pieces at₀ ≡ plan-at (under blocks d) (sawing .kerf) size pieces at) × (chosen ≡ chosen-at (under blocks d) size pieces at) × Inside (size-job size pieces) size at × (half-of at ≤ half-of at₀)
 
 abbrev μ-loop : tie.MeasureT-loop
-μ-loop kerf size pieces normal-lengths normal-widths floors table blocks d at₀ chosen₀ at chosen = half-of at
+μ-loop sawing pieces normal-lengths normal-widths floors table blocks size d at₀ chosen₀ at chosen = half-of at
 
 choose-requires : tie.Need-choose-requires Inv-loop μ-loop
-choose-requires c κs = let e = c .before .before .before .before .before in (e .pre .0, e .pre .2)
+choose-requires c κs = let e = c .before .before .before .before .before .before in (e .pre .0 .0, e .pre .1)
 
 loop-holds : tie.Need-loop-holds Inv-loop μ-loop
-loop-holds c = let e = c .before .before .before .before .before .before in (refl, c .choose .ensures, e .pre .2, omega arith)
+loop-holds c = let e = c .before .before .before .before .before .before .before in (refl, c .choose .ensures, e .pre .1, omega arith)
 
 -- where the call began, and what a turn goes on with
 abbrev start : tie.After-first-cell Inv-loop μ-loop → tie.Start Inv-loop μ-loop
-start k = k .before .before .before .before .before .before .before .before .before .before
+start k = k .before .before .before .before .before .before .before .before .before .before .before
 
 -- the order of the states
 abbrev order-of : tie.Start Inv-loop μ-loop → ℕ → ℕ → Bool
-order-of e = under (now (e .args .blocks)) (e .args .d)
+order-of e = under (now (e .args .blocks)) (e .args .sawing .d)
 
 on : (k : tie.After-first-cell Inv-loop μ-loop)
-    → (plan-at (order-of (start k)) (start k .args .kerf) (start k .args .size) (now (start k .args .pieces)) (k .before .before .before .loop .at) ≡ plan-at (order-of (start k)) (start k .args .kerf) (start k .args .size) (now (start k .args .pieces)) (k .first-cell .result))
-    × Inside (size-job (start k .args .size) (now (start k .args .pieces))) (start k .args .size) (k .first-cell .result) × (half-of (k .first-cell .result) < half-of (k .before .before .before .loop .at))
+    → (plan-at (order-of (start k)) (start k .args .sawing .kerf) (start k .args .sawing .size) (now (start k .args .pieces)) (k .before .before .before .loop .at) ≡ plan-at (order-of (start k)) (start k .args .sawing .kerf) (start k .args .sawing .size) (now (start k .args .pieces)) (k .first-cell .result))
+    × Inside (size-job (start k .args .sawing .size) (now (start k .args .pieces))) (start k .args .sawing .size) (k .first-cell .result) × (half-of (k .first-cell .result) < half-of (k .before .before .before .loop .at))
 on k =
     let e = start k in
     let turn = k .before .before .before .loop in
-    goes-on (order-of e) (e .args .kerf) (e .args .size) (now (e .args .pieces)) (e .pre .0 .tabled .in-range, e .pre .0 .tabled .order) (turn .at) (turn .inv .2) (turn .inv .1) (e .pre .1) (sym (k .before .before .left-out .ensures) ∙ k .before .if1 .taken) (k .first-cell .ensures)
+    goes-on (order-of e) (e .args .sawing .kerf) (e .args .sawing .size) (now (e .args .pieces)) (e .pre .0 .0 .tabled .in-range, e .pre .0 .0 .tabled .order) (turn .at) (turn .inv .2) (turn .inv .1) (e .pre .0 .1) (sym (k .before .before .left-out .ensures) ∙ k .before .if1 .taken) (k .first-cell .ensures)
 
 choose-requires-2 : tie.Need-choose-requires-2 Inv-loop μ-loop
-choose-requires-2 c κs = (start c .pre .0, on c .1)
+choose-requires-2 c κs = (start c .pre .0 .0, on c .1)
 
 loop-less : tie.Need-loop-less Inv-loop μ-loop
 loop-less c = on (c .before) .2
