@@ -28,7 +28,7 @@ use Rattle.table.specs.Two.{pair-count}
 use Rattle.table.specs.States.{figure-pair, pair-state}
 use Rattle.bound.specs.Bound.{Memory, wide-job, block-capacity}
 use Rattle.bound.proofs.Listed.{pieces-range}
-use Rattle.two_bound.specs.Two.{two-checks, storage-checks, answer-by, TwoLeaves, weighed-verdict, BothAccepted, two-verdict, block-figure, two-block-report, two-answer, two-values, two-outcome, TwoHolds, TwoPromises}
+use Rattle.two_bound.specs.Two.{two-checks, two-storage-checks, two-answer-by, TwoLeaves, weighed-verdict, BothAccepted, two-verdict, block-figure, two-block-report, two-answer, two-values, two-outcome, TwoHolds, TwoPromises}
 use Rattle.two_bound.specs.Contracts.{Statable, Stated, Pairable, Paired}
 use Rattle.two_bound.specs.declared.TwoReport.{TwoReport}
 use Rattle.two_bound.specs.declared.TwoAnswer.{TwoAnswer}
@@ -50,12 +50,12 @@ two-held J first second h = record {
   second-is = refl;
 }
 
-said-by : (v : Checked) (b : TwoReport) → two-outcome (answer-by v b) ≡ outcome-by v (two-values b)
+said-by : (v : Checked) (b : TwoReport) → two-outcome (two-answer-by v b) ≡ outcome-by v (two-values b)
 said-by Passed b = refl
 said-by (Refused r) b = refl
 
 -- an answer with a report: the verdict passed, and it is the report
-answered-behind : (v : Checked) (b : TwoReport) {x : TwoReport} → answer.Answered x ≡ answer-by v b → (v ≡ Passed) × (x ≡ b)
+answered-behind : (v : Checked) (b : TwoReport) {x : TwoReport} → answer.Answered x ≡ two-answer-by v b → (v ≡ Passed) × (x ≡ b)
 answered-behind Passed b e = (refl, cc)
 answered-behind (Refused r) b e = (cc, cc)
 
@@ -93,19 +93,19 @@ module _ (s : List ℕ) (choices : Choices) (first second : List ℕ) where
         held : (b : TwoReport) → two-answer s choices first second old ≡ answer.Answered b → TwoHolds (block-job s choices) (weight-in first) (weight-in second) (b .«first_capacity») (b .«second_capacity») (b .bound)
         held b f =
             let w = answered-behind (two-verdict s choices first second old) (two-block-report s choices first second) (sym f) in
-            let v = passed-both (weighed-verdict s choices first second) (first-refusal (storage-checks (wide-job s choices) (block-capacity s choices first) (block-capacity s choices second) old)) (w .0) in
+            let v = passed-both (weighed-verdict s choices first second) (first-refusal (two-storage-checks (wide-job s choices) (block-capacity s choices first) (block-capacity s choices second) old)) (w .0) in
             rw (w .1) (two-held (block-job s choices) (weight-in first) (weight-in second) (in-range (v .0)))
 
     -- a refusal before the storage checks changes nothing
     pub early : (r : Refusal) → weighed-verdict s choices first second ≡ Refused r → TwoPromises s choices first second old old (answer.Refused r)
-    early r v = promised (answer.Refused r) (sym (ap (λ v. answer-by (next v (first-refusal (storage-checks (wide-job s choices) (block-capacity s choices first) (block-capacity s choices second) old))) (two-block-report s choices first second)) v))
+    early r v = promised (answer.Refused r) (sym (ap (λ v. two-answer-by (next v (first-refusal (two-storage-checks (wide-job s choices) (block-capacity s choices first) (block-capacity s choices second) old))) (two-block-report s choices first second)) v))
         (rw v (record { lengths = refl; widths = refl; table = refl }))
 
     -- job and weights are accepted
     pub accepted : BothAccepted s choices first second → {new : Memory} (r : TwoAnswer)
         → Paired (wide-job s choices) (block-figure s choices first second) (block-capacity s choices first) (block-capacity s choices second) old new r → TwoPromises s choices first second old new r
     accepted v {new} r b =
-        promised r (b .answer ∙ sym (ap (λ v. answer-by (next v (first-refusal (storage-checks (wide-job s choices) (block-capacity s choices first) (block-capacity s choices second) old))) (two-block-report s choices first second)) v)) (rw v (b .memory))
+        promised r (b .answer ∙ sym (ap (λ v. two-answer-by (next v (first-refusal (two-storage-checks (wide-job s choices) (block-capacity s choices first) (block-capacity s choices second) old))) (two-block-report s choices first second)) v)) (rw v (b .memory))
 
 -- a job and capacities that were taken from a block and two weights a kind which are accepted
 pub record TwoTaken (s : List ℕ) (choices : Choices) (first second : List ℕ) (j : JobRecord) (q q′ : ℕ) : Type 0 where

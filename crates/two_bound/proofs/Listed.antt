@@ -34,7 +34,7 @@ use Rattle.state_fill.proofs.Ties.{pair-blocked, figure-two as figure-numbered}
 use Rattle.bound.specs.Bound.{Memory, list-check, list-after}
 use Rattle.bound.proofs.Last.{count-most, last-position, word-last, words-some}
 use Rattle.bound.proofs.Listed.{same-positions, same-count, same-position, same-words}
-use Rattle.two_bound.specs.Two.{TwoAfter, storage-checks, two-report, answer-by}
+use Rattle.two_bound.specs.Two.{TwoAfter, two-storage-checks, two-report, two-answer-by}
 use Rattle.two_bound.specs.Contracts.{Paired}
 use Rattle.two_bound.specs.declared.TwoAnswer.{TwoAnswer}
 use Rattle.two_bound.proofs.Storage.{report-is}
@@ -111,7 +111,7 @@ module _ (J : Job) (first second : ℕ → ℕ) (q q′ n : ℕ) (pieces : List 
       ∙ same-figure (position N Length a) (position N Width b) c c′ hc hc′ ∙ ap₂ (λ l w. G l w c c′) (same-position J own n pieces array Length a) (same-position J own n pieces array Width b)
 
   module _ (old new : Memory) where
-    same-checks : first-refusal (storage-checks N q q′ old) ≡ first-refusal (storage-checks J q q′ old)
+    same-checks : first-refusal (two-storage-checks N q q′ old) ≡ first-refusal (two-storage-checks J q q′ old)
     same-checks = ap (λ k. first-refusal (list-check J (length (old .lengths)) (length (old .widths)) ∷ (ltb (length (old .table)) k, TableShort k) ∷ [])) all-same
 
     abbrev lists : Checked
@@ -127,10 +127,10 @@ module _ (J : Job) (first second : ℕ → ℕ) (q q′ n : ℕ) (pieces : List 
     -- the whole answer is the job's
     pub pieces-paired : (r : TwoAnswer) → Paired N F q q′ old new r → Paired J G q q′ old new r
     pieces-paired r b = record {
-      answer = b .answer ∙ ap₂ answer-by same-checks same-report;
+      answer = b .answer ∙ ap₂ two-answer-by same-checks same-report;
       memory = record {
         lengths = b .memory .lengths ∙ ap (λ xs. list-after lists xs (old .lengths)) (same-positions J own n pieces array Length);
         widths = b .memory .widths ∙ ap (λ xs. list-after lists xs (old .widths)) (same-positions J own n pieces array Width);
-        table = same-table (first-refusal (storage-checks J q q′ old)) (subst (λ v. TwoAfter v N F q q′ (old .table) (new .table)) same-checks (b .memory .table));
+        table = same-table (first-refusal (two-storage-checks J q q′ old)) (subst (λ v. TwoAfter v N F q q′ (old .table) (new .table)) same-checks (b .memory .table));
       };
     }

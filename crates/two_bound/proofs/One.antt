@@ -24,7 +24,7 @@ use Rattle.table.specs.Two.{pair-count, two-words, two-word, TwoFigures}
 use Rattle.bound.specs.declared.BoundReport.{BoundReport}
 use Rattle.bound.specs.Bound.{Memory, list-check, list-after, TableAfter, wide-job, block-capacity, block-report, accept-verdict, bound-verdict, bound-answer, BoundLeaves}
 use Rattle.bound.specs.Bound as bound
-use Rattle.two_bound.specs.Two.{two-checks, storage-checks, two-report, answer-by, TwoAfter, TwoLeaves, weighed-verdict, two-verdict, block-figure, two-answer, with-second-none}
+use Rattle.two_bound.specs.Two.{two-checks, two-storage-checks, two-report, two-answer-by, TwoAfter, TwoLeaves, weighed-verdict, two-verdict, block-figure, two-answer, with-second-none}
 use Rattle.two_bound.specs.declared.TwoReport.{TwoReport}
 use Rattle.two_bound.proofs.Storage.{report-is}
 
@@ -41,7 +41,7 @@ alone true false many f = ap (λ many. verdict-by true true false many) (f refl)
 abbrev none-beside : BoundReport → TwoReport
 none-beside b = record { bound = b .bound; «first_capacity» = b .capacity; «second_capacity» = 0; «length_count» = b .«length_count»; columns = b .columns }
 
-none-by : (v : Checked) (b : BoundReport) → answer-by v (none-beside b) ≡ with-second-none (bound.answer-by v b)
+none-by : (v : Checked) (b : BoundReport) → two-answer-by v (none-beside b) ≡ with-second-none (bound.answer-by v b)
 none-by Passed b = refl
 none-by (Refused r) b = refl
 
@@ -85,12 +85,12 @@ module _ (first second : List ℕ) (same : length second ≡ length first) (none
         ∙ sym (first-append (job-checks s choices) (weight-checks (block-job s choices) first))
 
     verdict : two-verdict s choices first second old ≡ bound-verdict s choices first old
-    verdict = ap₂ (λ v q′. next v (first-refusal (storage-checks J q q′ old))) before second-none
+    verdict = ap₂ (λ v q′. next v (first-refusal (two-storage-checks J q q′ old))) before second-none
         ∙ ap (λ k. next (accept-verdict s choices first) (first-refusal (list-check J (length (old .lengths)) (length (old .widths)) ∷ (ltb (length (old .table)) k, TableShort k) ∷ []))) (one-words J q)
 
     -- the answer is the bound call's
     pub one-answer : two-answer s choices first second old ≡ with-second-none (bound-answer s choices first old)
-    one-answer = ap₂ answer-by verdict (ap (λ q′. two-report J F q q′) second-none ∙ report-is (two-one J (weight-in first) (weight-in second) none (J .plate .0) (J .plate .1) q) refl refl refl refl)
+    one-answer = ap₂ two-answer-by verdict (ap (λ q′. two-report J F q q′) second-none ∙ report-is (two-one J (weight-in first) (weight-in second) none (J .plate .0) (J .plate .1) q) refl refl refl refl)
         ∙ none-by (bound-verdict s choices first old) (block-report s choices first)
 
     -- and so is the memory

@@ -13,7 +13,7 @@ use Rattle.table.specs.Two.{pair-count}
 use Rattle.table.specs.States.{pair-state}
 use Rattle.bound.specs.Bound.{Memory}
 use Rattle.two_bound.specs.declared.TwoAnswer.{TwoAnswer}
-use Rattle.two_bound.specs.Two.{TwoLeaves, storage-checks, answer-by, two-report}
+use Rattle.two_bound.specs.Two.{TwoLeaves, two-storage-checks, two-answer-by, two-report}
 
 -- an array of n pieces whose kinds have a weight in both lists, and capacities of not too many pairs
 pub record Statable (pieces : List ℕ) (n : ℕ) (first second : List ℕ) (q q′ : ℕ) : Type 0 where
@@ -37,5 +37,5 @@ pub record Pairable (J : Job) (q q′ : ℕ) (floors : List ℕ) : Type 0 where
 
 -- the answer of a job with the figures F and of capacities that were accepted, and what it leaves in lent memory
 pub record Paired (J : Job) (F : ℕ → ℕ → ℕ → ℕ → ℕ) (q q′ : ℕ) (old new : Memory) (r : TwoAnswer) : Type 0 where
-  pub answer : r ≡ answer-by (first-refusal (storage-checks J q q′ old)) (two-report J F q q′)
+  pub answer : r ≡ two-answer-by (first-refusal (two-storage-checks J q q′ old)) (two-report J F q q′)
   pub memory : TwoLeaves Passed J F q q′ old new

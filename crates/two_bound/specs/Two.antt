@@ -39,8 +39,8 @@ abbrev pub two-check : Job → ℕ → ℕ → ℕ → Check
 two-check J q q′ k = (ltb k (two-words J q q′), TableShort (two-words J q q′))
 
 -- the storage checks of lent memory
-abbrev pub storage-checks : Job → ℕ → ℕ → Memory → List Check
-storage-checks J q q′ m = list-check J (length (m .lengths)) (length (m .widths)) ∷ two-check J q q′ (length (m .table)) ∷ []
+abbrev pub two-storage-checks : Job → ℕ → ℕ → Memory → List Check
+two-storage-checks J q q′ m = list-check J (length (m .lengths)) (length (m .widths)) ∷ two-check J q q′ (length (m .table)) ∷ []
 
 -- what the call reports: the figure of the plate at both capacities, the capacities, p and r
 abbrev pub two-report : Job → (ℕ → ℕ → ℕ → ℕ → ℕ) → ℕ → ℕ → TwoReport
@@ -53,8 +53,8 @@ two-report J F q q′ = record {
 }
 
 -- the report, or the refusal
-abbrev pub answer-by : Checked → TwoReport → TwoAnswer
-answer-by v b = by-check v (answer.Answered b) answer.Refused
+abbrev pub two-answer-by : Checked → TwoReport → TwoAnswer
+two-answer-by v b = by-check v (answer.Answered b) answer.Refused
 
 -- the table after the call: the figures of every pair of shares, and later words as they were; on a refusal all as it was
 abbrev pub TwoAfter : Checked → Job → (ℕ → ℕ → ℕ → ℕ → ℕ) → ℕ → ℕ → List ℕ → List ℕ → Type 0
@@ -64,7 +64,7 @@ TwoAfter v J F q q′ old new = by-check v (TwoFigures J F q q′ new × Kept (t
 pub record TwoLeaves (before : Checked) (J : Job) (F : ℕ → ℕ → ℕ → ℕ → ℕ) (q q′ : ℕ) (old new : Memory) : Type 0 where
   pub lengths : new .lengths ≡ list-after (next before (first-refusal (list-check J (length (old .lengths)) (length (old .widths)) ∷ []))) (normal-positions J Length) (old .lengths)
   pub widths : new .widths ≡ list-after (next before (first-refusal (list-check J (length (old .lengths)) (length (old .widths)) ∷ []))) (normal-positions J Width) (old .widths)
-  pub table : TwoAfter (next before (first-refusal (storage-checks J q q′ old))) J F q q′ (old .table) (new .table)
+  pub table : TwoAfter (next before (first-refusal (two-storage-checks J q q′ old))) J F q q′ (old .table) (new .table)
 
 -- the verdict of the checks that stand before the storage's: 1 to 8 and 27, 24, 9, 25
 abbrev pub weighed-verdict : List ℕ → Choices → List ℕ → List ℕ → Checked
@@ -77,7 +77,7 @@ BothAccepted s choices first second = weighed-verdict s choices first second ≡
 -- the verdict of the call: those, 19, 20
 abbrev pub two-verdict : List ℕ → Choices → List ℕ → List ℕ → Memory → Checked
 two-verdict s choices first second m =
-    next (weighed-verdict s choices first second) (first-refusal (storage-checks (wide-job s choices) (block-capacity s choices first) (block-capacity s choices second) m))
+    next (weighed-verdict s choices first second) (first-refusal (two-storage-checks (wide-job s choices) (block-capacity s choices first) (block-capacity s choices second) m))
 
 -- the figures of a job block and two weights a kind, the kerf added to every side
 abbrev pub block-figure : List ℕ → Choices → List ℕ → List ℕ → ℕ → ℕ → ℕ → ℕ → ℕ
@@ -89,7 +89,7 @@ two-block-report s choices first second = two-report (wide-job s choices) (block
 
 -- what it answers
 abbrev pub two-answer : List ℕ → Choices → List ℕ → List ℕ → Memory → TwoAnswer
-two-answer s choices first second m = answer-by (two-verdict s choices first second m) (two-block-report s choices first second)
+two-answer s choices first second m = two-answer-by (two-verdict s choices first second m) (two-block-report s choices first second)
 
 -- a report's values: the bound, both capacities, p and r
 abbrev pub two-values : TwoReport → List ℕ
