@@ -13,9 +13,6 @@ returns c =
     let m = lent (now (e .lengths)) (now (e .widths)) (now (e .table)) in
     unaccepted (now (e .block)) (e .choices) (now (e .weights)) m (now (e .kinds)) (now (e .operands)) (refused-both (now (e .block)) (e .choices) (now (e .weights)) (c .before .before .before .accept .ensures .0) (c .before .verdict .given .1))
 
-enum-told : tie.Need-enum-told
-enum-told c = search needs
-
 write-accepted-requires : tie.Need-write-accepted-requires
 write-accepted-requires c κs =
     let e = c .before .before .before .before .before .before .before .before .before .before .before .before .before .before .before .before .args in
@@ -33,5 +30,5 @@ pub write-plan-spec : {M : Type 1} → statement M
 write-plan-spec =
     tie.close
     (tie.spec
-    (λ c κs. search needs) (λ c. search needs) returns enum-told write-accepted-requires (λ c. search needs) (λ c. search needs)
+    (λ c κs. search needs) (λ c. search needs) returns (λ c. search needs) write-accepted-requires (λ c. search needs) (λ c. search needs)
     (λ c. search needs) (λ c. search needs) (λ c. search needs) returns-2)
