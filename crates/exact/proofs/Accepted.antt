@@ -48,7 +48,7 @@ use Rattle.writer.proofs.Write.{one-passed, listed-over}
 use Rattle.exact.specs.declared.ExactReport.{ExactReport}
 use Rattle.exact.specs.declared.ExactAnswer.{ExactAnswer}
 use Rattle.exact.specs.declared.ExactAnswer.the-variants as answer
-use Rattle.exact.specs.Exact.{StateFigures, StatesAfter, ExactLeaves, answer-by}
+use Rattle.exact.specs.Exact.{StateFigures, StatesAfter, ExactLeaves, exact-answer-by}
 use Rattle.exact.specs.Contracts.{Countable, state-report, Filled, Short, exact-of, job-report, job-plan, room-verdict, Drawn}
 use Rattle.exact.proofs.Pieces.{order-same, digits-listed}
 
@@ -58,7 +58,7 @@ untouched b t kinds operands r = record { answer = refl; kinds-left = refl; oper
 
 -- what the writing of a plan answers by a verdict, as the exact call says it
 exact-by : (v : Checked) (b : BoundReport) (n : ℕ) → exact-of (write-answer-by v (reported b n))
-    ≡ answer-by v (record { optimum = b .bound; states = b .capacity + 1; «length_count» = b .«length_count»; columns = b .columns; nodes = n })
+    ≡ exact-answer-by v (record { optimum = b .bound; states = b .capacity + 1; «length_count» = b .«length_count»; columns = b .columns; nodes = n })
 exact-by Passed b n = refl
 exact-by (Refused r) b n = refl
 

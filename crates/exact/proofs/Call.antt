@@ -30,17 +30,17 @@ use Rattle.writer.proofs.Write.{none-long}
 use Rattle.exact.specs.declared.ExactReport.{ExactReport}
 use Rattle.exact.specs.declared.ExactAnswer.{ExactAnswer}
 use Rattle.exact.specs.declared.ExactAnswer.the-variants as answer
-use Rattle.exact.specs.Exact.{state-check, ExactLeaves, short-verdict, ShortOrder, exact-verdict, exact-report, answer-by, exact-values, exact-outcome, OptimumHolds, OptimumPlanned, OptimumWritten, ExactPromises}
+use Rattle.exact.specs.Exact.{state-check, ExactLeaves, short-verdict, ShortOrder, exact-verdict, exact-report, exact-answer-by, exact-values, exact-outcome, OptimumHolds, OptimumPlanned, OptimumWritten, ExactPromises}
 use Rattle.exact.specs.Contracts.{StatesCounted, Short, job-report, job-plan, room-verdict, Drawn}
 use Rattle.exact.proofs.States.{states-some}
 use Rattle.exact.proofs.Optimum.{exact-recursion, exact-floors, optimum-earned, optimum-exact, optimum-finer, optimum-follows, optimum-idle, bounds-above, two-above}
 use Rattle.exact.proofs.Accepted.{untouched}
 
-said-by : (v : Checked) (b : ExactReport) → exact-outcome (answer-by v b) ≡ outcome-by v (exact-values b)
+said-by : (v : Checked) (b : ExactReport) → exact-outcome (exact-answer-by v b) ≡ outcome-by v (exact-values b)
 said-by Passed b = refl
 said-by (Refused r) b = refl
 
-answered-by : (v : Checked) (b : ExactReport) {report : ExactReport} → answer.Answered report ≡ answer-by v b → (v ≡ Passed) × (report ≡ b)
+answered-by : (v : Checked) (b : ExactReport) {report : ExactReport} → answer.Answered report ≡ exact-answer-by v b → (v ≡ Passed) × (report ≡ b)
 answered-by Passed b e = (refl, cc)
 answered-by (Refused x) b e = absurd (let z : _≡_ {A = ℕ} 0 1 = cc in omega arith)
 

@@ -28,7 +28,7 @@ use Rattle.writer.specs.Write.{nodes-verdict}
 use Rattle.exact.specs.declared.ExactReport.{ExactReport}
 use Rattle.exact.specs.declared.ExactAnswer.{ExactAnswer}
 use Rattle.exact.specs.declared.ExactAnswer.the-variants as exact
-use Rattle.exact.specs.Exact.{most-states, ExactLeaves, answer-by}
+use Rattle.exact.specs.Exact.{most-states, ExactLeaves, exact-answer-by}
 
 -- the entries of the kinds below n are the numbers of states that the kinds up to each have together
 abbrev pub Multiplied : Job → ℕ → List ℕ → Type 0
@@ -107,6 +107,6 @@ room-verdict J q m kinds operands = next (first-refusal (bound.memory-checks (wi
 
 -- what a verdict makes of the answer, and of the plan arrays: the plan over their old contents, or as they were
 pub record Drawn (v : Checked) (b : ExactReport) (t : Tree Piece) (kinds operands new-kinds new-operands : List ℕ) (r : ExactAnswer) : Type 0 where
-  pub answer : r ≡ answer-by v b
+  pub answer : r ≡ exact-answer-by v b
   pub kinds-left : new-kinds ≡ bound.list-after v (kinds-of t) kinds
   pub operands-left : new-operands ≡ bound.list-after v (operands-of t) operands

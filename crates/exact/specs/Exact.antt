@@ -78,12 +78,12 @@ exact-report s choices = record {
 }
 
 -- the report, or the refusal
-abbrev pub answer-by : Checked → ExactReport → ExactAnswer
-answer-by v b = by-check v (answer.Answered b) answer.Refused
+abbrev pub exact-answer-by : Checked → ExactReport → ExactAnswer
+exact-answer-by v b = by-check v (answer.Answered b) answer.Refused
 
 -- what the call answers
 abbrev pub exact-answer : List ℕ → Choices → Memory → List ℕ → List ℕ → ExactAnswer
-exact-answer s choices m kinds operands = answer-by (exact-verdict s choices m kinds operands) (exact-report s choices)
+exact-answer s choices m kinds operands = exact-answer-by (exact-verdict s choices m kinds operands) (exact-report s choices)
 
 -- a report's values: the optimum, the number of states, p, r and the node count
 abbrev pub exact-values : ExactReport → List ℕ
@@ -99,8 +99,8 @@ abbrev pub exact-said : List ℕ → Choices → Memory → List ℕ → List �
 exact-said s choices m kinds operands = outcome-by (exact-verdict s choices m kinds operands) (exact-values (exact-report s choices))
 
 -- a plan array after the call: the plan over its old contents where all checks pass, and else as it was
-abbrev pub array-after : List ℕ → Choices → Memory → List ℕ → List ℕ → List ℕ → List ℕ → List ℕ
-array-after s choices m kinds operands xs old = list-after (exact-verdict s choices m kinds operands) xs old
+abbrev pub exact-array-after : List ℕ → Choices → Memory → List ℕ → List ℕ → List ℕ → List ℕ → List ℕ
+exact-array-after s choices m kinds operands xs old = list-after (exact-verdict s choices m kinds operands) xs old
 
 -- what an optimum n of a job is: the most that a guillotine tree on the plate that keeps every demand earns, and no less than one cut finer
 -- earns; every bound of one weight a kind or of two, in either form of the capacity, lies at or above it; the last word's figure
@@ -134,8 +134,8 @@ pub record ExactPromises (s : List ℕ) (choices : Choices) (old new : Memory) (
   pub answers : r ≡ exact-answer s choices old kinds operands
   pub outcome : exact-outcome r ≡ exact-said s choices old kinds operands
   pub memory : ExactLeaves (short-verdict s choices) (wide-job s choices) (exact-figure (wide-job s choices)) (full-state (block-job s choices)) old new
-  pub kinds-left : new-kinds ≡ array-after s choices old kinds operands (kinds-of (optimum-plan (block-job s choices))) kinds
-  pub operands-left : new-operands ≡ array-after s choices old kinds operands (operands-of (optimum-plan (block-job s choices))) operands
+  pub kinds-left : new-kinds ≡ exact-array-after s choices old kinds operands (kinds-of (optimum-plan (block-job s choices))) kinds
+  pub operands-left : new-operands ≡ exact-array-after s choices old kinds operands (operands-of (optimum-plan (block-job s choices))) operands
   pub recursion : ExactRecursion (wide-job s choices)
   pub normal : NormalSums (wide-job s choices)
   pub exact : (b : ExactReport) → r ≡ answer.Answered b → OptimumHolds (block-job s choices) (b .optimum)

@@ -13,7 +13,7 @@ use Rattle.job.specs.declared.Choices.{Choices}
 use Rattle.job.specs.Weights.{block-job}
 use Rattle.bound.specs.Bound.{Memory}
 use Rattle.exact.specs.declared.ExactAnswer.{ExactAnswer}
-use Rattle.exact.specs.Exact.{exact-verdict, exact-report, answer-by, exact-values, exact-outcome, ExactPromises}
+use Rattle.exact.specs.Exact.{exact-verdict, exact-report, exact-answer-by, exact-values, exact-outcome, ExactPromises}
 use Rattle.planner_c.specs.Exports.{Gives}
 use Rattle.planner_c.specs.Exact.{ExactGiven}
 
@@ -27,7 +27,7 @@ exact-given s choices {m} kinds operands new-kinds new-operands {n} old {new} a 
 
     go : (v : Checked) → exact-verdict s choices m kinds operands ≡ v → ExactGiven (block-job s choices) (kinds, operands) (new-kinds, new-operands) new
     go Passed e =
-        let b = p .answers ∙ ap (λ v. answer-by v (exact-report s choices)) e in
+        let b = p .answers ∙ ap (λ v. exact-answer-by v (exact-report s choices)) e in
         let w = p .plan (exact-report s choices) b in
         let words = g .1 ∙ ap (λ (o : Outcome). over (o .1) old) (said Passed e) in
         subst (λ ws. ExactGiven (block-job s choices) (kinds, operands) (new-kinds, new-operands) ws) (sym words)

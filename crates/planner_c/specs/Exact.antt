@@ -12,7 +12,7 @@ use Rattle.job.specs.declared.Choices.{Choices}
 use Rattle.job.specs.Weights.{block-job}
 use Rattle.plan.specs.Trees.{PlanOf}
 use Rattle.bound.specs.Bound.{Memory, wide-job}
-use Rattle.exact.specs.Exact.{short-verdict, array-after, ExactLeaves, OptimumHolds}
+use Rattle.exact.specs.Exact.{short-verdict, exact-array-after, ExactLeaves, OptimumHolds}
 use Rattle.planner_c.specs.Exports.{answer-word}
 
 -- what the call leaves in lent memory
@@ -22,8 +22,8 @@ ExactMemory s choices old new = ExactLeaves (short-verdict s choices) (wide-job 
 -- what it leaves in the two plan arrays, kinds and operands: the plan over their old contents where all checks pass
 abbrev pub ExactPlanLeft : List ℕ → Choices → Memory → List ℕ × List ℕ → List ℕ × List ℕ → Type 0
 ExactPlanLeft s choices m old new =
-    (new .0 ≡ array-after s choices m (old .0) (old .1) (kinds-of (optimum-plan (block-job s choices))) (old .0))
-    × (new .1 ≡ array-after s choices m (old .0) (old .1) (operands-of (optimum-plan (block-job s choices))) (old .1))
+    (new .0 ≡ exact-array-after s choices m (old .0) (old .1) (kinds-of (optimum-plan (block-job s choices))) (old .0))
+    × (new .1 ≡ exact-array-after s choices m (old .0) (old .1) (operands-of (optimum-plan (block-job s choices))) (old .1))
 
 -- an exact answer where 0 is returned: the optimum, word 0, holds; word 1 is the number of states; the arrays hold, over their old contents,
 -- the preorder of a tree that passes the plan check, keeps every demand and earns the optimum, with the nodes of word 4
