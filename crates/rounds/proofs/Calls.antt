@@ -26,8 +26,8 @@ use Rattle.plan.specs.Plan.{proceed, plan-answer}
 use Rattle.plan.specs.Calls.{arrays-answer}
 use Rattle.plan.proofs.Plans.{plans-checked}
 use Rattle.rounds.specs.declared.WeightsFound.{WeightsFound}
-use Rattle.rounds.specs.Step.{pick}
-use Rattle.rounds.specs.Rounds.{Lent, weight-at, round-verdict, rounds-by, rounds-run, bound-at, best-round, found, refused-answer, answer-by, before-verdict, lower-figure, run-answer, find-verdict, find-found, find-answer, found-values, found-outcome, find-said, last-round, RunLeaves, LeastMet, FindPromises}
+use Rattle.rounds.specs.Step.{pick-number}
+use Rattle.rounds.specs.Rounds.{Lent, weight-at, round-verdict, rounds-by, rounds-run, bound-at, best-round, found, refused-answer, find-answer-by, before-verdict, lower-figure, run-answer, find-verdict, find-found, find-answer, found-values, found-outcome, find-said, last-round, RunLeaves, LeastMet, FindPromises}
 use Rattle.rounds.proofs.Rules.{rounds-most, step-rules, stop-rules}
 
 module _ (J : Job) (lower : ℕ) where
@@ -38,7 +38,7 @@ module _ (J : Job) (lower : ℕ) where
   best-least (suc n) k h = go (ltb (bound-at J lower (suc n)) (bound-at J lower (best-round J lower n))) refl (ℕ-discrete k (suc n)) (λ (l : k ≤ n). best-least n k l)
     where
       go : (b : Bool) → ltb (bound-at J lower (suc n)) (bound-at J lower (best-round J lower n)) ≡ b → Dec (k ≡ suc n) → (k ≤ n → bound-at J lower (best-round J lower n) ≤ bound-at J lower k)
-          → bound-at J lower (pick b (suc n) (best-round J lower n)) ≤ bound-at J lower k
+          → bound-at J lower (pick-number b (suc n) (best-round J lower n)) ≤ bound-at J lower k
       go true e (yes q) ih = omega (arith, ap (bound-at J lower) q)
       go true e (no q) ih = omega (arith, ltb-true (bound-at J lower (suc n)) (bound-at J lower (best-round J lower n)) e, ih (omega arith))
       go false e (yes q) ih = omega (arith, ltb-false (bound-at J lower (suc n)) (bound-at J lower (best-round J lower n)) e, ap (bound-at J lower) q)
@@ -49,7 +49,7 @@ module _ (J : Job) (lower : ℕ) where
   best-within zero = omega arith
   best-within (suc n) = go (ltb (bound-at J lower (suc n)) (bound-at J lower (best-round J lower n))) (best-within n)
     where
-      go : (b : Bool) → best-round J lower n ≤ n → pick b (suc n) (best-round J lower n) ≤ suc n
+      go : (b : Bool) → best-round J lower n ≤ n → pick-number b (suc n) (best-round J lower n) ≤ suc n
       go true l = omega arith
       go false l = omega arith
 
@@ -60,7 +60,7 @@ module _ (J : Job) (lower : ℕ) where
     where
       go : (b : Bool) → ltb (bound-at J lower (suc n)) (bound-at J lower (best-round J lower n)) ≡ b → (k ≤ n → bound-at J lower (best-round J lower n) ≤ bound-at J lower k)
           → (k < best-round J lower n → bound-at J lower (best-round J lower n) < bound-at J lower k)
-          → k < pick b (suc n) (best-round J lower n) → bound-at J lower (pick b (suc n) (best-round J lower n)) < bound-at J lower k
+          → k < pick-number b (suc n) (best-round J lower n) → bound-at J lower (pick-number b (suc n) (best-round J lower n)) < bound-at J lower k
       go true e il ih l = omega (arith, ltb-true (bound-at J lower (suc n)) (bound-at J lower (best-round J lower n)) e, il (omega arith))
       go false e il ih l = ih l
 
@@ -97,7 +97,7 @@ module _ (J : Job) (lower : ℕ) (m : Lent) where
   run-least : run-answer J lower m .verdict ≡ Passed → LeastMet J lower (run-answer J lower m)
   run-least = go (round-verdict J (weight-at J lower 0) m) refl
     where
-      go : (v : Checked) → round-verdict J (weight-at J lower 0) m ≡ v → answer-by v (found J lower (rounds-run J lower m)) .verdict ≡ Passed → LeastMet J lower (answer-by v (found J lower (rounds-run J lower m)))
+      go : (v : Checked) → round-verdict J (weight-at J lower 0) m ≡ v → find-answer-by v (found J lower (rounds-run J lower m)) .verdict ≡ Passed → LeastMet J lower (find-answer-by v (found J lower (rounds-run J lower m)))
       go Passed e p = found-least J lower (rounds-run J lower m) (rounds-some e)
       go (Refused x) e p = absurd (let z : _≡_ {A = ℕ} 0 1 = cc in omega arith)
 
@@ -105,7 +105,7 @@ module _ (J : Job) (lower : ℕ) (m : Lent) where
   run-few : run-answer J lower m .rounds ≤ 18
   run-few = go (round-verdict J (weight-at J lower 0) m)
     where
-      go : (v : Checked) → answer-by v (found J lower (rounds-run J lower m)) .rounds ≤ 18
+      go : (v : Checked) → find-answer-by v (found J lower (rounds-run J lower m)) .rounds ≤ 18
       go Passed = omega (arith, found-passed J lower (rounds-run J lower m) .1, rounds-most J lower m)
       go (Refused x) = omega arith
 
@@ -114,7 +114,7 @@ unlike : {A : Type 0} {x : Refusal} → _≡_ {A = Checked} (Refused x) Passed �
 unlike e = absurd (let z : _≡_ {A = ℕ} 0 1 = cc in omega arith)
 
 -- the number and values of an answer, where what stands behind its verdict passes
-said-by : (v : Checked) (a : WeightsFound) → a .verdict ≡ Passed → found-outcome (answer-by v a) ≡ outcome-by v (found-values a)
+said-by : (v : Checked) (a : WeightsFound) → a .verdict ≡ Passed → found-outcome (find-answer-by v a) ≡ outcome-by v (found-values a)
 said-by Passed a e = ap (λ v. outcome-by v (found-values a)) e
 said-by (Refused r) a e = refl
 
@@ -140,7 +140,7 @@ module _ (s : List ℕ) (choices : Choices) (kinds operands : List ℕ) where
     -- a check before the rounds refuses
     refused-by : {x : Refusal} {r : WeightsFound} → before-verdict s choices kinds operands ≡ Refused x → r ≡ refused-answer (Refused x) → new ≡ old → FindPromises s choices kinds operands old new r
     refused-by {x} {r} v e o =
-        let a = e ∙ sym (ap (λ v. answer-by (next v (round-verdict J (weight-at J lower 0) old)) (find-found s choices kinds operands old)) v) in
+        let a = e ∙ sym (ap (λ v. find-answer-by (next v (round-verdict J (weight-at J lower 0) old)) (find-found s choices kinds operands old)) v) in
         record {
           answers = a;
           outcome = ap (λ x. found-outcome x) a ∙ said;
@@ -171,7 +171,7 @@ module _ (s : List ℕ) (choices : Choices) (kinds operands : List ℕ) where
         before-passed = ap (λ (a : PlanAnswer). a .verdict) walked ∙ passed
 
         run-is : find-answer s choices kinds operands old ≡ run-answer J lower old
-        run-is = ap (λ v. answer-by (next v (round-verdict J (weight-at J lower 0) old)) (find-found s choices kinds operands old)) before-passed
+        run-is = ap (λ v. find-answer-by (next v (round-verdict J (weight-at J lower 0) old)) (find-found s choices kinds operands old)) before-passed
 
         -- the rounds are run
         pub ran : {r : WeightsFound} {profit : ℕ} → profit ≡ plan-answer J kinds operands .report .profit → r ≡ run-answer J profit old → RunLeaves J profit old new → FindPromises s choices kinds operands old new r

@@ -7,7 +7,7 @@ use native.Mathlib.Omega.{arith}
 use borrow.Author.Tests.{le-leb, lt-leb}
 use lib.Dec.{leb}
 use Rattle.rounds.proofs.Sums.{product-most}
-use Rattle.rounds.specs.Step.{WholeRoot, pick, root-below}
+use Rattle.rounds.specs.Step.{WholeRoot, pick-number, root-below}
 
 -- squares rise
 square-rises : (x y q : ℕ) → x ≤ y → x * x * q ≤ y * y * q
@@ -19,15 +19,15 @@ unfolding root-below
 root-found zero p q x l h k = omega arith
 root-found (suc n) p q x l h k = go (decLe x n) (λ (m : x ≤ n). root-found n p q x m h (λ (z : x < n). k (omega arith)))
   where
-    go : Dec (x ≤ n) → (x ≤ n → root-below n p q ≡ x) → pick (leb (suc n * suc n * q) p) (suc n) (root-below n p q) ≡ x
+    go : Dec (x ≤ n) → (x ≤ n → root-below n p q ≡ x) → pick-number (leb (suc n * suc n * q) p) (suc n) (root-below n p q) ≡ x
     go (yes m) ih =
         let z : p < (x + 1) * (x + 1) * q = k (omega arith) in
         let w : p < suc n * suc n * q = omega (arith, square-rises (x + 1) (suc n) q (omega arith)) in
-        ap (λ t. pick t (suc n) (root-below n p q)) (lt-leb (suc n * suc n * q) p w) ∙ ih m
+        ap (λ t. pick-number t (suc n) (root-below n p q)) (lt-leb (suc n * suc n * q) p w) ∙ ih m
     go (no m) ih =
         let e : x ≡ suc n = omega arith in
         let z : suc n * suc n * q ≤ p = rw e at h in
-        ap (λ t. pick t (suc n) (root-below n p q)) (le-leb (suc n * suc n * q) p z) ∙ sym e
+        ap (λ t. pick-number t (suc n) (root-below n p q)) (le-leb (suc n * suc n * q) p z) ∙ sym e
 
 -- the whole part of the root of p / q, at most n
 pub root-whole : (n p q x : ℕ) → WholeRoot p q x → root-below n p q ≡ min n x

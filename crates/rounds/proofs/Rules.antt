@@ -1,7 +1,7 @@
 -- The definitions have the scope's rules: the halving of the factor, the step as a whole root, the test of the demands, the last round.
 use mathlib.Core.Path.{_≡_, refl, sym, _∙_, ap}
 use mathlib.Core.Bool.{Bool, true, false, _||_, not}
-use Prim.Native.Nat.{ℕ, zero, suc, _+_, _-_, _*_, _/_, _^_, _≤_, _<_, min}
+use Prim.Native.Nat.{ℕ, zero, suc, _+_, _*_, _/_, _^_, _≤_, _<_, min}
 use native.Mathlib.Nat.{add-div-right, div-div-eq-div-mul, pow-suc, div-eq-of-lt}
 use native.Mathlib.Decide.{ℕ-discrete}
 use native.Mathlib.Omega.{arith}
@@ -12,7 +12,7 @@ use Rattle.cutting.specs.Lists.{range, sum, any}
 use Rattle.cutting.specs.Job.{Job, capacity}
 use Rattle.refusal.specs.declared.Checked.{Checked}
 use Rattle.refusal.specs.declared.Checked.the-variants.{Passed, Refused}
-use Rattle.rounds.specs.Step.{factor, factors, distance, pick, WholeRoot, scale, step, StepRules}
+use Rattle.rounds.specs.Step.{factor, factors, distance, pick-number, WholeRoot, scale, weight-step, StepRules}
 use Rattle.rounds.specs.Rounds.{plan-copies, squares, weight-at, within, Lent, round-verdict, refuses, last-here, last-from, last-round, rounds-by, rounds-run, StopRules}
 use Rattle.rounds.proofs.Sums.{any-none, any-more, none-passes}
 use Rattle.rounds.proofs.Roots.{root-whole, root-exists}
@@ -35,7 +35,7 @@ table-halved : (k : ℕ) → k < 15 → getD factors (k + 3) 0 ≡ getD factors 
 table-halved k h = factor-tabled (k + 3) (omega arith) ∙ factor-halved k ∙ sym (ap (λ n. n / 2) (factor-tabled k (omega arith)))
 
 -- the step is the whole part of the square root of d · s, and 255 where that is above
-step-whole : (f gap squares d x : ℕ) → WholeRoot (d * scale f gap squares) (16 * squares) x → step f gap squares d ≡ min 255 x
+step-whole : (f gap squares d x : ℕ) → WholeRoot (d * scale f gap squares) (16 * squares) x → weight-step f gap squares d ≡ min 255 x
 step-whole f gap squares d x h = root-whole 255 (d * scale f gap squares) (16 * squares) x h
 
 -- the rules of the steps
@@ -92,21 +92,12 @@ module _ (J : Job) (copies : ℕ → ℕ) where
 
 module _ (J : Job) (lower : ℕ) (m : Lent) where
   -- the last round begun is the first that is refused or after which the run stops
-  from-least : (n k : ℕ) → k ≤ last-from J lower m n k
-  unfolding last-from
-  from-least zero k = omega arith
-  from-least (suc n) k = go (last-here J lower m k) (from-least n (k + 1))
-    where
-      go : (b : Bool) → k + 1 ≤ last-from J lower m n (k + 1) → k ≤ pick b k (last-from J lower m n (k + 1))
-      go true h = omega arith
-      go false h = omega arith
-
   from-most : (n k : ℕ) → last-from J lower m n k ≤ k + n
   unfolding last-from
   from-most zero k = omega arith
   from-most (suc n) k = go (last-here J lower m k) (from-most n (k + 1))
     where
-      go : (b : Bool) → last-from J lower m n (k + 1) ≤ k + 1 + n → pick b k (last-from J lower m n (k + 1)) ≤ k + suc n
+      go : (b : Bool) → last-from J lower m n (k + 1) ≤ k + 1 + n → pick-number b k (last-from J lower m n (k + 1)) ≤ k + suc n
       go true h = omega arith
       go false h = omega arith
 
@@ -115,7 +106,7 @@ module _ (J : Job) (lower : ℕ) (m : Lent) where
   from-before zero k j h l = absurd (omega arith)
   from-before (suc n) k j h l = go (last-here J lower m k) refl (ℕ-discrete j k) l (λ (g : k + 1 ≤ j) (u : j < last-from J lower m n (k + 1)). from-before n (k + 1) j g u)
     where
-      go : (b : Bool) → last-here J lower m k ≡ b → Dec (j ≡ k) → j < pick b k (last-from J lower m n (k + 1)) → (k + 1 ≤ j → j < last-from J lower m n (k + 1) → last-here J lower m j ≡ false)
+      go : (b : Bool) → last-here J lower m k ≡ b → Dec (j ≡ k) → j < pick-number b k (last-from J lower m n (k + 1)) → (k + 1 ≤ j → j < last-from J lower m n (k + 1) → last-here J lower m j ≡ false)
           → last-here J lower m j ≡ false
       go true e d l ih = absurd (omega arith)
       go false e (yes q) l ih = ap (last-here J lower m) q ∙ e
@@ -126,8 +117,8 @@ module _ (J : Job) (lower : ℕ) (m : Lent) where
   from-here zero k h = absurd (omega arith)
   from-here (suc n) k h = go (last-here J lower m k) refl h (λ (l : last-from J lower m n (k + 1) < k + 1 + n). from-here n (k + 1) l)
     where
-      go : (b : Bool) → last-here J lower m k ≡ b → pick b k (last-from J lower m n (k + 1)) < k + suc n
-          → (last-from J lower m n (k + 1) < k + 1 + n → last-here J lower m (last-from J lower m n (k + 1)) ≡ true) → last-here J lower m (pick b k (last-from J lower m n (k + 1))) ≡ true
+      go : (b : Bool) → last-here J lower m k ≡ b → pick-number b k (last-from J lower m n (k + 1)) < k + suc n
+          → (last-from J lower m n (k + 1) < k + 1 + n → last-here J lower m (last-from J lower m n (k + 1)) ≡ true) → last-here J lower m (pick-number b k (last-from J lower m n (k + 1))) ≡ true
       go true e l ih = e
       go false e l ih = ih (omega arith)
 

@@ -29,8 +29,8 @@ use Rattle.writer.specs.declared.WriteAnswer.the-variants as write
 use Rattle.writer.specs.Write.{plan-check, nodes-verdict, reported, write-answer-by, block-plan, write-verdict, write-answer, array-after}
 use Rattle.writer.proofs.Call.{written-fits}
 use Rattle.rounds.specs.declared.WeightsFound.{WeightsFound}
-use Rattle.rounds.specs.Step.{pick}
-use Rattle.rounds.specs.Rounds.{plan-copies, next-weight, weight-at, within, stops-after, Lent, round-verdict, refuses, last-here, last-from, last-round, rounds-by, rounds-run, bound-at, best-round, answer-of, found, answer-by, run-answer, RoundLeaves, RoundsLeave, RunLeaves}
+use Rattle.rounds.specs.Step.{pick-number}
+use Rattle.rounds.specs.Rounds.{plan-copies, next-weight, weight-at, within, stops-after, Lent, round-verdict, refuses, last-here, last-from, last-round, rounds-by, rounds-run, bound-at, best-round, answer-of, found, find-answer-by, run-answer, RoundLeaves, RoundsLeave, RunLeaves}
 use Rattle.rounds.specs.Contracts.{pieces-in, Made, Turned, better, ended}
 use Rattle.rounds.proofs.Count.{pieces-tree}
 use Rattle.rounds.proofs.Turns.{listed, listed-all, next-past}
@@ -125,7 +125,7 @@ module _ (J : Job) (lower : ℕ) where
   found-more k = go (ltb (bound-at J lower (suc k)) (bound-at J lower (best-round J lower k)))
     where
       go : (b : Bool) → better b (bound-at J lower (suc k)) (entries (weight-at J lower (suc k)) (J .count)) (suc k + 1) (found J lower (suc k))
-          ≡ answer-of (bound-at J lower (pick b (suc k) (best-round J lower k))) (suc (suc k)) (entries (weight-at J lower (pick b (suc k) (best-round J lower k))) (J .count))
+          ≡ answer-of (bound-at J lower (pick-number b (suc k) (best-round J lower k))) (suc (suc k)) (entries (weight-at J lower (pick-number b (suc k) (best-round J lower k))) (J .count))
       go true = ap (λ n. answer-of (bound-at J lower (suc k)) n (entries (weight-at J lower (suc k)) (J .count))) (one-more (suc k))
       go false = ap (λ n. answer-of (bound-at J lower (best-round J lower k)) n (entries (weight-at J lower (best-round J lower k)) (J .count))) (one-more (suc k))
 
@@ -142,12 +142,12 @@ module _ (J : Job) (lower : ℕ) where
     last-stops : (n k : ℕ) → last-here J lower m k ≡ true → last-from J lower m n k ≡ k
     unfolding last-from
     last-stops zero k h = refl
-    last-stops (suc n) k h = ap (λ b. pick b k (last-from J lower m n (k + 1))) h
+    last-stops (suc n) k h = ap (λ b. pick-number b k (last-from J lower m n (k + 1))) h
 
     last-goes : (k : ℕ) → k < 17 → last-here J lower m k ≡ false → last-from J lower m (17 - k) k ≡ last-from J lower m (17 - (k + 1)) (k + 1)
     unfolding last-from
     last-goes k l h = let e : 17 - k ≡ suc (17 - (k + 1)) = omega arith in
-        ap (λ n. last-from J lower m n k) e ∙ ap (λ b. pick b k (last-from J lower m (17 - (k + 1)) (k + 1))) h
+        ap (λ n. last-from J lower m n k) e ∙ ap (λ b. pick-number b k (last-from J lower m (17 - (k + 1)) (k + 1))) h
 
     -- the rounds run, where round k is the last one begun
     run-are : (k : ℕ) (v : Checked) → last-round J lower m ≡ k → round-verdict J (weight-at J lower k) m ≡ v → rounds-run J lower m ≡ rounds-by v k
@@ -156,15 +156,15 @@ module _ (J : Job) (lower : ℕ) where
     -- the answer where round k is refused
     refused-answers : (k : ℕ) {a b : WeightsFound} {x : Refusal} → (0 < k → round-verdict J (weight-at J lower 0) m ≡ Passed) → a ≡ found J lower k → last-round J lower m ≡ k
         → round-verdict J (weight-at J lower k) m ≡ Refused x → b ≡ ended (eqb k 0) a (write.Refused x) → b ≡ run-answer J lower m
-    refused-answers zero {a} {b} {x} h p l v e = e ∙ sym (ap (λ v. answer-by v (found J lower (rounds-run J lower m))) v)
+    refused-answers zero {a} {b} {x} h p l v e = e ∙ sym (ap (λ v. find-answer-by v (found J lower (rounds-run J lower m))) v)
     refused-answers (suc k) {a} {b} {x} h p l v e =
-        e ∙ ap (λ t. ended t a (write.Refused x)) (eqb·suc-zero k) ∙ p ∙ sym (ap₂ (λ v n. answer-by v (found J lower n)) (h (omega arith)) (run-are (suc k) (Refused x) l v))
+        e ∙ ap (λ t. ended t a (write.Refused x)) (eqb·suc-zero k) ∙ p ∙ sym (ap₂ (λ v n. find-answer-by v (found J lower n)) (h (omega arith)) (run-are (suc k) (Refused x) l v))
 
     -- the answer where the run stops after round k
     stopped-answers : (k : ℕ) {b : WeightsFound} → (0 < k → round-verdict J (weight-at J lower 0) m ≡ Passed) → last-round J lower m ≡ k
         → round-verdict J (weight-at J lower k) m ≡ Passed → b ≡ found J lower (k + 1) → b ≡ run-answer J lower m
-    stopped-answers zero h l v e = e ∙ sym (ap₂ (λ v n. answer-by v (found J lower n)) v (run-are 0 Passed l v))
-    stopped-answers (suc k) h l v e = e ∙ sym (ap₂ (λ v n. answer-by v (found J lower n)) (h (omega arith)) (run-are (suc k) Passed l v))
+    stopped-answers zero h l v e = e ∙ sym (ap₂ (λ v n. find-answer-by v (found J lower n)) v (run-are 0 Passed l v))
+    stopped-answers (suc k) h l v e = e ∙ sym (ap₂ (λ v n. find-answer-by v (found J lower n)) (h (omega arith)) (run-are (suc k) Passed l v))
 
 -- what is known before round k
 pub record State (s : List ℕ) (choices : Choices) (lower : ℕ) (m : Lent) (k : ℕ) (present : Lent) (weights : List ℕ) (a : WeightsFound) : Type 0 where

@@ -20,7 +20,7 @@ use Rattle.job.specs.Weights.{block-job}
 use Rattle.plan.specs.Calls.{arrays-answer}
 use Rattle.bound.specs.Bound.{Memory, lent, Leaves, memory-checks, list-after}
 use Rattle.writer.specs.Write.{nodes-verdict}
-use Rattle.rounds.specs.Step.{factor, distance, pick, adjusted, StepRules}
+use Rattle.rounds.specs.Step.{factor, distance, pick-number, adjusted, StepRules}
 use Rattle.rounds.specs.declared.WeightsFound.{WeightsFound}
 
 -- the copies of kind i in the plan behind the bound
@@ -81,7 +81,7 @@ last-here J lower m k = refuses (round-verdict J (weight-at J lower k) m) || sto
 -- the first round from k on that is the last one begun, where at most n more follow
 unfoldable pub last-from : Job → ℕ → Lent → ℕ → ℕ → ℕ
 last-from J lower m zero k = k
-last-from J lower m (suc n) k = pick (last-here J lower m k) k (last-from J lower m n (k + 1))
+last-from J lower m (suc n) k = pick-number (last-here J lower m k) k (last-from J lower m n (k + 1))
 
 -- the last round begun: at most 18 rounds, numbered from 0
 abbrev pub last-round : Job → ℕ → Lent → ℕ
@@ -98,7 +98,7 @@ rounds-run J lower m = rounds-by (round-verdict J (weight-at J lower (last-round
 -- the round that first gave the least bound of rounds 0 to n
 unfoldable pub best-round : Job → ℕ → ℕ → ℕ
 best-round J lower zero = 0
-best-round J lower (suc n) = pick (ltb (bound-at J lower (suc n)) (bound-at J lower (best-round J lower n))) (suc n) (best-round J lower n)
+best-round J lower (suc n) = pick-number (ltb (bound-at J lower (suc n)) (bound-at J lower (best-round J lower n))) (suc n) (best-round J lower n)
 
 -- an answer that passed
 abbrev pub answer-of : ℕ → ℕ → List ℕ → WeightsFound
@@ -114,12 +114,12 @@ abbrev pub refused-answer : Checked → WeightsFound
 refused-answer v = record { verdict = v; bound = 0; rounds = 0; weights = replicate most-kinds 0 }
 
 -- an answer where a verdict passes, and else the refusal
-abbrev pub answer-by : Checked → WeightsFound → WeightsFound
-answer-by v a = by-check v a (λ r. refused-answer (Refused r))
+abbrev pub find-answer-by : Checked → WeightsFound → WeightsFound
+find-answer-by v a = by-check v a (λ r. refused-answer (Refused r))
 
 -- the answer of the run: refusals of round 0 refuse the call, later ones end it
 abbrev pub run-answer : Job → ℕ → Lent → WeightsFound
-run-answer J lower m = answer-by (round-verdict J (weight-at J lower 0) m) (found J lower (rounds-run J lower m))
+run-answer J lower m = find-answer-by (round-verdict J (weight-at J lower 0) m) (found J lower (rounds-run J lower m))
 
 -- the verdict of the checks before the rounds: the job's, 1 to 7 and 27, and the lent plan's, 10 to 18 and 26
 abbrev pub before-verdict : List ℕ → Choices → List ℕ → List ℕ → Checked
@@ -140,7 +140,7 @@ find-found s choices kinds operands m =
 
 -- what the call answers
 abbrev pub find-answer : List ℕ → Choices → List ℕ → List ℕ → Lent → WeightsFound
-find-answer s choices kinds operands m = answer-by (find-verdict s choices kinds operands m) (find-found s choices kinds operands m)
+find-answer s choices kinds operands m = find-answer-by (find-verdict s choices kinds operands m) (find-found s choices kinds operands m)
 
 -- an answer's values: the bound, the rounds run and the weights of 64 kinds
 abbrev pub found-values : WeightsFound → List ℕ

@@ -19,9 +19,9 @@ abbrev pub distance : ℕ → ℕ → ℕ
 distance copies demand = (copies - demand) + (demand - copies)
 
 -- one of two numbers, by a test
-abbrev pub pick : Bool → ℕ → ℕ → ℕ
-pick true a b = a
-pick false a b = b
+abbrev pub pick-number : Bool → ℕ → ℕ → ℕ
+pick-number true a b = a
+pick-number false a b = b
 
 -- x is the whole part of the square root of p / q
 abbrev pub WholeRoot : ℕ → ℕ → ℕ → Type 0
@@ -30,15 +30,15 @@ WholeRoot p q x = (x * x * q ≤ p) × (p < (x + 1) * (x + 1) * q)
 -- the greatest x up to n whose square is at most p / q
 unfoldable pub root-below : ℕ → ℕ → ℕ → ℕ
 root-below zero p q = 0
-root-below (suc n) p q = pick (leb (suc n * suc n * q) p) (suc n) (root-below n p q)
+root-below (suc n) p q = pick-number (leb (suc n * suc n * q) p) (suc n) (root-below n p q)
 
 -- the numerator of s over the denominator 16 · squares: s is the greater of 1 and factor · gap / squares
 abbrev pub scale : ℕ → ℕ → ℕ → ℕ
 scale f gap squares = max (16 * squares) (f * gap)
 
 -- the step: the whole part of the square root of d · s, and 255 where it is above
-abbrev pub step : ℕ → ℕ → ℕ → ℕ → ℕ
-step f gap squares d = root-below 255 (d * scale f gap squares) (16 * squares)
+abbrev pub weight-step : ℕ → ℕ → ℕ → ℕ → ℕ
+weight-step f gap squares d = root-below 255 (d * scale f gap squares) (16 * squares)
 
 -- the weight after a step: added where copies are more than the demand, and else taken off, not below 0; at most 255
 abbrev pub stepped : Bool → ℕ → ℕ → ℕ
@@ -47,7 +47,7 @@ stepped false weight x = weight - x
 
 -- the weight of a kind in the next round
 abbrev pub adjusted : ℕ → ℕ → ℕ → ℕ → ℕ → ℕ → ℕ
-adjusted f gap squares weight copies demand = stepped (ltb demand copies) weight (step f gap squares (distance copies demand))
+adjusted f gap squares weight copies demand = stepped (ltb demand copies) weight (weight-step f gap squares (distance copies demand))
 
 -- the rules of the steps: the factor is 2 in rounds 0 to 2 and is halved after every third round, and each entry of the table is its round's
 -- factor, half of the entry three before it; a step is the whole part of the square root of d · s, and 255 where that is above; where the summed squares are not 0 there is such a root
@@ -56,5 +56,5 @@ pub record StepRules : Type 0 where
   pub halved : (k : ℕ) → factor (k + 3) ≡ factor k / 2
   pub tabled : (k : ℕ) → k < 18 → getD factors k 0 ≡ factor k
   pub table-halved : (k : ℕ) → k < 15 → getD factors (k + 3) 0 ≡ getD factors k 0 / 2
-  pub whole : (f gap squares d x : ℕ) → WholeRoot (d * scale f gap squares) (16 * squares) x → step f gap squares d ≡ min 255 x
+  pub whole : (f gap squares d x : ℕ) → WholeRoot (d * scale f gap squares) (16 * squares) x → weight-step f gap squares d ≡ min 255 x
   pub exists : (f gap squares d : ℕ) → 1 ≤ squares → (x : ℕ) × WholeRoot (d * scale f gap squares) (16 * squares) x

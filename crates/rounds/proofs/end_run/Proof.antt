@@ -9,15 +9,6 @@ use Rattle.rounds.proofs.end_run.Tie as tie
 returns : tie.Need-returns
 returns c = sym (ap (λ t. ended t (c .before .args .found) (c .before .args .written)) (ne-eqb (c .before .args .k) 0 (c .if1 .taken)))
 
-enum-known-written : tie.Need-enum-known-written
-enum-known-written c = search needs
-
-refused-requires : tie.Need-refused-requires
-refused-requires c κs = search needs
-
-enum-told : tie.Need-enum-told
-enum-told c = search needs
-
 returns-2 : tie.Need-returns-2
 returns-2 c = c .refused .ensures ∙ sym (ap₂ (λ t w. ended t (c .before .before .before .before .before .args .found) w) (eq-eqb (c .before .before .before .before .before .args .k) 0 (c .before .before .before .before .if1 .left)) (c .before .before .written .given .1))
 
@@ -26,4 +17,5 @@ returns-3 c = sym (ap₂ (λ t w. ended t (c .before .before .before .args .foun
 
 pub end-run-spec : {M : Type 1} → statement M
 end-run-spec =
-    tie.close (tie.spec returns enum-known-written refused-requires enum-told returns-2 returns-3)
+    tie.close (tie.spec
+    returns (λ c. search needs) (λ c κs. search needs) (λ c. search needs) returns-2 returns-3)

@@ -9,18 +9,6 @@ use borrow.Author.Needs.{needs}
 use Rattle.rounds.proofs.find_weights.Statement.{statement}
 use Rattle.rounds.proofs.find_weights.Tie as tie
 
-read-job-requires : tie.Need-read-job-requires
-read-job-requires c κs = search needs
-
-enum-told : tie.Need-enum-told
-enum-told c = search needs
-
-enum-told-2 : tie.Need-enum-told-2
-enum-told-2 c = search needs
-
-refused-requires : tie.Need-refused-requires
-refused-requires c κs = search needs
-
 returns : tie.Need-returns
 returns c = let x = c .before .before .before .before .before .before .before .before .before .before .before .before .args in
     let m = (lent-all (now (x .lengths)) (now (x .widths)) (now (x .table)) (now (x .written-kinds)) (now (x .written-operands))) in
@@ -31,15 +19,6 @@ check-nodes-requires : tie.Need-check-nodes-requires
 check-nodes-requires c κs = let x = c .before .before .before .before .before .before .before .before .before .before .before .before .args in
     let a = answered (now (x .block)) (x .choices) (c .before .before .before .read-job .ensures .0) (c .before .enum-told .given .1) in
     rw (a .1) (read-in-range (now (x .block)) (x .choices) (a .0))
-
-enum-told-3 : tie.Need-enum-told-3
-enum-told-3 c = search needs
-
-enum-told-4 : tie.Need-enum-told-4
-enum-told-4 c = search needs
-
-refused-requires-2 : tie.Need-refused-requires-2
-refused-requires-2 c κs = search needs
 
 returns-2 : tie.Need-returns-2
 returns-2 c = let x = c .before .before .before .before .before .before .before .before .before .before .before .before .before .before .before .before .args in
@@ -55,21 +34,6 @@ run-rounds-requires c κs = let x = c .before .before .before .before .before .b
     let p = rw (a .1) at (c .before .before .before .before .before .before .before .before .check-nodes .ensures) in
     (a .1, a .0, rw (ap (λ (x : PlanAnswer). x .report .profit) p) (low (now (x .block)) (x .choices) (now (x .kinds)) (now (x .operands)) (a .0) (ap (λ (x : PlanAnswer). x .verdict) (sym p) ∙ c .before .before .before .before .before .before .enum-told3 .given .1)))
 
-same-length : tie.Need-same-length
-same-length c = search needs
-
-same-length-2 : tie.Need-same-length-2
-same-length-2 c = search needs
-
-same-length-3 : tie.Need-same-length-3
-same-length-3 c = search needs
-
-same-length-4 : tie.Need-same-length-4
-same-length-4 c = search needs
-
-same-length-5 : tie.Need-same-length-5
-same-length-5 c = search needs
-
 returns-3 : tie.Need-returns-3
 returns-3 c = let x = c .before .before .before .before .before .before .before .before .before .before .before .before .before .before .before .before .before .before .before .before .before .before .before .before .before .before .before .before .before .before .before .before .args in
     let a = answered (now (x .block)) (x .choices) (c .before .before .before .before .before .before .before .before .before .before .before .before .before .before .before .before .before .before .before .before .before .before .before .read-job .ensures .0) (c .before .before .before .before .before .before .before .before .before .before .before .before .before .before .before .before .before .before .before .before .before .enum-told .given .1) in
@@ -82,20 +46,6 @@ pub find-weights-spec : {M : Type 1} → statement M
 find-weights-spec =
     tie.close
     (tie.spec
-    read-job-requires
-    enum-told
-    enum-told-2
-    refused-requires
-    returns
-    check-nodes-requires
-    enum-told-3
-    enum-told-4
-    refused-requires-2
-    returns-2
-    run-rounds-requires
-    same-length
-    same-length-2
-    same-length-3
-    same-length-4
-    same-length-5
-    returns-3)
+    (λ c κs. search needs) (λ c. search needs) (λ c. search needs) (λ c κs. search needs) returns check-nodes-requires (λ c. search needs)
+    (λ c. search needs) (λ c κs. search needs) returns-2 run-rounds-requires (λ c. search needs) (λ c. search needs) (λ c. search needs)
+    (λ c. search needs) (λ c. search needs) returns-3)

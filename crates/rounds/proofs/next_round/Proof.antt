@@ -5,12 +5,6 @@ use borrow.Author.Needs.{needs}
 use Rattle.rounds.proofs.next_round.Statement.{statement}
 use Rattle.rounds.proofs.next_round.Tie as tie
 
-count-copies-requires : tie.Need-count-copies-requires
-count-copies-requires c κs = search needs
-
-keep-demands-requires : tie.Need-keep-demands-requires
-keep-demands-requires c κs = search needs
-
 returns : tie.Need-returns
 returns c = let a = c .before .before .before .before .before .before .before .before .args in
     turned-kept (a .job) (a .lower) (a .round) (a .bound) (a .nodes) (a .weights .now) (a .kinds .now) (a .operands .now) (c .before .before .before .before .count-copies .result) (c .before .before .before .before .before .before .before .before .pre) (c .before .before .before .before .count-copies .ensures) (c .before .keep-demands .ensures) (c .if1 .taken)
@@ -19,18 +13,9 @@ returns-2 : tie.Need-returns-2
 returns-2 c = let a = c .before .before .before .before .before .before .before .before .before .args in
     turned-last (a .job) (a .lower) (a .round) (a .bound) (a .nodes) (a .weights .now) (a .kinds .now) (a .operands .now) (c .before .before .before .before .before .count-copies .result) (c .before .before .before .before .before .before .before .before .before .pre) (c .before .before .before .before .before .count-copies .ensures) (c .before .before .keep-demands .ensures) (c .before .if1 .left) (c .if2 .taken)
 
-sub-next-weights : tie.Need-sub-next-weights
-sub-next-weights c = search needs
-
 next-weights-requires : tie.Need-next-weights-requires
 next-weights-requires c κs = let a = c .before .before .before .before .before .before .before .before .before .before .before .args in
     (c .before .before .before .before .before .before .before .before .before .before .before .pre .in-range .kinds .1, c .before .before .before .before .before .before .before .before .before .before .before .pre .round-small, gap-most (a .job) (a .lower) (a .round) (a .bound) (a .nodes) (a .weights .now) (a .kinds .now) (a .operands .now) (c .before .before .before .before .before .before .before .count-copies .result) (c .before .before .before .before .before .before .before .before .before .before .before .pre) (c .before .before .before .before .before .before .before .count-copies .ensures))
-
-cast-n : tie.Need-cast-n
-cast-n c = search needs
-
-array-share-prefix-next : tie.Need-array-share-prefix-next
-array-share-prefix-next c = search needs
 
 slice-aggregate-check-weights : tie.Need-slice-aggregate-check-weights
 slice-aggregate-check-weights c = let a = c .before .before .before .before .before .before .before .before .before .before .before .before .before .before .args in
@@ -38,12 +23,6 @@ slice-aggregate-check-weights c = let a = c .before .before .before .before .bef
 
 check-weights-requires : tie.Need-check-weights-requires
 check-weights-requires c κs = c .before .before .before .before .before .before .before .before .before .before .before .before .before .before .pre .in-range
-
-enum-told : tie.Need-enum-told
-enum-told c = search needs
-
-enum-told-2 : tie.Need-enum-told-2
-enum-told-2 c = search needs
 
 returns-3 : tie.Need-returns-3
 returns-3 c = let a = c .before .before .before .before .before .before .before .before .before .before .before .before .before .before .before .before .before .args in
@@ -57,17 +36,5 @@ pub next-round-spec : {M : Type 1} → statement M
 next-round-spec =
     tie.close
     (tie.spec
-    count-copies-requires
-    keep-demands-requires
-    returns
-    returns-2
-    sub-next-weights
-    next-weights-requires
-    cast-n
-    array-share-prefix-next
-    slice-aggregate-check-weights
-    check-weights-requires
-    enum-told
-    enum-told-2
-    returns-3
-    returns-4)
+    (λ c κs. search needs) (λ c κs. search needs) returns returns-2 (λ c. search needs) next-weights-requires (λ c. search needs) (λ c. search needs)
+    slice-aggregate-check-weights check-weights-requires (λ c. search needs) (λ c. search needs) returns-3 returns-4)

@@ -16,12 +16,6 @@ Inv-loop block choices job lower lengths₀ widths₀ table₀ kinds₀ operands
 abbrev μ-loop : tie.MeasureT-loop
 μ-loop block choices job lower lengths₀ widths₀ table₀ kinds₀ operands₀ n weights₀ found₀ k₀ lengths widths table kinds operands weights found k = 18 - k
 
-cast-n : tie.Need-cast-n Inv-loop μ-loop
-cast-n c = search needs
-
-passed-requires : tie.Need-passed-requires Inv-loop μ-loop
-passed-requires c κs = search needs
-
 loop-holds : tie.Need-loop-holds Inv-loop μ-loop
 loop-holds c = starts (c .before .before .before .before .before .before .before .before .args .block .now) (c .before .before .before .before .before .before .before .before .args .choices) (c .before .before .before .before .before .before .before .before .pre .1) (c .before .before .before .before .before .before .before .before .args .lower) (lent-all (now (c .before .before .before .before .before .before .before .before .args .lengths)) (now (c .before .before .before .before .before .before .before .before .args .widths)) (now (c .before .before .before .before .before .before .before .before .args .table)) (now (c .before .before .before .before .before .before .before .before .args .kinds)) (now (c .before .before .before .before .before .before .before .before .args .operands))) (c .passed .ensures)
 
@@ -39,33 +33,6 @@ slice-aggregate-write-plan c = let g = c .before .before .before .before .before
     let size = ap (λ (j : JobRecord). j .count) (g .pre .0) in
     sym (weights-listed (g .args .block .now) (g .args .choices) (g .pre .1) (g .args .lower) m size (l .inv))
 
-write-plan-requires : tie.Need-write-plan-requires Inv-loop μ-loop
-write-plan-requires c κs = search needs
-
-enum-known-written : tie.Need-enum-known-written Inv-loop μ-loop
-enum-known-written c = search needs
-
-enum-told : tie.Need-enum-told Inv-loop μ-loop
-enum-told c = search needs
-
-end-run-requires : tie.Need-end-run-requires Inv-loop μ-loop
-end-run-requires c κs = search needs
-
-same-length : tie.Need-same-length Inv-loop μ-loop
-same-length c = search needs
-
-same-length-2 : tie.Need-same-length-2 Inv-loop μ-loop
-same-length-2 c = search needs
-
-same-length-3 : tie.Need-same-length-3 Inv-loop μ-loop
-same-length-3 c = search needs
-
-same-length-4 : tie.Need-same-length-4 Inv-loop μ-loop
-same-length-4 c = search needs
-
-same-length-5 : tie.Need-same-length-5 Inv-loop μ-loop
-same-length-5 c = search needs
-
 returns : tie.Need-returns Inv-loop μ-loop
 returns c = let g = c .before .before .before .before .before .before .before .before .before .before .before .before .before .before .before .before .before .before .before .before .before .before .before .before .before .before .before .before .before .before in
     let l = c .before .before .before .before .before .before .before .before .before .before .before .before .before .before .before .before .before .before .before .before .before .loop in
@@ -75,9 +42,6 @@ returns c = let g = c .before .before .before .before .before .before .before .b
     let new = lent-all (w .last .1 .1 .1 .0) (w .last .1 .1 .1 .1 .0) (w .last .1 .1 .1 .1 .1 .0) (w .last .1 .1 .1 .1 .1 .1 .0) (w .last .1 .1 .1 .1 .1 .1 .1 .0) in
     let left = leaves (g .args .block .now) (g .args .choices) (g .pre .1) (g .args .lower) m size (l .inv) {new = new} (w .ensures .memory) (w .ensures .kinds-left) (w .ensures .operands-left) in
     ends-refused (g .args .block .now) (g .args .choices) (g .pre .1) (g .args .lower) m size (l .inv) (w .ensures .answers) left (c .before .enum-told .given .1) (c .end-run .ensures)
-
-count-round-requires : tie.Need-count-round-requires Inv-loop μ-loop
-count-round-requires c κs = search needs
 
 next-round-requires : tie.Need-next-round-requires Inv-loop μ-loop
 next-round-requires c κs = let g = c .before .before .before .before .before .before .before .before .before .before .before .before .before .before .before .before .before .before .before .before .before .before .before .before .before .before .before .before .before .before .before .before .before .before in
@@ -130,21 +94,6 @@ loop-again c = let g = c .before .before .before .before .before .before .before
     let left = leaves (g .args .block .now) (g .args .choices) (g .pre .1) (g .args .lower) m size (l .inv) {new = new} (w .ensures .memory) (w .ensures .kinds-left) (w .ensures .operands-left) in
     goes-on (g .args .block .now) (g .args .choices) (g .pre .1) (g .args .lower) m size (l .inv) (w .ensures .answers) left (c .before .before .before .before .before .before .before .before .written .given .1) (g .pre .0) (c .before .before .before .before .before .before .count-round .ensures) (c .before .before .next-round .ensures) (c .before .if1 .left) (record { lengths = c .before .before .before .before .before .before .before .before .before .before .before .before .before .before .before .before .before .before .before .lengths .given ∙ l .inv .same .lengths; widths = c .before .before .before .before .before .before .before .before .before .before .before .before .before .before .before .before .before .widths .given ∙ l .inv .same .widths; table = c .before .before .before .before .before .before .before .before .before .before .before .before .before .before .before .table .given ∙ l .inv .same .table; kinds = c .before .before .before .before .before .before .before .before .before .before .before .before .before .kinds .given ∙ l .inv .same .kinds; operands = c .before .before .before .before .before .before .before .before .before .before .before .operands .given ∙ l .inv .same .operands })
 
-same-length-11 : tie.Need-same-length-11 Inv-loop μ-loop
-same-length-11 c = search needs
-
-same-length-12 : tie.Need-same-length-12 Inv-loop μ-loop
-same-length-12 c = search needs
-
-same-length-13 : tie.Need-same-length-13 Inv-loop μ-loop
-same-length-13 c = search needs
-
-same-length-14 : tie.Need-same-length-14 Inv-loop μ-loop
-same-length-14 c = search needs
-
-same-length-15 : tie.Need-same-length-15 Inv-loop μ-loop
-same-length-15 c = search needs
-
 returns-3 : tie.Need-returns-3 Inv-loop μ-loop
 returns-3 c = absurd (omega (arith, c .before .loop .inv .small, c .loop-test .left))
 
@@ -152,37 +101,8 @@ pub run-rounds-spec : {M : Type 1} → statement M
 run-rounds-spec =
     tie.close
     (tie.spec
-    Inv-loop
-    μ-loop
-    cast-n
-    passed-requires
-    loop-holds
-    array-share-prefix-weights
-    slice-aggregate-write-plan
-    write-plan-requires
-    enum-known-written
-    enum-told
-    end-run-requires
-    same-length
-    same-length-2
-    same-length-3
-    same-length-4
-    same-length-5
-    returns
-    count-round-requires
-    next-round-requires
-    same-length-6
-    same-length-7
-    same-length-8
-    same-length-9
-    same-length-10
-    returns-2
-    add-k
-    loop-less
-    loop-again
-    same-length-11
-    same-length-12
-    same-length-13
-    same-length-14
-    same-length-15
-    returns-3)
+    Inv-loop μ-loop (λ c. search needs) (λ c κs. search needs) loop-holds array-share-prefix-weights slice-aggregate-write-plan
+    (λ c κs. search needs) (λ c. search needs) (λ c. search needs) (λ c κs. search needs) (λ c. search needs) (λ c. search needs) (λ c. search needs)
+    (λ c. search needs) (λ c. search needs) returns (λ c κs. search needs) next-round-requires same-length-6 same-length-7 same-length-8
+    same-length-9 same-length-10 returns-2 add-k loop-less loop-again (λ c. search needs) (λ c. search needs) (λ c. search needs) (λ c. search needs)
+    (λ c. search needs) returns-3)

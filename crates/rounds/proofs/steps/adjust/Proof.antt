@@ -9,24 +9,12 @@ use borrow.Author.Needs.{needs}
 use Rattle.rounds.proofs.steps.adjust.Statement.{statement}
 use Rattle.rounds.proofs.steps.adjust.Tie as tie
 
-apart-requires : tie.Need-apart-requires
-apart-requires c κs = search needs
-
 mul-root : tie.Need-mul-root
 mul-root c = omega (arith, product-most (c .apart .result) (c .before .args .top) 65535 32000000000000 (c .apart .ensures .1) (c .before .pre .0))
-
-root-requires : tie.Need-root-requires
-root-requires c κs = search needs
-
-raised-requires : tie.Need-raised-requires
-raised-requires c κs = search needs
 
 returns : tie.Need-returns
 returns c = let e = c .before .before .root .ensures ∙ ap (λ d. root-below 255 (d * c .before .before .before .before .args .top) (c .before .before .before .before .args .q)) (c .before .before .before .apart .ensures .0) in
     c .raised .ensures ∙ ap₂ (λ t x. stepped t (c .before .before .before .before .args .weight) x) (sym (lt-ltb (c .before .before .before .before .args .demand) (c .before .before .before .before .args .copies) (c .before .if1 .taken))) e
-
-lowered-requires : tie.Need-lowered-requires
-lowered-requires c κs = search needs
 
 returns-2 : tie.Need-returns-2
 returns-2 c = let e = c .before .before .root .ensures ∙ ap (λ d. root-below 255 (d * c .before .before .before .before .args .top) (c .before .before .before .before .args .q)) (c .before .before .before .apart .ensures .0) in
@@ -36,10 +24,4 @@ pub adjust-spec : {M : Type 1} → statement M
 adjust-spec =
     tie.close
     (tie.spec
-    apart-requires
-    mul-root
-    root-requires
-    raised-requires
-    returns
-    lowered-requires
-    returns-2)
+    (λ c κs. search needs) mul-root (λ c κs. search needs) (λ c κs. search needs) returns (λ c κs. search needs) returns-2)

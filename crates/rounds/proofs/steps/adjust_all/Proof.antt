@@ -21,36 +21,9 @@ abbrev μ-loop : tie.MeasureT-loop
 loop-holds : tie.Need-loop-holds Inv-loop μ-loop
 loop-holds c = (search needs, entries-none (λ k. stepped (ltb (getD (now (c .args .demands)) k 0) (getD (now (c .args .copies)) k 0)) (getD (now (c .args .weights)) k 0) (root-below 255 (distance (getD (now (c .args .copies)) k 0) (getD (now (c .args .demands)) k 0) * c .args .top) (c .args .q))))
 
-cast-k : tie.Need-cast-k Inv-loop μ-loop
-cast-k c = search needs
-
-element-copy-out-adjust : tie.Need-element-copy-out-adjust Inv-loop μ-loop
-element-copy-out-adjust c = search needs
-
-mul-adjust : tie.Need-mul-adjust Inv-loop μ-loop
-mul-adjust c = search needs
-
-element-copy-out-adjust-2 : tie.Need-element-copy-out-adjust-2 Inv-loop μ-loop
-element-copy-out-adjust-2 c = search needs
-
-mul-adjust-2 : tie.Need-mul-adjust-2 Inv-loop μ-loop
-mul-adjust-2 c = search needs
-
-element-copy-out-adjust-3 : tie.Need-element-copy-out-adjust-3 Inv-loop μ-loop
-element-copy-out-adjust-3 c = search needs
-
-adjust-requires : tie.Need-adjust-requires Inv-loop μ-loop
-adjust-requires c κs = search needs
-
 array-write-adjusted : tie.Need-array-write-adjusted Inv-loop μ-loop
 array-write-adjusted c = let f : ℕ → ℕ = λ k. stepped (ltb (getD (now (c .before .before .before .before .before .before .args .demands)) k 0) (getD (now (c .before .before .before .before .before .before .args .copies)) k 0)) (getD (now (c .before .before .before .before .before .before .args .weights)) k 0) (root-below 255 (distance (getD (now (c .before .before .before .before .before .before .args .copies)) k 0) (getD (now (c .before .before .before .before .before .before .args .demands)) k 0) * c .before .before .before .before .before .before .args .top) (c .before .before .before .before .before .before .args .q)) in
     omega (arith, ap length (c .before .before .before .before .before .loop .inv .1), entries-length f (c .before .before .before .before .before .loop .i))
-
-add-i : tie.Need-add-i Inv-loop μ-loop
-add-i c = search needs
-
-loop-less : tie.Need-loop-less Inv-loop μ-loop
-loop-less c = search needs
 
 loop-again : tie.Need-loop-again Inv-loop μ-loop
 loop-again c = let f : ℕ → ℕ = λ k. stepped (ltb (getD (now (c .before .before .before .before .before .before .args .demands)) k 0) (getD (now (c .before .before .before .before .before .before .args .copies)) k 0)) (getD (now (c .before .before .before .before .before .before .args .weights)) k 0) (root-below 255 (distance (getD (now (c .before .before .before .before .before .before .args .copies)) k 0) (getD (now (c .before .before .before .before .before .before .args .demands)) k 0) * c .before .before .before .before .before .before .args .top) (c .before .before .before .before .before .before .args .q)) in
@@ -64,18 +37,5 @@ pub adjust-all-spec : {M : Type 1} → statement M
 adjust-all-spec =
     tie.close
     (tie.spec
-    Inv-loop
-    μ-loop
-    loop-holds
-    cast-k
-    element-copy-out-adjust
-    mul-adjust
-    element-copy-out-adjust-2
-    mul-adjust-2
-    element-copy-out-adjust-3
-    adjust-requires
-    array-write-adjusted
-    add-i
-    loop-less
-    loop-again
-    returns)
+    Inv-loop μ-loop loop-holds (λ c. search needs) (λ c. search needs) (λ c. search needs) (λ c. search needs) (λ c. search needs)
+    (λ c. search needs) (λ c κs. search needs) array-write-adjusted (λ c. search needs) (λ c. search needs) loop-again returns)

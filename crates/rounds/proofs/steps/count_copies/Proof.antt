@@ -20,23 +20,8 @@ abbrev μ-loop : tie.MeasureT-loop
 loop-holds : tie.Need-loop-holds Inv-loop μ-loop
 loop-holds c = (search needs, length-replicate {A = ℕ} 64 0, λ k h. getD-replicate 64 k 0 0 h ∙ sum-none (λ j. piece-here (getD (now (c .before .before .args .kinds)) j 0) (getD (now (c .before .before .args .operands)) j 0) k))
 
-shared-slice-read-count-node : tie.Need-shared-slice-read-count-node Inv-loop μ-loop
-shared-slice-read-count-node c = search needs
-
-mul-count-node : tie.Need-mul-count-node Inv-loop μ-loop
-mul-count-node c = search needs
-
-shared-slice-read-count-node-2 : tie.Need-shared-slice-read-count-node-2 Inv-loop μ-loop
-shared-slice-read-count-node-2 c = search needs
-
 count-node-requires : tie.Need-count-node-requires Inv-loop μ-loop
 count-node-requires c κs = (c .before .before .before .before .loop .inv .1, λ k h. omega (arith, c .before .before .before .before .loop .inv .2 k h, pieces-most (now (c .before .before .before .before .before .before .before .args .kinds)) (now (c .before .before .before .before .before .before .before .args .operands)) (c .before .before .before .before .loop .i) k))
-
-add-i : tie.Need-add-i Inv-loop μ-loop
-add-i c = search needs
-
-loop-less : tie.Need-loop-less Inv-loop μ-loop
-loop-less c = search needs
 
 loop-again : tie.Need-loop-again Inv-loop μ-loop
 loop-again c = (search needs, c .count-node .ensures .0, λ k h. c .count-node .ensures .1 k h ∙ ap (λ n. n + piece-here (getD (now (c .before .before .before .before .before .before .before .before .args .kinds)) (c .before .before .before .before .before .loop .i) 0) (getD (now (c .before .before .before .before .before .before .before .before .args .operands)) (c .before .before .before .before .before .loop .i) 0) k) (c .before .before .before .before .before .loop .inv .2 k h) ∙ sum-more (λ j. piece-here (getD (now (c .before .before .before .before .before .before .before .before .args .kinds)) j 0) (getD (now (c .before .before .before .before .before .before .before .before .args .operands)) j 0) k) (c .before .before .before .before .before .loop .i))
@@ -48,14 +33,5 @@ pub count-copies-spec : {M : Type 1} → statement M
 count-copies-spec =
     tie.close
     (tie.spec
-    Inv-loop
-    μ-loop
-    loop-holds
-    shared-slice-read-count-node
-    mul-count-node
-    shared-slice-read-count-node-2
-    count-node-requires
-    add-i
-    loop-less
-    loop-again
-    returns)
+    Inv-loop μ-loop loop-holds (λ c. search needs) (λ c. search needs) (λ c. search needs) count-node-requires (λ c. search needs)
+    (λ c. search needs) loop-again returns)

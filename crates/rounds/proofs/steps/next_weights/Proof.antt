@@ -10,21 +10,6 @@ use borrow.Author.Needs.{needs}
 use Rattle.rounds.proofs.steps.next_weights.Statement.{statement}
 use Rattle.rounds.proofs.steps.next_weights.Tie as tie
 
-sum-squares-requires : tie.Need-sum-squares-requires
-sum-squares-requires c κs = search needs
-
-factor-of-requires : tie.Need-factor-of-requires
-factor-of-requires c κs = search needs
-
-scale-of-requires : tie.Need-scale-of-requires
-scale-of-requires c κs = search needs
-
-mul-adjust-all : tie.Need-mul-adjust-all
-mul-adjust-all c = search needs
-
-adjust-all-requires : tie.Need-adjust-all-requires
-adjust-all-requires c κs = search needs
-
 returns : tie.Need-returns
 returns c = let s = c .before .before .before .sum-squares .ensures .0 in
     let t = c .before .scale-of .ensures .0 ∙ ap₂ (λ f s. scale f (c .before .before .before .before .args .gap) s) (c .before .before .factor-of .ensures .0) s in
@@ -35,9 +20,4 @@ pub next-weights-spec : {M : Type 1} → statement M
 next-weights-spec =
     tie.close
     (tie.spec
-    sum-squares-requires
-    factor-of-requires
-    scale-of-requires
-    mul-adjust-all
-    adjust-all-requires
-    returns)
+    (λ c κs. search needs) (λ c κs. search needs) (λ c κs. search needs) (λ c. search needs) (λ c κs. search needs) returns)

@@ -14,15 +14,6 @@ Inv-loop p q x₀ x = (x ≤ 255) × (x * x * q ≤ p)
 abbrev μ-loop : tie.MeasureT-loop
 μ-loop p q x₀ x = 255 - x
 
-loop-holds : tie.Need-loop-holds Inv-loop μ-loop
-loop-holds c = search needs
-
-cast-y : tie.Need-cast-y Inv-loop μ-loop
-cast-y c = search needs
-
-add-y : tie.Need-add-y Inv-loop μ-loop
-add-y c = search needs
-
 mul-if1 : tie.Need-mul-if1 Inv-loop μ-loop
 mul-if1 c = omega (arith, product-most (c .before .loop .x + 1) (c .before .loop .x + 1) 255 255 (omega arith) (omega arith))
 
@@ -33,15 +24,6 @@ mul-if1-2 c = let s = product-most (c .before .loop .x + 1) (c .before .loop .x 
 returns : tie.Need-returns Inv-loop μ-loop
 returns c = sym (root-found 255 (c .before .before .before .args .p) (c .before .before .before .args .q) (c .before .before .loop .x) (omega arith) (c .before .before .loop .inv .1) (λ z. omega arith))
 
-add-x : tie.Need-add-x Inv-loop μ-loop
-add-x c = search needs
-
-loop-less : tie.Need-loop-less Inv-loop μ-loop
-loop-less c = search needs
-
-loop-again : tie.Need-loop-again Inv-loop μ-loop
-loop-again c = search needs
-
 returns-2 : tie.Need-returns-2 Inv-loop μ-loop
 returns-2 c = let e : c .before .loop .x ≡ 255 = omega arith in
     let h : 255 * 255 * c .before .before .args .q ≤ c .before .before .args .p = rw e at (c .before .loop .inv .1) in
@@ -51,15 +33,5 @@ pub root-spec : {M : Type 1} → statement M
 root-spec =
     tie.close
     (tie.spec
-    Inv-loop
-    μ-loop
-    loop-holds
-    cast-y
-    add-y
-    mul-if1
-    mul-if1-2
-    returns
-    add-x
-    loop-less
-    loop-again
-    returns-2)
+    Inv-loop μ-loop (λ c. search needs) (λ c. search needs) (λ c. search needs) mul-if1 mul-if1-2 returns (λ c. search needs) (λ c. search needs)
+    (λ c. search needs) returns-2)

@@ -5,17 +5,12 @@ use borrow.Author.Needs.{needs}
 use Rattle.rounds.proofs.steps.scale_of.Statement.{statement}
 use Rattle.rounds.proofs.steps.scale_of.Tie as tie
 
-mul-one : tie.Need-mul-one
-mul-one c = search needs
-
 mul-quotient : tie.Need-mul-quotient
 mul-quotient c = omega (arith, product-most (c .args .f) (c .args .gap) 32 1000000000000 (c .pre .0) (c .pre .1))
 
 returns : tie.Need-returns
 returns c = let h = product-most (c .before .args .f) (c .before .args .gap) 32 1000000000000 (c .before .pre .0) (c .before .pre .1) in (omega arith, omega arith)
 
-returns-2 : tie.Need-returns-2
-returns-2 c = search needs
-
 pub scale-of-spec : {M : Type 1} → statement M
-scale-of-spec = tie.close (tie.spec mul-one mul-quotient returns returns-2)
+scale-of-spec = tie.close (tie.spec
+    (λ c. search needs) mul-quotient returns (λ c. search needs))

@@ -21,35 +21,11 @@ abbrev μ-loop : tie.MeasureT-loop
 loop-holds : tie.Need-loop-holds Inv-loop μ-loop
 loop-holds c = (search needs, sum-none (λ k. distance (getD (now (c .args .copies)) k 0) (getD (now (c .args .demands)) k 0) * distance (getD (now (c .args .copies)) k 0) (getD (now (c .args .demands)) k 0)), search needs)
 
-cast-k : tie.Need-cast-k Inv-loop μ-loop
-cast-k c = search needs
-
-mul-apart : tie.Need-mul-apart Inv-loop μ-loop
-mul-apart c = search needs
-
-element-copy-out-apart : tie.Need-element-copy-out-apart Inv-loop μ-loop
-element-copy-out-apart c = search needs
-
-mul-apart-2 : tie.Need-mul-apart-2 Inv-loop μ-loop
-mul-apart-2 c = search needs
-
-element-copy-out-apart-2 : tie.Need-element-copy-out-apart-2 Inv-loop μ-loop
-element-copy-out-apart-2 c = search needs
-
-apart-requires : tie.Need-apart-requires Inv-loop μ-loop
-apart-requires c κs = search needs
-
 mul-squares : tie.Need-mul-squares Inv-loop μ-loop
 mul-squares c = omega (arith, product-most (c .apart .result) (c .apart .result) 65535 65535 (c .apart .ensures .1) (c .apart .ensures .1))
 
 add-squares : tie.Need-add-squares Inv-loop μ-loop
 add-squares c = omega (arith, product-most (c .apart .result) (c .apart .result) 65535 65535 (c .apart .ensures .1) (c .apart .ensures .1))
-
-add-i : tie.Need-add-i Inv-loop μ-loop
-add-i c = search needs
-
-loop-less : tie.Need-loop-less Inv-loop μ-loop
-loop-less c = search needs
 
 loop-again : tie.Need-loop-again Inv-loop μ-loop
 loop-again c = let f : ℕ → ℕ = λ k. distance (getD (now (c .before .before .before .before .before .args .copies)) k 0) (getD (now (c .before .before .before .before .before .args .demands)) k 0) * distance (getD (now (c .before .before .before .before .before .args .copies)) k 0) (getD (now (c .before .before .before .before .before .args .demands)) k 0) in
@@ -64,18 +40,5 @@ pub sum-squares-spec : {M : Type 1} → statement M
 sum-squares-spec =
     tie.close
     (tie.spec
-    Inv-loop
-    μ-loop
-    loop-holds
-    cast-k
-    mul-apart
-    element-copy-out-apart
-    mul-apart-2
-    element-copy-out-apart-2
-    apart-requires
-    mul-squares
-    add-squares
-    add-i
-    loop-less
-    loop-again
-    returns)
+    Inv-loop μ-loop loop-holds (λ c. search needs) (λ c. search needs) (λ c. search needs) (λ c. search needs) (λ c. search needs)
+    (λ c κs. search needs) mul-squares add-squares (λ c. search needs) (λ c. search needs) loop-again returns)
