@@ -2,7 +2,6 @@
 use mathlib.Core.Path.{_∙_, ap}
 use denote.Ref.{now}
 use Rattle.saw.specs.Saw.{saw-said, SawChecks}
-use Rattle.planner_c.specs.Exports.{choices-of}
 use Rattle.planner_c.proofs.Exports.{of-word, words-enough}
 use Rattle.planner_c.proofs.Saw.{saw-stops, saw-called}
 use borrow.Author.Needs.{needs}
