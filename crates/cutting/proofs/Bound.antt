@@ -14,6 +14,7 @@ use Rattle.cutting.specs.Pieces.{Piece, upright, turned, kind, quarter, 
 use Rattle.cutting.specs.Saws.{saw}
 use Rattle.cutting.specs.Areas.{area}
 use Rattle.cutting.specs.Job.{Job, laid, MayLie, GuillotineTree, OnPlate, profit, weight-of, copies-of, KeepsDemands, widened, copies-on, plate-copies, counted-of, counted, capacity, at-full-demand, ordered, members, pieces, by-kind, figure-of, bound-of, SolidKinds, InRange}
+use Rattle.cutting.specs.Promises.{MostAmong, OfWeight, MostWithin, FiguresMost}
 use Rattle.cutting.proofs.Tests.{T-or, or-T}
 use Rattle.cutting.proofs.Exact.{figure-upper, figure-attained}
 use Rattle.cutting.proofs.Saws.{saw-proper}
@@ -44,6 +45,13 @@ module _ (J : Job) (solid : SolidKinds J) {S : Type 0} (H : Shares Piece S) (mon
   share-earned l w s =
       let e = figure-attained (pieces J) (saw (J .kerf)) H (saw-proper (J .kerf)) (l, w) s in
       (e .0, guillotine-plain J (e .0) (l, w) (e .1), e .2, e .3 ∙ kerf-figure l w s)
+
+  -- so the figure is the most of any trees that are those within the share
+  pub share-figure : (Among : Tree Piece → Type 0) (l w : ℕ) (s : S) → ((t : Tree Piece) → GuillotineTree J l w t → Among t → Within H s t) → ((t : Tree Piece) → GuillotineTree J l w t → Within H s t → Among t)
+      → MostAmong J Among l w (figure (pieces (widened J)) (saw 0) H (l + J .kerf, w + J .kerf) s)
+  share-figure Among l w s enter leave =
+      let e = share-earned l w s in
+      (λ t g a. share-most t l w s g (enter t g a), (e .0, (e .1, leave (e .0) (e .1) (e .2), e .3)))
 
 module _ (J : Job) (i : ℕ) where
   -- the plate and the kinds' sizes with the kerf added
@@ -140,25 +148,14 @@ module _ (J : Job) (weight : ℕ → ℕ) where
   )
 
   module _ (solid : SolidKinds J) where
-    -- no tree of weight at most the share earns more than the widened job's figure
-    pub figure-most : (t : Tree Piece) (l w c : ℕ) → GuillotineTree J l w t → weight-of weight t ≤ c → profit J t ≤ figure-of (widened J) weight (l + J .kerf) (w + J .kerf) c
+    -- the widened job's figure is the most that a tree of weight at most the share earns
+    pub figure-most : FiguresMost J weight
     unfolding figure-of
-    figure-most t l w c g h = share-most J solid (by-kind weight) (by-weight-monotone _) t l w c g (weight-within (λ p. weight (kind p)) t c h)
+    figure-most l w c = share-figure J solid (by-kind weight) (by-weight-monotone _) (OfWeight weight c) l w c (λ t g. weight-within (λ p. weight (kind p)) t c) (λ t g. within-weight (λ p. weight (kind p)) t c)
 
-    -- and some such tree earns it
-    pub figure-earned : (l w c : ℕ) → (t : Tree Piece) × GuillotineTree J l w t × (weight-of weight t ≤ c) × (profit J t ≡ figure-of (widened J) weight (l + J .kerf) (w + J .kerf) c)
-    unfolding figure-of
-    figure-earned l w c =
-        let e = share-earned J solid (by-kind weight) (by-weight-monotone _) l w c in
-        (e .0, e .1, within-weight (λ p. weight (kind p)) (e .0) c (e .2), e .3)
-
-    -- no tree on the plate of weight at most the capacity earns more than the bound
-    pub bound-most : (t : Tree Piece) → OnPlate J t → weight-of weight t ≤ capacity J weight → profit J t ≤ bound-of J weight
-    bound-most t g h = figure-most t (J .plate .0) (J .plate .1) (capacity J weight) g h
-
-    -- and some such tree earns it
-    pub bound-earned : (t : Tree Piece) × OnPlate J t × (weight-of weight t ≤ capacity J weight) × (profit J t ≡ bound-of J weight)
-    bound-earned = figure-earned (J .plate .0) (J .plate .1) (capacity J weight)
+    -- so the bound is the most that a tree on the plate of weight at most the capacity earns
+    pub bound-most : MostWithin J weight (capacity J weight) (bound-of J weight)
+    bound-most = figure-most (J .plate .0) (J .plate .1) (capacity J weight)
 
     -- a tree on the plate that keeps every demand weighs at most the capacity
     pub demands-weight : (t : Tree Piece) → OnPlate J t → KeepsDemands J t → weight-of weight t ≤ capacity J weight
@@ -168,7 +165,7 @@ module _ (J : Job) (weight : ℕ → ℕ) where
 
     -- so it earns at most the bound
     pub bound-holds : (t : Tree Piece) → OnPlate J t → KeepsDemands J t → profit J t ≤ bound-of J weight
-    bound-holds t g k = bound-most t g (demands-weight t g k)
+    bound-holds t g k = bound-most .0 t g (demands-weight t g k)
 
   module _ (h : InRange J) where
     -- the figure of the plate: its trees have at most one piece for each unit of the plate's own area

@@ -9,7 +9,7 @@ use Rattle.cutting.proofs.Lists.{range-mem, mem-range, filter-mem, mem-
 use Rattle.cutting.proofs.Weights.{by-weight-monotone}
 use Rattle.cutting.proofs.Members.{range-solid, widened-solid}
 use Rattle.cutting.proofs.Job.{figure-recursion}
-use Rattle.cutting.proofs.Bound.{copies-plate, figure-most, figure-earned, bound-most, bound-earned, demands-weight, bound-holds}
+use Rattle.cutting.proofs.Bound.{copies-plate, figure-most, bound-most, demands-weight, bound-holds}
 use Rattle.cutting.proofs.Table.{normal-sums, figure-floor}
 use Rattle.cutting.proofs.Plan.{plan-recursion}
 
@@ -31,7 +31,7 @@ module _ (J : Job) (weight : ℕ → ℕ) where
   module _ (h : InRange J) where
     -- the bound is the most within the capacity
     pub bound-exact : MostWithin J weight (capacity J weight) (bound-of J weight)
-    bound-exact = let e = bound-earned J weight (range-solid J h) in (bound-most J weight (range-solid J h), (e .0, (e .1, e .2, e .3)))
+    bound-exact = bound-most J weight (range-solid J h)
 
     -- and no tree within the demands earns more
     pub none-above : NoneAbove J (bound-of J weight)
@@ -43,7 +43,7 @@ module _ (J : Job) (weight : ℕ → ℕ) where
 
     -- every figure is the most of its rectangle and share
     pub figures-most : FiguresMost J weight
-    figures-most l w c = let e = figure-earned J weight (range-solid J h) l w c in ((λ t. figure-most J weight (range-solid J h) t l w c), (e .0, (e .1, e .2, e .3)))
+    figures-most = figure-most J weight (range-solid J h)
 
     pub floor-figures : FloorFigures (widened J) weight
     floor-figures l w c on-length on-width = figure-floor (widened J) weight (widened-solid J (range-solid J h)) l w c on-length on-width

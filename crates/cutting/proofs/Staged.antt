@@ -14,10 +14,10 @@ use Rattle.cutting.specs.Tree.{Rect, side, Tree, waste, piece, cut, Mono
 use Rattle.cutting.specs.Figure.{leaf, best, figure}
 use Rattle.cutting.specs.Pieces.{Piece, kind, sized}
 use Rattle.cutting.specs.Saws.{saw, saw-half}
-use Rattle.cutting.specs.Shares.{by-weight, other, change, staged, stages, stages-below}
+use Rattle.cutting.specs.Shares.{by-weight, other, change, staged, stages, stages-below, root}
 use Rattle.cutting.specs.Job.{Job, laid, OnPlate, profit, weight-of, KeepsDemands, widened, capacity, members, pieces, by-kind, bound-of, normal-side, normal-floor, SolidKinds, InRange}
 use Rattle.cutting.specs.Listed.{plain, Listing}
-use Rattle.cutting.specs.Staged.{paths, changes, path-stages, no-cut, cuts-between, along, block, staged-under, staged-bound, WithinStages, NoneStaged, MostStaged, StagedRecursion, StagedFloors}
+use Rattle.cutting.specs.Staged.{paths, changes, path-stages, no-cut, cuts-between, along, block, staged-under, staged-bound, WithinStages, NoneStaged, MostStaged, StagedRecursion, StagedFloors, OfBlock, StagedFiguresMost}
 use Rattle.cutting.proofs.Lists.{mem-range}
 use Rattle.cutting.proofs.Greatest.{max-is, greatest-map, greatest-cong, greatest-zero, greatest-append}
 use Rattle.cutting.proofs.Saws.{saw-proper}
@@ -27,7 +27,7 @@ use Rattle.cutting.proofs.Members.{members-solid, range-solid}
 use Rattle.cutting.proofs.Stages as theory
 use Rattle.cutting.proofs.Recursion.{figure-same}
 use Rattle.cutting.proofs.Table.{sides-suffice}
-use Rattle.cutting.proofs.Bound.{share-most, share-earned, demands-weight, bound-most, bound-ceiling}
+use Rattle.cutting.proofs.Bound.{share-figure, demands-weight, bound-most, bound-ceiling}
 use Rattle.cutting.proofs.Listed.{greatest-listed}
 
 -- cuts read smaller sides alone
@@ -173,24 +173,26 @@ module _ (J : Job) (weight : ℕ → ℕ) where
       unfolding best saw-half by-weight
       block-half-width k = simp block-figure (half-best k Width ∙ simp greatest-map)
 
+-- every figure of a block is the most that a tree of the block earns
+pub block-most : (J : Job) → SolidKinds J → (weight : ℕ → ℕ) → StagedFiguresMost J weight
+block-most J solid weight k d l w c = rw (block-figure (widened J) weight k d (l + J .kerf) (w + J .kerf) c)
+    (share-figure J solid (staged (by-kind weight)) (monotone J weight) (OfBlock weight k d c) l w (d, k, c)
+    (λ t g a. theory.within-staged (by-kind weight) t d k c (a .0) (weight-within (λ p. weight (kind p)) t c (a .1)))
+    (λ t g a. (let v = theory.staged-within (by-kind weight) t d k c a in (v .0, within-weight (λ p. weight (kind p)) t c (v .1)))))
+
 -- trees that lose the kerf at each cut, within a limit and a capacity
 module _ (J : Job) (solid : SolidKinds J) (weight : ℕ → ℕ) (c : ℕ) where
-  -- the widened job's figure at its plate, by the direction that comes first
+  -- the figure of a limit's block at the plate
   abbrev first : ℕ → Direction → ℕ
-  first n d = F (widened J) weight d n (widened J .plate .0) (widened J .plate .1) c
-
-  either : (n : ℕ) → staged-under J weight n c ≡ max (first n Length) (first n Width)
-  either n = ap₂ max (block-figure (widened J) weight n Length _ _ c) (block-figure (widened J) weight n Width _ _ c)
+  first n d = block (widened J) weight n d (widened J .plate .0) (widened J .plate .1) c
 
   one-way : (n : ℕ) (d : Direction) → first n d ≤ staged-under J weight n c
-  one-way n Length = omega (arith, either n)
-  one-way n Width = omega (arith, either n)
+  one-way n Length = omega arith
+  one-way n Width = omega arith
 
   -- none on the plate earns more than the staged bound
   pub staged-under-most : (n : ℕ) (t : Tree Piece) → OnPlate J t → weight-of weight t ≤ c → stages t ≤ n → profit J t ≤ staged-under J weight n c
-  staged-under-most n t g w h =
-      let u = theory.stages-within (by-kind weight) t n c h (weight-within (λ p. weight (kind p)) t c w) in
-      omega (arith, share-most J solid (staged (by-kind weight)) (monotone J weight) t (J .plate .0) (J .plate .1) (u .0, n, c) g (u .1), one-way n (u .0))
+  staged-under-most n t g w h = omega (arith, block-most J solid weight n (root t) (J .plate .0) (J .plate .1) c .0 t g (omega (arith, theory.root-stages t), w), one-way n (root t))
 
   -- and some such tree earns it
   pub staged-under-earned : (n : ℕ) → (t : Tree Piece) × WithinStages J n t × (weight-of weight t ≤ c) × (profit J t ≡ staged-under J weight n c)
@@ -198,9 +200,8 @@ module _ (J : Job) (solid : SolidKinds J) (weight : ℕ → ℕ) (c : ℕ) where
     where
       held : (d : Direction) → max (first n Length) (first n Width) ≡ first n d → (t : Tree Piece) × WithinStages J n t × (weight-of weight t ≤ c) × (profit J t ≡ staged-under J weight n c)
       held d e =
-          let f = share-earned J solid (staged (by-kind weight)) (monotone J weight) (J .plate .0) (J .plate .1) (d, n, c) in
-          let v = theory.staged-within (by-kind weight) (f .0) d n c (f .2) in
-          (f .0, (f .1, omega (arith, v .0, theory.stages-below-ge (f .0) d)), within-weight (λ p. weight (kind p)) (f .0) c (v .1), f .3 ∙ sym (either n ∙ e))
+          let f = block-most J solid weight n d (J .plate .0) (J .plate .1) c .1 in
+          (f .0, (f .1 .0, omega (arith, f .1 .1 .0, theory.stages-below-ge (f .0) d)), f .1 .1 .1, f .1 .2 ∙ sym e)
 
   -- a higher limit gives no less
   pub staged-more : (n m : ℕ) → n ≤ m → staged-under J weight n c ≤ staged-under J weight m c
@@ -221,7 +222,7 @@ module _ (J : Job) (solid : SolidKinds J) (weight : ℕ → ℕ) (n : ℕ) where
 
   -- no limit gives the most
   pub staged-less : staged-bound J weight n ≤ bound-of J weight
-  staged-less = let e = staged-under-earned J solid weight (capacity J weight) n in omega (arith, e .3, bound-most J weight solid (e .0) (e .1 .0) (e .2))
+  staged-less = let e = staged-under-earned J solid weight (capacity J weight) n in omega (arith, e .3, bound-most J weight solid .0 (e .0) (e .1 .0) (e .2))
 
 -- so the staged bound is at most 1,000,000,000,000
 pub staged-ceiling : (J : Job) (weight : ℕ → ℕ) (n : ℕ) → InRange J → staged-bound J weight n ≤ most-figure

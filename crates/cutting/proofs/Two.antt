@@ -14,7 +14,7 @@ use Rattle.cutting.specs.Saws.{saw}
 use Rattle.cutting.specs.Shares.{by-weight, paired}
 use Rattle.cutting.specs.Job.{Job, laid, counted, capacity, members, pieces, by-kind, figure-of, normal-side, SolidKinds, InRange}
 use Rattle.cutting.specs.Promises.{NoneAbove}
-use Rattle.cutting.specs.Two.{by-two, figure-two, two-under, two-bound, MostTwo, TwoRecursion, TwoFloors}
+use Rattle.cutting.specs.Two.{by-two, figure-two, two-under, two-bound, OfWeights, MostTwo, TwoFiguresMost, TwoRecursion, TwoFloors}
 use Rattle.cutting.proofs.Greatest.{greatest-map, greatest-append}
 use Rattle.cutting.proofs.Recursion.{figure-eq}
 use Rattle.cutting.proofs.Exact.{figure-within}
@@ -24,7 +24,7 @@ use Rattle.cutting.proofs.Pairs.{paired-within, within-paired, paired-m
 use Rattle.cutting.proofs.Reduction.{floor-figure}
 use Rattle.cutting.proofs.Members.{members-solid, range-solid}
 use Rattle.cutting.proofs.Table.{sides-suffice}
-use Rattle.cutting.proofs.Bound.{share-most, share-earned, demands-weight, bound-most, bound-ceiling}
+use Rattle.cutting.proofs.Bound.{share-figure, demands-weight, bound-most, bound-ceiling}
 
 -- the greatest over all pairs
 greatest-pairs : {A B : Type 0} (f : A × B → ℕ) (xs : List A) (ys : List B) → greatest f (pairs xs ys) ≡ greatest (λ x. greatest (λ y. f (x, y)) ys) xs
@@ -55,26 +55,26 @@ module _ (J : Job) (first second : ℕ → ℕ) where
     two-floor l w c c′ on-length on-width = floor-figure (members J) (λ p. J .price (kind p)) (laid J) (members-solid J solid) (by-two first second) monotone
         (J .plate) (normal-side J) (sides-suffice J) (l, w) (c, c′) (on-length, on-width)
 
-    -- the bound is the most that a tree within both capacities earns
-    pub two-most : (q q′ : ℕ) → MostTwo J first second q q′ (two-under J first second q q′)
+    -- every figure is the most that a tree within its pair of shares earns
+    pub two-figures : TwoFiguresMost J first second
     unfolding figure-two
-    two-most q q′ =
-        let e = share-earned J solid (by-two first second) monotone (J .plate .0) (J .plate .1) (q, q′) in
-        let v = paired-within (by-kind first) (by-kind second) (e .0) (q, q′) (e .2) in (
-          λ t g. share-most J solid (by-two first second) monotone t (J .plate .0) (J .plate .1) (q, q′) (g .0)
-              (within-paired (by-kind first) (by-kind second) t (q, q′) (weight-within (λ p. first (kind p)) t q (g .1)) (weight-within (λ p. second (kind p)) t q′ (g .2))),
-          (e .0, (e .1, within-weight (λ p. first (kind p)) (e .0) q (v .0), within-weight (λ p. second (kind p)) (e .0) q′ (v .1)), e .3),
-        )
+    two-figures l w c c′ = share-figure J solid (by-two first second) monotone (OfWeights first second c c′) l w (c, c′)
+        (λ t g a. within-paired (by-kind first) (by-kind second) t (c, c′) (weight-within (λ p. first (kind p)) t c (a .0)) (weight-within (λ p. second (kind p)) t c′ (a .1)))
+        (λ t g a. (let v = paired-within (by-kind first) (by-kind second) t (c, c′) a in (within-weight (λ p. first (kind p)) t c (v .0), within-weight (λ p. second (kind p)) t c′ (v .1))))
+
+    -- so the bound is the most that a tree on the plate within both capacities earns
+    pub two-most : (q q′ : ℕ) → MostTwo J first second q q′ (two-under J first second q q′)
+    two-most = two-figures (J .plate .0) (J .plate .1)
 
     -- no tree that keeps every demand earns more
     pub two-holds : NoneAbove J (two-bound J first second)
-    two-holds t g k = two-most (capacity J first) (capacity J second) .0 t (g, demands-weight J first solid t g k, demands-weight J second solid t g k)
+    two-holds t g k = two-most (capacity J first) (capacity J second) .0 t g (demands-weight J first solid t g k, demands-weight J second solid t g k)
 
   -- the bound is at most 1,000,000,000,000
   pub two-ceiling : InRange J → two-bound J first second ≤ most-figure
   two-ceiling h =
       let e = two-most (range-solid J h) (capacity J first) (capacity J second) .1 in
-      omega (arith, e .2, bound-most J first (range-solid J h) (e .0) (e .1 .0) (e .1 .1), bound-ceiling J first h)
+      omega (arith, e .1 .2, bound-most J first (range-solid J h) .0 (e .0) (e .1 .0) (e .1 .1 .0), bound-ceiling J first h)
 
   -- with all second weights 0
   module _ (none : (i : ℕ) → second i ≡ 0) where

@@ -3,14 +3,14 @@
 use mathlib.Core.Path.{_≡_}
 use mathlib.Core.Bool.{Bool, _&&_}
 use mathlib.Core.List.{List}
-use Prim.Native.Nat.{ℕ, zero, suc, _+_, _-_, _*_, _≤_, max}
+use Prim.Native.Nat.{ℕ, zero, suc, _+_, _-_, _*_, _/_, _%_, _≤_, _<_, max}
 use Rattle.cutting.specs.declared.Direction.the-variants.{Length, Width}
 use Rattle.cutting.specs.Lists.{range, only, filter, greatest}
 use Rattle.cutting.specs.Tree.{Tree, Shares}
 use Rattle.cutting.specs.Pieces.{Piece, kind, fits-in}
 use Rattle.cutting.specs.Shares.{below, by-state}
-use Rattle.cutting.specs.Job.{Job, laid, OnPlate, profit, KeepsDemands, widened, members, figure-under, normal-floor, plan-of}
-use Rattle.cutting.specs.Promises.{NoneAbove}
+use Rattle.cutting.specs.Job.{Job, laid, copies-of, KeepsDemands, widened, members, figure-under, normal-floor, plan-of}
+use Rattle.cutting.specs.Promises.{EarnsAmong, MostAmong}
 
 -- the number of states of the kinds below n: the product of their demands, each plus 1
 unfoldable pub states : (ℕ → ℕ) → ℕ → ℕ
@@ -68,8 +68,20 @@ ExactFloors J = (l w s : ℕ) → l ≤ J .plate .0 → w ≤ J .plate .1 → ex
 
 -- a guillotine tree on the plate that keeps every demand and earns n
 abbrev pub EarnsExactly : Job → ℕ → Tree Piece → Type 0
-EarnsExactly J n t = OnPlate J t × KeepsDemands J t × (profit J t ≡ n)
+EarnsExactly J n t = EarnsAmong J (KeepsDemands J) (J .plate .0) (J .plate .1) n t
 
 -- n is the most that a guillotine tree on the plate that keeps every demand earns: none earns more, and one earns it
 abbrev pub MostExact : Job → ℕ → Type 0
-MostExact J n = NoneAbove J n × ((t : Tree Piece) × EarnsExactly J n t)
+MostExact J n = MostAmong J (KeepsDemands J) (J .plate .0) (J .plate .1) n
+
+-- the copies of kind i that remain in a state, its digit of that kind
+abbrev pub copies-left : Job → ℕ → ℕ → ℕ
+copies-left J s i = s / one-copy J i % (J .demand i + 1)
+
+-- the trees that have of no kind more copies than remain in a state
+abbrev pub OfState : Job → ℕ → Tree Piece → Type 0
+OfState J s t = (i : ℕ) → i < J .count → copies-of i t ≤ copies-left J s i
+
+-- the figure of a state in the widened job is the most that one of these earns on the rectangle whose sides are less by the kerf
+abbrev pub ExactFiguresMost : Job → Type 0
+ExactFiguresMost J = (l w s : ℕ) → s < state-count J → MostAmong J (OfState J s) l w (exact-figure (widened J) (l + J .kerf) (w + J .kerf) s)

@@ -34,24 +34,29 @@ PlateHolds J = (t : Tree Piece) → OnPlate J t → (i : ℕ) → i < J .count �
 abbrev pub NoneHeavier : Job → (ℕ → ℕ) → ℕ → Type 0
 NoneHeavier J weight q = (t : Tree Piece) → OnPlate J t → KeepsDemands J t → weight-of weight t ≤ q
 
--- a guillotine tree on a rectangle of weight at most q that earns n
-abbrev pub EarnsOn : Job → (ℕ → ℕ) → ℕ → ℕ → ℕ → ℕ → Tree Piece → Type 0
-EarnsOn J weight l w q n t = GuillotineTree J l w t × (weight-of weight t ≤ q) × (profit J t ≡ n)
+-- a guillotine tree on a rectangle, among those that `Among` holds of, that earns n
+abbrev pub EarnsAmong : Job → (Tree Piece → Type 0) → ℕ → ℕ → ℕ → Tree Piece → Type 0
+EarnsAmong J Among l w n t = GuillotineTree J l w t × Among t × (profit J t ≡ n)
 
--- n is the most that a guillotine tree on a rectangle of weight at most q earns: none earns more, and one earns it
-abbrev pub MostOn : Job → (ℕ → ℕ) → ℕ → ℕ → ℕ → ℕ → Type 0
-MostOn J weight l w q n = ((t : Tree Piece) → GuillotineTree J l w t → weight-of weight t ≤ q → profit J t ≤ n) × ((t : Tree Piece) × EarnsOn J weight l w q n t)
+-- n is the most that a guillotine tree on a rectangle among those earns: none earns more, and one earns it
+abbrev pub MostAmong : Job → (Tree Piece → Type 0) → ℕ → ℕ → ℕ → Type 0
+MostAmong J Among l w n = ((t : Tree Piece) → GuillotineTree J l w t → Among t → profit J t ≤ n) × ((t : Tree Piece) × EarnsAmong J Among l w n t)
 
--- the same on the plate
+-- the trees of weight at most q
+abbrev pub OfWeight : (ℕ → ℕ) → ℕ → Tree Piece → Type 0
+OfWeight weight q t = weight-of weight t ≤ q
+
+-- one of these on the plate that earns n
 abbrev pub EarnsWithin : Job → (ℕ → ℕ) → ℕ → ℕ → Tree Piece → Type 0
-EarnsWithin J weight q n t = EarnsOn J weight (J .plate .0) (J .plate .1) q n t
+EarnsWithin J weight q n t = EarnsAmong J (OfWeight weight q) (J .plate .0) (J .plate .1) n t
 
+-- n is the most that one of these on the plate earns
 abbrev pub MostWithin : Job → (ℕ → ℕ) → ℕ → ℕ → Type 0
-MostWithin J weight q n = MostOn J weight (J .plate .0) (J .plate .1) q n
+MostWithin J weight q n = MostAmong J (OfWeight weight q) (J .plate .0) (J .plate .1) n
 
 -- a figure of the widened job is the most that a tree within its share earns on the rectangle whose sides are less by the kerf
 abbrev pub FiguresMost : Job → (ℕ → ℕ) → Type 0
-FiguresMost J weight = (l w c : ℕ) → MostOn J weight l w c (figure-of (widened J) weight (l + J .kerf) (w + J .kerf) c)
+FiguresMost J weight = (l w c : ℕ) → MostAmong J (OfWeight weight c) l w (figure-of (widened J) weight (l + J .kerf) (w + J .kerf) c)
 
 -- the recursion: a figure is the greatest of 0; the price of any piece that may lie, fits and weighs at most the share; for each length
 -- cut, at every whole unit, and each first share, the first part's figure plus the second part's; the same for width cuts

@@ -10,8 +10,9 @@ use Rattle.cutting.specs.declared.Direction.the-variants.{Length, Width}
 use Rattle.cutting.specs.Lists.{range, only, greatest}
 use Rattle.cutting.specs.Tree.{side, Tree, waste, piece, cut}
 use Rattle.cutting.specs.Pieces.{Piece, kind, fits-in}
-use Rattle.cutting.specs.Shares.{change, other, stages}
+use Rattle.cutting.specs.Shares.{change, other, stages, stages-below}
 use Rattle.cutting.specs.Job.{Job, laid, OnPlate, profit, weight-of, KeepsDemands, widened, finer, capacity, members, normal-floor}
+use Rattle.cutting.specs.Promises.{MostAmong}
 
 -- the directions of the cuts on each path down through a tree's cuts
 unfoldable pub paths : {P : Type 0} → Tree P → List (List Direction)
@@ -89,3 +90,12 @@ pub record StagedRecursion (J : Job) (weight : ℕ → ℕ) : Type 0 where
 abbrev pub StagedFloors : Job → (ℕ → ℕ) → Type 0
 StagedFloors J weight = (k : ℕ) (d : Direction) (l w c : ℕ) → l ≤ J .plate .0 → w ≤ J .plate .1
     → block J weight k d l w c ≡ block J weight k d (normal-floor J Length l) (normal-floor J Width w) c
+
+-- the trees of a block: of at most k stages where the cuts above go in direction d, so one stage fewer if the first cut goes the other way,
+-- and of weight at most c
+abbrev pub OfBlock : (ℕ → ℕ) → ℕ → Direction → ℕ → Tree Piece → Type 0
+OfBlock weight k d c t = (stages-below d t ≤ k) × (weight-of weight t ≤ c)
+
+-- a block's figure in the widened job is the most that one of these earns on the rectangle whose sides are less by the kerf
+abbrev pub StagedFiguresMost : Job → (ℕ → ℕ) → Type 0
+StagedFiguresMost J weight = (k : ℕ) (d : Direction) (l w c : ℕ) → MostAmong J (OfBlock weight k d c) l w (block (widened J) weight k d (l + J .kerf) (w + J .kerf) c)

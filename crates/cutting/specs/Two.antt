@@ -11,7 +11,8 @@ use Rattle.cutting.specs.Figure.{figure}
 use Rattle.cutting.specs.Pieces.{Piece, kind, fits-in}
 use Rattle.cutting.specs.Saws.{saw}
 use Rattle.cutting.specs.Shares.{paired}
-use Rattle.cutting.specs.Job.{Job, laid, OnPlate, profit, weight-of, widened, capacity, members, pieces, by-kind, normal-floor}
+use Rattle.cutting.specs.Job.{Job, laid, weight-of, widened, capacity, members, pieces, by-kind, normal-floor}
+use Rattle.cutting.specs.Promises.{MostAmong}
 
 -- a pair of shares: both admit, and a cut divides both
 abbrev pub by-two : (ℕ → ℕ) → (ℕ → ℕ) → Shares Piece (ℕ × ℕ)
@@ -29,13 +30,17 @@ two-under J first second q q′ = figure-two (widened J) first second (widened J
 abbrev pub two-bound : Job → (ℕ → ℕ) → (ℕ → ℕ) → ℕ
 two-bound J first second = two-under J first second (capacity J first) (capacity J second)
 
--- a guillotine tree on the plate whose weights are at most q and q′
-abbrev pub WithinBoth : Job → (ℕ → ℕ) → (ℕ → ℕ) → ℕ → ℕ → Tree Piece → Type 0
-WithinBoth J first second q q′ t = OnPlate J t × (weight-of first t ≤ q) × (weight-of second t ≤ q′)
+-- the trees whose weights are at most q and q′
+abbrev pub OfWeights : (ℕ → ℕ) → (ℕ → ℕ) → ℕ → ℕ → Tree Piece → Type 0
+OfWeights first second q q′ t = (weight-of first t ≤ q) × (weight-of second t ≤ q′)
 
--- n is the most that such a tree earns: none earns more, and one earns it
+-- n is the most that one of these on the plate earns: none earns more, and one earns it
 abbrev pub MostTwo : Job → (ℕ → ℕ) → (ℕ → ℕ) → ℕ → ℕ → ℕ → Type 0
-MostTwo J first second q q′ n = ((t : Tree Piece) → WithinBoth J first second q q′ t → profit J t ≤ n) × ((t : Tree Piece) × WithinBoth J first second q q′ t × (profit J t ≡ n))
+MostTwo J first second q q′ n = MostAmong J (OfWeights first second q q′) (J .plate .0) (J .plate .1) n
+
+-- a figure of the widened job is the most that a tree within its pair of shares earns on the rectangle whose sides are less by the kerf
+abbrev pub TwoFiguresMost : Job → (ℕ → ℕ) → (ℕ → ℕ) → Type 0
+TwoFiguresMost J first second = (l w c c′ : ℕ) → MostAmong J (OfWeights first second c c′) l w (figure-two (widened J) first second (l + J .kerf) (w + J .kerf) c c′)
 
 -- the recursion: a figure is the greatest of 0; the price of any piece that may lie, fits and weighs at most both shares; for each length
 -- cut, at every whole unit, and each first part of both shares, the first part's figure plus the second part's; the same for width cuts

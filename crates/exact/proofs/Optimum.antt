@@ -85,5 +85,5 @@ module _ (J : Job) (h : InRange J) where
       let w : weight-of first (optimum-plan J) ≤ q = omega (arith, none-heavier J first h (optimum-plan J) (e .0) (e .1), capacity-less J first) in
       let w′ : weight-of second (optimum-plan J) ≤ q′ = omega (arith, none-heavier J second h (optimum-plan J) (e .0) (e .1), capacity-less J second) in
       let a : profit J (optimum-plan J) ≤ two-bound J first second = two-holds J first second (range-solid J h) (optimum-plan J) (e .0) (e .1) in
-      let b : profit J (optimum-plan J) ≤ two-bound (at-full-demand J) first second = two-most J first second (range-solid J h) q q′ .0 (optimum-plan J) (e .0, w, w′) in
+      let b : profit J (optimum-plan J) ≤ two-bound (at-full-demand J) first second = two-most J first second (range-solid J h) q q′ .0 (optimum-plan J) (e .0) (w, w′) in
       (omega (arith, e .2, a), omega (arith, e .2, b))

@@ -7,11 +7,11 @@ use lib.ListN.{length}
 use Rattle.cutting.specs.declared.Sides.{Sides}
 use Rattle.cutting.specs.Sides.{rect-of, sides-of}
 use Rattle.cutting.specs.Job.{Job, InRange, widened, capacity}
-use Rattle.cutting.specs.Two.{figure-two, two-bound}
+use Rattle.cutting.specs.Two.{figure-two, two-bound, TwoFiguresMost}
 use Rattle.cutting.specs.Listed.{heavy-in, pieces-job, PieceArray}
 use Rattle.cutting.proofs.Members.{range-solid, widened-solid}
 use Rattle.cutting.proofs.Finer.{none-finer}
-use Rattle.cutting.proofs.Two.{two-recursion, two-floor, two-most, two-holds, two-ceiling}
+use Rattle.cutting.proofs.Two.{two-recursion, two-floor, two-figures, two-most, two-holds, two-ceiling}
 use Rattle.cutting.proofs.Promises.{normal-listed}
 use Rattle.refusal.specs.Refusals.{next, first-refusal, outcome-by}
 use Rattle.refusal.specs.declared.Refusal.{Refusal}
@@ -64,6 +64,10 @@ module _ (s : List ℕ) (choices : Choices) (first second : List ℕ) where
   in-range : BothAccepted s choices first second → InRange (block-job s choices)
   in-range a = read-in-range s choices (append-passed (job-checks s choices) (two-checks (block-job s choices) first second) a .0)
 
+  -- so every figure is the most that a tree within both shares earns
+  pub figures-held : BothAccepted s choices first second → TwoFiguresMost (block-job s choices) (weight-in first) (weight-in second)
+  figures-held a = two-figures (block-job s choices) (weight-in first) (weight-in second) (range-solid (block-job s choices) (in-range a))
+
   -- the job is refused, or its weights are
   pub job-refused : {a : JobAnswer} {r : Refusal} → a ≡ read-of s choices → a .verdict ≡ Refused r → weighed-verdict s choices first second ≡ Refused r
   job-refused e p = first-append (job-checks s choices) (two-checks (block-job s choices) first second) ∙ ap (λ v. next v (first-refusal (two-checks (block-job s choices) first second))) (refused s choices e p)
@@ -86,6 +90,7 @@ module _ (s : List ℕ) (choices : Choices) (first second : List ℕ) where
       recursion = two-recursion (wide-job s choices) (weight-in first) (weight-in second);
       normal = normal-listed (wide-job s choices);
       accepted = λ a. two-held (block-job s choices) (weight-in first) (weight-in second) (in-range a);
+      figures = figures-held;
       floor = λ a. two-floor (wide-job s choices) (weight-in first) (weight-in second) (widened-solid (block-job s choices) (range-solid (block-job s choices) (in-range a)));
       one = λ same none. (e ∙ one-answer first second same none s choices old, one-memory first second same none s choices old new l);
     }

@@ -10,7 +10,7 @@ use Rattle.cutting.specs.declared.Direction.the-variants.{Length, Width}
 use Rattle.cutting.specs.Limits.{most-capacity, most-pairs, most-figure}
 use Rattle.cutting.specs.Job.{Job, capacity, normal-positions}
 use Rattle.cutting.specs.Promises.{NoneAbove, NoneFiner, NormalSums}
-use Rattle.cutting.specs.Two.{figure-two, two-under, two-bound, MostTwo, TwoRecursion, TwoFloors}
+use Rattle.cutting.specs.Two.{figure-two, two-under, two-bound, MostTwo, TwoFiguresMost, TwoRecursion, TwoFloors}
 use Rattle.refusal.specs.Refusals.{Check, Outcome, next, first-refusal, by-check, refused-as, outcome-by}
 use Rattle.refusal.specs.declared.Checked.{Checked}
 use Rattle.refusal.specs.declared.Checked.the-variants.{Passed}
@@ -129,8 +129,8 @@ OneAlone s choices first second old new r = length second ≡ length first → (
 
 -- what the call promises: answer, number and values are the definition's; lent memory is left as the definition says; an answered bound
 -- holds; with the kerf added to every side the figures follow the recursion and the normal positions are the sums. Where job and weights
--- are accepted, whatever storage is lent: their bound holds, and a tabled figure is that of every rectangle whose largest normal sides it
--- has. Second weights of 0 change nothing
+-- are accepted, whatever storage is lent: their bound holds, every figure is the most that a tree within both shares earns there, and a
+-- tabled figure is that of every rectangle whose largest normal sides it has. Second weights of 0 change nothing
 pub record TwoPromises (s : List ℕ) (choices : Choices) (first second : List ℕ) (old new : Memory) (r : TwoAnswer) : Type 0 where
   pub answers : r ≡ two-answer s choices first second old
   pub outcome : two-outcome r ≡ two-said s choices first second old
@@ -139,5 +139,6 @@ pub record TwoPromises (s : List ℕ) (choices : Choices) (first second : List �
   pub recursion : TwoRecursion (wide-job s choices) (weight-in first) (weight-in second)
   pub normal : NormalSums (wide-job s choices)
   pub accepted : BothAccepted s choices first second → TwoHolds (block-job s choices) (weight-in first) (weight-in second) (block-capacity s choices first) (block-capacity s choices second) (two-bound (block-job s choices) (weight-in first) (weight-in second))
+  pub figures : BothAccepted s choices first second → TwoFiguresMost (block-job s choices) (weight-in first) (weight-in second)
   pub floor : BothAccepted s choices first second → TwoFloors (wide-job s choices) (weight-in first) (weight-in second)
   pub one : OneAlone s choices first second old new r
