@@ -9,7 +9,7 @@ use Rattle.cutting.specs.Preorder.{kinds-of, operands-of, node-count}
 use Rattle.cutting.specs.Tree.{Tree}
 use Rattle.cutting.specs.Pieces.{Piece}
 use Rattle.cutting.specs.Job.{Job, InRange, widened}
-use Rattle.cutting.specs.Exact.{state-count, full-state, exact-figure, optimum, optimum-plan}
+use Rattle.cutting.specs.Exact.{state-count, full-state, exact-figure, optimum, optimum-plan, ExactFiguresMost}
 use Rattle.cutting.proofs.Promises.{normal-listed}
 use Rattle.refusal.specs.Refusals.{next, refuse-when, first-refusal, outcome-by}
 use Rattle.refusal.specs.declared.Refusal.{Refusal}
@@ -33,7 +33,7 @@ use Rattle.exact.specs.declared.ExactAnswer.the-variants as answer
 use Rattle.exact.specs.Exact.{state-check, ExactLeaves, short-verdict, ShortOrder, exact-verdict, exact-report, exact-answer-by, exact-values, exact-outcome, OptimumHolds, OptimumPlanned, OptimumWritten, ExactPromises}
 use Rattle.exact.specs.Contracts.{StatesCounted, Short, job-report, job-plan, room-verdict, Drawn}
 use Rattle.exact.proofs.States.{states-some}
-use Rattle.exact.proofs.Optimum.{exact-recursion, exact-floors, optimum-earned, optimum-exact, optimum-finer, optimum-follows, optimum-idle, bounds-above, two-above}
+use Rattle.exact.proofs.Optimum.{exact-recursion, exact-figures, exact-floors, optimum-earned, optimum-exact, optimum-finer, optimum-follows, optimum-idle, bounds-above, two-above}
 use Rattle.exact.proofs.Accepted.{untouched}
 
 said-by : (v : Checked) (b : ExactReport) → exact-outcome (exact-answer-by v b) ≡ outcome-by v (exact-values b)
@@ -61,6 +61,10 @@ module _ (s : List ℕ) (choices : Choices) where
 
   short-in-range : ShortOrder s choices → InRange J
   short-in-range h = read-in-range s choices (append-passed (job-checks s choices) (state-check J ∷ []) h .0)
+
+  -- so the figure of a state is the most that a tree earns with of no kind more copies than remain
+  pub figures-held : ShortOrder s choices → ExactFiguresMost J
+  figures-held h = exact-figures J (short-in-range h)
 
   -- the verdict by that of the job and the number of states
   pub job-refused : {x : Refusal} → first-refusal (job-checks s choices) ≡ Refused x → short-verdict s choices ≡ Refused x
@@ -112,6 +116,7 @@ module _ (s : List ℕ) (choices : Choices) where
         exact = λ b w. subst (λ u. OptimumHolds J (u .optimum)) (sym (reported w .1)) (optimum-holds J (in-range w));
         optimal = λ h. optimum-holds J (short-in-range h);
         planned = λ h. optimum-planned J (short-in-range h);
+        figures = figures-held;
         floor = λ h. exact-floors J (short-in-range h);
         plan = λ b w. written w;
       }

@@ -1,4 +1,5 @@
 pub mod States
+pub mod Remaining
 pub mod Optimum
 pub mod Counting
 pub mod Pieces

@@ -13,20 +13,21 @@ use Rattle.cutting.specs.Saws.{saw}
 use Rattle.cutting.specs.Job.{Job, InRange, profit, weight-of, widened, capacity, at-full-demand, ordered, members, pieces, bound-of}
 use Rattle.cutting.specs.Promises.{NoneAbove, NoneFiner, PlanFollows}
 use Rattle.cutting.specs.Two.{figure-two, two-bound}
-use Rattle.cutting.specs.Exact.{full-state, by-copies, exact-figure, optimum, optimum-plan, ExactRecursion, ExactFloors, EarnsExactly, MostExact}
+use Rattle.cutting.specs.Exact.{full-state, by-copies, exact-figure, optimum, optimum-plan, ExactRecursion, ExactFloors, EarnsExactly, MostExact, OfState, ExactFiguresMost}
 use Rattle.cutting.proofs.Greatest.{greatest-map}
 use Rattle.cutting.proofs.Recursion.{figure-eq}
 use Rattle.cutting.proofs.Saws.{saw-proper}
 use Rattle.cutting.proofs.Members.{range-solid, widened-solid}
 use Rattle.cutting.proofs.Job.{plain-guillotine}
 use Rattle.cutting.proofs.Finer.{none-finer}
-use Rattle.cutting.proofs.Bound.{share-most, capacity-less, bound-less}
+use Rattle.cutting.proofs.Bound.{share-most, share-figure, capacity-less, bound-less}
 use Rattle.cutting.proofs.Table.{floor-under}
 use Rattle.cutting.proofs.Plan.{plan-saw, plan-within, plan-recursion, plan-idle}
 use Rattle.cutting.proofs.Promises.{none-above, none-heavier}
 use Rattle.cutting.proofs.Two.{two-most, two-holds}
 use Rattle.table.specs.States.{by-state}
-use Rattle.exact.proofs.States.{copies-monotone, keeps-within, within-keeps}
+use Rattle.exact.proofs.States.{copies-monotone}
+use Rattle.exact.proofs.Remaining.{copies-within, within-copies, keeps-within, within-keeps}
 
 -- the recursion, cut at every whole unit
 pub exact-recursion : (J : Job) → ExactRecursion J
@@ -37,6 +38,13 @@ module _ (J : Job) (h : InRange J) where
   pub exact-floors : ExactFloors (widened J)
   unfolding exact-figure
   exact-floors = floor-under (widened J) (by-copies (widened J)) (copies-monotone (widened J) (h .kinds .0)) (widened-solid J (range-solid J h))
+
+  -- the figure of a state is the most that a tree earns with of no kind more copies than remain
+  pub exact-figures : ExactFiguresMost J
+  unfolding exact-figure pieces members ordered
+  exact-figures l w s few = share-figure J (range-solid J h) (by-copies J) (copies-monotone J (h .kinds .0)) (OfState J s) l w s
+      (λ t g. copies-within J (h .kinds .0) t (saw (J .kerf)) (l, w) (plain-guillotine J t (l, w) g) s few)
+      (λ t g. within-copies J (h .kinds .0) t (saw (J .kerf)) (l, w) (plain-guillotine J t (l, w) g) s few)
 
   -- no tree that keeps the demands earns more
   pub optimum-most : NoneAbove J (optimum J)

@@ -1,5 +1,5 @@
--- The states of a job's remaining copies: they are numbers of several digits, one a kind, and a tree is within the last state exactly if it
--- keeps every demand.
+-- The states of a job's remaining copies: they are numbers of several digits, one a kind, and a piece that may lie has the state of one copy
+-- of its kind.
 use mathlib.Core.Path.{_≡_, refl, sym, _∙_, ap, subst}
 use mathlib.Core.Bool.{Bool, true, false}
 use mathlib.Core.List.{List·Memᴰ}
@@ -13,14 +13,11 @@ use lib.Dec.{T, ltb, eqb}
 use Rattle.cutting.specs.Lists.{only}
 use Rattle.cutting.specs.Tree.{Rect, Tree, waste, piece, cut, Pieces, Saw, Guillotine, Within, Monotone}
 use Rattle.cutting.specs.Pieces.{Piece, upright, turned, kind}
-use Rattle.cutting.specs.Job.{Job, KeepsDemands, MayLie, pieces}
-use Rattle.cutting.specs.Pieces.{sized}
+use Rattle.cutting.specs.Job.{Job, MayLie}
 use Rattle.cutting.specs.Exact.{states, full-state, no-more, by-copies}
-use Rattle.cutting.proofs.Members.{member-lies}
 use Rattle.table.specs.States.{by-state, Blocks, Order, digit, own-state}
 use Rattle.table.proofs.Shares.{by-state-monotone}
 use Rattle.state_fill.proofs.Digits.{quotient, rest, digits-order}
-use Rattle.state_fill.proofs.Ties.{within-digits, digits-within}
 
 -- without kinds there is one state
 pub zero-one : (f : ℕ → ℕ) → states f 0 ≡ 1
@@ -45,7 +42,7 @@ module _ (f : ℕ → ℕ) where
       one-more : (k : ℕ) → 1 ≤ k + 1
       one-more k = omega arith
 
-  step : (n : ℕ) → states f (suc n) ≡ f n * states f n + states f n
+  pub step : (n : ℕ) → states f (suc n) ≡ f n * states f n + states f n
   unfolding states
   step n = omega arith
 
@@ -110,7 +107,7 @@ module _ (f : ℕ → ℕ) where
           ∙ (ap (digit B d i) (rest (B (suc d) - 1) (B d) (f (suc d)) (B d - 1) last (omega (arith, some))) ∙ g (omega arith))
 
 -- what is within a state by one state a piece is within it by another that is the same for all pieces that may lie
-within-own : (K : Pieces Piece) (C : Saw) (le : ℕ → ℕ → Bool) (own own′ : Piece → ℕ) → ((p : Piece) → List·Memᴰ p (K .members) → own p ≡ own′ p)
+pub within-own : (K : Pieces Piece) (C : Saw) (le : ℕ → ℕ → Bool) (own own′ : Piece → ℕ) → ((p : Piece) → List·Memᴰ p (K .members) → own p ≡ own′ p)
     → (t : Tree Piece) (r : Rect) (s : ℕ) → Guillotine K C r t → Within (by-state le own) s t → Within (by-state le own′) s t
 unfolding by-state
 within-own K C le own own′ e waste r s g w = tt
@@ -119,7 +116,7 @@ within-own K C le own own′ e (cut d x a b) r s g w = (w .0, w .1, within-own K
 
 module _ (J : Job) (some : 1 ≤ J .count) where
   -- the last digit
-  abbrev d : ℕ
+  abbrev pub d : ℕ
   d = J .count - 1
 
   pub copies-order : Order (no-more J)
@@ -129,29 +126,9 @@ module _ (J : Job) (some : 1 ≤ J .count) where
   copies-monotone = by-state-monotone (no-more J) copies-order _
 
   -- the state of a piece that may lie
-  lying-own : (p : Piece) → MayLie J p → own-state (B (J .demand)) (one (J .demand)) d p ≡ states (J .demand) (kind p)
+  pub lying-own : (p : Piece) → MayLie J p → own-state (B (J .demand)) (one (J .demand)) d p ≡ states (J .demand) (kind p)
   lying-own (upright i) h = own-one (J .demand) d (upright i) (omega (arith, h .0)) (h .1)
   lying-own (turned i) h = own-one (J .demand) d (turned i) (omega (arith, h .0)) (h .1)
 
-  full-is : full-state J ≡ B (J .demand) d - 1
+  pub full-is : full-state J ≡ B (J .demand) d - 1
   full-is = let e : suc d ≡ J .count = omega arith in ap (λ n. states (J .demand) n - 1) (sym e)
-
-  module _ (t : Tree Piece) (C : Saw) (r : Rect) (g : Guillotine (pieces J) C r t) where
-    -- what keeps the demands is within the last state
-    pub keeps-within : KeepsDemands J t → Within (by-copies J) (full-state J) t
-    unfolding pieces sized
-    keeps-within k = within-own (pieces J) C (no-more J) (own-state (B (J .demand)) (one (J .demand)) d) (λ p. states (J .demand) (kind p)) (λ p m. lying-own p (member-lies J p m)) t r (full-state J) g
-        (digits-within (B (J .demand)) (one (J .demand)) d t (full-state J) (blocked (J .demand) d)
-        (λ i h. omega (arith, k i (omega arith), ap (digit (B (J .demand)) d i) full-is, digit-full (J .demand) d i h)))
-
-    -- and the other way round
-    pub within-keeps : Within (by-copies J) (full-state J) t → KeepsDemands J t
-    unfolding pieces sized
-    within-keeps w i h =
-        let own = within-own (pieces J) C (no-more J) (λ p. states (J .demand) (kind p)) (own-state (B (J .demand)) (one (J .demand)) d) (λ p m. sym (lying-own p (member-lies J p m))) t r (full-state J) g w in
-        omega (
-          arith,
-          within-digits (B (J .demand)) (one (J .demand)) d t (full-state J) (blocked (J .demand) d) (omega (arith, full-is, states-some (J .demand) (suc d))) own i (omega arith),
-          ap (digit (B (J .demand)) d i) full-is,
-          digit-full (J .demand) d i (omega arith),
-        )

@@ -13,7 +13,7 @@ use Rattle.cutting.specs.Preorder.{kinds-of, operands-of, node-count}
 use Rattle.cutting.specs.Job.{Job, at-full-demand, bound-of, normal-positions}
 use Rattle.cutting.specs.Promises.{NoneFiner, NormalSums, PlanFollows}
 use Rattle.cutting.specs.Two.{two-bound}
-use Rattle.cutting.specs.Exact.{state-count, full-state, by-copies, exact-figure, optimum, optimum-plan, ExactRecursion, ExactFloors, EarnsExactly, MostExact}
+use Rattle.cutting.specs.Exact.{state-count, full-state, by-copies, exact-figure, optimum, optimum-plan, ExactRecursion, ExactFloors, EarnsExactly, MostExact, ExactFiguresMost}
 use Rattle.refusal.specs.Refusals.{Check, Outcome, next, first-refusal, by-check, refused-as, outcome-by}
 use Rattle.refusal.specs.declared.Checked.{Checked}
 use Rattle.refusal.specs.declared.Checked.the-variants.{Passed}
@@ -128,8 +128,9 @@ pub record OptimumWritten (J : Job) (t : Tree Piece) (kinds operands new-kinds n
 
 -- what the call promises of its answer and of all that it is lent: answer, lists, table and plan arrays are the definitions', number and
 -- values too; with the kerf added to every side the figures follow the recursion over the remaining copies and the normal positions are the
--- sums. Of a short order, whatever storage is lent: its optimum and its plan hold, and a tabled figure is that of every rectangle whose
--- largest normal sides it has. An answered optimum holds, and an answer reports the plan as it was written
+-- sums. Of a short order, whatever storage is lent: its optimum and its plan hold, the figure of a state is the most that a tree earns there
+-- with of no kind more copies than remain, and a tabled figure is that of every rectangle whose largest normal sides it has. An answered
+-- optimum holds, and an answer reports the plan as it was written
 pub record ExactPromises (s : List ℕ) (choices : Choices) (old new : Memory) (kinds operands new-kinds new-operands : List ℕ) (r : ExactAnswer) : Type 0 where
   pub answers : r ≡ exact-answer s choices old kinds operands
   pub outcome : exact-outcome r ≡ exact-said s choices old kinds operands
@@ -141,5 +142,6 @@ pub record ExactPromises (s : List ℕ) (choices : Choices) (old new : Memory) (
   pub exact : (b : ExactReport) → r ≡ answer.Answered b → OptimumHolds (block-job s choices) (b .optimum)
   pub optimal : ShortOrder s choices → OptimumHolds (block-job s choices) (optimum (block-job s choices))
   pub planned : ShortOrder s choices → OptimumPlanned (block-job s choices)
+  pub figures : ShortOrder s choices → ExactFiguresMost (block-job s choices)
   pub floor : ShortOrder s choices → ExactFloors (wide-job s choices)
   pub plan : (b : ExactReport) → r ≡ answer.Answered b → OptimumWritten (block-job s choices) (optimum-plan (block-job s choices)) kinds operands new-kinds new-operands b

@@ -12,7 +12,7 @@ use Rattle.cutting.specs.Staged.{staged-bound}
 use Rattle.cutting.specs.Listed.{heavy-in, pieces-job, PieceArray}
 use Rattle.cutting.proofs.Members.{range-solid, widened-solid}
 use Rattle.cutting.proofs.Finer.{staged-finer}
-use Rattle.cutting.proofs.Staged.{block-recursion, block-floor, staged-most, staged-holds, staged-more, staged-less, staged-ceiling}
+use Rattle.cutting.proofs.Staged.{block-recursion, block-floor, block-most, staged-most, staged-holds, staged-more, staged-less, staged-ceiling}
 use Rattle.cutting.proofs.Promises.{normal-listed}
 use Rattle.refusal.specs.Refusals.{next, first-refusal, outcome-by}
 use Rattle.refusal.specs.declared.Refusal.{Refusal}
@@ -67,6 +67,7 @@ module _ (s : List ℕ) (choices : Choices) (ws : List ℕ) (n : ℕ) (old : Mem
     recursion = block-recursion (wide-job s choices) (weight-in ws);
     normal = normal-listed (wide-job s choices);
     accepted = λ a. staged-held (block-job s choices) (weight-in ws) n (accepted-in-range s choices ws a);
+    figures = λ a. block-most (block-job s choices) (range-solid (block-job s choices) (accepted-in-range s choices ws a)) (weight-in ws);
     floor = λ a. block-floor (wide-job s choices) (weight-in ws) (widened-solid (block-job s choices) (range-solid (block-job s choices) (accepted-in-range s choices ws a)));
   }
     where

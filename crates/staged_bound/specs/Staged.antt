@@ -9,7 +9,7 @@ use Rattle.cutting.specs.declared.Direction.the-variants.{Length, Width}
 use Rattle.cutting.specs.Limits.{most-figure}
 use Rattle.cutting.specs.Job.{Job, capacity, bound-of, normal-positions}
 use Rattle.cutting.specs.Promises.{NormalSums}
-use Rattle.cutting.specs.Staged.{block, staged-under, staged-bound, MostStaged, NoneStaged, NoneStagedFiner, StagedRecursion, StagedFloors}
+use Rattle.cutting.specs.Staged.{block, staged-under, staged-bound, MostStaged, NoneStaged, NoneStagedFiner, StagedRecursion, StagedFloors, StagedFiguresMost}
 use Rattle.refusal.specs.Refusals.{Check, Outcome, next, first-refusal, by-check, outcome-by}
 use Rattle.refusal.specs.declared.Checked.{Checked}
 use Rattle.refusal.specs.declared.Refusal.the-variants.{TableShort}
@@ -84,7 +84,8 @@ pub record StagedHolds (J : Job) (weight : ℕ → ℕ) (n q m : ℕ) : Type 0 w
   pub more : (k : ℕ) → n ≤ k → m ≤ staged-under J weight k q
   pub less : m ≤ bound-of J weight
 
--- what the staged bound call promises of its answer and of the memory that it is lent
+-- what the staged bound call promises of its answer and of the memory that it is lent: as the bound call does; where job and weights are
+-- accepted, every figure of a block is the most that a tree of the block earns there
 pub record StagedPromises (s : List ℕ) (choices : Choices) (ws : List ℕ) (n : ℕ) (old new : Memory) (r : BoundAnswer) : Type 0 where
   pub answers : r ≡ staged-answer s choices ws n old
   pub outcome : bound-outcome r ≡ staged-said s choices ws n old
@@ -93,4 +94,5 @@ pub record StagedPromises (s : List ℕ) (choices : Choices) (ws : List ℕ) (n 
   pub recursion : StagedRecursion (wide-job s choices) (weight-in ws)
   pub normal : NormalSums (wide-job s choices)
   pub accepted : Accepted s choices ws → StagedHolds (block-job s choices) (weight-in ws) n (block-capacity s choices ws) (staged-bound (block-job s choices) (weight-in ws) n)
+  pub figures : Accepted s choices ws → StagedFiguresMost (block-job s choices) (weight-in ws)
   pub floor : Accepted s choices ws → StagedFloors (wide-job s choices) (weight-in ws)

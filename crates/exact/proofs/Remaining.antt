@@ -1,0 +1,90 @@
+-- The copies that remain in a state: its digit of each kind, and a tree is within a state exactly if it has of no kind more copies than
+-- remain, within the last exactly if it keeps every demand.
+use mathlib.Core.Path.{_≡_, sym, _∙_, ap}
+use mathlib.Core.Bool.{true, false}
+use Prim.Native.Nat.{ℕ, zero, suc, _+_, _-_, _*_, _/_, _%_, _≤_, _<_}
+use native.Mathlib.Nat.{mod-lt, div-add-mod', mul-add-mod-self-right, mod-eq-of-lt, div-lt-iff-lt-mul}
+use native.Mathlib.Decide.{ℕ-discrete}
+use native.Mathlib.Omega.{arith}
+use borrow.Author.Tests.{eq-eqb, ne-eqb}
+use lib.Dec.{eqb}
+use Rattle.cutting.specs.Tree.{Rect, Tree, Saw, Guillotine, Within}
+use Rattle.cutting.specs.Pieces.{Piece, kind, sized}
+use Rattle.cutting.specs.Job.{Job, KeepsDemands, pieces}
+use Rattle.cutting.specs.Exact.{states, state-count, full-state, no-more, by-copies, copies-left, OfState}
+use Rattle.cutting.proofs.Members.{member-lies}
+use Rattle.table.specs.States.{digit, own-state}
+use Rattle.state_fill.proofs.Digits.{quotient}
+use Rattle.state_fill.proofs.Ties.{within-digits, digits-within}
+use Rattle.exact.proofs.States.{zero-one, B, one, states-some, step, blocked, digit-full, within-own, d, lying-own, full-is}
+
+-- a digit reads nothing of the digits above it
+low-digit : (s M K N c : ℕ) → 1 ≤ K → M ≡ c * (K * N) → s % M / K % N ≡ s / K % N
+low-digit s M K N c some e =
+    let r = s % M in
+    let parts : s ≡ (s / M * c * N + r / K) * K + r % K = omega (arith, div-add-mod' s M, div-add-mod' r K, ap (λ m. s / M * m) e) in
+    sym (ap (λ x. x % N) (quotient s K (s / M * c * N + r / K) (r % K) parts (mod-lt r {m = K} some)) ∙ mul-add-mod-self-right (s / M * c) N (r / K))
+
+module _ (f : ℕ → ℕ) where
+  -- the states of more kinds are a multiple
+  multiple : (m k : ℕ) → (c : ℕ) × (states f (m + k) ≡ c * states f m)
+  multiple m zero = (1, (let e : m + 0 ≡ m = omega arith in rw e (omega arith)))
+  multiple m (suc k) =
+      let u = multiple m k in
+      let e : m + suc k ≡ suc (m + k) = omega arith in
+      ((f (m + k) + 1) * u .0, rw e (step f (m + k) ∙ omega (arith, ap (λ x. f (m + k) * x) (u .1), u .1)))
+
+  -- the digit of a kind in plain words
+  digit-remains : (d i s : ℕ) → i ≤ d → s < B f d → digit (B f) d i s ≡ s / states f i % (f i + 1)
+  unfolding digit
+  digit-remains zero i s h l =
+      let e : i ≡ 0 = omega arith in
+      let few : s < f 0 + 1 = omega (arith, step f 0, zero-one f, ap (λ x. f 0 * x) (zero-one f)) in
+      rw (e, zero-one f) (sym (ap (λ x. x % (f 0 + 1)) (quotient s 1 s 0 (omega arith) (omega arith)) ∙ mod-eq-of-lt {n = s} {m = f 0 + 1} few))
+  digit-remains (suc d) i s h l = go (ℕ-discrete i (suc d)) (λ (k : i ≤ d). digit-remains d i (s % B f d) k (mod-lt s {m = B f d} (states-some f (suc d))))
+    where
+      go : Dec (i ≡ suc d) → (i ≤ d → digit (B f) d i (s % B f d) ≡ s % B f d / states f i % (f i + 1)) → elim (eqb i (suc d)) [ true ↦ s / B f d | false ↦ digit (B f) d i (s % B f d) ] ≡ s / states f i % (f i + 1)
+      go (yes e) g = ap {B = ℕ} (λ b. elim b [ true ↦ s / B f d | false ↦ digit (B f) d i (s % B f d) ]) (eq-eqb i (suc d) e)
+          ∙ rw e (sym (mod-eq-of-lt {n = s / B f d} {m = f (suc d) + 1} (div-lt-iff-lt-mul (states-some f (suc d)) .1 (omega (arith, step f (suc d))))))
+      go (no e) g =
+          let u = multiple (suc i) (d - i) in
+          let last : suc i + (d - i) ≡ suc d = omega arith in
+          let whole : B f d ≡ u .0 * (states f i * (f i + 1)) = sym (ap (states f) last) ∙ (u .1 ∙ ap (λ x. u .0 * x) (step f i ∙ omega arith)) in
+          ap {B = ℕ} (λ b. elim b [ true ↦ s / B f d | false ↦ digit (B f) d i (s % B f d) ]) (ne-eqb i (suc d) e)
+          ∙ (g (omega arith) ∙ low-digit s (B f d) (states f i) (f i + 1) (u .0) (states-some f i) whole)
+
+module _ (J : Job) (some : 1 ≤ J .count) where
+  -- the states of all digits
+  all-states : B (J .demand) (d J some) ≡ state-count J
+  all-states = let e : suc (d J some) ≡ J .count = omega arith in ap (states (J .demand)) e
+
+  -- in the last state every copy remains
+  full-remains : (i : ℕ) → i < J .count → copies-left J (full-state J) i ≡ J .demand i
+  full-remains i l = sym (digit-remains (J .demand) (d J some) i (full-state J) (omega arith) (omega (arith, all-states, states-some (J .demand) (J .count))))
+      ∙ (ap (digit (B (J .demand)) (d J some) i) (full-is J some) ∙ digit-full (J .demand) (d J some) i (omega arith))
+
+  module _ (t : Tree Piece) (C : Saw) (r : Rect) (g : Guillotine (pieces J) C r t) where
+    -- what has of no kind more copies than remain in a state is within it
+    pub copies-within : (s : ℕ) → s < state-count J → OfState J s t → Within (by-copies J) s t
+    unfolding pieces sized
+    copies-within s h k = within-own (pieces J) C (no-more J) (own-state (B (J .demand)) (one (J .demand)) (d J some)) (λ p. states (J .demand) (kind p)) (λ p m. lying-own J some p (member-lies J p m)) t r s g
+        (digits-within (B (J .demand)) (one (J .demand)) (d J some) t s (blocked (J .demand) (d J some))
+        (λ i l. omega (arith, k i (omega arith), digit-remains (J .demand) (d J some) i s l (omega (arith, all-states)))))
+
+    -- and the other way round
+    pub within-copies : (s : ℕ) → s < state-count J → Within (by-copies J) s t → OfState J s t
+    unfolding pieces sized
+    within-copies s h w i l =
+        let own = within-own (pieces J) C (no-more J) (λ p. states (J .demand) (kind p)) (own-state (B (J .demand)) (one (J .demand)) (d J some)) (λ p m. sym (lying-own J some p (member-lies J p m))) t r s g w in
+        omega (
+          arith,
+          within-digits (B (J .demand)) (one (J .demand)) (d J some) t s (blocked (J .demand) (d J some)) (omega (arith, all-states)) own i (omega arith),
+          digit-remains (J .demand) (d J some) i s (omega arith) (omega (arith, all-states)),
+        )
+
+    -- in the last state these are what keeps the demands
+    pub keeps-within : KeepsDemands J t → Within (by-copies J) (full-state J) t
+    keeps-within k = copies-within (full-state J) (omega (arith, states-some (J .demand) (J .count))) (λ i l. omega (arith, k i l, full-remains i l))
+
+    pub within-keeps : Within (by-copies J) (full-state J) t → KeepsDemands J t
+    within-keeps w i l = omega (arith, within-copies (full-state J) (omega (arith, states-some (J .demand) (J .count))) w i l, full-remains i l)
