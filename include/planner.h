@@ -79,19 +79,23 @@ extern "C" {
  * first at stage k: a word is the greatest of that of width first with one stage fewer (block 2k - 2)
  * and of all cuts of the length between figures of its own block, the share divided in every way. Block
  * 2k is width first likewise, over length first with one stage fewer (block 2k - 3, for k = 1 block 0).
- * Lists and later words are as above.
+ * So a word of block 2k - 1 is the most that a tree of weight at most its share earns on its rectangle
+ * that has at most k stages and first a cut of the length, or at most k - 1 and first one of the width, or
+ * no cut; of block 2k with length and width exchanged. Lists and later words are as above.
  *
  * Two weights. Each kind has a first and a second weight, and there are two capacities Q and R, each
  * counted from its own weights. `table` needs p * r * (Q + 1) * (R + 1) words; word ((a * r + b) *
  * (Q + 1) + c) * (R + 1) + d has the figure of the recursion that shares out both: the greatest of 0, of
  * a piece that fits and weighs at most c and d, and of the two parts' figures over all cuts and all
- * divisions of both. Lists and later words are as above.
+ * divisions of both. It is the most that a tree of first weight at most c and second at most d earns on
+ * the rectangle as above. Lists and later words too.
  *
  * States. The remaining copies of every kind as one number in mixed radix, kind 0 lowest; the digit of
  * a kind has demand + 1 values, and there are S states. `table` of the exact call needs p * r * S words;
  * word (a * r + b) * S + s has the figure of the recursion over the remaining copies: the greatest of 0, of
  * a piece that fits and of which a copy remains, and of the two parts' figures over all cuts and all
- * divisions of the copies. Lists and later words are as above.
+ * divisions of the copies. It is the most that a tree with of no kind more copies than remain earns on
+ * the rectangle as above. Lists and later words too.
  *
  * Rounds. At most 18, numbered from 0; a lower figure is given. Round 0 has all weights 0. A round
  * writes the plan behind the bound of its weights and gives each kind a step: the whole part of the
@@ -312,8 +316,9 @@ uint32_t planner_certify_staged(
 
 /* Computes the bound of two weights a kind (refusals 1 to 7, 27, 8, 24, 9, 25, 19, 20) and fills the storage
  * of two weights. The bound is exactly the most that a guillotine tree on the plate within both
- * capacities earns, and no tree that keeps every demand earns more. With all second weights 0 the
- * second capacity is 0, and all else is as planner_bound answers and leaves it.
+ * capacities earns, and no tree that keeps every demand earns more. With as many second weights as first,
+ * all of them 0, the second capacity is 0, and all else is as planner_bound of the first answers and
+ * leaves it.
  * answer[0] bound, answer[1] first capacity, answer[2] second, answer[3] p, answer[4] r. */
 uint32_t planner_bound_two(
     const uint8_t *job, size_t job_len,

@@ -6,10 +6,16 @@ use native.Mathlib.Omega.{arith}
 use lib.ListN.{length}
 use Rattle.cutting.specs.Lists.{over}
 use Rattle.cutting.specs.Job.{Job}
+use Rattle.cutting.specs.Staged.{StagedFiguresMost}
+use Rattle.cutting.proofs.Members.{range-solid}
+use Rattle.cutting.proofs.Staged.{block-most}
 use Rattle.refusal.specs.Refusals.{outcome-by}
 use Rattle.refusal.proofs.Numbers.{number-some}
 use Rattle.refusal.specs.declared.Checked.{Checked}
 use Rattle.refusal.specs.declared.Checked.the-variants.{Passed, Refused}
+use Rattle.job.specs.declared.Choices.{Choices}
+use Rattle.job.specs.Weights.{block-job, weight-in, Accepted}
+use Rattle.job.proofs.Weights.{accepted-in-range}
 use Rattle.plan.specs.Trees.{Reports}
 use Rattle.bound.specs.declared.BoundReport.{BoundReport}
 use Rattle.bound.specs.declared.BoundAnswer.{BoundAnswer}
@@ -67,3 +73,7 @@ pub staged-given : (J : Job) (weight : ℕ → ℕ) (limit : ℕ) {n : ℕ} (old
     → Gives (bound-outcome a) n old new → StagedGiven J weight limit new n
 staged-given J weight limit old (bound.Answered b) said g e = subst (λ w. StagedHolds J weight limit (answer-word w 1) (answer-word w 0)) (sym (g .1)) (said b refl)
 staged-given J weight limit old (bound.Refused r) said g e = absurd (omega (arith, number-some r, g .0, e))
+
+-- every figure of a block of an accepted job is the most that a tree of the block earns there
+pub staged-figures : (s : List ℕ) (choices : Choices) (ws : List ℕ) → Accepted s choices ws → StagedFiguresMost (block-job s choices) (weight-in ws)
+staged-figures s choices ws a = block-most (block-job s choices) (range-solid (block-job s choices) (accepted-in-range s choices ws a)) (weight-in ws)

@@ -2,8 +2,9 @@
 use crate::choices;
 use crate::words;
 ghost use mathlib.Core.Path.{_≡_};
+ghost use Rattle.cutting.specs.Exact.{ExactFiguresMost};
 ghost use Rattle.bound.specs.Bound.{lent};
-ghost use Rattle.exact.specs.Exact.{exact-said};
+ghost use Rattle.exact.specs.Exact.{ShortOrder, exact-said};
 ghost use Rattle.planner_c.specs.Exports.{choices-of, job-with, returned, answered, Left};
 ghost use Rattle.planner_c.specs.Exact.{ExactMemory, ExactPlanLeft, ExactGiven};
 
@@ -29,6 +30,7 @@ pub extern "C" fn planner_exact(
         (ExactPlanLeft (now (block .entry)) (choices-of choices) (lent (now (lengths .entry)) (now (widths .entry)) (now (table .entry))))
         (now (kinds .entry), now (operands .entry)) (now (kinds .exit), now (operands .exit)) ⌝ }
     ensures trees { λ n. ⌜ (n ≡ 0 → ExactGiven (job-with (now (block .entry)) choices) (now (kinds .entry), now (operands .entry)) (now (kinds .exit), now (operands .exit)) (now (answer .exit))) ⌝ }
+    ensures figures { λ _. ⌜ (ShortOrder (now (block .entry)) (choices-of choices) → ExactFiguresMost (job-with (now (block .entry)) choices)) ⌝ }
 {
     let stop = choices::early(answer.len(), 5, choices);
     if 0 < stop {

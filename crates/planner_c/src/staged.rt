@@ -2,7 +2,8 @@
 use crate::choices;
 use crate::words;
 ghost use mathlib.Core.Path.{_≡_};
-ghost use Rattle.job.specs.Weights.{weight-in};
+ghost use Rattle.cutting.specs.Staged.{StagedFiguresMost};
+ghost use Rattle.job.specs.Weights.{weight-in, Accepted};
 ghost use Rattle.bound.specs.Bound.{lent};
 ghost use Rattle.staged_plan.specs.Check.{LimitPasses, staged-check-answer, staged-check-said, ChecksStaged};
 ghost use Rattle.staged_bound.specs.Staged.{staged-said};
@@ -57,6 +58,7 @@ pub extern "C" fn planner_bound_staged(
         (StagedBoundLeaves (now (block .entry)) (choices-of choices) (now (weights .entry)) limit)
         (lent (now (lengths .entry)) (now (widths .entry)) (now (table .entry))) (lent (now (lengths .exit)) (now (widths .exit)) (now (table .exit))) ⌝ }
     ensures trees { λ n. ⌜ StagedGiven (job-with (now (block .entry)) choices) (weight-in (now (weights .entry))) limit (now (answer .exit)) n ⌝ }
+    ensures figures { λ _. ⌜ (Accepted (now (block .entry)) (choices-of choices) (now (weights .entry)) → StagedFiguresMost (job-with (now (block .entry)) choices) (weight-in (now (weights .entry)))) ⌝ }
 {
     let stop = choices::early(answer.len(), 4, choices);
     if 0 < stop {

@@ -3,6 +3,7 @@ use native.Mathlib.Omega.{arith}
 use denote.Ref.{now}
 use Rattle.bound.specs.Bound.{lent}
 use Rattle.exact.specs.Exact.{exact-said}
+use Rattle.exact.proofs.Call.{figures-held}
 use Rattle.planner_c.specs.Exports.{choices-of}
 use Rattle.planner_c.specs.Exact.{ExactMemory, ExactPlanLeft}
 use Rattle.planner_c.proofs.Exports.{stops, words-enough, enough, untouched, called}
@@ -23,7 +24,7 @@ returns c =
         s .1,
         (
           untouched 5 (a .choices) (now (a .answer)) f (ExactMemory (now (a .block)) (choices-of (a .choices))) m h,
-          (untouched 5 (a .choices) (now (a .answer)) f (ExactPlanLeft (now (a .block)) (choices-of (a .choices)) m) (now (a .kinds), now (a .operands)) h, λ e. absurd (omega (arith, h, e))),
+          (untouched 5 (a .choices) (now (a .answer)) f (ExactPlanLeft (now (a .block)) (choices-of (a .choices)) m) (now (a .kinds), now (a .operands)) h, (λ e. absurd (omega (arith, h, e)), figures-held (now (a .block)) (choices-of (a .choices)))),
         ),
       ),
     )
@@ -47,7 +48,7 @@ returns-2 c =
           called 5 (a .choices) (now (a .answer)) f (ExactMemory (now (a .block)) (choices-of (a .choices))) h (e .memory),
           (
             called 5 (a .choices) (now (a .answer)) f (ExactPlanLeft (now (a .block)) (choices-of (a .choices)) m) h (e .kinds-left, e .operands-left),
-            exact-given (now (a .block)) (choices-of (a .choices)) (now (a .kinds)) (now (a .operands)) _ _ (now (a .answer)) _ e g,
+            (exact-given (now (a .block)) (choices-of (a .choices)) (now (a .kinds)) (now (a .operands)) _ _ (now (a .answer)) _ e g, figures-held (now (a .block)) (choices-of (a .choices))),
           ),
         ),
       ),

@@ -7,7 +7,7 @@ use Rattle.staged_bound.specs.Staged.{staged-said}
 use Rattle.planner_c.specs.Exports.{choices-of, job-with}
 use Rattle.planner_c.specs.Within.{StagedBoundLeaves}
 use Rattle.planner_c.proofs.Exports.{stops, words-enough, enough, untouched, called}
-use Rattle.planner_c.proofs.Within.{staged-given}
+use Rattle.planner_c.proofs.Within.{staged-given, staged-figures}
 use borrow.Author.Needs.{needs}
 use Rattle.planner_c.proofs.staged.planner_bound_staged.Statement.{statement}
 use Rattle.planner_c.proofs.staged.planner_bound_staged.Tie as tie
@@ -19,7 +19,7 @@ returns c =
     let h = c .if1 .taken in
     let m = lent (now (a .lengths)) (now (a .widths)) (now (a .table)) in
     let s = stops 4 (a .choices) (now (a .answer)) f (staged-said (now (a .block)) (choices-of (a .choices)) (now (a .weights)) (a .limit) m) h in
-    (s .0, (s .1, (untouched 4 (a .choices) (now (a .answer)) f (StagedBoundLeaves (now (a .block)) (choices-of (a .choices)) (now (a .weights)) (a .limit)) m h, λ e. absurd (omega (arith, h, e)))))
+    (s .0, (s .1, (untouched 4 (a .choices) (now (a .answer)) f (StagedBoundLeaves (now (a .block)) (choices-of (a .choices)) (now (a .weights)) (a .limit)) m h, (λ e. absurd (omega (arith, h, e)), staged-figures (now (a .block)) (choices-of (a .choices)) (now (a .weights))))))
 
 put-bound-requires : tie.Need-put-bound-requires
 put-bound-requires c κs = let a = c .before .before .before .before .before .before .before .before .before .before .before .before .before .before .before .before .before .before .before .before .args in words-enough 4 (a .choices) (now (a .answer)) (c .before .before .before .before .before .before .before .before .before .before .before .before .before .early .ensures) (c .before .before .before .before .before .before .before .before .before .before .before .before .if1 .left)
@@ -38,7 +38,7 @@ returns-2 c =
         s .1,
         (
           called 4 (a .choices) (now (a .answer)) f (StagedBoundLeaves (now (a .block)) (choices-of (a .choices)) (now (a .weights)) (a .limit)) h (e .memory),
-          staged-given (job-with (now (a .block)) (a .choices)) (weight-in (now (a .weights))) (a .limit) (now (a .answer)) _ (e .exact) g,
+          (staged-given (job-with (now (a .block)) (a .choices)) (weight-in (now (a .weights))) (a .limit) (now (a .answer)) _ (e .exact) g, staged-figures (now (a .block)) (choices-of (a .choices)) (now (a .weights))),
         ),
       ),
     )
