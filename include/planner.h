@@ -367,9 +367,12 @@ uint32_t planner_find_weights(
 /* Checks the plans of a rack (refusals 28, 1, 3, 27, 4 to 7, 2, 10, 11; for each plan 12 to 17, 26, 29; at
  * last 18). For an accepted job and rack and a long enough answer it returns 0 exactly if the arrays are,
  * plate after plate, the preorder of a guillotine tree on that plate without an idle cut, at most 4095
- * nodes in all, and no kind has more copies in all the trees together than its demand. Then the profits
- * are written and nothing else; a refusal changes none of them. Any trees, one on each plate, that share
- * the demands so earn together no more than the sum of the plates' bounds, each under weights of its own.
+ * nodes in all, and no kind has more copies in all the trees together than its demand. Where they begin
+ * with the preorders of trees on the first plates, each of which keeps every demand, and all but the last
+ * of these have no idle cut and share the demands, it returns 26 with the first idle cut of the last, or,
+ * if it has none and with it a demand is passed, 29 with its plate. A pass writes the profits and nothing
+ * else; a refusal changes none of them. Any trees, one on each plate, that share the demands earn together
+ * no more than the sum of the plates' bounds, each under weights of its own.
  * answer[0] the place of a refusal; where the rack passes it is kept. */
 uint32_t planner_check_rack(
     const uint8_t *job, size_t job_len,

@@ -5,6 +5,7 @@ use mathlib.Core.List.{List, [], _∷_}
 use Prim.Native.Nat.{ℕ, _≤_, _<_}
 use lib.Dec.{eqb}
 use lib.ListN.{length, take, getD}
+use Rattle.cutting.specs.Lists.{over}
 use Rattle.cutting.specs.Tree.{Tree}
 use Rattle.cutting.specs.Pieces.{Piece}
 use Rattle.cutting.specs.Job.{profit}
@@ -14,7 +15,7 @@ use Rattle.refusal.specs.declared.Refusal.the-variants.{RackSize}
 use Rattle.job.specs.declared.Choices.{Choices}
 use Rattle.rack.specs.Racks.{OnPlates, OnFinerPlates, SharesDemands, rack-profit, rack-bound}
 use Rattle.rack.specs.Check.{plate-at, rack-answer}
-use Rattle.rack.specs.Promises.{OrderPasses, BeforePasses, RackOf, OnlyPlate}
+use Rattle.rack.specs.Promises.{OrderPasses, BeforePasses, RackOf, IdleAt, OverAt, OnlyPlate}
 use Rattle.planner_c.specs.Exports.{choices-of, job-with, unknown}
 
 -- 28: not as many profits as lengths
@@ -36,13 +37,18 @@ ProfitsLeft s choices lengths widths kinds operands old new =
 
 -- the check of a rack returns 0 only for the preorders, one after another, of guillotine trees on the plates that share the demands and have no idle
 -- cut, and the profits are then those trees'; where the answer has a word, the choices are known, there are as many profits as plates and no check
--- before any plan's refuses, it returns 0 for every such rack. No set of plans on the plates that share the demands, cut at whole units or finer,
+-- before any plan's refuses, it returns 0 for every such rack, 26 with the first idle cut of the first tree that has one, and 29 with the plate of the
+-- first tree with which a demand is passed. No set of plans on the plates that share the demands, cut at whole units or finer,
 -- earns more than the sum of the plates' bounds, each under weights of its own. The job's own plate is not read
-pub record RackGiven (s : List ℕ) (choices : ℕ) (lengths widths kinds operands old profits answer : List ℕ) (n : ℕ) : Type 0 where
+pub record RackGiven (s : List ℕ) (choices : ℕ) (lengths widths kinds operands old profits answer after : List ℕ) (n : ℕ) : Type 0 where
   pub trees : n ≡ 0 → (tree : ℕ → Tree Piece) × RackOf (job-with s choices) (length lengths) (plate-at lengths widths) tree kinds operands
       × ((p : ℕ) → p < length lengths → getD profits p 0 ≡ profit (job-with s choices) (tree p))
   pub passes : 1 ≤ length answer → unknown choices ≡ false → length old ≡ length lengths → BeforePasses s (choices-of choices) lengths widths kinds operands
       → (tree : ℕ → Tree Piece) → RackOf (job-with s choices) (length lengths) (plate-at lengths widths) tree kinds operands → n ≡ 0
+  pub idle : 1 ≤ length answer → unknown choices ≡ false → length old ≡ length lengths → BeforePasses s (choices-of choices) lengths widths kinds operands
+      → (k : ℕ) → IdleAt (job-with s choices) (length lengths) (plate-at lengths widths) kinds operands k → (n ≡ 26) × (after ≡ over (k ∷ []) answer)
+  pub shared : 1 ≤ length answer → unknown choices ≡ false → length old ≡ length lengths → BeforePasses s (choices-of choices) lengths widths kinds operands
+      → (i : ℕ) → OverAt (job-with s choices) (length lengths) (plate-at lengths widths) kinds operands i → (n ≡ 29) × (after ≡ over (i ∷ []) answer)
   pub bounds : OrderPasses s (choices-of choices) → (tree : ℕ → Tree Piece) → OnPlates (job-with s choices) (length lengths) (plate-at lengths widths) tree → SharesDemands (job-with s choices) (length lengths) tree
       → (weight : ℕ → ℕ → ℕ) → rack-profit (job-with s choices) (length lengths) tree ≤ rack-bound (job-with s choices) (length lengths) (plate-at lengths widths) weight
   pub finer : OrderPasses s (choices-of choices) → (m : ℕ) → 1 ≤ m → (tree : ℕ → Tree Piece) → OnFinerPlates (job-with s choices) m (length lengths) (plate-at lengths widths) tree → SharesDemands (job-with s choices) (length lengths) tree

@@ -24,7 +24,7 @@ pub extern "C" fn planner_check_rack(
     ensures memory { λ _. ⌜ Left 1 (now (answer .entry)) choices
         (ProfitsLeft (now (block .entry)) (choices-of choices) (now (lengths .entry)) (now (widths .entry)) (now (kinds .entry)) (now (operands .entry)))
         (now (profits .entry)) (now (profits .exit)) ⌝ }
-    ensures trees { λ n. ⌜ RackGiven (now (block .entry)) choices (now (lengths .entry)) (now (widths .entry)) (now (kinds .entry)) (now (operands .entry)) (now (profits .entry)) (now (profits .exit)) (now (answer .entry)) n ⌝ }
+    ensures trees { λ n. ⌜ RackGiven (now (block .entry)) choices (now (lengths .entry)) (now (widths .entry)) (now (kinds .entry)) (now (operands .entry)) (now (profits .entry)) (now (profits .exit)) (now (answer .entry)) (now (answer .exit)) n ⌝ }
 {
     let stop = choices::early(answer.len(), 1, choices);
     if 0 < stop {

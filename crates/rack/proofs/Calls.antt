@@ -1,18 +1,21 @@
 -- The call on the arrays of the plates' sides: what the checks before any plan's leave known, and all that is promised of an answer that
 -- equals the definition.
 use mathlib.Core.Path.{_≡_, _∙_, refl, sym, ap, subst}
+use mathlib.Core.Logic.{inl, inr, ⊎-elim}
 use mathlib.Core.List.{List, [], _∷_, _++_, map, map-map, map-append}
 use Prim.Native.Nat.{ℕ, zero, suc, _+_, _≤_, _<_}
 use native.Mathlib.Nat.{zero-add}
 use native.Mathlib.Omega.{arith}
-use lib.ListN.{length, getD, set, replicate, length-replicate, getD-replicate}
+use lib.ListN.{length, getD, set, replicate, length-append, length-replicate, getD-replicate}
+use Rattle.cutting.specs.Lists.{sum}
 use Rattle.cutting.specs.Tree.{Rect, Tree}
 use Rattle.cutting.specs.Pieces.{Piece}
-use Rattle.cutting.specs.Preorder.{preorder, kinds-of, operands-of}
+use Rattle.cutting.specs.Preorder.{preorder, node-count, kinds-of, operands-of}
 use Rattle.cutting.specs.Job.{Job, OnPlate, profit, SolidKinds}
 use Rattle.cutting.proofs.Demands.{sum-le}
-use Rattle.refusal.specs.Refusals.{next, first-refusal, outcome-by}
+use Rattle.refusal.specs.Refusals.{number-of, place-of, next, first-refusal, outcome-by}
 use Rattle.refusal.specs.declared.Refusal.{Refusal}
+use Rattle.refusal.specs.declared.Refusal.the-variants.{IdleCut, RackDemand}
 use Rattle.refusal.specs.declared.Checked.{Checked}
 use Rattle.refusal.specs.declared.Checked.the-variants.{Passed, Refused}
 use Rattle.job.specs.declared.Choices.{Choices}
@@ -22,6 +25,7 @@ use Rattle.job.specs.Contracts.{HoldsKinds}
 use Rattle.job.specs.Weights.{block-job}
 use Rattle.job.proofs.Read.{Counts, plateless-passed, counts-hold, block-passed, pairs-range}
 use Rattle.node.proofs.Nodes.{pair-of}
+use Rattle.idle.specs.Idle.{tree-checks}
 use Rattle.plan.specs.Plan.{nodes-in, left-check, plan-checks}
 use Rattle.plan.proofs.Parse.{no-pass}
 use Rattle.plan.proofs.Preorder.{written, firsts, seconds, arrays-written, kinds-length, operands-length}
@@ -29,10 +33,12 @@ use Rattle.plan.proofs.Whole.{whole-counts}
 use Rattle.rack.specs.declared.RackAnswer.{RackAnswer}
 use Rattle.rack.specs.Racks.{plated, OnPlates, SharesDemands, rack-profit, rack-bound, chained}
 use Rattle.rack.specs.Check.{plate-at, size-check, order-checks, plate-checks, rack-checks, own-answer, total-checks, with-own, rack-passed, rack-stopped, rack-by, rack-walk, plans-answer, rack-answer, rack-outcome}
-use Rattle.rack.specs.Promises.{OrderPasses, BeforePasses, RackOf, RackChecks, PlatesPromises}
+use Rattle.rack.specs.Promises.{OrderPasses, BeforePasses, RackOf, RackUpTo, IdleAt, OverAt, RackChecks, PlatesPromises}
 use Rattle.rack.proofs.Racks.{rack-keeps, rack-holds, rack-finer}
 use Rattle.rack.proofs.Before.{before-passed, size-passed}
+use Rattle.rack.proofs.Numbers.{before-gives, tree-gives}
 use Rattle.rack.proofs.Trees.{by-passed, racked, passing}
+use Rattle.rack.proofs.Refused.{Either, by-refused, Met, Stopped, stopped, stops}
 use Rattle.rack.proofs.Unread.{same-answer}
 
 -- a list of each plan, one after another
@@ -61,6 +67,19 @@ written-first t = map-map (λ p. p .0) (λ n. pair-of n) (preorder t)
 written-second : (t : Tree Piece) → map (λ p. p .1) (written t) ≡ operands-of t
 unfolding operands-of
 written-second t = map-map (λ p. p .1) (λ n. pair-of n) (preorder t)
+
+-- as many kinds as operands
+chained-same : (n : ℕ) (tree : ℕ → Tree Piece) → length (chained n (λ p. kinds-of (tree p))) ≡ length (chained n (λ p. operands-of (tree p)))
+unfolding chained
+chained-same zero tree = refl
+chained-same (suc n) tree = omega (
+  arith,
+  length-append (kinds-of (tree 0)) (chained n (λ p. kinds-of (tree (suc p)))),
+  length-append (operands-of (tree 0)) (chained n (λ p. operands-of (tree (suc p)))),
+  kinds-length (tree 0),
+  operands-length (tree 0),
+  chained-same n (λ p. tree (suc p)),
+)
 
 -- a refused rack has no profits
 abbrev Zeroed : RackAnswer → Type 0
@@ -127,6 +146,10 @@ module _ (s : List ℕ) (choices : Choices) where
       parts : (first-refusal (size-check lengths widths ∷ []) ≡ Passed) × OrderPasses s choices × (first-refusal (plate-checks plate n) ≡ Passed) × (first-refusal (plan-checks kinds operands) ≡ Passed)
       parts = before-passed s choices lengths widths kinds operands b
 
+      -- plans that are refused with x at a tree
+      abbrev Halted : Refusal → Type 0
+      Halted x = Stopped J (order-few (parts .1)) plate kinds operands (whole-counts kinds operands (parts .3) .0) 0 n 0 (replicate 64 0) x
+
       none-yet : (j : ℕ) → j < J .count → _≡_ {A = ℕ} (getD (replicate 64 0) j 0) 0
       none-yet j l = getD-replicate {A = ℕ} 64 j 0 0 (omega (arith, l, order-few (parts .1)))
 
@@ -159,6 +182,62 @@ module _ (s : List ℕ) (choices : Choices) where
           (λ q l. subst (λ i. OnPlate (plated J (plate i)) (tree q)) (sym (zero-add q)) (t .on-plates q l)) (t .idle-free) (λ j l. (let h = t .shares j l in omega (arith, h, none-yet j l)))
           ((λ i. nodes-in (t .kinds-are i) (t .operands-are i)) ∙ nodes-chained n tree)
 
+      -- plans that are refused with 26 or 29 are trees' up to there
+      halted : (x : Refusal) → Either x → plans .verdict ≡ Refused x → Halted x
+      unfolding plans-answer
+      halted x kind p = stopped J (order-few (parts .1)) plate kinds operands (whole-counts kinds operands (parts .3) .0) n 0 0 (replicate 64 0) (replicate 16 0) x (length-replicate {A = ℕ} 64 0) (λ j l. omega (arith, none-yet j l)) kind p
+
+      up-to : {x : Refusal} (u : Halted x) → RackUpTo J (u .at) plate (u .tree) kinds operands
+      up-to u =
+          let same = whole-counts kinds operands (parts .3) .0 in
+          let nodes : nodes-in kinds operands ≡ chained (suc (u .at)) (λ q. written (u .tree q)) ++ u .more = u .nodes in
+          record {
+            on-plates = λ q l. subst (λ i. OnPlate (plated J (plate i)) (u .tree q)) (zero-add q) (u .on q l);
+            keeps = u .keeps;
+            shares = λ j l. omega (arith, u .shares j l, none-yet j l);
+            idle-free = u .free;
+            kinds-begin = (
+              map (λ q. q .0) (u .more),
+              sym (firsts kinds operands same) ∙ ap (map (λ q. q .0)) nodes ∙ map-append (λ q. q .0) (chained (suc (u .at)) (λ q. written (u .tree q))) (u .more)
+                  ∙ ap (λ l. l ++ map (λ q. q .0) (u .more)) (map-chained (λ q. q .0) (suc (u .at)) (λ q. written (u .tree q)) ∙ (λ i. chained (suc (u .at)) (λ q. written-first (u .tree q) i))),
+            );
+            operands-begin = (
+              map (λ q. q .1) (u .more),
+              sym (seconds kinds operands same) ∙ ap (map (λ q. q .1)) nodes ∙ map-append (λ q. q .1) (chained (suc (u .at)) (λ q. written (u .tree q))) (u .more)
+                  ∙ ap (λ l. l ++ map (λ q. q .1) (u .more)) (map-chained (λ q. q .1) (suc (u .at)) (λ q. written (u .tree q)) ∙ (λ i. chained (suc (u .at)) (λ q. written-second (u .tree q) i))),
+            );
+          }
+
+      idle-told : (k : ℕ) → plans .verdict ≡ Refused (IdleCut k) → IdleAt J n plate kinds operands k
+      idle-told k p =
+          let u = halted (IdleCut k) (inl refl) p in
+          (u .tree, u .at, u .inside, up-to u, ⊎-elim (λ e. ap (λ m. first-refusal (tree-checks m (u .tree (u .at)))) (sym (zero-add (sum (u .at) (λ q. node-count (u .tree q))))) ∙ e) (λ e. absurd (let z = ap number-of (e .1) in omega (arith, z))) (u .met))
+
+      over-told : (i : ℕ) → plans .verdict ≡ Refused (RackDemand i) → OverAt J n plate kinds operands i
+      over-told i p = let u = halted (RackDemand i) (inr refl) p in ⊎-elim
+          (λ e. absurd (let z = tree-gives (u .tree (u .at)) (0 + sum (u .at) (λ q. node-count (u .tree q))) (RackDemand i) e in omega (arith, z)))
+          (λ e. (let z : u .at ≡ i = (let y = ap place-of (e .1) in omega (arith, y)) in
+          subst (OverAt J n plate kinds operands) z (u .tree, u .inside, up-to u, e .0, (e .2 .0, e .2 .1, omega (arith, e .2 .2, none-yet (e .2 .0) (e .2 .1)))))) (u .met)
+
+      -- and the other way
+      halts : (tree : ℕ → Tree Piece) (i : ℕ) → i < n → RackUpTo J i plate tree kinds operands → (x : Refusal) → Met J (order-few (parts .1)) plate kinds operands (whole-counts kinds operands (parts .3) .0) 0 0 (replicate 64 0) tree i x → plans .verdict ≡ Refused x
+      unfolding plans-answer
+      halts tree i l t x met =
+          stops J (order-few (parts .1)) plate kinds operands (whole-counts kinds operands (parts .3) .0) i n 0 0 (replicate 64 0) (replicate 16 0) tree (nodes-in (t .kinds-begin .0) (t .operands-begin .0)) x l (length-replicate {A = ℕ} 64 0)
+          (λ q l. subst (λ i. OnPlate (plated J (plate i)) (tree q)) (sym (zero-add q)) (t .on-plates q l)) (t .keeps) (t .idle-free) (λ j l. (let h = t .shares j l in omega (arith, h, none-yet j l)))
+          ((λ j. nodes-in (t .kinds-begin .1 j) (t .operands-begin .1 j)) ∙ nodes-append (chained (suc i) (λ p. kinds-of (tree p))) (chained (suc i) (λ p. operands-of (tree p))) (t .kinds-begin .0) (t .operands-begin .0) (chained-same (suc i) tree)
+          ∙ ap (λ l. l ++ nodes-in (t .kinds-begin .0) (t .operands-begin .0)) (nodes-chained (suc i) tree)) met
+
+      idle-halts : (k : ℕ) → IdleAt J n plate kinds operands k → plans .verdict ≡ Refused (IdleCut k)
+      idle-halts k t = halts (t .0) (t .1) (t .2) (t .3) (IdleCut k) (inl (ap (λ m. first-refusal (tree-checks m (t .0 (t .1)))) (zero-add (sum (t .1) (λ q. node-count (t .0 q)))) ∙ t .4))
+
+      over-halts : (i : ℕ) → OverAt J n plate kinds operands i → plans .verdict ≡ Refused (RackDemand i)
+      over-halts i t = halts (t .0) i (t .1) (t .2) (RackDemand i) (inr (t .3, ap RackDemand (sym (zero-add i)), (t .4 .0, t .4 .1, omega (arith, t .4 .2, none-yet (t .4 .0) (t .4 .1)))))
+
+    -- a rack that is refused with 26 or 29 passes the checks before any plan's
+    past-before : (x : Refusal) → Either x → rack-by before plans .verdict ≡ Refused x → BeforePasses s choices lengths widths kinds operands × (plans .verdict ≡ Refused x)
+    past-before x kind p = ⊎-elim (λ e. (let n = before-gives s choices lengths widths kinds operands x e in absurd (⊎-elim (n .0) (n .1) kind))) (λ e. e) (by-refused before plans p)
+
     -- a rack that passes is that of trees
     trees : rack-by before plans .verdict ≡ Passed → (tree : ℕ → Tree Piece) × RackOf J n plate tree kinds operands × ((p : ℕ) → p < n → getD (rack-by before plans .profits) p 0 ≡ profit J (tree p))
     trees p = let b = by-passed before plans p in let t = drawn (b .0) (b .1) in (t .0, t .1, λ q l. ap (λ v. getD (rack-by v plans .profits) q 0) (b .0) ∙ t .2 q l)
@@ -171,6 +250,8 @@ module _ (s : List ℕ) (choices : Choices) where
           before = λ p. by-passed before plans p .0;
           trees = trees;
           zeros = by-zeros before plans (walk-zeros J plate kinds operands 0 n 0 _ _);
+          idle = λ k. ((λ p. (let b = past-before (IdleCut k) (inl refl) p in (b .0, idle-told (b .0) k (b .1)))), λ t. ap (λ v. rack-by v plans .verdict) (t .0) ∙ idle-halts (t .0) k (t .1));
+          shared = λ i. ((λ p. (let b = past-before (RackDemand i) (inr refl) p in (b .0, over-told (b .0) i (b .1)))), λ t. ap (λ v. rack-by v plans .verdict) (t .0) ∙ over-halts (t .0) i (t .1));
           unread = λ z h. same-answer choices s z h lengths widths kinds operands;
           bounds = bounded;
           finer = λ p m pos tree on shares weight. rack-finer J n tree shares (order-solid p) plate m pos on weight;

@@ -3,7 +3,9 @@ pub mod Totals
 pub mod Own
 pub mod Plans
 pub mod Before
+pub mod Numbers
 pub mod Trees
+pub mod Refused
 pub mod Unread
 pub mod Calls
 pub mod Records

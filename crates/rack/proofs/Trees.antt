@@ -13,7 +13,7 @@ use Rattle.cutting.specs.Tree.{Rect, Tree, waste, IdleFree}
 use Rattle.cutting.specs.Pieces.{Piece}
 use Rattle.cutting.specs.Preorder.{preorder, node-count, kinds-of}
 use Rattle.cutting.specs.Job.{Job, OnPlate, profit, copies-of, KeepsDemands}
-use Rattle.refusal.specs.Refusals.{Check, next, first-refusal}
+use Rattle.refusal.specs.Refusals.{Check, by-check, next, first-refusal}
 use Rattle.refusal.specs.declared.Refusal.the-variants.{RackDemand}
 use Rattle.refusal.specs.declared.Checked.{Checked}
 use Rattle.refusal.specs.declared.Checked.the-variants.{Passed, Refused}
@@ -24,7 +24,7 @@ use Rattle.job.proofs.Entries.{entries-in}
 use Rattle.idle.specs.Idle.{idle-checks, tree-checks}
 use Rattle.idle.proofs.Idle.{idle-tree, passed-free, free-passed}
 use Rattle.plan.specs.declared.TreeAnswer.{TreeAnswer}
-use Rattle.plan.specs.Plan.{nodes-in, empty-report, left-check, tree-passed, tree-walk}
+use Rattle.plan.specs.Plan.{nodes-in, empty-report, left-check, tree-passed, tree-stopped, tree-walk}
 use Rattle.plan.specs.Trees.{tree-report}
 use Rattle.plan.proofs.Walk.{nodes-length}
 use Rattle.plan.proofs.Preorder.{written, firsts, count-written}
@@ -43,12 +43,12 @@ by-passed Passed a p = (refl, p)
 by-passed (Refused r) a p = no-pass p
 
 -- a first thing and the others, of m
-first-then : {m : ℕ} (P : ℕ → Type 0) → P 0 → ((d : ℕ) → d < m → P (suc d)) → (d : ℕ) → d < suc m → P d
+pub first-then : {m : ℕ} (P : ℕ → Type 0) → P 0 → ((d : ℕ) → d < m → P (suc d)) → (d : ℕ) → d < suc m → P d
 first-then P a f zero h = a
 first-then P a f (suc d) h = f d (omega arith)
 
 -- a tree in front of others
-abbrev front : Tree Piece → (ℕ → Tree Piece) → ℕ → Tree Piece
+abbrev pub front : Tree Piece → (ℕ → Tree Piece) → ℕ → Tree Piece
 front t f zero = t
 front t f (suc d) = f d
 
@@ -69,7 +69,7 @@ all-pass f i zero h = refl
 all-pass f i (suc n) h = passed-append (f i) (each-kind f (suc i) n) (h i (omega arith) (omega arith)) (all-pass f (suc i) n (λ j l m. h j (omega arith) (omega arith)))
 
 -- 29 passes for a kind whose total is within its demand
-within : (demand total i : ℕ) → total ≤ demand → first-refusal ((ltb demand total, RackDemand i) ∷ []) ≡ Passed
+pub within : (demand total i : ℕ) → total ≤ demand → first-refusal ((ltb demand total, RackDemand i) ∷ []) ≡ Passed
 unfolding first-refusal
 within demand total i h = simp (le-ltb demand total h)
 
@@ -89,6 +89,14 @@ module _ (J : Job) (few : J .count ≤ 64) (plate : ℕ → Rect) (kinds operand
   idle-own t k past e q =
       let z : past - k ≡ node-count t = omega (arith, q) in
       ap (λ n. idle-checks k (take n (drop k kinds))) z ∙ ap (idle-checks k) (front-kinds t k e) ∙ idle-tree t k
+
+  -- the nodes of a tree that keeps every demand, whatever follows: 26 alone decides
+  pub own-tree : (K : Job) (f : K .count ≤ 64) (t : Tree Piece) (k : ℕ) (more : List (ℕ × ℕ)) → OnPlate K t → KeepsDemands K t → drop k nodes-of ≡ written t ++ more
+      → own-answer K kinds operands k ≡ by-check (first-refusal (tree-checks k t)) (tree-passed (k + node-count t) (tree-report K t)) (λ r. tree-stopped (Refused r))
+  own-tree K f t k more on keeps nodes =
+      let front : take (node-count t) (drop k nodes-of) ≡ written t = ap (take (node-count t)) nodes ∙ ap (λ n. take n (written t ++ more)) (sym (count-written t)) ∙ take-append-seam (written t) more in
+      let walked : tree-passed (k + node-count t) (tree-report K t) ≡ walked-at K kinds operands k = sym (ap (λ l. tree-walk K k l (K .plate ∷ []) empty-report) nodes ∙ drawn-tree K f k t on keeps more) in
+      sym (own-decides K kinds operands k walked refl (sym (ap first-refusal (idle-own t k (k + node-count t) front refl))))
 
   -- a plan that passes its own checks has no idle cut
   idle-free : (K : Job) (k : ℕ) {f : K .count ≤ 64} (t : Drawn K f k (drop k nodes-of))
@@ -168,10 +176,8 @@ module _ (J : Job) (few : J .count ≤ 64) (plate : ℕ → Rect) (kinds operand
       let start : i + 0 ≡ i = omega arith in
       let first = sum-first m in
       let keeps : KeepsDemands K t = λ j l. (let f = first (λ d. copies-of j (tree d)) in let g = shares j l in omega (arith, f, g)) in
-      let front : take (node-count t) (drop k nodes-of) ≡ written t = ap (take (node-count t)) nodes ∙ ap (λ n. take n (written t ++ more)) (sym (count-written t)) ∙ take-append-seam (written t) more in
-      let walked : a ≡ walked-at K kinds operands k = sym (ap (λ l. tree-walk K k l (K .plate ∷ []) empty-report) nodes ∙ drawn-tree K few k t (subst (λ q. OnPlate (plated J (plate q)) t) start (on 0 (omega arith))) keeps more) in
-      let idle : Passed ≡ first-refusal (idle-at kinds k (k + node-count t)) = sym (ap first-refusal (idle-own t k (k + node-count t) front refl) ∙ free-passed t k (free 0 (omega arith))) in
-      let own : a ≡ own-answer K kinds operands k = own-decides K kinds operands k walked refl idle in
+      let own : a ≡ own-answer K kinds operands k = sym (own-tree K few t k more (subst (λ q. OnPlate (plated J (plate q)) t) start (on 0 (omega arith))) keeps nodes
+      ∙ ap (λ v. by-check v a (λ r. tree-stopped (Refused r))) (free-passed t k (free 0 (omega arith)))) in
       let copies : (j : ℕ) → j < J .count → getD (a .report .copies) j 0 ≡ copies-of j t = λ j l. entries-in (λ j. copies-of j t) (J .count) j few l in
       let total : first-refusal (total-checks J i totals (a .report .copies)) ≡ Passed = all-pass (total-check (J .demand) i totals (a .report .copies)) 0 (J .count)
       (λ j z l. (let f = first (λ d. copies-of j (tree d)) in let h : j < J .count = omega arith in let g = shares j h in within (J .demand j) (getD totals j 0 + getD (a .report .copies) j 0) i (omega (arith, f, g, copies j h)))) in

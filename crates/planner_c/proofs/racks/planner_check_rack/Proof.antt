@@ -67,7 +67,7 @@ returns-3 c =
         (
           called 1 (a .choices) (now (a .answer)) f (ProfitsLeft (now (a .block)) (choices-of (a .choices)) (now (a .lengths)) (now (a .widths)) (now (a .kinds)) (now (a .operands))) h (g .1 ∙ ap (λ (x : RackAnswer). by-check (x .verdict) (take (length (now (a .profits))) (x .profits)) (λ r. now (a .profits))) (e .answers)
               ∙ ap (λ v. by-check v (take (length (now (a .profits))) (rack-answer (now (a .block)) (choices-of (a .choices)) (now (a .lengths)) (now (a .widths)) (now (a .kinds)) (now (a .operands)) .profits)) (λ r. now (a .profits))) (sym (slices-alike (now (a .block)) (choices-of (a .choices)) (now (a .lengths)) (now (a .widths)) (now (a .profits)) (now (a .kinds)) (now (a .operands)) l))),
-          rack-given (now (a .block)) (a .choices) (now (a .lengths)) (now (a .widths)) (now (a .kinds)) (now (a .operands)) (now (a .profits)) (now (a .answer)) r (e .checks) l (g .0 .0) (g .1),
+          rack-given (now (a .block)) (a .choices) (now (a .lengths)) (now (a .widths)) (now (a .kinds)) (now (a .operands)) (now (a .profits)) (now (a .answer)) r (e .checks) l (g .0) (g .1),
         ),
       ),
     )
