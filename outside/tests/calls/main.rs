@@ -16,6 +16,7 @@ mod kerf;
 mod lent;
 mod limits;
 mod neat;
+mod noise;
 mod rack;
 mod rack_generated;
 mod readings;

@@ -217,3 +217,19 @@ fn deepest_racks_fit_the_stack() {
         }
     }
 }
+
+/// The most rectangles wait where the last plan ends after its last nested cut.
+#[test]
+fn racks_that_end_at_their_deepest_fit_the_stack() {
+    for nested in [1, 3] {
+        let (first, last): (&[Node], _) = (&[(1, 0)], &deep_plans(0)[nested][..1998]);
+        let job = kerf_block(1, 1, 0, &[(1, 1, 1, 2)]);
+        let rack = order(job, &[(1000, 1000); 2], &[first, last]);
+        let (given, lent) = fits_small_stack("CheckRack of a plan that ends", || {
+            let mut lent = rack.memory(1);
+            (rack.run(calls::check_rack, &mut lent), lent)
+        });
+        assert_eq!((given, lent.answer.words()[0]), (17, 1999));
+        assert_eq!(rack.agrees(1).0, 17);
+    }
+}

@@ -18,7 +18,7 @@ const PLAN: [Node; 5] = [(2, 2), (1, 0), (3, 1), (1, 1), (1, 2)];
 
 /// A call of the saw: its check, or the part of a node in the kinds or in the operands.
 #[derive(Clone, Copy, Debug)]
-enum Saw {
+pub enum Saw {
     Check,
     Kinds(u64),
     Operands(u64),
@@ -48,7 +48,7 @@ impl Saw {
     }
 
     /// Runs the call on both, with so many words of answer; gives the code and the words.
-    fn agrees(self, input: &Input, words: usize) -> (u32, Vec<u64>) {
+    pub fn agrees(self, input: &Input, words: usize) -> (u32, Vec<u64>) {
         let [mut expected, mut given] = [(); 2].map(|()| memory(words));
         let code = self.expected(input, expected.split().2);
         assert_eq!(self.proved(input, given.split().2), code, "{self:?} {input:?}");
@@ -222,6 +222,23 @@ fn deepest_plans_fit_the_stack() {
                 assert_eq!(code, call.expected(&i, expected.split().2));
                 assert_eq!((code, lent.differences(&expected)), (0, vec![]));
             }
+        }
+    }
+}
+
+/// The most rectangles wait where a plan ends after its last nested cut.
+#[test]
+fn plans_that_end_at_their_deepest_fit_the_stack() {
+    for nested in [1, 3] {
+        let plan = &deep_plans(0)[nested][..1998];
+        let i = input(kerf_block(1000, 1000, 0, &[(1, 1, 1, 2)]), &[], plan);
+        for (call, expected) in [(Saw::Check, 17), (Saw::Kinds(0), 0), (Saw::Operands(0), 0)] {
+            let what = format!("{call:?} of a plan that ends");
+            let (code, lent) = fits_small_stack(&what, || {
+                let mut lent = memory(AMPLE.answer);
+                (call.proved(&i, lent.split().2), lent)
+            });
+            assert_eq!((code, lent.answer.words()[0]), (expected, 1998));
         }
     }
 }

@@ -354,6 +354,17 @@ fn largest_orders_are_answered_on_a_small_stack() {
     is_answered(&order(job_block(1000, 1000, &[(1, 1, 7, 2)]), &[]), 3);
 }
 
+/// The longest plan that is written, and one that is too long.
+#[test]
+fn longest_plans_fit_the_stack() {
+    let sizes = Sizes { kinds: 5000, operands: 5000, table: 1 << 18, ..AMPLE };
+    for (width, code, first) in [(774, 0, 112), (775, 21, 4111)] {
+        let job = order(job_block(8, width, &[(1, 260, 7, 16), (1, 1, 0, 1)]), &[]);
+        let (given, lent) = on_small_stack(Call::Exact, &job, sizes);
+        assert_eq!((given, lent.answer.words()[0]), (code, first));
+    }
+}
+
 fn is_answered(input: &Input, states: usize) {
     let (lengths, widths) = normal_positions(&Job::read(&input.job, input.choices).expect("a job"));
     let sizes = Sizes { table: lengths.len() * widths.len() * states, ..AMPLE };
