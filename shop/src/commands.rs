@@ -42,7 +42,7 @@ fn plan(file: &Path, options: &Options) -> Done<String> {
 /// other bounds were answered by their proved calls during the search.
 fn judged(order: Order, job: &Job, found: Found, memory: u64) -> Result<Outcome, Error> {
     let choices = order.choices();
-    let mut planner = Planner::new(job.block(choices), choices.word(), memory);
+    let mut planner = Planner::new(job, choices, memory);
     let plan = sawn(&planner, &Stock::new(job, choices), &found);
     let none = Proof::Weights(vec![0; job.kinds.len()]);
     let (proof, bound) = found.limit.map_or((none, None), |l| (l.proof, Some(l.bound)));
@@ -72,7 +72,7 @@ fn check(file: &Path, plan: &Path, options: &Options) -> Done<String> {
     let text = String::from_utf8(read_file(plan)?).map_err(|_| at("expected UTF-8".to_string()))?;
     let document = json::read(&text).map_err(at)?;
     let filed = Filed::new(&document, &order).map_err(at)?;
-    let mut planner = Planner::new(job.block(choices), choices.word(), options.limits.memory);
+    let mut planner = Planner::new(&job, choices, options.limits.memory);
     let plan = filed.tree.plan();
     let proof = filed.proof.unwrap_or(Proof::Weights(vec![0; job.kinds.len()]));
     match Verdict::new(&mut planner, &job, &plan, &proof) {
@@ -101,7 +101,7 @@ fn in_order(refusal: &Refusal, order: &Order, tree: &Tree) -> String {
 fn recheck(file: &Path, memory: u64) -> Done<String> {
     let stamp = Stamp::read(&read_file(file)?);
     let stamp = stamp.map_err(|fault| format!("{}: {fault}", file.display()))?;
-    let mut planner = Planner::new(stamp.job.clone(), stamp.choices, memory);
+    let mut planner = Planner::of_block(stamp.job.clone(), stamp.choices, memory);
     planner.check_block(&stamp.plan).map_err(|refusal| refusal.to_string())?;
     let plan = Plan::from_block(&stamp.plan).expect("a block that passes its check");
     let job = Job::from_block(&stamp.job, Choices::from_word(stamp.choices));

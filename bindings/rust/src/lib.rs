@@ -1,13 +1,15 @@
-// The proved planner for Rust programs: jobs, choices and plans as types, a planner that lends and grows
-// the storage, refusals in words. `slices` has the calls of planner.h on borrowed slices.
+// The proved planner for Rust programs: jobs, choices and plans as types, a planner that has every call
+// and lends and grows the storage, refusals in words. `slices` has the same calls on borrowed slices.
 pub mod answers;
 pub mod blocks;
 mod job;
 mod planner;
 pub mod slices;
+mod storage;
 mod tree;
 mod words;
 
 pub use job::{Choices, Job, Kind};
-pub use planner::{Error, Planner};
-pub use tree::{Direction, Plan, Tree};
+pub use planner::Planner;
+pub use storage::Error;
+pub use tree::{Direction, Plan, Plate, Tree};

@@ -1,44 +1,32 @@
-// A planner for one job: it holds the block, lends the storage and grows the table to what refusal 20 asks
-// for, up to a limit. Lists and plan arrays always have the most that any job and plan can need.
+// A planner for one job: every call of planner.h with plans as types and storage that it lends itself.
+// Limits, weights, plans and jobs are taken as they are: the calls refuse what they do not accept.
 use crate::answers::{
-    Bound, BoundTwo, Certificate, Exact, PlanArrays, Refusal, Report, Storage, Written,
+    Bound, BoundTwo, Certificate, Exact, Found, Rack, Refusal, Report, SawReport, StagedReport, Written,
 };
+use crate::job::{Choices, Job};
 use crate::slices;
-use crate::tree::Plan;
-use std::fmt;
+use crate::storage::{written, Error, Lender};
+use crate::tree::{Plan, Plate, Tree};
 
-/// The words of a list of positions: sides of 1,000 and a kerf of 20.
-const LIST: usize = 1_021;
-
-/// The most nodes of a plan.
-const NODES: usize = 4_095;
-
-/// Refusal 20, whose place is the words that the table needs.
-const TABLE_TOO_SHORT: u32 = 20;
-
-/// Why a call gave no answer.
-#[derive(Clone, Copy, Debug, PartialEq, Eq)]
-pub enum Error {
-    Refused(Refusal),
-    /// The table would need this many words, more than may be lent.
-    Memory(u64),
-}
+/// The shares of the greatest capacity, 4,095: no round needs a table of more.
+const MOST_SHARES: u64 = 4_096;
 
 /// A job and the storage for its calls.
 pub struct Planner {
     block: Vec<u8>,
     choices: u32,
-    most_words: u64,
-    lengths: Vec<u16>,
-    widths: Vec<u16>,
-    table: Vec<u64>,
+    lender: Lender,
 }
 
 impl Planner {
-    /// A planner for a job block under a word of choices. The table takes no more than `memory` bytes.
-    pub fn new(block: Vec<u8>, choices: u32, memory: u64) -> Planner {
-        let (lengths, widths) = (vec![0; LIST], vec![0; LIST]);
-        Planner { block, choices, most_words: memory / 8, lengths, widths, table: Vec::new() }
+    /// A planner for a job. The table takes no more than `memory` bytes.
+    pub fn new(job: &Job, choices: Choices, memory: u64) -> Planner {
+        Planner::of_block(job.block(choices), choices.word(), memory)
+    }
+
+    /// The same for a job block under a word of choices, whatever they hold.
+    pub fn of_block(block: Vec<u8>, choices: u32, memory: u64) -> Planner {
+        Planner { block, choices, lender: Lender::new(memory) }
     }
 
     /// Checks a plan.
@@ -51,105 +39,121 @@ impl Planner {
         slices::check_plan_block(&self.block, self.choices, plan)
     }
 
+    /// Checks a plan against a limit on its stages.
+    pub fn check_staged(&self, limit: u32, plan: &Plan) -> Result<StagedReport, Refusal> {
+        let Plan { kinds, operands } = plan;
+        slices::check_plan_staged(&self.block, self.choices, limit, kinds, operands)
+    }
+
+    /// Checks the trees of a rack, which share the demands, and gives what each earns. A refused node is
+    /// counted through all of them; the sides of the job's own plate are not read.
+    pub fn check_rack(&self, rack: &[Plate]) -> Result<Vec<u64>, Refusal> {
+        let lengths: Vec<u16> = rack.iter().map(|plate| plate.length).collect();
+        let widths: Vec<u16> = rack.iter().map(|plate| plate.width).collect();
+        let mut profits = vec![0; rack.len()];
+        let Plan { kinds, operands } = Plan::of_trees(rack.iter().map(|plate| &plate.tree));
+        let lent = Rack { lengths: &lengths, widths: &widths, profits: &mut profits };
+        slices::check_rack(&self.block, self.choices, lent, &kinds, &operands)?;
+        Ok(profits)
+    }
+
+    /// Checks a plan as the saw does, which reads no price.
+    pub fn check_at_saw(&self, plan: &Plan) -> Result<SawReport, Refusal> {
+        slices::saw_check(&self.block, self.choices, &plan.kinds, &plan.operands)
+    }
+
+    /// The tree at a node of a plan, for the saw; none where the plan does not pass or has no such node.
+    /// Nothing is refused but a choice without a meaning.
+    pub fn tree_at_saw(&self, plan: &Plan, node: u64) -> Result<Option<Tree>, Refusal> {
+        let Plan { kinds, operands } = plan;
+        let part = Plan {
+            kinds: slices::saw_kinds(&self.block, self.choices, kinds, operands, node)?.to_vec(),
+            operands: slices::saw_operands(&self.block, self.choices, kinds, operands, node)?.to_vec(),
+        };
+        Ok(part.tree())
+    }
+
     /// The neat plan of a plan.
     pub fn neat(&self, plan: &Plan) -> Result<Plan, Refusal> {
-        written(|arrays| {
+        let ((), neat) = written(|arrays| {
             slices::neat_plan(&self.block, self.choices, &plan.kinds, &plan.operands, arrays)
                 .map(|neat| ((), neat.nodes))
-        })
-        .map(|((), plan)| plan)
+        })?;
+        Ok(neat)
     }
 
     /// The bound under these weights.
     pub fn bound(&mut self, weights: &[u8]) -> Result<Bound, Error> {
-        self.grown(|block, choices, storage| slices::bound(block, choices, weights, storage))
+        self.lender.lend(|storage| slices::bound(&self.block, self.choices, weights, storage))
+    }
+
+    /// The bound within a limit on the stages.
+    pub fn bound_staged(&mut self, weights: &[u8], limit: u32) -> Result<Bound, Error> {
+        self.lender.lend(|storage| {
+            slices::bound_staged(&self.block, self.choices, weights, limit, storage)
+        })
     }
 
     /// The bound under two weights a kind.
     pub fn bound_two(&mut self, first: &[u8], second: &[u8]) -> Result<BoundTwo, Error> {
-        self.grown(|block, choices, storage| {
-            slices::bound_two(block, choices, first, second, storage)
+        self.lender.lend(|storage| {
+            slices::bound_two(&self.block, self.choices, first, second, storage)
         })
     }
 
     /// The bound and the plan behind it, which may exceed demands.
     pub fn write_plan(&mut self, weights: &[u8]) -> Result<(Bound, Plan), Error> {
-        self.grown(|block, choices, storage| {
+        self.lender.lend(|storage| {
             written(|arrays| {
-                let Written { bound, nodes } =
-                    slices::write_plan(block, choices, weights, storage, arrays)?;
-                Ok((bound, nodes))
+                slices::write_plan(&self.block, self.choices, weights, storage, arrays)
+                    .map(|Written { bound, nodes }| (bound, nodes))
+            })
+        })
+    }
+
+    /// The optimum of a short order and a plan that earns it.
+    pub fn exact(&mut self) -> Result<(Exact, Plan), Error> {
+        self.lender.lend(|storage| {
+            written(|arrays| {
+                slices::exact(&self.block, self.choices, storage, arrays)
+                    .map(|exact| (exact, exact.nodes))
             })
         })
     }
 
     /// Certifies a plan under these weights.
     pub fn certify(&mut self, weights: &[u8], plan: &Plan) -> Result<Certificate, Error> {
-        self.grown(|block, choices, storage| {
-            slices::certify(block, choices, weights, &plan.kinds, &plan.operands, storage)
+        let Plan { kinds, operands } = plan;
+        self.lender.lend(|storage| {
+            slices::certify(&self.block, self.choices, weights, kinds, operands, storage)
         })
     }
 
-    /// The optimum of a short order and a plan that earns it.
-    pub fn exact(&mut self) -> Result<(Exact, Plan), Error> {
-        self.grown(|block, choices, storage| {
-            written(|arrays| {
-                let exact = slices::exact(block, choices, storage, arrays)?;
-                Ok((exact, exact.nodes))
-            })
-        })
-    }
-
-    /// Makes a call; if it needs a longer table, lends that and makes it again.
-    fn grown<A>(
+    /// Certifies a plan within a limit on the stages.
+    pub fn certify_staged(
         &mut self,
-        mut call: impl FnMut(&[u8], u32, Storage) -> Result<A, Refusal>,
-    ) -> Result<A, Error> {
-        let mut made = |planner: &mut Planner| {
-            let Planner { block, choices, lengths, widths, table, .. } = planner;
-            call(block, *choices, Storage { lengths, widths, table })
-        };
-        match made(self) {
-            Err(Refusal { number: TABLE_TOO_SHORT, place }) => {
-                self.lend(place)?;
-                made(self).map_err(Error::Refused)
-            }
-            answer => answer.map_err(Error::Refused),
-        }
+        weights: &[u8],
+        limit: u32,
+        plan: &Plan,
+    ) -> Result<Certificate, Error> {
+        let Plan { kinds, operands } = plan;
+        self.lender.lend(|storage| {
+            slices::certify_staged(&self.block, self.choices, weights, limit, kinds, operands, storage)
+        })
     }
 
-    /// Replaces the table by one of this many words. The old one is given back first.
-    fn lend(&mut self, words: u64) -> Result<(), Error> {
-        if words > self.most_words {
-            return Err(Error::Memory(words));
-        }
-        self.table = Vec::new();
-        self.table = vec![0; words as usize];
-        Ok(())
+    /// Finds weights in rounds, from the profit of a plan, and gives one a kind, as the other calls take
+    /// them. A round that needs more memory than there may be ends the run.
+    pub fn find_weights(&mut self, plan: &Plan) -> Result<(Found, Vec<u8>), Error> {
+        let (found, _) = self.lender.lend_spare(MOST_SHARES, |storage| {
+            written(|arrays| {
+                let Plan { kinds, operands } = plan;
+                slices::find_weights(&self.block, self.choices, kinds, operands, storage, arrays)
+                    .map(|found| (found, 0))
+            })
+        })?;
+        let number_of_kinds = usize::from(self.block[4]);
+        let weights = found.weights[..number_of_kinds].iter().map(|&weight| weight as u8).collect();
+        Ok((found, weights))
     }
 }
-
-/// Makes a call that writes a plan and answers its node count.
-fn written<A>(
-    call: impl FnOnce(PlanArrays) -> Result<(A, u64), Refusal>,
-) -> Result<(A, Plan), Refusal> {
-    let mut plan = Plan { kinds: vec![0; NODES], operands: vec![0; NODES] };
-    let arrays = PlanArrays { kinds: &mut plan.kinds, operands: &mut plan.operands };
-    let (answer, nodes) = call(arrays)?;
-    plan.kinds.truncate(nodes as usize);
-    plan.operands.truncate(nodes as usize);
-    Ok((answer, plan))
-}
-
-impl fmt::Display for Error {
-    fn fmt(&self, f: &mut fmt::Formatter) -> fmt::Result {
-        match self {
-            Error::Refused(refusal) => refusal.fmt(f),
-            Error::Memory(words) => {
-                write!(f, "the table needs {} MiB, more than may be used", words.div_ceil(1 << 17))
-            }
-        }
-    }
-}
-
-impl std::error::Error for Error {}

@@ -17,6 +17,14 @@ pub enum Tree {
     Cut { direction: Direction, at: u16, first: Box<Tree>, second: Box<Tree> },
 }
 
+/// A plate of a rack, and what becomes of it.
+#[derive(Clone, Debug, PartialEq, Eq)]
+pub struct Plate {
+    pub length: u16,
+    pub width: u16,
+    pub tree: Tree,
+}
+
 /// A tree in preorder: the kind of each node and its operand.
 #[derive(Clone, Debug, Default, PartialEq, Eq)]
 pub struct Plan {
@@ -36,9 +44,7 @@ impl Tree {
     }
 
     pub fn plan(&self) -> Plan {
-        let mut plan = Plan::default();
-        self.write(&mut plan);
-        plan
+        Plan::of_trees([self])
     }
 
     /// All nodes in preorder: the numbers that refusals give.
@@ -71,6 +77,13 @@ impl Tree {
 }
 
 impl Plan {
+    /// Trees one after another, as a rack has them.
+    pub fn of_trees<'a>(trees: impl IntoIterator<Item = &'a Tree>) -> Plan {
+        let mut plan = Plan::default();
+        trees.into_iter().for_each(|tree| tree.write(&mut plan));
+        plan
+    }
+
     fn push(&mut self, kind: u8, operand: u16) {
         self.kinds.push(kind);
         self.operands.push(operand);

@@ -54,9 +54,9 @@ impl Refusal {
         matches!(self.number, 12..=18 | 23 | 26).then_some(self.place)
     }
 
-    /// The plate of a rack whose plan passes a demand, if one does.
+    /// The plate that is refused, if one is: of a job alone plate 0, of a rack any.
     pub fn plate(&self) -> Option<u64> {
-        (self.number == 29).then_some(self.place)
+        matches!(self.number, 2 | 29).then_some(self.place)
     }
 }
 
@@ -67,7 +67,7 @@ impl fmt::Display for Refusal {
         match number {
             5..=7 => write!(f, " at kind {place}")?,
             12..=18 | 23 | 26 => write!(f, " at node {place}")?,
-            29 => write!(f, " at plate {place}")?,
+            2 | 29 => write!(f, " at plate {place}")?,
             20 => write!(f, ", {place} words are needed")?,
             21 => write!(f, ", {place} nodes are needed")?,
             _ => {}

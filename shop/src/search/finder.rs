@@ -42,7 +42,7 @@ impl Finder {
         timed: bool,
         found: Arc<Mutex<Found>>,
     ) -> Finder {
-        let planner = Planner::new(job.block(choices), choices.word(), memory);
+        let planner = Planner::new(job, choices, memory);
         let stock = Stock::new(job, choices);
         Finder { planner, stock, dice: Dice::new(1), effort: Effort::new(memory, timed), found }
     }

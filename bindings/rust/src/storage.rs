@@ -1,0 +1,110 @@
+// What a planner lends its calls: lists and plan arrays with the most that any job and plan can need, and a
+// table that grows to what refusal 20 asks for, up to a limit.
+use crate::answers::{PlanArrays, Refusal, Storage};
+use crate::tree::Plan;
+use std::fmt;
+
+/// The words of a list of positions: sides of 1,000 and a kerf of 20.
+const LIST: usize = 1_021;
+
+/// The most nodes of a plan.
+const NODES: usize = 4_095;
+
+/// Refusal 20, whose place is the words that the table needs.
+const TABLE_TOO_SHORT: u32 = 20;
+
+/// Why a call gave no answer.
+#[derive(Clone, Copy, Debug, PartialEq, Eq)]
+pub enum Error {
+    Refused(Refusal),
+    /// The table would need this many words, more than may be lent.
+    Memory(u64),
+}
+
+/// The lists and the table, which has no more words than it may have.
+pub struct Lender {
+    most_words: u64,
+    lengths: Vec<u16>,
+    widths: Vec<u16>,
+    table: Vec<u64>,
+}
+
+impl Lender {
+    /// A lender whose table takes no more than `memory` bytes.
+    pub fn new(memory: u64) -> Lender {
+        let (lengths, widths) = (vec![0; LIST], vec![0; LIST]);
+        Lender { most_words: memory / 8, lengths, widths, table: Vec::new() }
+    }
+
+    /// Makes a call; where it needs a longer table, lends that and makes it again.
+    pub fn lend<A>(
+        &mut self,
+        call: impl FnMut(Storage) -> Result<A, Refusal>,
+    ) -> Result<A, Error> {
+        self.lend_times(1, call)
+    }
+
+    /// The same for a call that goes as far as its table does: whatever was lent before, it gets so many
+    /// times the words that it needs, or as many as there may be.
+    pub fn lend_spare<A>(
+        &mut self,
+        times: u64,
+        call: impl FnMut(Storage) -> Result<A, Refusal>,
+    ) -> Result<A, Error> {
+        self.table = Vec::new();
+        self.lend_times(times, call)
+    }
+
+    fn lend_times<A>(
+        &mut self,
+        times: u64,
+        mut call: impl FnMut(Storage) -> Result<A, Refusal>,
+    ) -> Result<A, Error> {
+        let mut made = |lender: &mut Lender| {
+            let Lender { lengths, widths, table, .. } = lender;
+            call(Storage { lengths, widths, table })
+        };
+        match made(self) {
+            Err(Refusal { number: TABLE_TOO_SHORT, place }) => {
+                self.grow(place, times)?;
+                made(self).map_err(Error::Refused)
+            }
+            answer => answer.map_err(Error::Refused),
+        }
+    }
+
+    /// Replaces the table by a longer one. The old one is given back first.
+    fn grow(&mut self, words: u64, times: u64) -> Result<(), Error> {
+        if words > self.most_words {
+            return Err(Error::Memory(words));
+        }
+        self.table = Vec::new();
+        self.table = vec![0; words.saturating_mul(times).min(self.most_words) as usize];
+        Ok(())
+    }
+}
+
+/// Makes a call that writes a plan and answers its node count.
+pub fn written<A>(
+    call: impl FnOnce(PlanArrays) -> Result<(A, u64), Refusal>,
+) -> Result<(A, Plan), Refusal> {
+    let mut plan = Plan { kinds: vec![0; NODES], operands: vec![0; NODES] };
+    let arrays = PlanArrays { kinds: &mut plan.kinds, operands: &mut plan.operands };
+    let (answer, nodes) = call(arrays)?;
+    plan.kinds.truncate(nodes as usize);
+    plan.operands.truncate(nodes as usize);
+    Ok((answer, plan))
+}
+
+impl fmt::Display for Error {
+    fn fmt(&self, f: &mut fmt::Formatter) -> fmt::Result {
+        match self {
+            Error::Refused(refusal) => refusal.fmt(f),
+            Error::Memory(words) => {
+                write!(f, "the table needs {} MiB, more than may be used", words.div_ceil(1 << 17))
+            }
+        }
+    }
+}
+
+impl std::error::Error for Error {}
