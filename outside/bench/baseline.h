@@ -1,5 +1,6 @@
 /* The baseline in C: the tabled algorithm with no proofs, as fast as we know how to write it.
- * Jobs are taken as accepted, in the new block, and storage as large enough. */
+ * Jobs are taken as accepted, in the new block, and storage as large enough; only checks of plans, see
+ * check.h, refuse. */
 #ifndef BASELINE_H
 #define BASELINE_H
 
@@ -78,6 +79,11 @@ void lay_in_row(const Plate *plate, int length, uint64_t *row);
 void cut_lengths(const Positions *lengths, int a, uint64_t *table, size_t r);
 void cut_widths(const Positions *widths, uint64_t *row, uint64_t *unit);
 
+void baseline_bound(const uint8_t *job, uint32_t choices, const uint8_t *weights,
+                    uint16_t *lengths, uint16_t *widths, uint64_t *table, uint64_t *answer);
+void baseline_bound_staged(const uint8_t *job, uint32_t choices, const uint8_t *weights,
+                           uint32_t limit, uint16_t *lengths, uint16_t *widths, uint64_t *table,
+                           uint64_t *answer);
 void baseline_write_plan(const uint8_t *job, uint32_t choices, const uint8_t *weights,
                          uint16_t *lengths, uint16_t *widths, uint64_t *table, uint8_t *kinds,
                          uint16_t *operands, uint64_t *answer);

@@ -1,5 +1,6 @@
-// The same algorithms without proofs, in C and, but for the staged table, that of two weights, that of
-// short orders and the rounds, in Rust, for the benchmark.
-// Both take jobs as accepted, in the new block, and storage as large enough.
+// The same algorithms without proofs, in C (`c`, `checks`) and, for bound and written plan, in Rust too, for
+// the benchmark.
+// All take jobs in the new block and storage as large enough; jobs are accepted ones but for checks of plans.
 pub mod c;
+pub mod checks;
 pub mod rust;

@@ -1,11 +1,17 @@
-// The benchmark's baselines against the reference: same answer and same memory on accepted jobs.
-// What they take as given is given here: an accepted job and storage that the reference found enough.
+// The benchmark's baselines against the reference: same answer and same memory on accepted jobs, and of
+// checks of plans the same refusals.
+// What they take as given is given here: an accepted job and storage that the reference found enough; for
+// checks the new block and plan arrays of one length.
+use crate::damage::damage;
 use crate::inputs::{draw, short_order, Scale, SMALL};
 use crate::lent::{Lent, Sizes, AMPLE};
 use crate::run::{Call, Input, ALL_CHOICES};
-use outside::answers::{PlanArrays, Storage, Words, Written, FOUND_WORDS};
+use outside::answers::{PlanArrays, Storage, Words, Written, FOUND_WORDS, FULL_DEMAND, TURNING};
+use outside::baseline::checks;
+use outside::calls::Calls;
 use outside::random::Random;
 use outside::{baseline, reference};
+use std::collections::BTreeMap;
 
 const ROOM: Sizes = Sizes { lengths: 120, widths: 120, table: 1 << 18, answer: 5, ..AMPLE };
 
@@ -188,4 +194,74 @@ fn baselines_agree_with_many_shares() {
 fn baselines_agree_without_weights() {
     let scale = Scale { plate: 60, kerf: 20, side: 40, kinds: 9, price: 400, weight: 0, ..SMALL };
     baselines_agree(12, 400, scale);
+}
+
+/// The calls of the C baseline that check a plan; the reference's in place of all others.
+const IN_C: Calls = Calls {
+    name: "C",
+    check_plan: checks::check_plan,
+    check_plan_block: checks::check_plan_block,
+    check_plan_staged: checks::check_plan_staged,
+    neat_plan: checks::neat_plan,
+    certify: |job, choices, weights, kinds, operands, storage, answer| unsafe {
+        checks::certify(job, choices, weights, kinds, operands, storage, answer)
+    },
+    certify_staged: |job, choices, weights, limit, kinds, operands, storage, answer| unsafe {
+        checks::certify_staged(job, choices, weights, limit, kinds, operands, storage, answer)
+    },
+    ..reference::calls::CALLS
+};
+
+/// Compares a call on an input that the baseline may get, and gives what it answers.
+fn check_agrees(call: Call, input: &Input) -> Option<u32> {
+    let (mut expected, mut lent) = (Lent::new(AMPLE), Lent::new(AMPLE));
+    let code = call.run(&reference::calls::CALLS, input, &mut expected);
+    let certifies = matches!(call, Call::Certify | Call::CertifyStaged);
+    if certifies && !matches!(code, 0 | 11..=18 | 23 | 26) {
+        return None;
+    }
+    assert_eq!(call.run(&IN_C, input, &mut lent), code, "{call:?} {input:?}");
+    assert_eq!(expected.differences(&lent), [""; 0], "{call:?} {input:?}");
+    Some(code)
+}
+
+/// Compares the saw's check and the part of a node.
+fn saw_agrees(input: &Input, node: u64) {
+    let Input { job, choices, kinds, operands, .. } = input;
+    let [mut expected, mut given] = [[7; 70]; 2];
+    let code = reference::calls::saw_check(job, *choices, kinds, operands, &mut expected);
+    assert_eq!(checks::saw_check(job, *choices, kinds, operands, &mut given), code, "{input:?}");
+    assert_eq!(given, expected, "{input:?}");
+    reference::calls::saw_kinds(job, *choices, kinds, operands, node, &mut expected);
+    checks::saw_part(job, *choices, kinds, operands, node, &mut given);
+    assert_eq!(given, expected, "{input:?}");
+}
+
+#[test]
+fn the_baselines_of_the_checks_agree() {
+    let random = &mut Random::new(23);
+    let scale = Scale { plate: 12, demand: 6, ..SMALL };
+    let calls = [
+        Call::CheckPlan,
+        Call::CheckPlanBlock,
+        Call::CheckPlanStaged,
+        Call::NeatPlan,
+        Call::Certify,
+        Call::CertifyStaged,
+    ];
+    let mut met = BTreeMap::<u32, usize>::new();
+    for i in 0..6000 {
+        let limit = random.pick(&[0, 1, 1, 2, 2, 3, 4, 8, 9]);
+        let mut input = draw(random, scale, ALL_CHOICES[i % 4]).within(limit);
+        damage(random, &mut input);
+        if input.choices & !(TURNING | FULL_DEMAND) == 0 && input.kinds.len() == input.operands.len() {
+            for code in calls.iter().filter_map(|&call| check_agrees(call, &input)) {
+                *met.entry(code).or_default() += 1;
+            }
+            saw_agrees(&input, random.from(0, 6) as u64);
+        }
+    }
+    println!("checks in C met {met:?}");
+    let expected = (0..=7).chain(10..=18).chain([22, 23, 26, 27]);
+    assert!(expected.eq(met.keys().copied()) && met[&0] >= 9000, "{met:?}");
 }

@@ -12,6 +12,7 @@ use crate::rack::{order, Order};
 use crate::run::{compare, Call, Input, ALL_CHOICES};
 use crate::stack::fits_small_stack;
 use outside::answers::{FULL_DEMAND, OLD_BLOCK, TURNING};
+use outside::baseline::checks;
 use outside::blocks::{kerf_block, Kind};
 use outside::planner::calls;
 use outside::random::Random;
@@ -82,6 +83,31 @@ fn generated_racks_agree() {
     let expected = (0..=7).chain(10..=18).chain(26..=29).chain([100, 101]);
     assert!(expected.eq(met.keys().copied()), "{met:?}");
     assert!(met.values().all(|&times| times >= 20) && met[&0] >= 4000, "{met:?}");
+}
+
+/// The baseline in C, which takes the new block and slices of one length, refuses as the reference does.
+#[test]
+fn the_baseline_of_the_rack_agrees() {
+    let random = &mut Random::new(113);
+    let mut met = BTreeMap::<u32, usize>::new();
+    for i in 0..8000 {
+        let plates = random.pick(&[1, 2, 2, 3, 3, 4, 16]);
+        let mut rack = draw_rack(random, SMALL, ALL_CHOICES[i % 4], plates);
+        damage(random, &mut rack.input);
+        damage_rack(random, &mut rack);
+        let Order { input: Input { choices, kinds, operands, .. }, lengths, widths, profits } = &rack;
+        let even = [lengths.len(), widths.len()] == [*profits; 2] && kinds.len() == operands.len();
+        if choices & !(TURNING | FULL_DEMAND) == 0 && even {
+            let [mut expected, mut lent] = [rack.memory(2), rack.memory(2)];
+            let code = rack.run(reference::calls::check_rack, &mut expected);
+            assert_eq!(rack.run(checks::check_rack, &mut lent), code, "{rack:?}");
+            assert_eq!(expected.differences(&lent), [""; 0], "{rack:?}");
+            *met.entry(code).or_default() += 1;
+        }
+    }
+    println!("racks in C met {met:?}");
+    let expected = (0..=7).chain(11..=18).chain(26..=29);
+    assert!(expected.eq(met.keys().copied()) && met[&0] >= 1000, "{met:?}");
 }
 
 /// The job with the sides of one plate in place of its own.

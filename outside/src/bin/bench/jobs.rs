@@ -1,11 +1,14 @@
 // The jobs that are measured. All are generated from fixed seeds, so every run has the same.
 // Prices are areas with a premium of up to a quarter; demands are raised until Q is as wanted, which
 // counts them in full where the plate cannot hold so many.
+use ::planner::{Choices, Job as Typed, Plan, Planner};
 use outside::answers::{FULL_DEMAND, TURNING};
-use outside::blocks::{job_s, kerf_block, Kind};
+use outside::blocks::{job_s, kerf_block, plan_block, Kind};
 use outside::random::Random;
 use outside::reference;
 
+/// What the calls read.
+#[derive(Clone, Default)]
 pub struct Job {
     pub name: String,
     pub block: Vec<u8>,
@@ -15,6 +18,12 @@ pub struct Job {
     pub second: Vec<u8>,
     /// For the staged calls.
     pub limit: u32,
+    /// For the calls that read a plan, as arrays and as a block.
+    pub kinds: Vec<u8>,
+    pub operands: Vec<u16>,
+    pub plan: Vec<u8>,
+    /// For the rack: the lengths and the widths of its plates.
+    pub plates: [Vec<u16>; 2],
 }
 
 /// What a generated job is drawn from.
@@ -65,17 +74,24 @@ pub fn named() -> Vec<Job> {
         choices: FULL_DEMAND,
         ..SMALL
     };
-    let (block, weights, second) = (job_s(), vec![0, 1, 0], vec![0; 3]);
-    let s = Job { name: "S".into(), block, choices: 0, weights, second, limit: 0 };
-    let mut jobs = vec![s];
+    let mut jobs = vec![s()];
     jobs.extend([SMALL, few, turning, kerf, half, full, shares, many].iter().map(draw));
     jobs
 }
 
+/// Job S of the scope.
+fn s() -> Job {
+    Job { name: "S".into(), block: job_s(), weights: vec![0, 1, 0], ..Job::default() }
+}
+
+/// A plate of 30 kinds that are small against it.
+fn growing(plate: u16) -> Job {
+    draw(&Draw { plate, kinds: 30, sides: (20, 60), ..SMALL })
+}
+
 /// Weights 0 on larger and larger plates.
 pub fn growing_plates() -> Vec<Job> {
-    let plates = [125, 250, 500, 1000];
-    plates.map(|plate| draw(&Draw { plate, kinds: 30, sides: (20, 60), ..SMALL })).into()
+    [125, 250, 500, 1000].map(growing).into()
 }
 
 /// One plate with a larger and larger capacity.
@@ -101,7 +117,7 @@ pub fn staged() -> Vec<Job> {
 }
 
 fn within(job: Job, limit: u32) -> Job {
-    Job { name: format!("staged {}, limit {limit}", job.name), limit, ..job }
+    Job { name: format!("{}, limit {limit}", job.name), limit, ..job }
 }
 
 /// Two weights a kind, with more and more pairs of shares.
@@ -117,8 +133,7 @@ pub fn two_weights() -> Vec<Job> {
         Draw { capacity: 72, second_weights: many, second_capacity: 171, ..medium },
         Draw { capacity: 931, second_weights: few, second_capacity: 25, ..large },
     ];
-    let named = |job: Job| Job { name: format!("two weights {}", job.name), ..job };
-    draws.iter().map(|from| named(draw(from))).collect()
+    draws.iter().map(draw).collect()
 }
 
 /// Short orders: ChW1, whose optimum is 244, and generated ones with these demands, on plates that hold
@@ -141,10 +156,7 @@ pub fn exact() -> Vec<Job> {
         (100, (12, 40), &[1, 2, 3, 4, 5, 2]),
         (100, (10, 35), &[1; 12]),
     ];
-    let named = |name: String, block| {
-        let (weights, second) = (vec![], vec![]);
-        Job { name: format!("exact {name}"), block, choices: 0, weights, second, limit: 0 }
-    };
+    let named = |name: String, block| Job { name, block, ..Job::default() };
     let first = named("ChW1".into(), kerf_block(15, 10, 0, &chw1));
     let others = drawn.map(|(plate, sides, demands)| {
         let random = &mut Random::new(u64::from(plate) + demands.len() as u64);
@@ -165,9 +177,56 @@ pub fn exact() -> Vec<Job> {
 
 /// Weights found in rounds: for short orders, and for one of each of many kinds.
 pub fn rounds() -> Vec<Job> {
-    let short = exact().into_iter().take(3);
-    let named = |job: Job| Job { name: format!("rounds {}", job.name.replace("exact ", "")), ..job };
-    short.chain([draw(&SMALL)]).map(named).collect()
+    exact().into_iter().take(3).chain([draw(&SMALL)]).collect()
+}
+
+/// Plans to check, longer and longer ones, within eight stages.
+pub fn plans() -> Vec<Job> {
+    let drawn = [s(), draw(&SMALL), growing(500)].map(|job| planned(job, 1));
+    drawn.into_iter().chain([strips()]).collect()
+}
+
+/// A plate that is cut into 1,000 strips, 250 of each kind.
+fn strips() -> Job {
+    let block = kerf_block(1000, 1000, 0, &[(1, 1000, 1, 250); 4]);
+    let cuts = (0..999).flat_map(|i| [(2, 1), (1, i / 250)]);
+    let (kinds, operands): (Vec<u8>, Vec<u16>) = cuts.chain([(1, 3)]).unzip();
+    let plan = plan_block(&kinds, &operands);
+    Job { name: "1000×1000, 1000 strips".into(), block, kinds, operands, plan, limit: 8, ..Job::default() }
+}
+
+/// A plan on each of sixteen plates.
+pub fn racks() -> Vec<Job> {
+    let Job { name, block, choices, kinds, operands, .. } = planned(draw(&SMALL), RACK);
+    let name = format!("{RACK} plates, each {name}");
+    let (kinds, operands) = (kinds.repeat(RACK), operands.repeat(RACK));
+    let plates = [0, 2].map(|at| vec![u16::from_le_bytes([block[at], block[at + 1]]); RACK]);
+    vec![Job { name, block, choices, kinds, operands, plates, ..Job::default() }]
+}
+
+const RACK: usize = 16;
+
+/// Plans to certify: with weights that are all 0 and with others, within eight stages.
+pub fn certificates() -> Vec<Job> {
+    let half = Draw { plate: 500, kinds: 40, sides: (30, 250), ..SMALL };
+    let weighed = Draw { weights: &[0, 1], capacity: 30, ..SMALL };
+    let (kinds, operands, limit) = (vec![0], vec![0], 8);
+    vec![planned(draw(&half), 1), Job { kinds, operands, limit, ..draw(&weighed) }]
+}
+
+/// The job with the plan behind its bound, and with demands for so many of it.
+fn planned(job: Job, times: usize) -> Job {
+    let choices = Choices::from_word(job.choices);
+    let mut planner = Planner::of_block(job.block.clone(), job.choices, u64::MAX);
+    let (_, Plan { kinds, operands }) = planner.write_plan(&job.weights).expect("an accepted job");
+    let mut typed = Typed::from_block(&job.block, choices).expect("an accepted job");
+    typed.kinds.iter_mut().enumerate().for_each(|(i, kind)| {
+        let is_copy = |(node, number): (&u8, &u16)| matches!(node, 1 | 4) && usize::from(*number) == i;
+        let copies = kinds.iter().zip(&operands).filter(|node| is_copy(*node)).count();
+        kind.demand = (times * copies.max(1)) as u16;
+    });
+    let (block, plan) = (typed.block(choices), plan_block(&kinds, &operands));
+    Job { block, kinds, operands, plan, limit: 8, ..job }
 }
 
 fn draw(from: &Draw) -> Job {
@@ -190,7 +249,7 @@ fn draw(from: &Draw) -> Job {
         name += if choices & choice != 0 { words } else { "" };
     }
     let block = kerf_block(plate, plate, kerf, &kinds);
-    Job { name, block, choices, weights, second, limit: 0 }
+    Job { name, block, choices, weights, second, ..Job::default() }
 }
 
 fn draw_kind(random: &mut Random, (low, high): (usize, usize)) -> Kind {

@@ -1,19 +1,59 @@
-// The benchmark: bound and written plan, ours against the baselines in Rust and C, and the staged bound,
-// that of two weights, the exact answer and the weights found, ours against those in C, in one run.
-// Prints Markdown: one table of named jobs, two of how time grows, four of the other calls. A word given
+// The benchmark: every call of planner.h, ours against the same algorithm in C and, for bound and written plan,
+// in Rust, in one run. Prints Markdown: how it is measured, then a table for each sort of call. A word given
 // as argument leaves only the jobs whose names have it.
-mod contender;
+mod calls;
 mod jobs;
 mod measure;
+mod memory;
 mod report;
+
+use calls::Call;
+use report::{Fact, Table};
+
+const P: (&str, Fact) = ("p", Fact::Answer(2));
+const R: (&str, Fact) = ("r", Fact::Answer(3));
+const Q: (&str, Fact) = ("Q", Fact::Answer(1));
+const WORDS: (&str, Fact) = ("words", Fact::Words);
+const NODES: (&str, Fact) = ("nodes", Fact::Nodes);
 
 fn main() {
     let wanted = std::env::args().nth(1).unwrap_or_default();
-    report::table("Named jobs", &wanted, &jobs::named());
-    report::table("Growth with p and r", &wanted, &jobs::growing_plates());
-    report::table("Growth with Q", &wanted, &jobs::growing_capacities());
-    report::duel_table("Staged bounds", &wanted, &contender::STAGED, &jobs::staged());
-    report::duel_table("Two weights", &wanted, &contender::TWO_WEIGHTS, &jobs::two_weights());
-    report::duel_table("Exact answers", &wanted, &contender::EXACT, &jobs::exact());
-    report::duel_table("Rounds", &wanted, &contender::ROUNDS, &jobs::rounds());
+    preface();
+    tables().iter().for_each(|table| table.print(&wanted));
+}
+
+fn preface() {
+    println!(
+        "\nMeasured by `outside/run bench`: every call of the proved library against the same algorithm written for speed alone in C\n\
+         (`outside/bench`) and, for bound and written plan, in Rust (`outside/src/baseline/rust`), in one run. They take turns; each figure is the\n\
+         least of {} to {} samples of processor time, and short calls are repeated within a sample. Memory is touched before the first call\n\
+         and not cleared between calls. Before a line is measured, all must give the same answers and leave the same lists, table and plan. The jobs\n\
+         are generated from fixed seeds.",
+        measure::FEWEST, measure::MOST,
+    );
+}
+
+fn tables() -> Vec<Table> {
+    let table = |title, facts: &[_], calls: &[&'static Call], jobs| {
+        Table { title, facts: facts.to_vec(), calls: calls.to_vec(), jobs }
+    };
+    let sizes = [P, R, Q, WORDS, ("nodes", Fact::Answer(4))];
+    let bounds = |title, jobs| table(title, &sizes, &[&calls::BOUND, &calls::PLAN], jobs);
+    let of_two = [("p", Fact::Answer(3)), ("r", Fact::Answer(4)), WORDS];
+    let of_states = [P, R, ("states", Fact::Answer(1)), WORDS, ("optimum", Fact::Answer(0))];
+    let of_rounds = [("rounds", Fact::Answer(1)), ("bound", Fact::Answer(0))];
+    let certificates = [&calls::CERTIFICATE, &calls::STAGED_CERTIFICATE];
+    let checks: Vec<_> = calls::CHECKS.iter().collect();
+    vec![
+        bounds("Named jobs", jobs::named()),
+        bounds("Growth with p and r", jobs::growing_plates()),
+        bounds("Growth with Q", jobs::growing_capacities()),
+        table("Staged bounds", &[P, R, Q, WORDS], &[&calls::STAGED], jobs::staged()),
+        table("Bounds of two weights", &of_two, &[&calls::TWO_WEIGHTS], jobs::two_weights()),
+        table("Exact answers", &of_states, &[&calls::EXACT], jobs::exact()),
+        table("Weights found", &of_rounds, &[&calls::ROUNDS], jobs::rounds()),
+        table("Certificates", &[WORDS, NODES], &certificates, jobs::certificates()),
+        table("Checks and neat plans", &[NODES], &checks, jobs::plans()),
+        table("Racks", &[NODES], &[&calls::RACK], jobs::racks()),
+    ]
 }

@@ -1,35 +1,29 @@
-// Medians of processor time: the contenders take turns, so that all meet the same machine.
-// Short calls are repeated within one sample.
-use crate::contender::Memory;
+// The least processor time of a call: the contenders take turns, so that all meet the same machine.
+// Short calls are repeated within one sample; long ones have fewer samples.
+use crate::calls::Run;
 use crate::jobs::Job;
+use crate::memory::Memory;
 
-const ROUNDS: usize = 9;
-const SAMPLE_SECONDS: f64 = 0.002;
+const SAMPLE_SECONDS: f64 = 0.005;
+const LINE_SECONDS: f64 = 2.5;
+pub const FEWEST: usize = 5;
+pub const MOST: usize = 25;
 
-/// Median seconds of one call, for each contender.
-pub fn medians<Contender, const N: usize>(
-    contenders: &[Contender; N],
-    job: &Job,
-    memory: &mut Memory,
-    call: impl Fn(&Contender, &Job, &mut Memory),
-) -> [f64; N] {
-    let repeats = contenders.each_ref().map(|contender| {
-        let once = seconds(|| call(contender, job, memory));
-        (SAMPLE_SECONDS / once).ceil() as usize
-    });
-    let mut samples = [const { Vec::new() }; N];
-    for _ in 0..ROUNDS {
-        for (i, contender) in contenders.iter().enumerate() {
-            let all = seconds(|| (0..repeats[i]).for_each(|_| call(contender, job, memory)));
-            samples[i].push(all / repeats[i] as f64);
+/// The least seconds of one call, for each contender.
+pub fn least(contenders: &[Run], job: &Job, memory: &mut Memory) -> Vec<f64> {
+    let once: Vec<f64> =
+        contenders.iter().map(|run| seconds(|| _ = run(job, memory)).max(1e-8)).collect();
+    let repeats: Vec<usize> = once.iter().map(|one| (SAMPLE_SECONDS / one).ceil() as usize).collect();
+    let round: f64 = once.iter().zip(&repeats).map(|(one, &repeats)| one * repeats as f64).sum();
+    let rounds = ((LINE_SECONDS / round) as usize).clamp(FEWEST, MOST);
+    let mut least = vec![f64::INFINITY; contenders.len()];
+    for _ in 0..rounds {
+        for ((run, &repeats), least) in contenders.iter().zip(&repeats).zip(&mut least) {
+            let all = seconds(|| (0..repeats).for_each(|_| _ = run(job, memory)));
+            *least = least.min(all / repeats as f64);
         }
     }
-    samples.map(median)
-}
-
-fn median(mut samples: Vec<f64>) -> f64 {
-    samples.sort_by(f64::total_cmp);
-    samples[samples.len() / 2]
+    least
 }
 
 fn seconds(work: impl FnOnce()) -> f64 {

@@ -1,73 +1,92 @@
-// The Markdown tables. Before a job is measured, all contenders must give the same answers and leave
-// the same memory.
-use crate::contender::{Duel, Memory, CONTENDERS};
+// The Markdown tables. Before a line is measured, all contenders must answer the same and leave the same
+// memory; a difference ends the run.
+use crate::calls::{Call, Run};
 use crate::jobs::Job;
-use crate::measure::medians;
+use crate::measure::least;
+use crate::memory::{Memory, UNTOUCHED};
 
-pub fn table(title: &str, wanted: &str, jobs: &[Job]) {
-    println!("\n## {title}\n");
-    println!("| job | p | r | Q | words | nodes | call | ours ms | Rust ms | C ms | ours / best |");
-    println!("|---|--:|--:|--:|--:|--:|---|--:|--:|--:|--:|");
-    for job in jobs.iter().filter(|job| job.name.contains(wanted)) {
-        let facts = facts(job);
-        let mut memory = Memory::enough_for(job);
-        line(&facts, "bound", medians(&CONTENDERS, job, &mut memory, |contender, job, memory| {
-            (contender.bound)(job, memory);
-        }));
-        line(&facts, "plan", medians(&CONTENDERS, job, &mut memory, |contender, job, memory| {
-            (contender.write_plan)(job, memory);
-        }));
+/// A column that tells the size of a line's job.
+#[derive(Clone, Copy)]
+pub enum Fact {
+    /// A word of the answer.
+    Answer(usize),
+    /// The words of the table.
+    Words,
+    /// The nodes of the plan that is read.
+    Nodes,
+}
+
+pub struct Table {
+    pub title: &'static str,
+    pub facts: Vec<(&'static str, Fact)>,
+    pub calls: Vec<&'static Call>,
+    pub jobs: Vec<Job>,
+}
+
+impl Table {
+    /// Prints the lines of the jobs whose names have the word.
+    pub fn print(&self, wanted: &str) {
+        let in_rust = self.calls.iter().any(|call| call.rust.is_some());
+        let mut columns = vec!["job"];
+        columns.extend(self.facts.iter().map(|(name, _)| *name));
+        columns.extend(["call", "ours ms", "C ms"]);
+        columns.extend(if in_rust { &["Rust ms", "ours / best"][..] } else { &["ours / C"] });
+        let rule = columns.iter().map(|name| if matches!(*name, "job" | "call") { "---|" } else { "--:|" });
+        println!("\n## {}\n\n{}\n|{}", self.title, row(&columns), rule.collect::<String>());
+        for job in self.jobs.iter().filter(|job| job.name.contains(wanted)) {
+            self.calls.iter().for_each(|call| println!("{}", self.line(job, call)));
+        }
+    }
+
+    fn line(&self, job: &Job, call: &Call) -> String {
+        let contenders = [Some(call.ours), Some(call.c), call.rust];
+        let contenders: Vec<Run> = contenders.into_iter().flatten().collect();
+        let mut memory = compared(job, call, &contenders);
+        let mut cells = vec![job.name.clone()];
+        cells.extend(self.facts.iter().map(|(_, fact)| fact.text(job, &memory)));
+        cells.push(call.name.into());
+        let seconds = least(&contenders, job, &mut memory);
+        cells.extend(seconds.iter().map(|&seconds| milliseconds(seconds)));
+        let best = seconds[1..].iter().copied().fold(f64::INFINITY, f64::min);
+        cells.push(format!("{:.2}", seconds[0] / best));
+        row(&cells)
     }
 }
 
-/// Compares the contenders on a job, and gives the columns that tell its size.
-fn facts(job: &Job) -> String {
-    let [ours, rust, c] = CONTENDERS.map(|contender| {
-        let mut memory = Memory::enough_for(job);
-        let bound = (contender.bound)(job, &mut memory);
-        let written = (contender.write_plan)(job, &mut memory);
-        (bound, written, memory.lengths, memory.widths, memory.table, memory.kinds, memory.operands)
-    });
-    assert!(ours == rust && ours == c, "the contenders agree on {}", job.name);
-    let (bound, words) = (ours.0, ours.4.len());
-    let nodes = ours.1.nodes;
-    let sizes = [bound.lengths, bound.widths, bound.capacity, words as u64];
-    let [p, r, q, words] = sizes.map(|size| size.to_string());
-    format!("| {} | {p} | {r} | {q} | {words} | {nodes} |", job.name)
+/// Runs every contender on memory of its own; gives ours.
+fn compared(job: &Job, call: &Call, contenders: &[Run]) -> Memory {
+    let left = |run: &Run| {
+        let mut memory = call.enough_for(job);
+        assert_eq!(run(job, &mut memory), 0, "{} takes {}", call.name, job.name);
+        memory
+    };
+    let ours = left(&contenders[0]);
+    for other in &contenders[1..] {
+        assert!(left(other) == ours, "all answer the same to {} for {}", call.name, job.name);
+    }
+    ours
 }
 
-fn line(facts: &str, call: &str, [ours, rust, c]: [f64; 3]) {
-    let [a, b, d] = [ours, rust, c].map(|seconds| format!("{:.4}", seconds * 1e3));
-    println!("{facts} {call} | {a} | {b} | {d} | {:.2} |", ours / rust.min(c));
-}
-
-/// Of a call with a baseline in C alone.
-pub fn duel_table(title: &str, wanted: &str, duel: &Duel, jobs: &[Job]) {
-    println!("\n## {title}\n");
-    let [first, second] = duel.columns;
-    println!("| job | {first} | {second} | words | ours ms | C ms | ours / C |");
-    println!("|---|--:|--:|--:|--:|--:|--:|");
-    let calls: [fn(&Duel, &Job, &mut Memory); 2] = [
-        |duel, job, memory| _ = (duel.ours)(job, memory).expect("an accepted job"),
-        |duel, job, memory| _ = (duel.c)(job, memory),
-    ];
-    for job in jobs.iter().filter(|job| job.name.contains(wanted)) {
-        let facts = duel_facts(duel, job);
-        let mut memory = duel.enough_for(job);
-        let [ours, c] = medians(&calls, job, &mut memory, |call, job, memory| {
-            call(duel, job, memory);
-        });
-        println!("{facts} {:.4} | {:.4} | {:.2} |", ours * 1e3, c * 1e3, ours / c);
+impl Fact {
+    /// Empty where the call has no such word.
+    fn text(self, job: &Job, memory: &Memory) -> String {
+        match self {
+            Fact::Answer(word) if memory.answer[word] == UNTOUCHED => String::new(),
+            Fact::Answer(word) => memory.answer[word].to_string(),
+            Fact::Words => memory.table.len().to_string(),
+            Fact::Nodes => job.kinds.len().to_string(),
+        }
     }
 }
 
-/// Compares both on a job, and gives the columns that tell its size.
-fn duel_facts(duel: &Duel, job: &Job) -> String {
-    let [mut ours, mut c] = [(); 2].map(|()| duel.enough_for(job));
-    let answer = (duel.ours)(job, &mut ours).expect("an accepted job");
-    assert!(answer == (duel.c)(job, &mut c), "both answer the same for {}", job.name);
-    assert!(ours.lengths == c.lengths && ours.widths == c.widths && ours.table == c.table);
-    assert!(ours.kinds == c.kinds && ours.operands == c.operands);
-    let [first, second] = [0, 1].map(|word| answer[duel.columns_at + word]);
-    format!("| {} | {first} | {second} | {} |", job.name, ours.table.len())
+/// Three digits that count.
+fn milliseconds(seconds: f64) -> String {
+    let ms = seconds * 1e3;
+    let digits = (2.0 - ms.log10().floor()).clamp(0.0, 7.0) as usize;
+    format!("{ms:.digits$}")
+}
+
+fn row<S: AsRef<str>>(cells: &[S]) -> String {
+    let cells: Vec<&str> = cells.iter().map(AsRef::as_ref).collect();
+    format!("| {} |", cells.join(" | "))
 }
