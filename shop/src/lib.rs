@@ -7,6 +7,7 @@ pub mod millimetres;
 pub mod options;
 pub mod order;
 pub mod outcome;
+mod places;
 pub mod search;
 mod sheet;
 pub mod stamp;

@@ -2,11 +2,14 @@
 // Heights of text are millimetres on paper; places are in the plate's millimetres.
 
 const MARGIN: f64 = 10.0;
-const HEADING: f64 = 16.0;
+const HEADING: f64 = 20.0;
 
-/// Text in a piece is no lower and no higher than this.
-const LEAST: f64 = 1.8;
+/// Name and size of a piece are no lower and no higher than this.
+pub const LEAST: f64 = 2.1;
 const MOST: f64 = 4.0;
+
+/// Plans of so many cuts have lower numbers at them.
+const MANY_CUTS: usize = 60;
 
 pub struct Sheet {
     /// Width and height of the page, in millimetres on paper.
@@ -29,10 +32,13 @@ pub enum Turn {
 }
 
 impl Sheet {
-    /// A sheet for a plate and so many kinds: across for a long plate, upright for a wide one.
-    pub fn new([length, width]: [f64; 2], kinds: usize) -> Sheet {
+    /// A sheet for a plate and so many kinds, of which the legend's words are so wide: across for a long plate,
+    /// upright for a wide one.
+    pub fn new([length, width]: [f64; 2], kinds: usize, widest: f64) -> Sheet {
         let page = if length >= width { [297.0, 210.0] } else { [210.0, 297.0] };
         let (columns, row) = if kinds <= 24 { (3, 4.4) } else { (4, 3.2) };
+        let narrow = entry_room(page[0], columns, row) < widest;
+        let columns = if narrow && kinds <= 16 { 2 } else { columns };
         let rows = kinds.div_ceil(columns) + 1;
         let below = rows as f64 * row + 3.0;
         let room = [page[0] - 2.0 * MARGIN, page[1] - 2.0 * MARGIN - HEADING - below];
@@ -47,52 +53,58 @@ impl Sheet {
         [MARGIN / self.scale, (MARGIN + 4.0) / self.scale]
     }
 
-    /// The place of the key to waste, trim and kerf.
-    pub fn key(&self, column: usize) -> [f64; 2] {
-        self.cell(column, 0)
+    /// The place of the key to waste, trim and kerf, each in a third of the page.
+    pub fn key(&self, third: usize) -> [f64; 2] {
+        self.cell(third, 3, 0)
     }
 
     /// The place of a kind in the legend, row by row under the key.
     pub fn entry(&self, kind: usize) -> [f64; 2] {
-        self.cell(kind % self.columns, kind / self.columns + 1)
+        self.cell(kind % self.columns, self.columns, kind / self.columns + 1)
     }
 
-    fn cell(&self, column: usize, row: usize) -> [f64; 2] {
-        let x = MARGIN + column as f64 * self.column();
+    fn cell(&self, column: usize, columns: usize, row: usize) -> [f64; 2] {
+        let x = MARGIN + column as f64 * column_width(self.page[0], columns);
         let y = self.legend + row as f64 * self.row;
         [x / self.scale, y / self.scale]
     }
 
-    fn column(&self) -> f64 {
-        (self.page[0] - 2.0 * MARGIN) / self.columns as f64
-    }
-
     pub fn legend_text(&self) -> f64 {
-        0.7 * self.row
+        text_in_row(self.row)
     }
 
     /// The room for an entry's words, in heights of its text.
     pub fn entry_room(&self) -> f64 {
-        self.column() / self.legend_text() - 3.0
+        entry_room(self.page[0], self.columns, self.row)
     }
 
-    /// The height of a number that lies in a rectangle, however small.
-    pub fn least_text(&self, length: f64, width: f64) -> f64 {
-        LEAST.min(0.6 * self.scale * length.min(width))
+    /// The greatest height of text at which lines fit a rectangle, and how they lie.
+    pub fn fitted(&self, lines: &[&str], length: f64, width: f64) -> (f64, Turn) {
+        let widest = lines.iter().map(|line| text_width(line)).fold(1.0, f64::max);
+        let high = 1.2 * lines.len() as f64 + 0.4;
+        let height = |along: f64, across: f64| {
+            (self.scale * along / (widest + 1.0)).min(self.scale * across / high).min(MOST)
+        };
+        let (upright, quarter) = (height(length, width), height(width, length));
+        if upright >= quarter { (upright, Turn::Upright) } else { (quarter, Turn::Quarter) }
     }
 }
 
-/// The greatest height of text at which lines fit a rectangle, and how they lie.
-pub fn fitted(sheet: &Sheet, lines: &[&str], length: f64, width: f64) -> Option<(f64, Turn)> {
-    let widest = lines.iter().map(|line| text_width(line)).fold(1.0, f64::max);
-    let high = 1.2 * lines.len() as f64 + 0.4;
-    let height = |along: f64, across: f64| {
-        (sheet.scale * along / (widest + 1.0)).min(sheet.scale * across / high).min(MOST)
-    };
-    let (upright, quarter) = (height(length, width), height(width, length));
-    let (height, turn) =
-        if upright >= quarter { (upright, Turn::Upright) } else { (quarter, Turn::Quarter) };
-    (height >= LEAST).then_some((height, turn))
+/// The height of the numbers of so many cuts.
+pub fn number_text(cuts: usize) -> f64 {
+    if cuts <= MANY_CUTS { 2.6 } else { 2.0 }
+}
+
+fn column_width(page: f64, columns: usize) -> f64 {
+    (page - 2.0 * MARGIN) / columns as f64
+}
+
+fn text_in_row(row: f64) -> f64 {
+    0.7 * row
+}
+
+fn entry_room(page: f64, columns: usize, row: f64) -> f64 {
+    column_width(page, columns) / text_in_row(row) - 3.0
 }
 
 /// The width of text in heights of its letters, as sans-serif letters have it at most.

@@ -3,15 +3,19 @@
 use crate::layout::{Cut, Laid, Rect};
 use crate::millimetres::Millimetres;
 use crate::outcome::Outcome;
-use crate::sheet::{fitted, text_width, Sheet, Turn};
+use crate::places::{Places, Spot};
+use crate::sheet::{number_text, text_width, Sheet, Turn, LEAST};
 use planner::Direction;
 use std::fmt::Write;
 
 pub fn svg(outcome: &Outcome) -> String {
     let order = &outcome.order;
     let plate = [outcome.job.length, outcome.job.width].map(|units| order.length_of(units));
-    let sheet = Sheet::new(plate.map(Millimetres::as_f64), order.pieces.len());
-    let mut drawing = Drawing { outcome, sheet, text: String::new() };
+    let kinds = 0..order.pieces.len();
+    let entry_width = |kind| text_width(&entry(outcome, kind, f64::INFINITY));
+    let widest = kinds.clone().map(entry_width).fold(0.0, f64::max);
+    let sheet = Sheet::new(plate.map(Millimetres::as_f64), kinds.len(), widest);
+    let mut drawing = Drawing { outcome, sheet, text: String::new(), places: Places::default() };
     drawing.open(plate);
     drawing.heading();
     drawing.plate(plate);
@@ -23,6 +27,7 @@ struct Drawing<'a> {
     outcome: &'a Outcome,
     sheet: Sheet,
     text: String,
+    places: Places,
 }
 
 impl Drawing<'_> {
@@ -32,20 +37,21 @@ impl Drawing<'_> {
 
     fn open(&mut self, plate: [Millimetres; 2]) {
         let Sheet { page: [wide, high], scale, .. } = self.sheet;
-        let hatch = 4.0 / scale;
         let kerf = self.outcome.order.length_of(self.outcome.job.kerf);
         self.put(format!(
             "<svg xmlns=\"http://www.w3.org/2000/svg\" width=\"{wide}mm\" height=\"{high}mm\" \
-             viewBox=\"0 0 {:.3} {:.3}\" font-family=\"sans-serif\" data-kerf=\"{kerf}\" \
+             viewBox=\"0 0 {:.3} {:.3}\" font-family=\"Arial, Helvetica, sans-serif\" data-kerf=\"{kerf}\" \
              data-plate=\"{} {}\">",
             wide / scale, high / scale, plate[0], plate[1],
         ));
-        for (name, spacing, ink) in [("waste", hatch, "#555"), ("trim", hatch / 2.0, "#aaa")] {
+        self.put(format!("<style>@page {{ size: {wide}mm {high}mm; margin: 0 }}</style>"));
+        for (name, spacing, degrees, ink) in [("waste", 2.2, 45, "#555"), ("trim", 1.1, -45, "#777")] {
+            let (spacing, middle) = (spacing / scale, spacing / scale / 2.0);
+            let thick = spacing / 6.0;
             self.put(format!(
                 "<pattern id=\"{name}\" width=\"{spacing:.3}\" height=\"{spacing:.3}\" \
-                 patternUnits=\"userSpaceOnUse\" patternTransform=\"rotate(45)\">\
-                 <path d=\"M0 0V{spacing:.3}\" stroke=\"{ink}\" stroke-width=\"{:.3}\"/></pattern>",
-                hatch / 6.0,
+                 patternUnits=\"userSpaceOnUse\" patternTransform=\"rotate({degrees})\">\
+                 <path d=\"M{middle:.3} 0V{spacing:.3}\" stroke=\"{ink}\" stroke-width=\"{thick:.3}\"/></pattern>",
             ));
         }
         self.put("<rect width=\"100%\" height=\"100%\" fill=\"white\"/>");
@@ -61,10 +67,10 @@ impl Drawing<'_> {
         let shares = self.outcome.shares().map(|(name, tenths)| {
             format!("{name} {}.{} %", tenths / 10, tenths % 10)
         });
-        let below = format!("{}; {}", shares.join(", "), self.outcome.sentence());
         let [x, y] = self.sheet.heading();
         self.words(x, y, 4.2, "start", &title);
-        self.words(x, y + 5.2 / self.sheet.scale, 3.2, "start", &below);
+        self.words(x, y + 5.2 / self.sheet.scale, 3.2, "start", &shares.join(", "));
+        self.words(x, y + 9.8 / self.sheet.scale, 3.2, "start", &self.outcome.sentence());
     }
 
     /// Words of a height on paper, in millimetres.
@@ -95,10 +101,13 @@ impl Drawing<'_> {
         layout.pieces.iter().flat_map(Laid::trim).for_each(|trim| self.area("trim", trim));
         layout.pieces.iter().for_each(|laid| self.piece(laid));
         layout.cuts.iter().for_each(|cut| self.cut(cut));
-        let mut taken = Vec::new();
-        for (index, cut) in layout.cuts.iter().enumerate() {
-            self.number(index + 1, cut, &mut taken);
-        }
+        // Short cuts have the least room for their numbers.
+        let mut numbered: Vec<(usize, &Cut)> = layout.cuts.iter().enumerate().collect();
+        numbered.sort_by_key(|(_, cut)| match cut.direction {
+            Direction::Length => cut.of.width,
+            Direction::Width => cut.of.length,
+        });
+        numbered.iter().for_each(|(index, cut)| self.number(index + 1, cut));
         self.put("</g>");
     }
 
@@ -123,26 +132,33 @@ impl Drawing<'_> {
             "<rect class=\"piece\" {place} fill=\"{fill}\" stroke=\"black\" \
              stroke-width=\"{thin:.3}\" data-name=\"{name}\"/>"
         ));
-        let turned = if laid.turned { " turned" } else { "" };
-        let size = format!("{} x {}{turned}", ordered.sides[0], ordered.sides[1]);
-        self.label(laid, &[ordered.name.as_str(), size.as_str()]);
+        let size = format!("{} x {}", ordered.sides[0], ordered.sides[1]);
+        let in_line = format!("{size}{}", if laid.turned { " turned" } else { "" });
+        let (name, number) = (ordered.name.as_str(), (laid.kind + 1).to_string());
+        let below: &[&str] = if laid.turned { &["turned"] } else { &[] };
+        let of = |first| [vec![first, in_line.as_str()], [&[first, size.as_str()], below].concat()];
+        let [named, numbered] = [of(name), of(number.as_str())];
+        let alone = [vec![name], vec![number.as_str()]];
+        self.label(laid, &[&named[..], &numbered, &alone].concat());
     }
 
-    /// Name and size inside a piece, upright or along its width; its number in the legend where they do not fit.
-    fn label(&mut self, laid: &Laid, lines: &[&str]) {
+    /// The first words that fit a piece and are not too low, or else the last of them, upright or along its width.
+    fn label(&mut self, laid: &Laid, choices: &[Vec<&str>]) {
         let of = |units| self.outcome.order.length_of(units).as_f64();
         let Rect { x, y, length, width } = laid.piece;
         let (length, width) = (of(length), of(width));
         let middle = [of(x) + length / 2.0, of(y) + width / 2.0];
-        let number = (laid.kind + 1).to_string();
-        let (height, turn, lines) = match fitted(&self.sheet, lines, length, width) {
-            Some((height, turn)) => (height, turn, lines.to_vec()),
-            None => (self.sheet.least_text(length, width), Turn::Upright, vec![number.as_str()]),
+        let fitted = choices.iter().map(|lines| (lines, self.sheet.fitted(lines, length, width)));
+        let high = fitted.clone().find(|(_, (height, _))| *height >= LEAST);
+        let (lines, (height, turn)) = high.or(fitted.last()).expect("words of a piece");
+        let text = height / self.sheet.scale;
+        let wide = lines.iter().map(|line| text_width(line)).fold(0.0, f64::max) * text;
+        let high = 1.2 * lines.len() as f64 * text;
+        let (sides, turned) = match turn {
+            Turn::Upright => ([wide, high], ""),
+            Turn::Quarter => ([high, wide], " rotate(-90)"),
         };
-        let turned = match turn {
-            Turn::Upright => String::new(),
-            Turn::Quarter => " rotate(-90)".to_string(),
-        };
+        self.places.take(Spot { middle, sides });
         self.put(format!("<g transform=\"translate({:.3} {:.3}){turned}\">", middle[0], middle[1]));
         let line = 1.2 * height / self.sheet.scale;
         let top = line * (0.8 - lines.len() as f64 / 2.0);
@@ -182,36 +198,35 @@ impl Drawing<'_> {
         }
     }
 
-    /// The number of a cut in a circle on the blade's way, near where it enters.
-    fn number(&mut self, number: usize, cut: &Cut, taken: &mut Vec<[f64; 2]>) {
-        let radius = 1.7 / self.sheet.scale;
-        let [x, y] = free_place(self.ends(cut), radius, taken);
-        taken.push([x, y]);
+    /// The number of a cut on the blade's way, near where it enters, beside other numbers and words.
+    fn number(&mut self, number: usize, cut: &Cut) {
+        let number = number.to_string();
+        let height = number_text(self.outcome.layout.cuts.len());
+        let text = height / self.sheet.scale;
+        let [wide, high] = [(text_width(&number) + 0.5).max(1.3) * text, 1.3 * text];
+        let [x, y] = self.places.take_along(self.ends(cut), [wide, high]);
         let thin = 0.2 / self.sheet.scale;
         self.put(format!(
-            "<circle cx=\"{x:.3}\" cy=\"{y:.3}\" r=\"{radius:.3}\" fill=\"white\" stroke=\"#222\" \
-             stroke-width=\"{thin:.3}\"/>"
+            "<rect class=\"number\" x=\"{:.3}\" y=\"{:.3}\" width=\"{wide:.3}\" height=\"{high:.3}\" \
+             rx=\"{:.3}\" fill=\"white\" stroke=\"#222\" stroke-width=\"{thin:.3}\"/>",
+            x - wide / 2.0, y - high / 2.0, high / 2.0,
         ));
-        self.words(x, y + 0.7 / self.sheet.scale, 2.0, "middle", &number.to_string());
+        self.words(x, y + 0.36 * text, height, "middle", &number);
     }
 
     fn legend(&mut self) {
         let key = [
             ("url(#waste)", "waste"),
             ("url(#trim)", "trim"),
-            ("#222", "kerf; the numbers are the order of the cuts"),
+            ("#222", "kerf; cuts are numbered in order"),
         ];
         for (column, (fill, words)) in key.into_iter().enumerate() {
             let [x, y] = self.sheet.key(column);
             self.entry(x, y, fill, words);
         }
-        for (kind, piece) in self.outcome.order.pieces.iter().enumerate() {
+        for kind in 0..self.outcome.order.pieces.len() {
             let [x, y] = self.sheet.entry(kind);
-            let size = format!("{} x {}", piece.sides[0], piece.sides[1]);
-            let copies = format!("{} of {}", self.outcome.copies(kind), piece.count);
-            let (before, after) = (format!("{} ", kind + 1), format!(" {size}, {copies}"));
-            let room = self.sheet.entry_room() - text_width(&before) - text_width(&after);
-            let words = format!("{before}{}{after}", shortened(&piece.name, room));
+            let words = entry(self.outcome, kind, self.sheet.entry_room());
             self.entry(x, y, &colour(kind), &words);
         }
     }
@@ -228,19 +243,14 @@ impl Drawing<'_> {
     }
 }
 
-/// The first place on a line, from its start on, where a circle overlaps none of those taken; its start where there
-/// is none.
-fn free_place([from, to]: [[f64; 2]; 2], radius: f64, taken: &[[f64; 2]]) -> [f64; 2] {
-    let length = (to[0] - from[0]) + (to[1] - from[1]);
-    let at = |on: f64| {
-        let share = (on / length).min(0.5);
-        [from[0] + share * (to[0] - from[0]), from[1] + share * (to[1] - from[1])]
-    };
-    let is_free = |place: &[f64; 2]| {
-        taken.iter().all(|other| (place[0] - other[0]).hypot(place[1] - other[1]) >= 2.0 * radius)
-    };
-    let steps = (1..20).map(|step| at(f64::from(step) * radius));
-    steps.clone().find(is_free).unwrap_or(at(radius))
+/// A kind in the legend, in so much room: its number, its name, its size and how many are cut.
+fn entry(outcome: &Outcome, kind: usize, room: f64) -> String {
+    let piece = &outcome.order.pieces[kind];
+    let size = format!("{} x {}", piece.sides[0], piece.sides[1]);
+    let before = format!("{} ", kind + 1);
+    let after = format!(" {size}, {} of {}", outcome.copies(kind), piece.count);
+    let left = room - text_width(&before) - text_width(&after);
+    format!("{before}{}{after}", shortened(&piece.name, left))
 }
 
 /// A light colour for a kind; neighbours in the order differ most.

@@ -156,6 +156,45 @@ fn drawings_can_be_cut() {
     }
 }
 
+/// The boxes of the cuts' numbers.
+fn numbers(svg: &str) -> Vec<Area> {
+    let elements = elements(svg).expect("a drawing");
+    elements.iter().filter(|element| element.get("class") == Some("number")).map(area).collect()
+}
+
+/// Heights of text in millimetres on paper.
+fn heights_on_paper(svg: &str) -> Vec<f64> {
+    let elements = elements(svg).expect("a drawing");
+    let page: f64 = elements[0].get("width").and_then(|w| w.strip_suffix("mm")?.parse().ok()).expect("a width");
+    let drawn = elements[0].get("viewBox").expect("a view").split(' ').nth(2).expect("four numbers");
+    let scale = page / drawn.parse::<f64>().expect("a width");
+    let size = |element: &Element| element.get("font-size").map(|size| size.parse::<f64>().expect("a size"));
+    elements.iter().filter_map(size).map(|size| size * scale).collect()
+}
+
+#[test]
+fn a_printed_sheet_is_a4_and_can_be_read() {
+    let scratch = Scratch::new("printed");
+    let sample = concat!(env!("CARGO_MANIFEST_DIR"), "/../samples/wardrobe.csv");
+    let sample = std::fs::read_to_string(sample).expect("the sample");
+    let wide = "plate, 1220 x 2440\nsaw, kerf 3.2, unit 5\nname, length, width, count\nwide shelf, 590, 480, 9\n";
+    for (file, order, page) in [
+        ("long.csv", sample.as_str(), "@page { size: 297mm 210mm; margin: 0 }"),
+        ("wide.csv", wide, "@page { size: 210mm 297mm; margin: 0 }"),
+    ] {
+        let order = scratch.write(file, order);
+        scratch.plan(&order).expect("an order without fault");
+        let svg = scratch.read("plan.svg");
+        assert!(svg.contains(page));
+        let numbers = numbers(&svg);
+        assert_eq!(numbers.len(), shown(&svg).cuts.len());
+        for (index, number) in numbers.iter().enumerate() {
+            assert!(numbers[..index].iter().all(|other| !number.meets(other)), "{file} {number:?}");
+        }
+        assert!(heights_on_paper(&svg).iter().all(|&height| height > 2.09), "{file}");
+    }
+}
+
 /// Plans an order within two seconds, by the program, and replays its drawing.
 fn planned_in_time(name: &str, head: &str, panels: &str) -> Shown {
     let scratch = Scratch::new(name);
