@@ -16,9 +16,9 @@ extern "C" {
  *
  * Stack. Every function runs on a thread with a stack of 128 KiB, whatever it is given. The proof
  * does not see the stack: this is an assumption, tested from outside on the deepest and longest
- * inputs. Four functions recurse: the staged check and the staged certificate no deeper than the limit,
- * planner_bound_two once, planner_exact no deeper than the number of kinds. Their whole need, whatever
- * the input, is 20552, 27128, 20584 and 37768 bytes, as measured.
+ * inputs, where no function needed more than 40 KiB. Four functions recurse: the staged check and the
+ * staged certificate no deeper than the limit, planner_bound_two once, planner_exact no deeper than the
+ * number of kinds.
  *
  * Job block. Plate length, plate width, number n of kinds, kerf k; then n sizes (length, width); all
  * of two bytes, lowest byte first. Then n pairs of price (four bytes) and demand (two bytes).
@@ -74,14 +74,14 @@ extern "C" {
  * Stages. Those of a tree are the most changes of direction on a path down through its cuts, plus
  * one; a tree without a cut has none. A limit is from 1 to 8.
  *
- * Storage within a limit n on stages. `table` needs (2n + 1) * p * r * (capacity + 1) words, blocks of
- * the layout above one after another: block 0 has the figures without a cut. Block 2k - 1 is length
- * first at stage k: a word is the greatest of that of width first with one stage fewer (block 2k - 2)
+ * Storage within a limit on stages. `table` needs (2 * limit + 1) * p * r * (capacity + 1) words, blocks
+ * of the layout above one after another: block 0 has the figures without a cut. Block 2j - 1 is length
+ * first at stage j: a word is the greatest of that of width first with one stage fewer (block 2j - 2)
  * and of all cuts of the length between figures of its own block, the share divided in every way. Block
- * 2k is width first likewise, over length first with one stage fewer (block 2k - 3, for k = 1 block 0).
- * So a word of block 2k - 1 is the most that a tree of weight at most its share earns on its rectangle
- * that has at most k stages and first a cut of the length, or at most k - 1 and first one of the width, or
- * no cut; of block 2k with length and width exchanged. Lists and later words are as above.
+ * 2j is width first likewise, over length first with one stage fewer (block 2j - 3, for j = 1 block 0).
+ * So a word of block 2j - 1 is the most that a tree of weight at most its share earns on its rectangle
+ * that has at most j stages and first a cut of the length, or at most j - 1 and first one of the width, or
+ * no cut; of block 2j with length and width exchanged. Lists and later words are as above.
  *
  * Two weights. Each kind has a first and a second weight, and there are two capacities Q and R, each
  * counted from its own weights. `table` needs p * r * (Q + 1) * (R + 1) words; word ((a * r + b) *
@@ -100,7 +100,7 @@ extern "C" {
  * Rounds. At most 18, numbered from 0; a lower figure is given. Round 0 has all weights 0. A round
  * writes the plan behind the bound of its weights and gives each kind a step: the whole part of the
  * square root of d * s, but at most 255. Here d is how far the copies in that plan lie from the demand,
- * and s the greater of 1 and f * g / S, where S is the sum of the squares of every kind's d, g the
+ * and s the greater of 1 and f * g / D, where D is the sum of the squares of every kind's d, g the
  * round's bound less the lower figure, and f is 2 in rounds 0 to 2 and half as much after every third
  * round. The next weight has the step added, up to 255, where the copies are more than the demand, and
  * taken off, down to 0, where they are fewer. The last round is the first whose plan keeps every demand
