@@ -187,8 +187,8 @@ enum {
     PLANNER_PART_WORDS = 2
 };
 
-/* Checks a plan (refusals 1 to 7, 10 to 18, 26, 27). For an accepted job and a long enough answer it
- * returns 0 exactly if the arrays are the preorder of a guillotine tree on the plate that keeps
+/* Checks a plan (refusals 1 to 7, 10 to 18, 26, 27). For an accepted job, known choices and a long enough
+ * answer it returns 0 exactly if the arrays are the preorder of a guillotine tree on the plate that keeps
  * every demand and has at most 4095 nodes and no idle cut; the answer is that tree's own.
  * answer[0] profit, the sum of the prices; answer[1] area of the pieces, answer[2] of the waste
  * nodes, answer[3] of the trim; answer[4 + i] copies of kind i, upright and turned, 0 past the job's
@@ -350,7 +350,8 @@ uint32_t planner_exact(
  * those that the rounds met, and planner_bound answers it for the weights, which first gave it. No
  * guillotine tree on the plate that keeps every demand earns more. Each round leaves storage and written
  * arrays as planner_write_plan with its weights does, over what the round before left: at the end they
- * are the last round's, be it counted or not.
+ * are as the last round begun left them, be it counted or not. Where 20 refused it, table and arrays,
+ * and where 21 did, the arrays are still those of the round before.
  * answer[0] bound, answer[1] rounds run; answer[2 + i] weight of kind i, 0 past the job's kinds. */
 uint32_t planner_find_weights(
     const uint8_t *job, size_t job_len,
@@ -365,8 +366,8 @@ uint32_t planner_find_weights(
     uint64_t *answer, size_t answer_len);
 
 /* Checks the plans of a rack (refusals 28, 1, 3, 27, 4 to 7, 2, 10, 11; for each plan 12 to 17, 26, 29; at
- * last 18). For an accepted job and rack and a long enough answer it returns 0 exactly if the arrays are,
- * plate after plate, the preorder of a guillotine tree on that plate without an idle cut, at most 4095
+ * last 18). For an accepted job and rack, known choices and a long enough answer it returns 0 exactly if the
+ * arrays are, plate after plate, the preorder of a guillotine tree on that plate without an idle cut, at most 4095
  * nodes in all, and no kind has more copies in all the trees together than its demand. Where they begin
  * with the preorders of trees on the first plates, each of which keeps every demand, and all but the last
  * of these have no idle cut and share the demands, it returns 26 with the first idle cut of the last, or,
