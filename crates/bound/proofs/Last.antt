@@ -11,30 +11,16 @@ use Rattle.cutting.specs.Tree.{side}
 use Rattle.cutting.specs.Job.{Job, figure-of, normal-floor}
 use Rattle.cutting.specs.Listed.{InTableRange}
 use Rattle.cutting.proofs.Members.{table-solid}
-use Rattle.cutting.proofs.Table.{positions-some, positions-length, positions-normal, positions-floor, figure-floor}
+use Rattle.cutting.proofs.Table.{positions-some, positions-normal, positions-floor, figure-floor}
 use Rattle.table.specs.Table.{position-count, position, words-needed, Figures}
 
--- p and r are at most 1,021
-pub count-most : (J : Job) → InTableRange J → (d : Direction) → position-count J d ≤ 1021
-count-most J h Length = omega (arith, positions-length J Length, h .plate-length .1)
-count-most J h Width = omega (arith, positions-length J Width, h .plate-width .1)
-
--- the words counted are the words needed
-pub words-are : (J : Job) {n p r q k : ℕ} → n ≡ p * r * (q + 1) → p ≡ position-count J Length → r ≡ position-count J Width → q ≡ k → n ≡ words-needed J k
-words-are J f p r q = rw (f, p, r, q)
-
--- a table needs a word, and fewer than 2 to the 32nd
+-- a table needs a word
 pub words-some : (J : Job) (q : ℕ) → 1 ≤ words-needed J q
 words-some J q =
     let a = positions-some J Length in
     let b = positions-some J Width in
     let c : 1 ≤ q + 1 = omega arith in
     omega (arith, mul-le-mul (mul-le-mul a b) c)
-
-pub words-most : (J : Job) → InTableRange J → (q : ℕ) → q ≤ 4095 → words-needed J q ≤ 4269838336
-words-most J h q l =
-    let c : q + 1 ≤ 4096 = omega arith in
-    omega (arith, mul-le-mul (mul-le-mul (count-most J h Length) (count-most J h Width)) c)
 
 -- the last normal position is the largest not above the plate's side
 pub last-position : (J : Job) (d : Direction) → position J d (position-count J d - 1) ≡ normal-floor J d (side d (J .plate))

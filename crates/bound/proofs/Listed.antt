@@ -18,7 +18,8 @@ use Rattle.refusal.specs.declared.Refusal.the-variants.{TableShort}
 use Rattle.table.specs.Table.{position-count, position, words-needed, Figures, Kept}
 use Rattle.table.specs.Contracts.{Mapped}
 use Rattle.bound.specs.Bound.{Memory, list-check, list-after, TableAfter, memory-checks, answer-by, bound-report}
-use Rattle.bound.specs.Contracts.{BothMapped, Bounded}
+use Rattle.storage.specs.Contracts.{BothMapped}
+use Rattle.bound.specs.Contracts.{Bounded}
 use Rattle.bound.specs.declared.BoundAnswer.{BoundAnswer}
 use Rattle.bound.proofs.Storage.{report-is}
 

@@ -1,36 +1,29 @@
 -- The bound call: its checks in the table's order, its answer with number and values, what it leaves in lists and table, and what the
 -- answered bound is.
 use mathlib.Core.Path.{_≡_}
-use mathlib.Core.Bool.{_||_}
 use mathlib.Core.List.{List, [], _∷_, _++_}
-use Prim.Native.Nat.{ℕ, _+_, _≤_}
-use lib.Dec.{ltb}
+use Prim.Native.Nat.{ℕ, _≤_}
 use lib.ListN.{length}
 use Rattle.cutting.specs.declared.Direction.the-variants.{Length, Width}
 use Rattle.cutting.specs.Limits.{most-figure}
-use Rattle.cutting.specs.Lists.{over}
 use Rattle.cutting.specs.Job.{Job, widened, capacity, at-full-demand, figure-of, bound-of, normal-positions}
 use Rattle.cutting.specs.Promises.{NoneAbove, NoneFiner, NoneHeavier, PlateHolds, MostWithin, Recursion, NormalSums, FiguresMost, FloorFigures}
 use Rattle.refusal.specs.Refusals.{Check, Outcome, next, first-refusal, by-check, refused-as, outcome-by}
 use Rattle.refusal.specs.declared.Checked.{Checked}
-use Rattle.refusal.specs.declared.Refusal.the-variants.{ListShort, TableShort}
 use Rattle.job.specs.declared.Choices.{Choices}
 use Rattle.job.specs.Block.{job-checks}
 use Rattle.job.specs.Weights.{block-job, weight-in, weight-checks, Accepted}
 use Rattle.table.specs.Table.{position-count, words-needed, Figures, Kept}
+pub use Rattle.storage.specs.Storage.{list-check, room-check, list-after}
 use Rattle.bound.specs.declared.BoundReport.{BoundReport}
 use Rattle.bound.specs.declared.BoundAnswer.{BoundAnswer}
 use Rattle.bound.specs.declared.BoundAnswer.the-variants as answer
 
 -- The lists, the table and the figures are those of the job with the kerf added to every side, cut without loss: J is that job in the
 -- definitions up to `Leaves`.
--- check 19: a list shorter than the plate's length, or width, and one word more
-abbrev pub list-check : Job → ℕ → ℕ → Check
-list-check J m n = (ltb m (J .plate .0 + 1) || ltb n (J .plate .1 + 1), ListShort)
-
 -- check 20: a table shorter than p · r · (Q + 1), with the words needed
 abbrev pub table-check : Job → ℕ → ℕ → Check
-table-check J q n = (ltb n (words-needed J q), TableShort (words-needed J q))
+table-check J q n = room-check (words-needed J q) n
 
 -- the storage checks, over the lengths of the two lists and of the table
 abbrev pub storage-checks : Job → ℕ → ℕ → ℕ → ℕ → List Check
@@ -43,10 +36,6 @@ bound-report J weight q = record { bound = figure-of J weight (J .plate .0) (J .
 -- the report, or the refusal
 abbrev pub answer-by : Checked → BoundReport → BoundAnswer
 answer-by v b = by-check v (answer.Answered b) answer.Refused
-
--- a list after the call: the normal positions over its old contents where the checks before the table's pass, and else as it was
-abbrev pub list-after : Checked → List ℕ → List ℕ → List ℕ
-list-after v xs old = by-check v (over xs old) (λ r. old)
 
 -- the table after the call: the figures, and later words as they were; on a refusal all as it was
 abbrev pub TableAfter : Checked → Job → (ℕ → ℕ) → ℕ → List ℕ → List ℕ → Type 0

@@ -1,34 +1,18 @@
--- What only the inner contracts of the bound call cite: what the bound of pieces asks and leaves, and the floors of both sides in one array.
+-- What only the inner contracts of the bound call cite: what the bound of pieces asks and leaves.
 use mathlib.Core.Path.{_≡_}
 use mathlib.Core.List.{List}
-use Prim.Native.Nat.{ℕ, _+_, _≤_}
-use lib.ListN.{length, drop}
-use Rattle.cutting.specs.declared.Direction.the-variants.{Length, Width}
+use Prim.Native.Nat.{ℕ, _≤_}
+use lib.ListN.{length}
 use Rattle.cutting.specs.Limits.{most-capacity}
 use Rattle.cutting.specs.Job.{Job}
 use Rattle.cutting.specs.Listed.{InTableRange}
 use Rattle.refusal.specs.Refusals.{first-refusal}
 use Rattle.refusal.specs.declared.Checked.the-variants.{Passed}
-use Rattle.positions.specs.Contracts.{Floors}
-use Rattle.table.specs.declared.TableSize.{TableSize}
-use Rattle.table.specs.Contracts.{Mapped}
+use Rattle.storage.specs.Contracts.{BothMapped}
 use Rattle.bound.specs.declared.BoundReport.{BoundReport}
 use Rattle.bound.specs.declared.BoundAnswer.{BoundAnswer}
 use Rattle.bound.specs.declared.BoundAnswer.the-variants.{Answered}
 use Rattle.bound.specs.Bound.{Memory, Leaves, memory-checks, answer-by, bound-report}
-
--- an array maps every length and every width of the plate to the last entry of a list that is not above it: the lengths first, the
--- widths from entry 1,021 on
-pub record SidesMapped (size : TableSize) (normal-lengths normal-widths floors : List ℕ) : Type 0 where
-  pub entries : length floors ≡ 2042
-  pub lengths-mapped : Floors normal-lengths (size .rows) (size .length + 1) floors
-  pub widths-mapped : Floors normal-widths (size .columns) (size .width + 1) (drop 1021 floors)
-
--- one array has the floors of both sides: those of the lengths first, those of the widths from entry 1,021 on
-pub record BothMapped (J : Job) (floors : List ℕ) : Type 0 where
-  pub entries : length floors ≡ 2042
-  pub lengths : Mapped J Length floors
-  pub widths : Mapped J Width (drop 1021 floors)
 
 -- what the bound of pieces asks: a plain job in range, a capacity, and room for the floors of both sides
 pub record Boundable (J : Job) (q : ℕ) (floors : List ℕ) : Type 0 where

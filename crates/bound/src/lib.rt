@@ -5,24 +5,17 @@ use job::Choices;
 use job::with_full_demand;
 use pieces::list_pieces;
 use pieces::plate_of;
-use positions::map_floors;
-use positions::normal_positions;
 use refusal::Checked;
 use refusal::Refusal;
+use storage::Layout;
+use storage::lay_out;
 use table::TableSize;
-ghost use mathlib.Core.Path.{_≡_};
-ghost use mathlib.Core.Bool.{_||_};
-ghost use Prim.Native.Nat.{_+_, _*_, _≤_};
-ghost use lib.Dec.{ltb};
-ghost use lib.ListN.{length};
-ghost use Rattle.cutting.specs.Limits.{most-wide-side, most-capacity};
 ghost use Rattle.cutting.specs.Sides.{rect-of};
 ghost use Rattle.cutting.specs.Listed.{heavy-in, pieces-job};
 ghost use Rattle.job.specs.Block.{with-full-demand};
 ghost use Rattle.bound.specs.Bound.{lent, BoundPromises};
-ghost use Rattle.positions.specs.Contracts.{Mappable};
 ghost use Rattle.table.specs.Contracts.{size-job, Fillable, FilledBy};
-ghost use Rattle.bound.specs.Contracts.{SidesMapped, Boundable, Bounded};
+ghost use Rattle.bound.specs.Contracts.{Boundable, Bounded};
 
 // What the bound call reports: the bound, the capacity Q, and the numbers p and r of normal lengths and widths.
 pub struct BoundReport {
@@ -36,33 +29,6 @@ pub struct BoundReport {
 pub enum BoundAnswer {
     Answered(BoundReport),
     Refused(Refusal),
-}
-
-// The words that a table needs.
-pub fn words(p: u16, r: u16, q: u16) -> u64
-    requires { ⌜ (p ≤ most-wide-side + 1) × (r ≤ most-wide-side + 1) × (q ≤ most-capacity) ⌝ }
-    ensures { λ n. ⌜ n ≡ p * r * (q + 1) ⌝ }
-{
-    (p as u64) * (r as u64) * ((q as u64) + 1)
-}
-
-// Whether lists of m and of n entries are too short for the plate.
-pub fn lists_short(m: usize, n: usize, length: u16, width: u16) -> bool
-    ensures { λ r. ⌜ r ≡ (ltb m (length + 1) || ltb n (width + 1)) ⌝ }
-{
-    if m < (length as usize) + 1 {
-        return true;
-    }
-    n < (width as usize) + 1
-}
-
-// The floors of both sides into one array: those of the lengths first, those of the widths from entry 1,021 on.
-pub fn map_sides(size: TableSize, lengths: &[u16], widths: &[u16], floors: &mut [u16])
-    requires { ⌜ Mappable (now lengths) (size .rows) (size .length) 1021 × Mappable (now widths) (size .columns) (size .width) 1021 × (length (now floors) ≡ 2042) ⌝ }
-    ensures { λ _. ⌜ SidesMapped size (now (lengths .entry)) (now (widths .entry)) (now (floors .exit)) ⌝ }
-{
-    map_floors(lengths, size.rows, size.length, &mut floors[..1021]);
-    map_floors(widths, size.columns, size.width, &mut floors[1021..]);
 }
 
 // The figures of pieces, into a table that is long enough: the fill for one share or for many.
@@ -91,51 +57,31 @@ pub fn bound_of_pieces(
     count: u16,
     pieces: &[u32; 640],
     q: u16,
-    normal_lengths: &mut [u16],
-    normal_widths: &mut [u16],
+    lengths: &mut [u16],
+    widths: &mut [u16],
     floors: &mut [u16],
     table: &mut [u64],
 ) -> BoundAnswer
     requires { ⌜ Boundable (pieces-job (rect-of plate) count (now pieces)) q (now floors) ⌝ }
     ensures { λ r. ⌜ Bounded (pieces-job (rect-of plate) count (now (pieces .entry))) (heavy-in (now (pieces .entry))) q
-        (lent (now («normal_lengths» .entry)) (now («normal_widths» .entry)) (now (table .entry)))
-        (lent (now («normal_lengths» .exit)) (now («normal_widths» .exit)) (now (table .exit))) (now (floors .exit)) r ⌝ }
+        (lent (now (lengths .entry)) (now (widths .entry)) (now (table .entry)))
+        (lent (now (lengths .exit)) (now (widths .exit)) (now (table .exit))) (now (floors .exit)) r ⌝ }
 {
-    let length = plate.length;
-    let width = plate.width;
-    if lists_short(normal_lengths.len(), normal_widths.len(), length, width) {
-        return BoundAnswer::Refused(Refusal::ListShort);
+    let cell = (q as u32) + 1;
+    let room = table.len();
+    let layout = lay_out(plate, count, pieces, q, cell, lengths, widths, floors, room);
+    match layout {
+        Layout::Refused(r) => BoundAnswer::Refused(r),
+        Layout::Ready(size, words) => {
+            fill_table(size, pieces, &lengths[..], &widths[..], &floors[..], table);
+            BoundAnswer::Answered(BoundReport {
+                bound: table[words - 1],
+                capacity: q,
+                length_count: size.rows,
+                columns: size.columns,
+            })
+        }
     }
-    let p = normal_positions(pieces, 0, count, length, width, normal_lengths);
-    let r = normal_positions(pieces, 1, count, width, length, normal_widths);
-    let needed = words(p, r, q);
-    if (table.len() as u64) < needed {
-        return BoundAnswer::Refused(Refusal::TableShort(needed));
-    }
-    let size = TableSize {
-        length: length,
-        width: width,
-        count: count,
-        rows: p,
-        columns: r,
-        capacity: q,
-    };
-    map_sides(size, &normal_lengths[..], &normal_widths[..], floors);
-    fill_table(
-        size,
-        pieces,
-        &normal_lengths[..],
-        &normal_widths[..],
-        &floors[..],
-        table,
-    );
-    let last = needed as usize - 1;
-    BoundAnswer::Answered(BoundReport {
-        bound: table[last],
-        capacity: q,
-        length_count: p,
-        columns: r,
-    })
 }
 
 // The bound of a job block and weights. An answered bound is exact: the most that a guillotine tree within the answered capacity earns,

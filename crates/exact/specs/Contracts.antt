@@ -16,12 +16,12 @@ use Rattle.refusal.specs.Refusals.{next, first-refusal}
 use Rattle.refusal.specs.declared.Checked.{Checked}
 use Rattle.refusal.specs.declared.Checked.the-variants.{Passed}
 use Rattle.table.specs.Table.{position-count}
+use Rattle.storage.specs.Contracts.{BothMapped}
 use Rattle.state_fill.specs.Cells.{Digits}
 use Rattle.bound.specs.declared.BoundReport.{BoundReport}
 use Rattle.bound.specs.declared.BoundAnswer.{BoundAnswer}
 use Rattle.bound.specs.declared.BoundAnswer.the-variants.{Answered}
 use Rattle.bound.specs.Bound as bound
-use Rattle.bound.specs.Contracts.{BothMapped}
 use Rattle.writer.specs.declared.WriteAnswer.{WriteAnswer}
 use Rattle.writer.specs.declared.WriteAnswer.the-variants as written
 use Rattle.writer.specs.Write.{nodes-verdict}

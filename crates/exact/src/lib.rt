@@ -2,20 +2,16 @@
 // mixed radix, a digit a kind, kind 0 lowest. Refusals 1 to 7, 27, 30 and 19 to 21.
 use bound::BoundAnswer;
 use bound::BoundReport;
-use bound::lists_short;
-use bound::map_sides;
-use bound::words;
 use cutting::Sides;
 use job::Choices;
 use job::JobRecord;
 use pieces::list_pieces;
 use pieces::plate_of;
-use positions::normal_positions;
 use refusal::Checked;
 use refusal::Refusal;
-use state_fill::Shape;
-use state_fill::fill;
-use table::TableSize;
+use state_fill::fill_states;
+use storage::Layout;
+use storage::lay_out;
 use writer::Sawing;
 use writer::WriteAnswer;
 use writer::plan_of_pieces;
@@ -29,12 +25,10 @@ ghost use Rattle.cutting.specs.Exact.{exact-figure};
 ghost use Rattle.cutting.specs.Listed.{heavy-in, pieces-job};
 ghost use Rattle.refusal.specs.declared.Checked.the-variants.{Passed};
 ghost use Rattle.job.specs.Block.{job-of};
-ghost use Rattle.table.specs.Table.{words-needed, Kept};
 ghost use Rattle.table.specs.States.{figure-at};
-ghost use Rattle.table.specs.Contracts.{size-job, Fillable};
-ghost use Rattle.state_fill.specs.Cells.{under, Digits};
+ghost use Rattle.state_fill.specs.Cells.{under};
 ghost use Rattle.bound.specs.Bound.{lent};
-ghost use Rattle.exact.specs.Exact.{StateFigures, ExactLeaves, ExactPromises};
+ghost use Rattle.exact.specs.Exact.{ExactLeaves, ExactPromises};
 ghost use Rattle.exact.specs.Contracts.{StatesCounted, stride, Statable, Stated, Countable, Filled, Short, exact-of, job-report, job-plan, room-verdict, Drawn};
 
 // What the call reports: the optimum, the number of states, the numbers p and r of normal lengths and widths, and the number of the plan's
@@ -93,46 +87,6 @@ fn put_states(pieces: &mut [u32; 640], count: u16, blocks: &[u32])
     }
 }
 
-// The figures of pieces over the states of the digits up to d, into a table that is long enough.
-fn fill_states(
-    size: TableSize,
-    d: usize,
-    blocks: &[u32],
-    pieces: &[u32; 640],
-    normal_lengths: &[u16],
-    normal_widths: &[u16],
-    floors: &[u16],
-    table: &mut [u64],
-)
-    requires { ⌜ Fillable size (now pieces) (now «normal_lengths») (now «normal_widths») (now floors) (now table) × Digits (now blocks) d (size .capacity + 1) ⌝ }
-    ensures { λ _. ⌜ StateFigures (size-job size (now (pieces .entry))) (figure-at (size-job size (now (pieces .entry))) (under (now (blocks .entry)) d) (heavy-in (now (pieces .entry)))) (size .capacity) (now (table .exit))
-        × Kept (words-needed (size-job size (now (pieces .entry))) (size .capacity)) (now (table .entry)) (now (table .exit)) ⌝ }
-{
-    let columns = size.columns as usize;
-    let words = (size.capacity as usize) + 1;
-    let shape = Shape {
-        length: size.length,
-        width: size.width,
-        count: size.count as usize,
-        length_count: size.rows as usize,
-        columns: columns,
-        d: d,
-        words: words,
-        stride: columns * words,
-    };
-    let width_floors = &floors[1021..];
-    fill(
-        table,
-        pieces,
-        normal_lengths,
-        floors,
-        normal_widths,
-        width_floors,
-        blocks,
-        shape,
-    );
-}
-
 // The figures of pieces on a plate over the states up to q: refusals 19 and 20, then the lists, the floors of both sides, the table and
 // the report.
 fn states_of_pieces(
@@ -142,53 +96,41 @@ fn states_of_pieces(
     q: u16,
     d: usize,
     blocks: &[u32],
-    normal_lengths: &mut [u16],
-    normal_widths: &mut [u16],
+    lengths: &mut [u16],
+    widths: &mut [u16],
     floors: &mut [u16],
     table: &mut [u64],
 ) -> BoundAnswer
     requires { ⌜ Countable (pieces-job (rect-of plate) count (now pieces)) (now blocks) d q (now floors) ⌝ }
     ensures { λ r. ⌜ Filled (pieces-job (rect-of plate) count (now (pieces .entry))) (figure-at (pieces-job (rect-of plate) count (now (pieces .entry))) (under (now (blocks .entry)) d) (heavy-in (now (pieces .entry)))) q
-        (lent (now («normal_lengths» .entry)) (now («normal_widths» .entry)) (now (table .entry)))
-        (lent (now («normal_lengths» .exit)) (now («normal_widths» .exit)) (now (table .exit))) (now (floors .exit)) r ⌝ }
+        (lent (now (lengths .entry)) (now (widths .entry)) (now (table .entry)))
+        (lent (now (lengths .exit)) (now (widths .exit)) (now (table .exit))) (now (floors .exit)) r ⌝ }
 {
-    let length = plate.length;
-    let width = plate.width;
-    if lists_short(normal_lengths.len(), normal_widths.len(), length, width) {
-        return BoundAnswer::Refused(Refusal::ListShort);
+    let cell = (q as u32) + 1;
+    let room = table.len();
+    let layout = lay_out(plate, count, pieces, q, cell, lengths, widths, floors, room);
+    match layout {
+        Layout::Refused(r) => BoundAnswer::Refused(r),
+        Layout::Ready(size, words) => {
+            fill_states(
+                size,
+                d,
+                cell as usize,
+                blocks,
+                pieces,
+                &lengths[..],
+                &widths[..],
+                &floors[..],
+                table,
+            );
+            BoundAnswer::Answered(BoundReport {
+                bound: table[words - 1],
+                capacity: q,
+                length_count: size.rows,
+                columns: size.columns,
+            })
+        }
     }
-    let p = normal_positions(pieces, 0, count, length, width, normal_lengths);
-    let r = normal_positions(pieces, 1, count, width, length, normal_widths);
-    let needed = words(p, r, q);
-    if (table.len() as u64) < needed {
-        return BoundAnswer::Refused(Refusal::TableShort(needed));
-    }
-    let size = TableSize {
-        length: length,
-        width: width,
-        count: count,
-        rows: p,
-        columns: r,
-        capacity: q,
-    };
-    map_sides(size, &normal_lengths[..], &normal_widths[..], floors);
-    fill_states(
-        size,
-        d,
-        blocks,
-        pieces,
-        &normal_lengths[..],
-        &normal_widths[..],
-        &floors[..],
-        table,
-    );
-    let last = needed as usize - 1;
-    BoundAnswer::Answered(BoundReport {
-        bound: table[last],
-        capacity: q,
-        length_count: p,
-        columns: r,
-    })
 }
 
 // What the writing of the plan answers, as this call says it.

@@ -27,7 +27,7 @@ use Rattle.table.proofs.Staged.{block-low, block-one}
 use Rattle.bound.specs.Bound.{Memory, list-check, list-after, answer-by}
 use Rattle.bound.specs.declared.BoundAnswer.{BoundAnswer}
 use Rattle.bound.proofs.Storage.{report-is}
-use Rattle.bound.proofs.Last.{last-position, word-last, words-some, words-most}
+use Rattle.bound.proofs.Last.{last-position, word-last, words-some}
 use Rattle.bound.proofs.Listed.{same-positions, same-count, same-position, same-words}
 use Rattle.staged_bound.specs.Staged.{StagedAfter, staged-checks, staged-report}
 use Rattle.staged_bound.specs.Contracts.{Staged}
@@ -48,25 +48,19 @@ block-last J weight h n q xs f d =
 pub block-small : (J : Job) (weight : ℕ → ℕ) → InTableRange J → (n : ℕ) (d : Direction) (q : ℕ) → block J weight n d (J .plate .0) (J .plate .1) q ≤ most-wide-figure
 block-small J weight h n d q = omega (arith, block-one J weight n d (J .plate .0) (J .plate .1) q, block-low J leb weight plain-order h n d (J .plate .0) (J .plate .1) q (h .plate-length .1), h .plate-width .1)
 
--- the words counted: those of one block, and of all
-module _ (J : Job) (h : InTableRange J) (n q : ℕ) (some : 1 ≤ n) (most : n ≤ 8) (few : q ≤ 4095) {one : ℕ} (is : one ≡ words-needed J q) where
-  pub all-words : (2 * n + 1) * one ≡ staged-words J q n
-  all-words = ap (λ w. (2 * n + 1) * w) is
+-- the words of one block among those of all
+module _ (J : Job) (n q : ℕ) (some : 1 ≤ n) where
+  pub last-word : staged-words J q n - 1 ≡ block-number n Width * words-needed J q + (words-needed J q - 1)
+  last-word = omega (arith, words-some J q)
 
-  pub few-words : (2 * n + 1) * one ≤ 72587251712
-  few-words = omega (arith, is, words-most J h q few, mul-le-mul-right {m = 2 * n + 1} {n = 17} one (omega arith))
-
-  pub last-word : (2 * n + 1) * one - 1 ≡ block-number n Width * words-needed J q + (words-needed J q - 1)
-  last-word = rw is (omega (arith, words-some J q))
-
-  pub before-word : (2 * n + 1) * one - 1 - one ≡ block-number n Length * words-needed J q + (words-needed J q - 1)
+  pub before-word : staged-words J q n - 1 - words-needed J q ≡ block-number n Length * words-needed J q + (words-needed J q - 1)
   before-word =
       let e : 2 * n - 1 + 1 ≡ 2 * n = omega arith in
       let f : 2 * n * words-needed J q ≡ (2 * n - 1) * words-needed J q + words-needed J q = sym (ap (λ x. x * words-needed J q) e) ∙ omega arith in
-      rw is (omega (arith, words-some J q))
+      omega (arith, words-some J q)
 
-  pub one-less : (one ≤ (2 * n + 1) * one - 1) × (1 ≤ (2 * n + 1) * one)
-  one-less = let f = mul-le-mul-right {m = 2} {n = 2 * n} one (omega arith) in (omega (arith, is, words-some J q), omega (arith, is, words-some J q))
+  pub one-less : words-needed J q ≤ staged-words J q n - 1
+  one-less = omega (arith, words-some J q, mul-le-mul-right {m = 2} {n = 2 * n} (words-needed J q) (omega arith))
 
 module _ (J : Job) (weight : ℕ → ℕ) (n : ℕ) (pieces : List ℕ) (array : PieceArray J weight n pieces) where
   abbrev N : Job

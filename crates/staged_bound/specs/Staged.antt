@@ -3,7 +3,6 @@
 use mathlib.Core.Path.{_≡_}
 use mathlib.Core.List.{List, [], _∷_}
 use Prim.Native.Nat.{ℕ, _≤_, max}
-use lib.Dec.{ltb}
 use lib.ListN.{length}
 use Rattle.cutting.specs.declared.Direction.the-variants.{Length, Width}
 use Rattle.cutting.specs.Limits.{most-figure}
@@ -12,7 +11,6 @@ use Rattle.cutting.specs.Promises.{NormalSums}
 use Rattle.cutting.specs.Staged.{block, staged-under, staged-bound, MostStaged, NoneStaged, NoneStagedFiner, StagedRecursion, StagedFloors, StagedFiguresMost}
 use Rattle.refusal.specs.Refusals.{Check, Outcome, next, first-refusal, by-check, outcome-by}
 use Rattle.refusal.specs.declared.Checked.{Checked}
-use Rattle.refusal.specs.declared.Refusal.the-variants.{TableShort}
 use Rattle.job.specs.declared.Choices.{Choices}
 use Rattle.job.specs.Weights.{block-job, weight-in, Accepted}
 use Rattle.stages.specs.Stages.{limit-check}
@@ -21,11 +19,11 @@ use Rattle.table.specs.Staged.{staged-words, StagedFigures}
 use Rattle.bound.specs.declared.BoundReport.{BoundReport}
 use Rattle.bound.specs.declared.BoundAnswer.{BoundAnswer}
 use Rattle.bound.specs.declared.BoundAnswer.the-variants as answer
-use Rattle.bound.specs.Bound.{Memory, list-check, list-after, answer-by, wide-job, block-capacity, accept-verdict, report-values, bound-outcome}
+use Rattle.bound.specs.Bound.{Memory, list-check, room-check, list-after, answer-by, wide-job, block-capacity, accept-verdict, report-values, bound-outcome}
 
 -- check 20: a table shorter than (2n + 1) · p · r · (Q + 1), with the words needed
 abbrev pub staged-check : Job → ℕ → ℕ → ℕ → Check
-staged-check J n q k = (ltb k (staged-words J q n), TableShort (staged-words J q n))
+staged-check J n q k = room-check (staged-words J q n) k
 
 -- the storage checks of lent memory
 abbrev pub staged-checks : Job → ℕ → ℕ → Memory → List Check

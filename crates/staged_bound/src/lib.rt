@@ -2,17 +2,16 @@
 // Refusals 1 to 9, 27, 22, 19 and 20.
 use bound::BoundAnswer;
 use bound::BoundReport;
-use bound::lists_short;
-use bound::map_sides;
-use bound::words;
 use cutting::Sides;
 use job::Choices;
 use pieces::list_pieces;
 use pieces::plate_of;
-use positions::normal_positions;
 use refusal::Checked;
 use refusal::Refusal;
 use stages::limit_outside;
+use storage::Layout;
+use storage::lay_out;
+use storage::words;
 use table::TableSize;
 use table::greater;
 ghost use mathlib.Core.Path.{_≡_};
@@ -29,35 +28,19 @@ fn fill_table(
     size: TableSize,
     limit: usize,
     pieces: &[u32; 640],
-    normal_lengths: &[u16],
-    normal_widths: &[u16],
+    lengths: &[u16],
+    widths: &[u16],
     floors: &[u16],
     table: &mut [u64],
 )
-    requires { ⌜ StagedFillable size limit (now pieces) (now «normal_lengths») (now «normal_widths») (now floors) (now table) ⌝ }
+    requires { ⌜ StagedFillable size limit (now pieces) (now lengths) (now widths) (now floors) (now table) ⌝ }
     ensures { λ _. ⌜ StagedBy (size-job size (now (pieces .entry))) (heavy-in (now (pieces .entry))) limit (size .capacity) (now (table .entry)) (now (table .exit)) ⌝ }
 {
     if size.capacity == 0 {
-        stage_rows::fill(
-            size,
-            limit,
-            pieces,
-            normal_lengths,
-            normal_widths,
-            floors,
-            table,
-        );
+        stage_rows::fill(size, limit, pieces, lengths, widths, floors, table);
         return;
     }
-    stage_fill::fill(
-        size,
-        limit,
-        pieces,
-        normal_lengths,
-        normal_widths,
-        floors,
-        table,
-    );
+    stage_fill::fill(size, limit, pieces, lengths, widths, floors, table);
 }
 
 // The staged bound of pieces on a plate at a capacity and a limit: refusals 19 and 20, then the lists, the floors of both sides, the
@@ -68,54 +51,41 @@ pub fn bound_of_pieces(
     pieces: &[u32; 640],
     q: u16,
     limit: usize,
-    normal_lengths: &mut [u16],
-    normal_widths: &mut [u16],
+    lengths: &mut [u16],
+    widths: &mut [u16],
     floors: &mut [u16],
     table: &mut [u64],
 ) -> BoundAnswer
     requires { ⌜ Stageable (pieces-job (rect-of plate) count (now pieces)) q limit × (length (now floors) ≡ 2042) ⌝ }
     ensures { λ r. ⌜ Staged (pieces-job (rect-of plate) count (now (pieces .entry))) (heavy-in (now (pieces .entry))) limit q
-        (lent (now («normal_lengths» .entry)) (now («normal_widths» .entry)) (now (table .entry)))
-        (lent (now («normal_lengths» .exit)) (now («normal_widths» .exit)) (now (table .exit))) r ⌝ }
+        (lent (now (lengths .entry)) (now (widths .entry)) (now (table .entry)))
+        (lent (now (lengths .exit)) (now (widths .exit)) (now (table .exit))) r ⌝ }
 {
-    let length = plate.length;
-    let width = plate.width;
-    if lists_short(normal_lengths.len(), normal_widths.len(), length, width) {
-        return BoundAnswer::Refused(Refusal::ListShort);
+    let cell = (2 * (limit as u32) + 1) * ((q as u32) + 1);
+    let room = table.len();
+    let layout = lay_out(plate, count, pieces, q, cell, lengths, widths, floors, room);
+    match layout {
+        Layout::Refused(r) => BoundAnswer::Refused(r),
+        Layout::Ready(size, all) => {
+            fill_table(
+                size,
+                limit,
+                pieces,
+                &lengths[..],
+                &widths[..],
+                &floors[..],
+                table,
+            );
+            let last = all - 1;
+            let before = last - words(size.rows, size.columns, (q as u32) + 1) as usize;
+            BoundAnswer::Answered(BoundReport {
+                bound: greater(table[before], table[last]),
+                capacity: q,
+                length_count: size.rows,
+                columns: size.columns,
+            })
+        }
     }
-    let p = normal_positions(pieces, 0, count, length, width, normal_lengths);
-    let r = normal_positions(pieces, 1, count, width, length, normal_widths);
-    let one = words(p, r, q);
-    let needed = (2 * (limit as u64) + 1) * one;
-    if (table.len() as u64) < needed {
-        return BoundAnswer::Refused(Refusal::TableShort(needed));
-    }
-    let size = TableSize {
-        length: length,
-        width: width,
-        count: count,
-        rows: p,
-        columns: r,
-        capacity: q,
-    };
-    map_sides(size, &normal_lengths[..], &normal_widths[..], floors);
-    fill_table(
-        size,
-        limit,
-        pieces,
-        &normal_lengths[..],
-        &normal_widths[..],
-        &floors[..],
-        table,
-    );
-    let last = needed as usize - 1;
-    let before = last - one as usize;
-    BoundAnswer::Answered(BoundReport {
-        bound: greater(table[before], table[last]),
-        capacity: q,
-        length_count: p,
-        columns: r,
-    })
 }
 
 // The staged bound of a job block, weights and a limit. An answered bound is exact: the most that a guillotine tree within the limit and
@@ -141,7 +111,6 @@ pub fn bound_staged(
         return BoundAnswer::Refused(Refusal::StageLimit);
     }
     let record = accepted.job;
-    let q = accepted.capacity;
     let plate = plate_of(record);
     let listing = list_pieces(record, weights);
     let pieces = listing.pieces;
@@ -150,7 +119,7 @@ pub fn bound_staged(
         plate,
         listing.count,
         &pieces,
-        q,
+        accepted.capacity,
         limit as usize,
         lengths,
         widths,

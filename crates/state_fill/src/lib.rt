@@ -20,5 +20,6 @@ pub use raise::below;
 pub use rows::fill;
 pub use rows::strip_all;
 pub use shape::Shape;
+pub use weights::fill_states;
 pub use weights::fill_two;
 pub use weights::fill_weighed;

@@ -14,7 +14,7 @@ ghost use Rattle.state_fill.specs.Cells.{under, Digits};
 ghost use Rattle.state_fill.specs.Tables.{Figures};
 
 // The table of pieces over the states of the digits up to d: its words are the figures, and the rest is as it was.
-fn fill_states(
+pub fn fill_states(
     size: TableSize,
     d: usize,
     words: usize,

@@ -4,7 +4,6 @@ use mathlib.Core.Path.{_≡_, refl, sym, _∙_, ap, ap₂, subst}
 use mathlib.Core.Bool.{Bool}
 use mathlib.Core.List.{List, [], _∷_}
 use Prim.Native.Nat.{ℕ, _+_, _-_, _*_, _≤_, _<_}
-use native.Mathlib.Nat.{mul-le-mul}
 use native.Mathlib.Omega.{arith}
 use lib.Dec.{ltb}
 use lib.ListN.{length, getD}
@@ -26,29 +25,18 @@ use Rattle.refusal.specs.declared.Checked.{Checked}
 use Rattle.refusal.specs.declared.Checked.the-variants.{Passed, Refused}
 use Rattle.refusal.specs.declared.Refusal.the-variants.{TableShort}
 use Rattle.table.specs.Table.{position-count, position, words-needed, Kept}
-use Rattle.table.specs.Two.{pair-count, two-words, TwoFigures}
+use Rattle.table.specs.Two.{two-words, TwoFigures}
 use Rattle.table.specs.States.{below, by-state, figure-at, pair-blocks, figure-pair, pair-state}
 use Rattle.table.proofs.Shares.{by-state-monotone}
 use Rattle.state_fill.proofs.Digits.{digits-order}
 use Rattle.state_fill.proofs.Ties.{pair-blocked, figure-two as figure-numbered}
 use Rattle.bound.specs.Bound.{Memory, list-check, list-after}
-use Rattle.bound.proofs.Last.{count-most, last-position, word-last, words-some}
+use Rattle.bound.proofs.Last.{last-position, word-last, words-some}
 use Rattle.bound.proofs.Listed.{same-positions, same-count, same-position, same-words}
 use Rattle.two_bound.specs.Two.{TwoAfter, two-storage-checks, two-report, two-answer-by}
 use Rattle.two_bound.specs.Contracts.{Paired}
 use Rattle.two_bound.specs.declared.TwoAnswer.{TwoAnswer}
 use Rattle.two_bound.proofs.Storage.{report-is}
-
--- fewer than 2 to the 37th words are needed
-pub few-words : (J : Job) → InTableRange J → (q q′ : ℕ) → pair-count q q′ ≤ 65536 → two-words J q q′ ≤ 68317413376
-few-words J h q q′ l = omega (arith, mul-le-mul (mul-le-mul (count-most J h Length) (count-most J h Width)) l)
-
--- those of the first weight among them, one at least
-pub first-words : (J : Job) (q q′ : ℕ) → words-needed J q ≤ two-words J q q′
-first-words J q q′ = omega arith
-
-pub some-word : (J : Job) (q q′ : ℕ) → 1 ≤ two-words J q q′
-some-word J q q′ = omega (arith, words-some J q, first-words J q q′)
 
 module _ (J : Job) (h : InTableRange J) (own : ℕ → ℕ) (q q′ : ℕ) where
   -- a rectangle on the plate has the figure of its largest normal sides

@@ -1,20 +1,20 @@
--- What the storage checks decide: a short list, a short table, or neither, and what lent memory then holds.
-use mathlib.Core.Path.{_≡_, refl, ap}
-use mathlib.Core.Bool.{Bool, true, false, _||_}
-use Prim.Native.Nat.{ℕ, _+_, _≤_, _<_}
-use lib.Dec.{ltb}
-use lib.ListN.{length}
+-- What the bound of pieces at two capacities answers, and what lent memory then holds, from the storage as it was laid out.
+use mathlib.Core.Path.{_≡_, refl, sym, _∙_, ap}
+use mathlib.Core.List.{List}
+use Prim.Native.Nat.{ℕ}
 use native.Mathlib.Omega.{arith}
-use borrow.Author.Tests.{lt-ltb, le-ltb}
-use Rattle.cutting.specs.declared.Direction.the-variants.{Length, Width}
-use Rattle.cutting.specs.Lists.{over}
-use Rattle.cutting.specs.Job.{Job, normal-positions}
-use Rattle.refusal.specs.Refusals.{first-refusal}
-use Rattle.refusal.specs.declared.Refusal.the-variants.{ListShort, TableShort}
-use Rattle.table.specs.Two.{two-words}
+use lib.ListN.{length}
+use Rattle.cutting.specs.Job.{Job}
+use Rattle.refusal.specs.declared.Refusal.{Refusal}
+use Rattle.refusal.specs.declared.Checked.{Checked}
+use Rattle.table.specs.declared.TableSize.{TableSize}
+use Rattle.table.specs.Two.{pair-count, two-words}
 use Rattle.table.specs.Contracts.{TwoBy}
-use Rattle.bound.specs.Bound.{Memory}
-use Rattle.two_bound.specs.Two.{two-report}
+use Rattle.storage.specs.declared.Layout.the-variants as layout
+use Rattle.storage.specs.Contracts.{cell-words, storage-verdict, LaidOut}
+use Rattle.storage.proofs.Storage.{refused-laid, ready-laid}
+use Rattle.bound.specs.Bound.{lent}
+use Rattle.two_bound.specs.Two.{two-report, answer-by}
 use Rattle.two_bound.specs.Contracts.{Paired}
 use Rattle.two_bound.specs.declared.TwoReport.{TwoReport}
 use Rattle.two_bound.specs.declared.TwoAnswer.the-variants as answer
@@ -25,28 +25,23 @@ pub report-is : {b b′ q q′ s s′ p p′ r r′ : ℕ} → b ≡ b′ → q 
     (record { bound = b′; «first_capacity» = q′; «second_capacity» = s′; «length_count» = p′; columns = r′ })
 report-is a b c d e = cc
 
-module _ (J : Job) (F : ℕ → ℕ → ℕ → ℕ → ℕ) (q q′ : ℕ) (old : Memory) where
-  -- whether a list is short
-  abbrev short : Bool
-  short = ltb (length (old .lengths)) (J .plate .0 + 1) || ltb (length (old .widths)) (J .plate .1 + 1)
+-- the words of the cells are those of all pairs
+pub pair-words : (J : Job) (q q′ : ℕ) → cell-words J (pair-count q q′) ≡ two-words J q q′
+pair-words J q q′ = omega arith
 
-  -- refusal 19, and nothing is changed
-  pub lists-short : short ≡ true → Paired J F q q′ old old (answer.Refused ListShort)
-  unfolding first-refusal
-  lists-short e = record { answer = rw e refl; memory = record { lengths = rw e refl; widths = rw e refl; table = rw e refl } }
+-- so the verdict is that of the call's checks
+same-verdict : (J : Job) (q q′ room : ℕ) (lengths widths : List ℕ) {v : Checked} → storage-verdict J (cell-words J (pair-count q q′)) room lengths widths ≡ v → storage-verdict J (two-words J q q′) room lengths widths ≡ v
+same-verdict J q q′ room lengths widths e = ap (λ n. storage-verdict J n room lengths widths) (sym (pair-words J q q′)) ∙ e
 
-  module _ (new : Memory) (e : short ≡ false)
-      (lengths : new .lengths ≡ over (normal-positions J Length) (old .lengths)) (widths : new .widths ≡ over (normal-positions J Width) (old .widths)) where
-    -- the table is short: refusal 20 with the words needed, and the table is untouched
-    pub table-short : (k : ℕ) → k ≡ two-words J q q′ → length (old .table) < k → new .table ≡ old .table → Paired J F q q′ old new (answer.Refused (TableShort k))
-    unfolding first-refusal
-    table-short k i h t =
-        let f : ltb (length (old .table)) (two-words J q q′) ≡ true = lt-ltb (length (old .table)) (two-words J q q′) (omega arith) in
-        record { answer = rw (e, f) (ap (λ k. answer.Refused (TableShort k)) i); memory = record { lengths = rw e lengths; widths = rw e widths; table = rw (e, f) t } }
+module _ (J : Job) (F : ℕ → ℕ → ℕ → ℕ → ℕ) (q q′ : ℕ) {lengths widths table floors new-lengths new-widths new-floors : List ℕ} where
+  -- the storage is refused: so is the bound, and the table is untouched
+  pub refused : {r : Refusal} → LaidOut J q (pair-count q q′) (length table) lengths widths floors new-lengths new-widths new-floors (layout.Refused r)
+      → Paired J F q q′ (lent lengths widths table) (lent new-lengths new-widths table) (answer.Refused r)
+  refused laid = let v = same-verdict J q q′ (length table) lengths widths (refused-laid laid) in record { answer = sym (ap (λ v. answer-by v (two-report J F q q′)) v); memory = record { lengths = laid .lengths-left; widths = laid .widths-left; table = rw v refl } }
 
-    -- there is room: the report and the figures
-    pub reported : (r : TwoReport) → r ≡ two-report J F q q′ → two-words J q q′ ≤ length (old .table) → TwoBy J F q q′ (old .table) (new .table) → Paired J F q q′ old new (answer.Answered r)
-    unfolding first-refusal
-    reported r i h g =
-        let f : ltb (length (old .table)) (two-words J q q′) ≡ false = le-ltb (length (old .table)) (two-words J q q′) h in
-        record { answer = rw (e, f) (ap (λ r. answer.Answered r) i); memory = record { lengths = rw e lengths; widths = rw e widths; table = rw (e, f) g } }
+  -- there is room: the report and the figures
+  pub reported : {size : TableSize} {n : ℕ} {new-table : List ℕ} {b : TwoReport} → LaidOut J q (pair-count q q′) (length table) lengths widths floors new-lengths new-widths new-floors (layout.Ready size n)
+      → b ≡ two-report J F q q′ → TwoBy J F q q′ table new-table → Paired J F q q′ (lent lengths widths table) (lent new-lengths new-widths new-table) (answer.Answered b)
+  reported laid e f =
+      let v = same-verdict J q q′ (length table) lengths widths (ready-laid laid .passed) in
+      record { answer = ap (λ x. answer.Answered x) e ∙ sym (ap (λ v. answer-by v (two-report J F q q′)) v); memory = record { lengths = laid .lengths-left; widths = laid .widths-left; table = rw v f } }

@@ -18,7 +18,7 @@ use Rattle.job.specs.declared.WeightsAnswer.the-variants as answer
 use Rattle.job.proofs.Checks.{cons-passed}
 use Rattle.job.proofs.Weights.{answer-passed, capacity-answered, weights-passed}
 use Rattle.table.specs.Two.{pair-count}
-use Rattle.bound.proofs.Storage.{or-false}
+use Rattle.job.proofs.Read.{or-false}
 use Rattle.two_bound.specs.Two.{two-checks}
 
 -- weights of a job, as many as its kinds, that are refused: the capacity is too large

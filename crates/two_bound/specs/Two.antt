@@ -14,7 +14,7 @@ use Rattle.cutting.specs.Two.{figure-two, two-under, two-bound, MostTwo, TwoFig
 use Rattle.refusal.specs.Refusals.{Check, Outcome, next, first-refusal, by-check, refused-as, outcome-by}
 use Rattle.refusal.specs.declared.Checked.{Checked}
 use Rattle.refusal.specs.declared.Checked.the-variants.{Passed}
-use Rattle.refusal.specs.declared.Refusal.the-variants.{WeightCount, SecondCount, Capacity, CapacityProduct, TableShort}
+use Rattle.refusal.specs.declared.Refusal.the-variants.{WeightCount, SecondCount, Capacity, CapacityProduct}
 use Rattle.job.specs.declared.Choices.{Choices}
 use Rattle.job.specs.Block.{job-checks}
 use Rattle.job.specs.Weights.{block-job, weight-in}
@@ -22,7 +22,7 @@ use Rattle.table.specs.Table.{position-count, Kept}
 use Rattle.table.specs.Two.{pair-count, two-words, TwoFigures}
 use Rattle.bound.specs.declared.BoundAnswer.{BoundAnswer}
 use Rattle.bound.specs.declared.BoundAnswer.the-variants as bound
-use Rattle.bound.specs.Bound.{Memory, list-check, list-after, wide-job, block-capacity, bound-answer, BoundLeaves}
+use Rattle.bound.specs.Bound.{Memory, list-check, room-check, list-after, wide-job, block-capacity, bound-answer, BoundLeaves}
 use Rattle.two_bound.specs.declared.TwoReport.{TwoReport}
 use Rattle.two_bound.specs.declared.TwoAnswer.{TwoAnswer}
 use Rattle.two_bound.specs.declared.TwoAnswer.the-variants as answer
@@ -36,7 +36,7 @@ two-checks J first second = (not (eqb (length first) (J .count)), WeightCount) �
 -- In the definitions up to `TwoLeaves`, J is the job with the kerf added to every side, and F gives its figures.
 -- check 20: a table shorter than p · r · (Q + 1) · (Q′ + 1), with the words needed
 abbrev pub two-check : Job → ℕ → ℕ → ℕ → Check
-two-check J q q′ k = (ltb k (two-words J q q′), TableShort (two-words J q q′))
+two-check J q q′ k = room-check (two-words J q q′) k
 
 -- the storage checks of lent memory
 abbrev pub two-storage-checks : Job → ℕ → ℕ → Memory → List Check

@@ -1,9 +1,6 @@
 // The bound call of two weights a kind: two capacities, of which each cut shares out both, and a word of the table for each pair of
 // shares. Refusals 1 to 9, 27, 24, 25, 19 and 20.
 use bound::fill_table;
-use bound::lists_short;
-use bound::map_sides;
-use bound::words;
 use cutting::Sides;
 use job::Choices;
 use job::JobRecord;
@@ -12,14 +9,14 @@ use job::check_weights;
 use job::with_full_demand;
 use pieces::list_pieces;
 use pieces::plate_of;
-use positions::normal_positions;
 use refusal::Checked;
 use refusal::Refusal;
 use state_fill::fill_two;
+use storage::Layout;
+use storage::lay_out;
 use table::TableSize;
 ghost use mathlib.Core.Path.{_≡_};
 ghost use Prim.Native.Nat.{_≤_};
-ghost use lib.ListN.{length};
 ghost use Rattle.cutting.specs.Limits.{most-pairs};
 ghost use Rattle.cutting.specs.Job.{InRange, capacity};
 ghost use Rattle.cutting.specs.Sides.{rect-of};
@@ -128,27 +125,19 @@ fn fill_pairs(
     size: TableSize,
     second: u16,
     pieces: &[u32; 640],
-    normal_lengths: &[u16],
-    normal_widths: &[u16],
+    lengths: &[u16],
+    widths: &[u16],
     floors: &[u16],
     table: &mut [u64],
 )
-    requires { ⌜ TwoFillable size second (now pieces) (now «normal_lengths») (now «normal_widths») (now floors) (now table) ⌝ }
+    requires { ⌜ TwoFillable size second (now pieces) (now lengths) (now widths) (now floors) (now table) ⌝ }
     ensures { λ _. ⌜ TwoBy (size-job size (now (pieces .entry))) (figure-pair (size-job size (now (pieces .entry))) (size .capacity) second (heavy-in (now (pieces .entry)))) (size .capacity) second (now (table .entry)) (now (table .exit)) ⌝ }
 {
     if second == 0 {
-        fill_table(size, pieces, normal_lengths, normal_widths, floors, table);
+        fill_table(size, pieces, lengths, widths, floors, table);
         return;
     }
-    fill_two(
-        size,
-        second,
-        pieces,
-        normal_lengths,
-        normal_widths,
-        floors,
-        table,
-    );
+    fill_two(size, second, pieces, lengths, widths, floors, table);
 }
 
 // The bound of pieces on a plate at two capacities: refusals 19 and 20, then the lists, the floors of both sides, the table and the
@@ -159,53 +148,40 @@ fn two_of_pieces(
     pieces: &[u32; 640],
     q: u16,
     s: u16,
-    normal_lengths: &mut [u16],
-    normal_widths: &mut [u16],
+    lengths: &mut [u16],
+    widths: &mut [u16],
     floors: &mut [u16],
     table: &mut [u64],
 ) -> TwoAnswer
     requires { ⌜ Pairable (pieces-job (rect-of plate) count (now pieces)) q s (now floors) ⌝ }
     ensures { λ r. ⌜ Paired (pieces-job (rect-of plate) count (now (pieces .entry))) (figure-pair (pieces-job (rect-of plate) count (now (pieces .entry))) q s (heavy-in (now (pieces .entry)))) q s
-        (lent (now («normal_lengths» .entry)) (now («normal_widths» .entry)) (now (table .entry)))
-        (lent (now («normal_lengths» .exit)) (now («normal_widths» .exit)) (now (table .exit))) r ⌝ }
+        (lent (now (lengths .entry)) (now (widths .entry)) (now (table .entry)))
+        (lent (now (lengths .exit)) (now (widths .exit)) (now (table .exit))) r ⌝ }
 {
-    let length = plate.length;
-    let width = plate.width;
-    if lists_short(normal_lengths.len(), normal_widths.len(), length, width) {
-        return TwoAnswer::Refused(Refusal::ListShort);
+    let cell = ((q as u32) + 1) * ((s as u32) + 1);
+    let room = table.len();
+    let layout = lay_out(plate, count, pieces, q, cell, lengths, widths, floors, room);
+    match layout {
+        Layout::Refused(r) => TwoAnswer::Refused(r),
+        Layout::Ready(size, words) => {
+            fill_pairs(
+                size,
+                s,
+                pieces,
+                &lengths[..],
+                &widths[..],
+                &floors[..],
+                table,
+            );
+            TwoAnswer::Answered(TwoReport {
+                bound: table[words - 1],
+                first_capacity: q,
+                second_capacity: s,
+                length_count: size.rows,
+                columns: size.columns,
+            })
+        }
     }
-    let p = normal_positions(pieces, 0, count, length, width, normal_lengths);
-    let r = normal_positions(pieces, 1, count, width, length, normal_widths);
-    let needed = words(p, r, q) * ((s as u64) + 1);
-    if (table.len() as u64) < needed {
-        return TwoAnswer::Refused(Refusal::TableShort(needed));
-    }
-    let size = TableSize {
-        length: length,
-        width: width,
-        count: count,
-        rows: p,
-        columns: r,
-        capacity: q,
-    };
-    map_sides(size, &normal_lengths[..], &normal_widths[..], floors);
-    fill_pairs(
-        size,
-        s,
-        pieces,
-        &normal_lengths[..],
-        &normal_widths[..],
-        &floors[..],
-        table,
-    );
-    let last = needed as usize - 1;
-    TwoAnswer::Answered(TwoReport {
-        bound: table[last],
-        first_capacity: q,
-        second_capacity: s,
-        length_count: p,
-        columns: r,
-    })
 }
 
 // The bound of a job block and two weights a kind. An answered bound is exact: the most that a guillotine tree within both answered

@@ -1,107 +1,66 @@
--- `bound::bound_of_pieces` meets its contract. What is known once both lists are written is said once, of the context at that point.
-use mathlib.Core.Path.{_≡_, refl, sym, _∙_, ap}
-use Prim.Native.Nat.{_-_}
+-- `bound::bound_of_pieces` meets its contract. What is known once the storage is laid out is said once, of the context at that point.
+use mathlib.Core.Path.{refl, _∙_, ap, subst}
+use Prim.Native.Nat.{_+_, _-_, _≤_, _<_}
 use native.Mathlib.Omega.{arith}
 use lib.ListN.{length, getD}
 use denote.Ref.{now}
-use Rattle.cutting.specs.declared.Direction.the-variants.{Length, Width}
 use Rattle.cutting.specs.Sides.{rect-of}
-use Rattle.cutting.specs.Job.{Job, normal-positions}
+use Rattle.cutting.specs.Job.{Job}
 use Rattle.cutting.specs.Listed.{heavy-in, pieces-job}
-use Rattle.positions.specs.Contracts.{Holds}
-use Rattle.table.specs.Table.{words-needed}
-use Rattle.bound.proofs.Storage.{lists-long, lists-short, table-short, reported, report-is}
-use Rattle.bound.proofs.Last.{count-most, words-are, words-some, words-most, bound-last}
-use Rattle.bound.proofs.Filled.{lengths-ready, widths-ready, lengths-listed, widths-listed, map-ready, both-mapped, fillable}
-use borrow.Author.Needs.{needs}
+use Rattle.table.specs.Contracts.{size-job, FilledBy}
+use Rattle.storage.specs.declared.Layout.the-variants.{Ready}
+use Rattle.storage.specs.Contracts.{LaidOut}
+use Rattle.storage.proofs.Storage.{ready-laid, last-laid}
+use Rattle.storage.proofs.Filled.{fillable}
+use Rattle.bound.proofs.Storage.{refused, reported, report-is}
+use Rattle.bound.proofs.Last.{bound-last}
+use borrow.Author.Needs.{needs, scaled-fits}
 use Rattle.bound.proofs.bound_of_pieces.Statement.{statement}
 use Rattle.bound.proofs.bound_of_pieces.Tie as tie
 
 -- where the call began, and the plain job of its pieces
-abbrev start : tie.After-slice-known6 → tie.Start
-start k = k .before .before .before .before .before .before .before .before .before .before .before .before .before .before
+abbrev start : tie.After-known-told2 → tie.Start
+start k = k .before .before .before .before .before .before .before .before .before .before .before .before .before .before .before .before .before
 
-abbrev J : tie.After-slice-known6 → Job
+abbrev J : tie.After-known-told2 → Job
 J k = pieces-job (rect-of (start k .args .plate)) (start k .args .count) (now (start k .args .pieces))
 
--- both lists hold their normal positions
-lengths-hold : (k : tie.After-slice-known6) → Holds (normal-positions (J k) Length) (k .before .before .before .before .before .before .normal-positions .result) (now (start k .args .normal-lengths)) (k .before .before .before .before .before .before .normal-positions .last .1 .1 .1 .1 .1 .0)
-lengths-hold k = lengths-listed (rect-of (start k .args .plate)) (start k .args .count) (now (start k .args .pieces)) (k .before .before .before .before .before .before .normal-positions .ensures)
+laid : (k : tie.After-known-told2) → LaidOut (J k) (start k .args .q) (start k .args .q + 1) (length (now (start k .args .table))) (now (start k .args .lengths)) (now (start k .args .widths)) (now (start k .args .floors))
+    (k .before .before .before .before .before .before .before .before .before .lay-out .last .1 .1 .1 .1 .1 .0) (k .before .before .before .before .before .before .before .before .before .lay-out .last .1 .1 .1 .1 .1 .1 .0) (k .before .before .before .before .before .before .before .before .before .lay-out .last .1 .1 .1 .1 .1 .1 .1 .0) (Ready (k .before .layout2 .given .0 .0) (k .before .layout2 .given .0 .1 .0))
+laid k = rw (k .before .layout2 .given .1) at (k .before .before .before .before .before .before .before .before .before .lay-out .ensures)
 
-widths-hold : (k : tie.After-slice-known6) → Holds (normal-positions (J k) Width) (k .before .before .normal-positions2 .result) (now (start k .args .normal-widths)) (k .before .before .normal-positions2 .last .1 .1 .1 .1 .1 .0)
-widths-hold k = widths-listed (rect-of (start k .args .plate)) (start k .args .count) (now (start k .args .pieces)) (k .before .before .normal-positions2 .ensures)
+fill-table-requires : tie.Need-fill-table-requires
+fill-table-requires c κs = let k = c .before .before .before .before in fillable (laid k) (start k .pre .in-range) (start k .pre .most) (omega arith)
 
--- the words counted are those needed
-counted : (w : tie.After-words) → w .words .result ≡ words-needed (J (w .before)) (start (w .before) .args .q)
-counted w = words-are (J (w .before)) (w .words .ensures) (lengths-hold (w .before) .number) (widths-hold (w .before) .number) refl
+-- the last word lies within the table
+last : (k : tie.After-known-told2) → (1 ≤ k .before .layout2 .given .0 .1 .0) × (k .before .layout2 .given .0 .1 .0 - 1 < length (now (start k .args .table)))
+last k = last-laid (laid k) (omega arith)
+
+sub-t32 : tie.Need-sub-t32
+sub-t32 c = last (c .before .before .before .before .before .before .before) .0
+
+mul-t33 : tie.Need-mul-t33
+mul-t33 c = let k = c .before .before .before .before .before .before .before in scaled-fits _ _ 8 (last k .1) (start k .good .1 .1 .1 .1 .1 .1 .1 .0 .1)
+
+slice-read-t35 : tie.Need-slice-read-t35
+slice-read-t35 c = omega (arith, c .before .before .before .fill-table .ensures .1 .0, last (c .before .before .before .before .before .before .before .before) .1)
 
 returns : tie.Need-returns
-returns c = lists-short _ _ _ _ (sym (c .before .lists-short .ensures) ∙ c .if1 .taken)
-
-normal-positions-requires : tie.Need-normal-positions-requires
-normal-positions-requires c κs =
-    let e = c .before .before .before .before .before .before .before .args in
-    let room = lists-long (length (now (e .normal-lengths))) (length (now (e .normal-widths))) (e .plate .length) (e .plate .width) (sym (c .before .before .lists-short .ensures) ∙ c .before .if1 .left) in
-    lengths-ready (rect-of (e .plate)) (e .count) (now (e .pieces)) (c .before .before .before .before .before .before .before .pre .in-range) (room .0)
-
-normal-positions-requires-2 : tie.Need-normal-positions-requires-2
-normal-positions-requires-2 c κs =
-    let e = c .before .before .before .before .before .before .before .before .before .before .before .args in
-    let room = lists-long (length (now (e .normal-lengths))) (length (now (e .normal-widths))) (e .plate .length) (e .plate .width) (sym (c .before .before .before .before .before .before .lists-short .ensures) ∙ c .before .before .before .before .before .if1 .left) in
-    widths-ready (rect-of (e .plate)) (e .count) (now (e .pieces)) (c .before .before .before .before .before .before .before .before .before .before .before .pre .in-range) (room .1)
-
-words-requires : tie.Need-words-requires
-words-requires c κs =
-    let e = start c in
-    let given = e .pre in
-    (omega (arith, lengths-hold c .number, count-most (J c) (given .in-range) Length), omega (arith, widths-hold c .number, count-most (J c) (given .in-range) Width), omega (arith, given .most))
+returns c = refused _ _ _ (rw (c .before .layout .given .1) at (c .before .before .before .before .before .before .before .before .before .lay-out .ensures))
 
 returns-2 : tie.Need-returns-2
 returns-2 c =
-    let k = c .before .before in
-    table-short _ _ _ _ _ (sym (k .before .before .before .before .before .before .before .before .before .lists-short .ensures) ∙ k .before .before .before .before .before .before .before .before .if1 .left) (lengths-hold k .contents) (widths-hold k .contents) _ (counted (c .before)) (c .if2 .taken) refl
-
-map-sides-requires : tie.Need-map-sides-requires
-map-sides-requires c κs =
-    let k = c .before .before .before .before .before in
-    let given = start k .pre in
-    (map-ready (J k) Length (lengths-hold k) (given .in-range), map-ready (J k) Width (widths-hold k) (given .in-range), given .floors-there)
-
-fill-table-requires : tie.Need-fill-table-requires
-fill-table-requires c κs =
-    let k = c .before .before .before .before .before .before .before .before .before .before .before .before in
-    fillable (rect-of (start k .args .plate)) (start k .args .count) (now (start k .args .pieces)) (lengths-hold k) (widths-hold k) (start k .pre) (c .before .before .before .before .before .before .map-sides .ensures) (omega (arith, counted (c .before .before .before .before .before .before .before .before .before .before .before), c .before .before .before .before .before .before .before .before .before .before .if2 .left))
-
-sub-last : tie.Need-sub-last
-sub-last c = let w = c .before .before .before .before .before .before .before .before .before .before .before .before .before .before in omega (arith, counted w, words-some (J (w .before)) (start (w .before) .args .q))
-
-mul-t17 : tie.Need-mul-t17
-mul-t17 c =
-    let w = c .before .before .before .before .before .before .before .before .before .before .before .before .before .before in
-    let given = start (w .before) .pre in
-    record { fits = omega (arith, counted w, words-most (J (w .before)) (given .in-range) (start (w .before) .args .q) (given .most)) }
-
-slice-read-t24 : tie.Need-slice-read-t24
-slice-read-t24 c =
-    let w = c .before .before .before .before .before .before .before .before .before .before .before .before .before .before .before in
-    omega (arith, c .before .before .before .fill-table .ensures .1 .0, c .before .before .before .before .before .before .before .before .before .before .before .before .before .before .if2 .left, counted w, words-some (J (w .before)) (start (w .before) .args .q))
-
-returns-3 : tie.Need-returns-3
-returns-3 c =
-    let w = c .before .before .before .before .before .before .before .before .before .before .before .before .before .before .before in
-    let k = w .before in
-    let e = start k in
+    let k = c .before .before .before .before .before .before .before .before in
+    let e = start k .args in
+    let is = ready-laid (laid k) in
     let table = c .before .before .before .fill-table .last .1 .1 .1 .1 .1 .0 in
-    let f = c .before .before .before .fill-table .ensures in
-    reported _ _ _ _ _ (sym (k .before .before .before .before .before .before .before .before .before .lists-short .ensures) ∙ k .before .before .before .before .before .before .before .before .if1 .left) (lengths-hold k .contents) (widths-hold k .contents) _
-    (report-is (ap (λ k. getD table (k - 1) 0) (counted w) ∙ bound-last (J k) (heavy-in (now (e .args .pieces))) (e .pre .in-range) (e .args .q) table (f .0)) refl (lengths-hold k .number) (widths-hold k .number))
-    (omega (arith, counted w, c .before .before .before .before .before .before .before .before .before .before .before .before .before .before .if2 .left)) f
-    (both-mapped (rect-of (e .args .plate)) (e .args .count) (now (e .args .pieces)) (lengths-hold k) (widths-hold k) (e .pre) (c .before .before .before .before .before .before .before .before .before .before .map-sides .ensures))
+    let f = subst (λ s. FilledBy (size-job s (now (e .pieces))) (heavy-in (now (e .pieces))) (s .capacity) (now (e .table)) table) (is .size-is) (c .before .before .before .fill-table .ensures) in
+    reported _ _ _ (laid k)
+    (report-is (ap (λ n. getD table (n - 1) 0) (is .words-are) ∙ bound-last (J k) (heavy-in (now (e .pieces))) (start k .pre .in-range) (e .q) table (f .0)) refl (ap (λ s. s .rows) (is .size-is)) (ap (λ s. s .columns) (is .size-is))) f
 
 pub bound-of-pieces-spec : {M : Type 1} → statement M
 bound-of-pieces-spec =
     tie.close
     (tie.spec
-    (λ c κs. search needs) returns normal-positions-requires normal-positions-requires-2 words-requires (λ c. search needs) (λ c. search needs)
-    returns-2 map-sides-requires fill-table-requires sub-last mul-t17 slice-read-t24 (λ c. search needs) (λ c. search needs) (λ c. search needs)
-    (λ c. search needs) returns-3)
+    (λ c. search needs) (λ c κs. search needs) (λ c. search needs) (λ c. search needs) fill-table-requires sub-t32 mul-t33 slice-read-t35
+    (λ c. search needs) (λ c. search needs) (λ c. search needs) returns (λ c. search needs) (λ c. search needs) (λ c. search needs) (λ c. search needs) returns-2)

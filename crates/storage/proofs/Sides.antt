@@ -8,7 +8,7 @@ use lib.Seq.{length-take-le, take-append-seam, drop-append-seam}
 use Rattle.positions.specs.Contracts.{Floors}
 use Rattle.table.specs.declared.TableSize.{TableSize}
 use Rattle.table.proofs.Words.{second-floors}
-use Rattle.bound.specs.Contracts.{SidesMapped}
+use Rattle.storage.specs.Contracts.{SidesMapped}
 
 module _ (xs : List ℕ) (e : length xs ≡ 2042) where
   -- either part has 1,021 entries

@@ -1,11 +1,14 @@
--- Lists, floors and table of pieces: what each step of the bound asks and leaves, from what the step before left.
-use mathlib.Core.Path.{_≡_, subst}
+-- Lists and floors of pieces: what each step of laying out asks and leaves, from what the step before left; and what a fill then asks.
+use mathlib.Core.Path.{_≡_, refl, sym, subst}
 use mathlib.Core.List.{List}
 use Prim.Native.Nat.{ℕ, _+_, _*_, _≤_, _<_}
+use native.Mathlib.Nat.{mul-le-mul-left}
 use native.Mathlib.Omega.{arith}
 use lib.ListN.{length, drop, length-drop}
 use Rattle.cutting.specs.declared.Direction.{Direction}
 use Rattle.cutting.specs.declared.Direction.the-variants.{Length, Width}
+use Rattle.cutting.specs.Limits.{most-capacity}
+use Rattle.cutting.specs.Lists.{over}
 use Rattle.cutting.specs.Tree.{Rect, side}
 use Rattle.cutting.specs.Job.{Job, normal-positions}
 use Rattle.cutting.specs.Listed.{InTableRange, pieces-job}
@@ -13,10 +16,12 @@ use Rattle.positions.specs.Contracts.{Holds, field-in, Listable, positions-of, 
 use Rattle.positions.proofs.Lists.{holds-take, holds-length}
 use Rattle.positions.proofs.Fitting.{lengths-found, widths-found}
 use Rattle.positions.proofs.Positions.{positions-rising, floors-found}
-use Rattle.table.specs.Table.{words-needed}
+use Rattle.table.specs.Table.{position-count}
 use Rattle.table.specs.declared.TableSize.{TableSize}
 use Rattle.table.specs.Contracts.{Mapped, Positions, Fillable}
-use Rattle.bound.specs.Contracts.{SidesMapped, BothMapped, Boundable}
+use Rattle.storage.specs.declared.Layout.the-variants.{Ready}
+use Rattle.storage.specs.Contracts.{SidesMapped, BothMapped, table-size, LaidOut}
+use Rattle.storage.proofs.Storage.{ready-laid}
 
 side-most : (J : Job) → InTableRange J → (d : Direction) → side d (J .plate) ≤ 1020
 side-most J h Length = h .plate-length .1
@@ -33,10 +38,6 @@ module _ (J : Job) (d : Direction) {n : ℕ} {old list : List ℕ} (h : Holds (n
   -- its map is the job's
   mapped : (floors : List ℕ) → Floors list n (side d (J .plate) + 1) floors → Mapped J d floors
   mapped floors f = floors-found J d list n (holds-length h) (holds-take h) floors f
-
-  -- what the fill asks of a list and its floors
-  positions : (floors : List ℕ) → side d (J .plate) < length floors → Mapped J d floors → Positions J d n list floors
-  positions floors l m = record { counted = h .number; listed = holds-take h; mapped = l; floored = m }
 
 module _ (r : Rect) (count : ℕ) (pieces : List ℕ) where
   -- the plain job of the pieces
@@ -59,10 +60,13 @@ module _ (r : Rect) (count : ℕ) (pieces : List ℕ) where
     pub widths-listed : Holds (positions-of pieces 1 count (r .1) (r .0)) n old list → Holds (normal-positions J Width) n old list
     widths-listed h = subst (λ xs. Holds xs n old list) (widths-found r count pieces) h
 
-  module _ {p columns : ℕ} {lengths₀ widths₀ lengths widths : List ℕ} (a : Holds (normal-positions J Length) p lengths₀ lengths) (b : Holds (normal-positions J Width) columns widths₀ widths)
-      {q : ℕ} {floors₀ : List ℕ} (given : Boundable J q floors₀) where
+  module _ {p columns : ℕ} {lengths₀ widths₀ lengths widths : List ℕ} (a : Holds (normal-positions J Length) p lengths₀ lengths) (b : Holds (normal-positions J Width) columns widths₀ widths) (q : ℕ) where
     abbrev size : TableSize
     size = record { length = r .0; width = r .1; count = count; rows = p; columns = columns; capacity = q }
+
+    -- the size is the job's
+    pub size-is : size ≡ table-size J q
+    size-is = rw (a .number, b .number) refl
 
     -- the floors of both sides are the job's
     pub both-mapped : {floors : List ℕ} → SidesMapped size lengths widths floors → BothMapped J floors
@@ -72,16 +76,24 @@ module _ (r : Rect) (count : ℕ) (pieces : List ℕ) where
       widths = mapped J Width b (drop 1021 floors) (m .widths-mapped);
     }
 
-    -- what the fill asks
-    pub fillable : {floors table : List ℕ} → SidesMapped size lengths widths floors → words-needed J q ≤ length table → Fillable size pieces lengths widths floors table
-    fillable {floors} m room =
-        let both = both-mapped m in
-        let most = given .in-range in
-        record {
-          in-range = most;
-          most = given .most;
-          floors-there = m .entries;
-          lengths = positions J Length a floors (omega (arith, most .plate-length .1, m .entries)) (both .lengths);
-          widths = positions J Width b (drop 1021 floors) (omega (arith, most .plate-width .1, m .entries, length-drop 1021 floors)) (both .widths);
-          room = room;
-        }
+-- a list of normal positions and its floors, as a fill asks for them
+positions : (J : Job) (d : Direction) (old : List ℕ) {list floors : List ℕ} → list ≡ over (normal-positions J d) old → side d (J .plate) < length floors → Mapped J d floors → Positions J d (position-count J d) list floors
+positions J d old {list} {floors} e l m =
+    let h : Holds (normal-positions J d) (position-count J d) old list = record { number = refl; contents = e } in
+    record { counted = refl; listed = holds-take h; mapped = l; floored = m }
+
+module _ {r : Rect} {count : ℕ} {pieces : List ℕ} {q per-cell : ℕ} {lengths widths floors new-lengths new-widths new-floors table : List ℕ} {size : TableSize} {n : ℕ}
+    (laid : LaidOut (pieces-job r count pieces) q per-cell (length table) lengths widths floors new-lengths new-widths new-floors (Ready size n)) where
+  -- what a fill asks, where a cell has a word for each share
+  pub fillable : InTableRange (pieces-job r count pieces) → q ≤ most-capacity → q + 1 ≤ per-cell → Fillable size pieces new-lengths new-widths new-floors table
+  fillable most few enough =
+      let N = pieces-job r count pieces in
+      let k = ready-laid laid in
+      subst (λ s. Fillable s pieces new-lengths new-widths new-floors table) (sym (k .size-is)) (record {
+        in-range = most;
+        most = few;
+        floors-there = k .mapped .entries;
+        lengths = positions N Length lengths (k .lengths-hold) (omega (arith, most .plate-length .1, k .mapped .entries)) (k .mapped .lengths);
+        widths = positions N Width widths (k .widths-hold) (omega (arith, most .plate-width .1, k .mapped .entries, length-drop 1021 new-floors)) (k .mapped .widths);
+        room = omega (arith, k .room-there, mul-le-mul-left (position-count N Length * position-count N Width) enough);
+      })

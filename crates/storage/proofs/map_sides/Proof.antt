@@ -1,11 +1,11 @@
--- `bound::map_sides` meets its contract.
+-- `storage::map_sides` meets its contract.
 use mathlib.Core.Path.{sym}
 use native.Mathlib.Omega.{arith}
 use denote.Ref.{now}
-use Rattle.bound.proofs.Sides.{first-part, second-part, half-written, half-length, sides-mapped}
+use Rattle.storage.proofs.Sides.{first-part, second-part, half-written, half-length, sides-mapped}
 use borrow.Author.Needs.{needs}
-use Rattle.bound.proofs.map_sides.Statement.{statement}
-use Rattle.bound.proofs.map_sides.Tie as tie
+use Rattle.storage.proofs.map_sides.Statement.{statement}
+use Rattle.storage.proofs.map_sides.Tie as tie
 
 slice-aggregate-map-floors : tie.Need-slice-aggregate-map-floors
 slice-aggregate-map-floors c = let e = c .before .before .before .before in sym (first-part (now (e .args .floors)) (e .pre .2))

@@ -1,8 +1,8 @@
--- `bound::lists_short` meets its contract.
+-- `storage::lists_short` meets its contract.
 use borrow.Author.Tests.{lt-ltb, le-ltb}
 use borrow.Author.Needs.{needs}
-use Rattle.bound.proofs.lists_short.Statement.{statement}
-use Rattle.bound.proofs.lists_short.Tie as tie
+use Rattle.storage.proofs.lists_short.Statement.{statement}
+use Rattle.storage.proofs.lists_short.Tie as tie
 
 returns : tie.Need-returns
 returns c = simp (lt-ltb _ _ (c .if1 .taken))
