@@ -37,13 +37,14 @@ made-kept {words} {x} {at} {end} {f} {g} {h} {old} {new} before o w = record {
   figures = λ s l. held-kept at end old new o x s (omega arith) ∙ w .figures s l;
   notes = λ k l. omega (arith, note-kept at end old new o x k (omega arith), w .notes k l);
   ended = λ j k l m z. note-kept at end old new o x k (omega arith) ∙ w .ended j k l m (sym (note-kept at end old new o x j (omega arith)) ∙ z);
+  sorted = λ j k l m z. omega (arith, note-kept at end old new o x j (omega arith), note-kept at end old new o x k (omega arith), w .sorted j k l m (omega (arith, note-kept at end old new o x k (omega arith))));
   first = covers-more leb words _ _ _ _ (λ t l s. listed-kept at end old new o x words t before s) (w .first);
   second = covers-more leb words _ _ _ _ (λ t l s. listed-kept at end old new o x words t before s) (w .second);
 }
 
 -- its two directions can be told the other way round
 pub made-swap : {words x : ℕ} {f g h : ℕ → ℕ} {xs : List ℕ} → Made words x f g h xs → Made words x f h g xs
-made-swap w = record { figures = w .figures; notes = w .notes; ended = w .ended; first = w .second; second = w .first }
+made-swap w = record { figures = w .figures; notes = w .notes; ended = w .ended; sorted = w .sorted; first = w .second; second = w .first }
 
 -- it can be read
 pub made-ready : {words x at : ℕ} {f g h : ℕ → ℕ} {xs : List ℕ} → 1 ≤ words → x + words ≤ at → Rises leb words f → ((s : ℕ) → f s ≤ most-wide-figure) → Made words x f g h xs → Ready xs x words at
@@ -53,6 +54,7 @@ made-ready {words} {x} {at} {f} some before rises low w = record {
   most = λ s l. omega (arith, w .figures s l, w .figures (words - 1) (omega arith), rises s (words - 1) (omega arith) (le→leb s (words - 1) (omega arith)));
   notes = w .notes;
   ended = w .ended;
+  sorted = w .sorted;
 }
 
 -- the greater of two cells is covered over a third by what either lists, and at which it is above the third
@@ -81,6 +83,7 @@ made-done {words} {at} {f} {g} {h} {xs} {new} done figures under-first under-sec
   figures = λ s l. done .same s l ∙ figures s l;
   notes = done .notes;
   ended = done .ended;
+  sorted = done .sorted;
   first = listed g under-first first;
   second = listed h under-second second;
 }

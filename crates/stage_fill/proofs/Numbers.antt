@@ -96,6 +96,7 @@ zeros-made f run = record {
   figures = λ s l. ap figure-in (run .here s l) ∙ (figure-plain 0 (omega arith) ∙ sym (f s));
   notes = λ k l. omega (arith, ap note-in (run .here k l), note-plain 0 (omega arith));
   ended = λ j k h l z. ap note-in (run .here k l) ∙ note-plain 0 (omega arith);
+  sorted = λ j k h l z. absurd (omega (arith, ap note-in (run .here k l), note-plain 0 (omega arith)));
   first = λ s l. inl (omega (arith, f s));
   second = λ s l. inl (omega (arith, f s));
 }

@@ -11,14 +11,15 @@ use Rattle.table.specs.Words.{Run, Cuts}
 use Rattle.table.specs.States.{Covers}
 use Rattle.state_fill.specs.declared.shape.Shape.{Shape}
 use Rattle.state_fill.specs.declared.parts.Line.{Line}
-use Rattle.state_fill.specs.Cells.{held, note, Startable, Rises, Ready, Listed, Inherited, Placed, CutAt, Finished, Topped}
+use Rattle.state_fill.specs.Cells.{held, note, Startable, Rises, Ready, Listed, Sorted, Inherited, Placed, CutAt, Finished, Topped}
 
--- a finished cell from word x on: its words hold the figures f, its list has states only and nothing is noted past its end, and the list
--- covers the figures over g and over h, those of the cells before it in the two directions
+-- a finished cell from word x on: its words hold the figures f, its list has states only, which do not fall, nothing is noted past its end,
+-- and the list covers the figures over g and over h, those of the cells before it in the two directions
 pub record Made (words x : ℕ) (f g h : ℕ → ℕ) (xs : List ℕ) : Type 0 where
   pub figures : (s : ℕ) → s < words → held xs x s ≡ f s
   pub notes : (k : ℕ) → k < words → note xs x k ≤ words
   pub ended : (j k : ℕ) → j ≤ k → k < words → note xs x j ≡ 0 → note xs x k ≡ 0
+  pub sorted : Sorted xs x words
   pub first : Covers leb words (Listed xs x words) f g
   pub second : Covers leb words (Listed xs x words) f h
 

@@ -55,6 +55,7 @@ module _ {J : Job} (own : ℕ → ℕ) {normal-lengths length-floors normal-widt
     figures = λ s l. ap figure-in (z s l) ∙ (figure-plain 0 (omega arith) ∙ sym (f s));
     notes = λ k l. omega (arith, ap note-in (z k l), note-plain 0 (omega arith));
     ended = λ x k h l e. ap note-in (z k l) ∙ note-plain 0 (omega arith);
+    sorted = λ x k h l e. absurd (omega (arith, ap note-in (z k l), note-plain 0 (omega arith)));
     longer = λ s l. inl (omega (arith, f s));
     wider = λ s l. inl (omega (arith, f s));
   }

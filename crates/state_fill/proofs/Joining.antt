@@ -31,6 +31,7 @@ module _ (at end : ℕ) (old new : List ℕ) (kept : Outside at end old new) whe
     most = λ s l. omega (arith, held-kept x s (omega (arith, r .before)), held-kept x (words - 1) (omega (arith, r .before)), r .most s l);
     notes = λ k l. omega (arith, note-kept x k (omega (arith, r .before)), r .notes k l);
     ended = λ j k l m z. note-kept x k (omega (arith, r .before)) ∙ r .ended j k l m (sym (note-kept x j (omega (arith, r .before))) ∙ z);
+    sorted = λ j k l m z. omega (arith, note-kept x j (omega (arith, r .before)), note-kept x k (omega (arith, r .before)), r .sorted j k l m (omega (arith, note-kept x k (omega (arith, r .before)))));
   }
 
 -- a cell that has grown goes on growing
@@ -48,6 +49,14 @@ past-end xs x words at i k u r h z e = go (decLe k i)
     go : Dec (k ≤ i) → i < k
     go (yes l) = absurd (omega (arith, r .ended k i l h z))
     go (no l) = omega arith
+
+-- where an entry of a list and t are past all states together, so are the later ones
+pub past-states : (xs : List ℕ) (x words at i k t u w : ℕ) → Ready xs x words at → i < words → note xs x k ≡ w + 1 → words ≤ t + w → note xs x i ≡ u + 1 → t + u < words → i < k
+past-states xs x words at i k t u w r h m p e l = go (decLe k i)
+  where
+    go : Dec (k ≤ i) → i < k
+    go (yes z) = absurd (omega (arith, r .sorted k i z h (omega arith)))
+    go (no z) = omega arith
 
 -- one cut: its first part can be read, and so can its second, at the entry that the floors give
 module _ {blocks positions floors : List ℕ} {d words a i base stride at : ℕ} {xs : List ℕ} (given : Cuttable blocks positions floors d words a i (i + 1) base stride at xs) where
@@ -96,11 +105,11 @@ module _ (le : ℕ → ℕ → Bool) (at words : ℕ) where
           let c : u ≡ z = omega (arith, ap (λ i. note old second i) same, note-kept at (at + words) old mid (p .grown .rest) second k (omega arith)) in
           omega (arith, ap (λ u. held old second u) c, ap (λ u. held new at (t + u)) c, value, q .taken (omega arith) (rw c b))
 
-  -- at the end of the list
-  pub with-end : (t v second k : ℕ) (old new : List ℕ) → ((i u : ℕ) → i < words → note old second i ≡ u + 1 → i < k) → With t v second k old new → JoinedWith le at words t v second old new
+  -- at the end of the list, or where no later entry is a state together with t
+  pub with-end : (t v second k : ℕ) (old new : List ℕ) → ((i u : ℕ) → i < words → note old second i ≡ u + 1 → t + u < words → i < k) → With t v second k old new → JoinedWith le at words t v second old new
   with-end t v second k old new done p = record {
     grown = p .grown;
-    sums = λ u l h b. p .sums (l .0) u (done (l .0) u (l .1) (l .2)) (l .2) h b;
+    sums = λ u l h b. p .sums (l .0) u (done (l .0) u (l .1) (l .2) h) (l .2) h b;
     low = p .low;
   }
 

@@ -93,7 +93,8 @@ module _ (first second at words : ℕ) (rx : first + words ≤ at) (ry : second 
 pub record Listing (d at words s k : ℕ) (old new : List ℕ) : Type 0 where
   pub most : k ≤ s
   pub same : (j : ℕ) → j < words → held new at j ≡ held old at j
-  pub some : (j : ℕ) → j < k → (1 ≤ note new at j) × (note new at j ≤ words)
+  pub some : (j : ℕ) → j < k → (1 ≤ note new at j) × (note new at j ≤ s)
+  pub sorted : (i j : ℕ) → i ≤ j → j < k → note new at i ≤ note new at j
   pub none : (j : ℕ) → k ≤ j → j < s → note new at j ≡ 0
   pub left : (j : ℕ) → s ≤ j → j < words → getD new (at + j) 0 ≡ getD old (at + j) 0
   pub found : (t : ℕ) → t < s → Flagged old at t → Steps d (held old at) t → (i : ℕ) × (i < k) × (note new at i ≡ t + 1)
@@ -105,6 +106,7 @@ module _ (d at words : ℕ) where
     most = omega arith;
     same = λ j h. refl;
     some = λ j h. absurd (omega arith);
+    sorted = λ i j h l. absurd (omega arith);
     none = λ j h l. absurd (omega arith);
     left = λ j h l. refl;
     found = λ t h. absurd (omega arith);
@@ -116,7 +118,8 @@ module _ (d at words : ℕ) where
   listing-passed s k old xs hs z p = record {
     most = omega (arith, p .most);
     same = p .same;
-    some = p .some;
+    some = λ j h. (let q = p .some j h in omega (arith, q .1));
+    sorted = p .sorted;
     none = λ j h l. none j h l (ℕ-discrete j s);
     left = λ j h l. p .left j (omega arith) l;
     found = λ t h f g. found t h f g (ℕ-discrete t s);
@@ -138,6 +141,7 @@ module _ (d at words : ℕ) where
     most = omega (arith, p .most);
     same = λ j h. same j h (ℕ-discrete j s);
     some = λ j h. (let q = p .some j h in omega (arith, ap note-in (older j (λ z. omega (arith, p .most)))));
+    sorted = λ i j h l. omega (arith, ap note-in (older i (λ z. omega (arith, p .most))), ap note-in (older j (λ z. omega (arith, p .most))), p .sorted i j h l);
     none = λ j h l. none j h l (ℕ-discrete j s);
     left = λ j h l. older j (λ z. omega arith) ∙ p .left j (omega arith) l;
     found = λ t h f g. found t h f g (ℕ-discrete t s);
@@ -212,9 +216,13 @@ module _ (d at words : ℕ) where
     earlier : (j : ℕ) → j < k → note zs at j ≡ note xs at j
     earlier j h = ap note-in (before j (λ z. omega arith) ∙ older j (λ z. omega (arith, p .most)))
 
-    some : (j : ℕ) → j < k + 1 → Dec (j ≡ k) → (1 ≤ note zs at j) × (note zs at j ≤ words)
+    some : (j : ℕ) → j < k + 1 → Dec (j ≡ k) → (1 ≤ note zs at j) × (note zs at j ≤ s + 1)
     some j h (yes e) = rw e (omega (arith, own), omega (arith, own))
     some j h (no e) = let q = p .some j (omega arith) in omega (arith, earlier j (omega arith))
+
+    sorted : (i j : ℕ) → i ≤ j → j < k + 1 → Dec (j ≡ k) → note zs at i ≤ note zs at j
+    sorted i j h l (yes e) = rw e (omega (arith, own, some i (omega arith) (ℕ-discrete i k) .1))
+    sorted i j h l (no e) = omega (arith, earlier i (omega arith), earlier j (omega arith), p .sorted i j h (omega arith))
 
     none : (j : ℕ) → k + 1 ≤ j → j < s + 1 → Dec (j ≡ s) → note zs at j ≡ 0
     none j h l (yes e) = rw e (ap note-in (before s (λ z. omega arith) ∙ put) ∙ note-plain w low)
@@ -229,6 +237,7 @@ module _ (d at words : ℕ) where
       most = omega (arith, p .most);
       same = λ j h. same j h (ℕ-discrete j k);
       some = λ j h. some j h (ℕ-discrete j k);
+      sorted = λ i j h l. sorted i j h l (ℕ-discrete j k);
       none = λ j h l. none j h l (ℕ-discrete j s);
       left = λ j h l. before j (λ z. omega (arith, p .most)) ∙ (older j (λ z. omega arith) ∙ p .left j (omega arith) l);
       found = λ t h f g. found t h f g (ℕ-discrete t s);
@@ -245,6 +254,7 @@ module _ (d at words : ℕ) where
     listed = λ t h f g. (let q = p .found t (below .flags t h f) f g in (q .0, omega (arith, q .1, p .most, below .most), q .2));
     notes = λ j h. notes j h (decLe k j);
     ended = λ i j h l z. none j l (past i j h z (decLe k i));
+    sorted = λ i j h l z. sorted i j h l z (decLe k j);
     rest = p .rest;
   }
     where
@@ -258,7 +268,11 @@ module _ (d at words : ℕ) where
 
       notes : (j : ℕ) → j < words → Dec (k ≤ j) → note new at j ≤ words
       notes j h (yes l) = omega (arith, none j h l)
-      notes j h (no l) = p .some j (omega arith) .1
+      notes j h (no l) = omega (arith, p .some j (omega arith) .1, below .most)
+
+      sorted : (i j : ℕ) → i ≤ j → j < words → 1 ≤ note new at j → Dec (k ≤ j) → note new at i ≤ note new at j
+      sorted i j h l z (yes m) = absurd (omega (arith, none j l m))
+      sorted i j h l z (no m) = p .sorted i j h (omega arith)
 
       past : (i j : ℕ) → i ≤ j → note new at i ≡ 0 → Dec (k ≤ i) → k ≤ j
       past i j h z (yes l) = omega arith

@@ -112,6 +112,7 @@ made-same {J} {le} {own} {normal-lengths} {normal-widths} {words} {i} {j} {old} 
   figures = λ s l. ap figure-in (e s l) ∙ w .figures s l;
   notes = λ k l. omega (arith, ap note-in (e k l), w .notes k l);
   ended = λ x k l m z. ap note-in (e k m) ∙ w .ended x k l m (sym (ap note-in (e x (omega arith))) ∙ z);
+  sorted = λ x k l m z. omega (arith, ap note-in (e x (omega arith)), ap note-in (e k m), w .sorted x k l m (omega (arith, ap note-in (e k m))));
   longer = covers-more le words _ _ _ _ (λ t l s. (s .0, s .1, ap note-in (e (s .0) (s .1)) ∙ s .2)) (w .longer);
   wider = covers-more le words _ _ _ _ (λ t l s. (s .0, s .1, ap note-in (e (s .0) (s .1)) ∙ s .2)) (w .wider);
 }
@@ -246,6 +247,7 @@ module _ {J : Job} {own : ℕ → ℕ} {normal-lengths length-floors normal-widt
     most = λ s m. omega (arith, w .figures s m, w .figures (words - 1) (omega arith), rising i j s (words - 1) (omega arith) (last-state blocks d words (spot .lent .digits) s m));
     notes = w .notes;
     ended = w .ended;
+    sorted = w .sorted;
   }
 
   -- cells of the column and of the row, in a table where words from here on were written
@@ -446,6 +448,7 @@ module _ {J : Job} {own : ℕ → ℕ} {normal-lengths length-floors normal-widt
           figures = λ s h. rw (← spot .at-is) (done .same s h ∙ figures s h);
           notes = λ k h. rw (← spot .at-is) (done .notes k h);
           ended = λ j k h l z. rw (← spot .at-is) (done .ended j k h l (rw (← spot .at-is) at z));
+          sorted = λ j k h l z. rw (← spot .at-is) (done .sorted j k h l (rw (← spot .at-is) at z));
           longer = listed (F (a - 1) b) (rising (a - 1) b) covers-length;
           wider = listed (F a (b - 1)) (rising a (b - 1)) covers-width;
         }

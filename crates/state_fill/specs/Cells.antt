@@ -117,6 +117,10 @@ Flagged xs x t = 1 ≤ note xs x t
 abbrev pub Listed : List ℕ → ℕ → ℕ → ℕ → Type 0
 Listed xs x words t = (k : ℕ) × (k < words) × (note xs x k ≡ t + 1)
 
+-- the states on the list of the cell from x on do not fall
+abbrev pub Sorted : List ℕ → ℕ → ℕ → Type 0
+Sorted xs x words = (j k : ℕ) → j ≤ k → k < words → 1 ≤ note xs x k → note xs x j ≤ note xs x k
+
 -- no figure of the cell is above f
 abbrev pub Low : (ℕ → ℕ) → ℕ → ℕ → List ℕ → Type 0
 Low f x words xs = (s : ℕ) → s < words → held xs x s ≤ f s
@@ -146,13 +150,14 @@ pub record Taken (le : ℕ → ℕ → Bool) (at words t u v : ℕ) (old new : L
   pub low : (f : ℕ → ℕ) → Rises le words f → (t + u < words → T (le t (t + u)) → v ≤ f (t + u)) → Low f at words old → Low f at words new
 
 -- a finished cell that can be read while the one from `at` on is made: it lies before that one, two figures can be added, the last state
--- has the greatest one, the list has states only, and nothing is noted past its end
+-- has the greatest one, the list has states only, which do not fall, and nothing is noted past its end
 pub record Ready (xs : List ℕ) (x words at : ℕ) : Type 0 where
   pub before : x + words ≤ at
   pub small : (s : ℕ) → s < words → held xs x s ≤ most-wide-figure
   pub most : (s : ℕ) → s < words → held xs x s ≤ held xs x (words - 1)
   pub notes : (k : ℕ) → k < words → note xs x k ≤ words
   pub ended : (j k : ℕ) → j ≤ k → k < words → note xs x j ≡ 0 → note xs x k ≡ 0
+  pub sorted : Sorted xs x words
 
 -- what is needed to take v at state t with the figures of the cell from `second` on
 pub record Joinable (blocks : List ℕ) (d words at second t v : ℕ) (xs : List ℕ) : Type 0 where
@@ -217,4 +222,5 @@ pub record Finished (d at words : ℕ) (old new : List ℕ) : Type 0 where
   pub listed : (t : ℕ) → t < words → Flagged old at t → Steps d (held old at) t → Listed new at words t
   pub notes : (k : ℕ) → k < words → note new at k ≤ words
   pub ended : (j k : ℕ) → j ≤ k → k < words → note new at j ≡ 0 → note new at k ≡ 0
+  pub sorted : Sorted new at words
   pub rest : Outside at (at + words) old new

@@ -15,7 +15,7 @@ use Rattle.table.specs.States.{figure-at, Covers}
 use Rattle.state_fill.specs.declared.shape.Shape.{Shape}
 use Rattle.state_fill.specs.declared.cells.Place.{Place}
 use Rattle.state_fill.specs.declared.parts.Line.{Line}
-use Rattle.state_fill.specs.Cells.{held, note, under, Digits, Summed, Listed, Level}
+use Rattle.state_fill.specs.Cells.{held, note, under, Digits, Summed, Listed, Sorted, Level}
 
 -- the cells of a cell's width, along the lengths
 abbrev pub length-line : Shape → Place → Line
@@ -37,12 +37,13 @@ tabled J le own normal-lengths normal-widths a b s = figure-at J le own (getD no
 abbrev pub cell : Job → ℕ → ℕ → ℕ → ℕ
 cell J words a b = (a * position-count J Width + b) * words
 
--- the cell is made: its words hold its figures, its list has states only and nothing is noted past its end, and the list covers the figures
--- over those of the cells before it
+-- the cell is made: its words hold its figures, its list has states only, which do not fall, nothing is noted past its end, and the list
+-- covers the figures over those of the cells before it
 pub record Made (J : Job) (le : ℕ → ℕ → Bool) (own : ℕ → ℕ) (normal-lengths normal-widths : List ℕ) (words a b : ℕ) (xs : List ℕ) : Type 0 where
   pub figures : (s : ℕ) → s < words → held xs (cell J words a b) s ≡ tabled J le own normal-lengths normal-widths a b s
   pub notes : (k : ℕ) → k < words → note xs (cell J words a b) k ≤ words
   pub ended : (j k : ℕ) → j ≤ k → k < words → note xs (cell J words a b) j ≡ 0 → note xs (cell J words a b) k ≡ 0
+  pub sorted : Sorted xs (cell J words a b) words
   pub longer : Covers le words (Listed xs (cell J words a b) words) (tabled J le own normal-lengths normal-widths a b) (tabled J le own normal-lengths normal-widths (a - 1) b)
   pub wider : Covers le words (Listed xs (cell J words a b) words) (tabled J le own normal-lengths normal-widths a b) (tabled J le own normal-lengths normal-widths a (b - 1))
 

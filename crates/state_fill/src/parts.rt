@@ -7,7 +7,8 @@ ghost use Prim.Native.Nat.{_+_};
 ghost use Rattle.state_fill.specs.Cells.{under, Summed, Growing, Ready, Joinable, JoinedWith, Joined, Cuttable, CutAt, Topped};
 
 // The cell takes v at state t together with the figure of each state that the cell from `second` on lists. Nothing is to be taken where
-// even the greatest figure of that cell, at its last state, gives no more than state t has.
+// even the greatest figure of that cell, at its last state, gives no more than state t has. Listed states do not fall: the first that is
+// past all states together with t is the end.
 fn join_with(
     table: &mut [u64],
     blocks: &[u32],
@@ -33,6 +34,9 @@ fn join_with(
             return high;
         }
         let u = listed - 1;
+        if words <= t + u {
+            return high;
+        }
         let sum = v + figure(table[second + u]);
         high = take(table, blocks, d, words, at, t, u, sum, high);
     }
