@@ -11,7 +11,7 @@ use Rattle.table.specs.Contracts.{FilledBy}
 use Rattle.storage.specs.declared.Layout.the-variants as layout
 use Rattle.storage.specs.Contracts.{LaidOut}
 use Rattle.storage.proofs.Storage.{refused-laid, ready-laid}
-use Rattle.bound.specs.Bound.{Memory, lent, answer-by, bound-report}
+use Rattle.bound.specs.Bound.{lent, answer-by, bound-report}
 use Rattle.bound.specs.declared.BoundAnswer.the-variants as answer
 use Rattle.bound.specs.declared.BoundReport.{BoundReport}
 use Rattle.bound.specs.Contracts.{Bounded}

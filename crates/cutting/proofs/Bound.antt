@@ -23,9 +23,9 @@ use Rattle.cutting.proofs.Weights.{within-weight, weight-within, by-wei
 use Rattle.cutting.proofs.Demands.{sum-le, keeps-weight}
 use Rattle.cutting.proofs.Ceiling.{figure-area, none-fits, copies-room, copies-area}
 use Rattle.cutting.proofs.Blade.{blade-figure}
-use Rattle.cutting.proofs.Members.{member-lies, member-kind, members-solid, widened-whole, laid-widened, widened-solid, range-solid}
+use Rattle.cutting.proofs.Members.{member-lies, member-kind, members-solid, widened-whole, laid-widened, range-solid}
 use Rattle.cutting.proofs.Job.{guillotine-plain, plain-guillotine}
-use Rattle.cutting.proofs.Laws.{figure-share, figure-larger}
+use Rattle.cutting.proofs.Laws.{figure-share}
 
 -- trees that lose the kerf at each cut, under any shares
 module _ (J : Job) (solid : SolidKinds J) {S : Type 0} (H : Shares Piece S) (mono : Monotone H) where
@@ -179,11 +179,6 @@ module _ (J : Job) (weight : ℕ → ℕ) where
       mul-le-mul (h .plate-length .1) (h .plate-width .1),
     )
 
-    -- so every figure of the table is at most 1,000,000,000,000
-    pub figure-low : (l w c : ℕ) → l ≤ widened J .plate .0 → w ≤ widened J .plate .1 → figure-of (widened J) weight l w c ≤ most-figure
-    figure-low l w c on-length on-width =
-        omega (arith, plate-low c, figure-larger (widened J) weight (widened-solid J (range-solid J h)) l w (widened J .plate .0) (widened J .plate .1) c on-length on-width)
-
-    -- and so is the bound
+    -- so the bound is at most 1,000,000,000,000
     pub bound-ceiling : bound-of J weight ≤ most-figure
     bound-ceiling = plate-low (capacity J weight)

@@ -15,7 +15,7 @@ use Rattle.cutting.specs.Figure.{leaf, best, figure}
 use Rattle.cutting.specs.Pieces.{Piece, kind, sized}
 use Rattle.cutting.specs.Saws.{saw, saw-half}
 use Rattle.cutting.specs.Shares.{by-weight, other, change, staged, stages, stages-below, root}
-use Rattle.cutting.specs.Job.{Job, laid, OnPlate, profit, weight-of, KeepsDemands, widened, capacity, members, pieces, by-kind, bound-of, normal-side, normal-floor, SolidKinds, InRange}
+use Rattle.cutting.specs.Job.{Job, laid, OnPlate, profit, weight-of, widened, capacity, members, pieces, by-kind, bound-of, normal-side, normal-floor, SolidKinds, InRange}
 use Rattle.cutting.specs.Listed.{plain, Listing}
 use Rattle.cutting.specs.Staged.{paths, changes, path-stages, no-cut, cuts-between, along, block, staged-under, staged-bound, WithinStages, NoneStaged, MostStaged, StagedRecursion, StagedFloors, OfBlock, StagedFiguresMost}
 use Rattle.cutting.proofs.Lists.{mem-range}
@@ -215,10 +215,6 @@ module _ (J : Job) (solid : SolidKinds J) (weight : ℕ → ℕ) (n : ℕ) where
   -- no tree within the limit that keeps every demand earns more
   pub staged-holds : NoneStaged J n (staged-bound J weight n)
   staged-holds t g k = staged-under-most J solid weight (capacity J weight) n t (g .0) (demands-weight J weight solid t (g .0) k) (g .1)
-
-  -- so one that earns it is best among those
-  pub staged-best : (t : Tree Piece) → profit J t ≡ staged-bound J weight n → (u : Tree Piece) → WithinStages J n u → KeepsDemands J u → profit J u ≤ profit J t
-  staged-best t e u g k = omega (arith, staged-holds u g k)
 
   -- no limit gives the most
   pub staged-less : staged-bound J weight n ≤ bound-of J weight

@@ -22,7 +22,7 @@ use Rattle.cutting.proofs.Weights.{by-weight-monotone, by-weight-symmet
 use Rattle.cutting.proofs.Reduction.{Sufficient, CutsAt, saw-normal-cuts, saw-figure, floor-figure}
 use Rattle.cutting.proofs.Half.{half-figure}
 use Rattle.cutting.proofs.Normal.{normal-sum, normal-above, normal-sufficient}
-use Rattle.cutting.proofs.Positions.{rising, entry-passes, passes-entry, passing-length, sparse-length, first-zero, floor-at}
+use Rattle.cutting.proofs.Positions.{rising, entry-passes, passes-entry, passing-length, first-zero, floor-at}
 use Rattle.cutting.proofs.Members.{members-above, members-solid}
 
 -- the normal lengths and widths of a job suffice for its pieces
@@ -72,11 +72,6 @@ module _ (J : Job) (d : Direction) where
   module _ (k : ℕ) (thick : KindsAbove k J) where
     pub positions-above : (x : ℕ) → 0 < x → T (normal-side J d x) → k < x
     positions-above x = normal-above (members J) (laid J) (J .plate) k (members-above J k thick) d x
-
-    -- and there are k fewer
-    pub positions-fewer : (n : ℕ) → side d (J .plate) ≡ n + k → length (normal-positions J d) ≤ suc n
-    unfolding normal-positions
-    positions-fewer n e = rw e (sparse-length (normal-side J d) k n positions-above)
 
   -- the largest normal position not above x is the last entry not above it
   pub positions-floor : (a x : ℕ) → x ≤ side d (J .plate) → a < length (normal-positions J d) → getD (normal-positions J d) a 0 ≤ x

@@ -2,7 +2,7 @@
 -- that second weights of 0 change nothing.
 use mathlib.Core.Path.{_≡_, refl, _∙_, ap₂}
 use mathlib.Core.List.{List, [], _∷_, map}
-use Prim.Native.Nat.{ℕ, zero, suc, _-_, _*_, _≤_, max}
+use Prim.Native.Nat.{ℕ, zero, suc, _*_, _≤_, max}
 use native.Mathlib.Nat.{sub-zero, mul-zero}
 use native.Mathlib.Omega.{arith}
 use Rattle.cutting.specs.Limits.{most-figure}

@@ -1,14 +1,13 @@
 -- The checks over a tree's kinds are those over its nodes, and they pass exactly where no cut of the tree is idle.
 use mathlib.Core.Path.{_≡_, refl, sym, _∙_, ap, ap₂}
 use mathlib.Core.Bool.{false}
-use mathlib.Core.List.{List, [], _∷_, _++_, map, append-assoc, append-nil}
+use mathlib.Core.List.{List, [], _∷_, _++_, append-assoc, append-nil}
 use Prim.Native.Nat.{ℕ, zero, suc, _+_, _-_}
 use native.Mathlib.Omega.{arith}
 use lib.Dec.{ltb, eqb}
 use borrow.Author.Tests.{lt-ltb, eqb-false, ne-eqb}
 use Rattle.cutting.specs.declared.Direction.{Direction}
 use Rattle.cutting.specs.declared.Direction.the-variants.{Length, Width}
-use Rattle.cutting.specs.declared.Node.{Node}
 use Rattle.cutting.specs.declared.Node.the-variants.{Cut}
 use Rattle.cutting.specs.Tree.{Tree, waste, piece, cut, total, piece-count, IdleFree}
 use Rattle.cutting.specs.Pieces as laid

@@ -7,7 +7,7 @@ use lib.ListN.{getD}
 use Rattle.cutting.specs.declared.Direction.{Direction}
 use Rattle.cutting.specs.declared.Direction.the-variants.{Length, Width}
 use Rattle.cutting.specs.declared.Node.{Node}
-use Rattle.cutting.specs.declared.Node.the-variants.{Waste, Piece, Cut}
+use Rattle.cutting.specs.declared.Node.the-variants.{Waste, Cut}
 use Rattle.cutting.specs.declared.Sides.{Sides}
 use Rattle.cutting.specs.Tree.{Rect, side}
 use Rattle.cutting.specs.Pieces as laid

@@ -6,7 +6,6 @@ use Prim.Native.Nat.{ℕ, _+_, _*_, _≤_, _^_}
 use Rattle.cutting.specs.Tree.{Rect}
 use Rattle.cutting.specs.declared.Node.{Node}
 use Rattle.cutting.specs.declared.Node.the-variants.{Piece, Turned}
-use Rattle.cutting.specs.Pieces as laid
 use Rattle.cutting.specs.Pieces.{quarter}
 use Rattle.cutting.specs.Job.{Job}
 use Rattle.refusal.specs.Refusals.{first-refusal}
@@ -21,12 +20,7 @@ abbrev pub lying-as : Bool → Rect → Rect
 lying-as false r = r
 lying-as true r = quarter r
 
--- the piece of a kind's number, by whether it is turned
-abbrev pub piece-as : Bool → ℕ → laid.Piece
-piece-as false i = laid.upright i
-piece-as true i = laid.turned i
-
--- the node that lays it
+-- the node that lays a piece of a kind's number, by whether it is turned
 abbrev pub laying : Bool → ℕ → Node
 laying false i = Piece i
 laying true i = Turned i

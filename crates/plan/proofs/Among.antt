@@ -4,18 +4,17 @@ use mathlib.Core.Path.{_≡_, _∙_, sym, ap}
 use mathlib.Core.List.{List, [], _∷_, _++_, append-nil}
 use Prim.Native.Nat.{ℕ, _+_, _≤_}
 use native.Mathlib.Omega.{arith}
-use lib.ListN.{length, take, drop}
+use lib.ListN.{length, take}
 use lib.Seq.{length-take-le}
 use Rattle.cutting.specs.Tree.{Tree}
 use Rattle.cutting.specs.Pieces as laid
 use Rattle.cutting.specs.Preorder.{node-count}
 use Rattle.cutting.specs.Job.{Job, OnPlate, KeepsDemands}
-use Rattle.refusal.specs.declared.Checked.{Checked}
 use Rattle.refusal.specs.declared.Checked.the-variants.{Passed}
 use Rattle.plan.specs.declared.Report.{Report}
 use Rattle.plan.specs.declared.PlanAnswer.{PlanAnswer}
 use Rattle.plan.specs.declared.TreeAnswer.{TreeAnswer}
-use Rattle.plan.specs.Plan.{tree-passed, tree-walk, walk, passed, empty-report}
+use Rattle.plan.specs.Plan.{tree-passed, tree-walk, walk, empty-report}
 use Rattle.plan.specs.Trees.{tree-report}
 use Rattle.plan.proofs.Preorder.{written, count-written}
 use Rattle.plan.proofs.Trees.{tree-walks}

@@ -1,7 +1,7 @@
 -- A plan's own checks, answer by answer: the walk over its tree comes first, then 26 over the tree's nodes, which lie inside the arrays.
 use mathlib.Core.Path.{_≡_, _∙_, refl, sym, ap}
 use mathlib.Core.List.{List}
-use Prim.Native.Nat.{ℕ, _+_, _-_, _≤_}
+use Prim.Native.Nat.{ℕ, _+_, _≤_}
 use native.Mathlib.Omega.{arith}
 use lib.ListN.{length, drop, length-drop}
 use Rattle.cutting.specs.Job.{Job}

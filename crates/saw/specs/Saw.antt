@@ -33,17 +33,19 @@ saw-checks s choices = checks-by header-checks demand-checks s choices
 abbrev pub SawPasses : List ℕ → Choices → Type 0
 SawPasses s choices = first-refusal (saw-checks s choices) ≡ Passed
 
--- the saw's record and its job: every price is 0
+-- the saw's record: every price is 0
 abbrev pub saw-record : List ℕ → Choices → JobRecord
 saw-record s choices = unpriced (record-of s choices)
 
+-- the job of that record
 abbrev pub saw-job : List ℕ → Choices → Job
 saw-job s choices = job-of (saw-record s choices)
 
--- what the saw's reading of a block answers, and its number and values
+-- what the saw's reading of a block answers
 abbrev pub saw-read : List ℕ → Choices → JobAnswer
 saw-read s choices = read-by (first-refusal (saw-checks s choices)) (saw-record s choices)
 
+-- its number and values
 abbrev pub saw-read-said : List ℕ → Choices → Outcome
 saw-read-said s choices = outcome-by (first-refusal (saw-checks s choices)) (job-values (saw-record s choices))
 

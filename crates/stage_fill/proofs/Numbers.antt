@@ -11,7 +11,6 @@ use lib.ListN.{length, getD, drop}
 use Rattle.cutting.specs.declared.Direction.{Direction}
 use Rattle.cutting.specs.declared.Direction.the-variants.{Length, Width}
 use Rattle.cutting.specs.Limits.{most-wide-figure, most-pieces}
-use Rattle.cutting.specs.Tree.{side}
 use Rattle.cutting.specs.Shares.{other}
 use Rattle.cutting.specs.Job.{Job}
 use Rattle.cutting.specs.Listed.{InTableRange}

@@ -20,11 +20,12 @@ use Rattle.state_fill.specs.Tables.{CellsLent, Counted}
 use Rattle.stage_fill.specs.declared.blocks.Block.{Block}
 use Rattle.stage_fill.specs.Cells.{Made}
 
--- the direction of a block's first cuts
+-- the direction of first cuts, by whether they are of the width
 abbrev pub direction-of : Bool → Direction
 direction-of true = Width
 direction-of false = Length
 
+-- the direction of a block's first cuts
 abbrev pub first-of : Block → Direction
 first-of block = direction-of (block .«width_first»)
 

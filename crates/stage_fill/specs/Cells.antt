@@ -4,7 +4,6 @@ use mathlib.Core.Path.{_≡_}
 use mathlib.Core.List.{List}
 use Prim.Native.Nat.{ℕ, _+_, _-_, _*_, _≤_, _<_, max}
 use lib.Dec.{leb}
-use lib.ListN.{length}
 use Rattle.cutting.specs.Limits.{most-pieces}
 use Rattle.cutting.specs.Job.{Job}
 use Rattle.table.specs.Words.{Run, Cuts}

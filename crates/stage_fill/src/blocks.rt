@@ -7,13 +7,11 @@ use table::half;
 use table::set_run;
 use table::widen;
 ghost use mathlib.Core.Path.{_≡_};
-ghost use Prim.Native.Nat.{ℕ, _+_, _-_, _*_, _≤_, _<_};
-ghost use lib.ListN.{length, getD, drop};
-ghost use Rattle.cutting.specs.Limits.{most-limit};
+ghost use Prim.Native.Nat.{_+_, _-_, _*_, _≤_, _<_};
 ghost use Rattle.cutting.specs.Listed.{heavy-in};
 ghost use Rattle.cutting.specs.Shares.{other};
 ghost use Rattle.table.specs.Staged.{block-number};
-ghost use Rattle.table.specs.Words.{HalfReady, Half};
+ghost use Rattle.table.specs.Words.{HalfReady};
 ghost use Rattle.state_fill.specs.Tables.{job-in};
 ghost use Rattle.stage_fill.specs.Blocks.{first-of, Numbered, LineTo, BlockLent, Below, block-start, BlockMade, StageLent, StagesLent, StagesMade};
 

@@ -24,19 +24,22 @@ staged-as k t = by-check (first-refusal (limit-checks k t)) (answer.Within (stag
 abbrev pub StagesOf : List ℕ → ℕ → Staged → Type 0
 StagesOf ks k r = (t : Tree laid.Piece) → ks ≡ kinds-of t → r ≡ staged-as k t
 
--- several trees, one after another: their kinds, their nodes, the stages that they need below cuts in direction d, and check 23
+-- the kinds of several trees, one after another
 unfoldable pub kinds-all : List (Tree laid.Piece) → List ℕ
 kinds-all [] = []
 kinds-all (t ∷ ts) = kinds-of t ++ kinds-all ts
 
+-- the number of their nodes
 unfoldable pub count-all : List (Tree laid.Piece) → ℕ
 count-all [] = 0
 count-all (t ∷ ts) = node-count t + count-all ts
 
+-- the most stages that they need below cuts in direction d
 unfoldable pub most-below : Direction → List (Tree laid.Piece) → ℕ
 most-below d [] = 0
 most-below d (t ∷ ts) = max (stages-below d t) (most-below d ts)
 
+-- check 23 of each, nodes numbered on
 unfoldable pub checks-all : Direction → ℕ → ℕ → List (Tree laid.Piece) → List Check
 checks-all d k n [] = []
 checks-all d k n (t ∷ ts) = stage-checks d k n t ++ checks-all d k (n + node-count t) ts

@@ -30,6 +30,7 @@ pub fn limit_outside(limit: u32) -> bool
     8 < limit
 }
 
+// The greater of two numbers of stages.
 fn more(a: u8, b: u8) -> u8
     ensures { λ r. ⌜ r ≡ max a b ⌝ }
 {

@@ -31,11 +31,9 @@ use Rattle.cutting.proofs.Stages.{staged-within, within-staged, staged-fewer, s
 use Rattle.cutting.proofs.Staged.{block-figure}
 use Rattle.cutting.proofs.Table.{sides-suffice}
 use Rattle.table.specs.Contracts.{Positions}
-use Rattle.table.specs.Table.{position-count, words-needed}
-use Rattle.table.specs.Staged.{block-number, staged-words, staged-word}
+use Rattle.table.specs.Staged.{block-number}
 use Rattle.table.specs.Words.{Half, remainder}
 use Rattle.table.specs.States.{by-state, Order, block-at}
-use Rattle.table.proofs.Words.{cell-before}
 use Rattle.table.proofs.Figures.{entry-side}
 use Rattle.table.proofs.Shares.{state-split, within-above, by-state-monotone, by-state-symmetric}
 use Rattle.table.proofs.Weighed.{one-within, within-one}
@@ -199,11 +197,3 @@ block-number-apart J le own order fit (suc k) (suc m) Length Length h = ap (λ k
 block-number-apart J le own order fit (suc k) (suc m) Length Width h = absurd (omega arith)
 block-number-apart J le own order fit (suc k) (suc m) Width Length h = absurd (omega arith)
 block-number-apart J le own order fit (suc k) (suc m) Width Width h = ap (λ k. block-at J le own k Width) (omega arith)
-
--- every word of the blocks up to the limit is within those that the staged table needs
-pub staged-word-below : (J : Job) (q n k : ℕ) (d : Direction) (a b c : ℕ) → k ≤ n → a < position-count J Length → b < position-count J Width → c ≤ q → staged-word J q k d a b c < staged-words J q n
-staged-word-below J q n k d a b c h ha hb hc = omega (
-  arith,
-  cell-before (a * position-count J Width + b) (position-count J Length * position-count J Width) (q + 1) (omega (arith, cell-before a (position-count J Length) (position-count J Width) ha)),
-  mul-le-mul-right {m = block-number k d + 1} {n = 2 * n + 1} (words-needed J q) (omega (arith, block-number-below n k d h)),
-)

@@ -1,10 +1,7 @@
 -- `job::read_unpriced` meets its contract.
-use mathlib.Core.Path.{_∙_, ap}
 use borrow.Author.Needs.{needs}
-use native.Mathlib.Omega.{arith}
 use Rattle.job.specs.Block.{record-of}
 use Rattle.job.proofs.Entries.{entries-none}
-use Rattle.job.proofs.Read.{sizes-least}
 use Rattle.job.proofs.read_unpriced.Statement.{statement}
 use Rattle.job.proofs.read_unpriced.Tie as tie
 

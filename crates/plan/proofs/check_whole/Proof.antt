@@ -1,7 +1,6 @@
 -- `plan::check_whole` meets its contract: 10 comes before 11.
 use mathlib.Core.Path.{sym}
 use denote.Ref.{now}
-use borrow.Author.Needs.{needs}
 use Rattle.plan.proofs.Whole.{length-refused, none-refused, many-refused, whole-passes}
 use Rattle.plan.proofs.check_whole.Statement.{statement}
 use Rattle.plan.proofs.check_whole.Tie as tie

@@ -2,7 +2,6 @@
 use mathlib.Core.Path.{ap}
 use borrow.Author.Needs.{needs}
 use Rattle.plan.specs.declared.PlanAnswer.{PlanAnswer}
-use Rattle.plan.specs.declared.TreeAnswer.{TreeAnswer}
 use Rattle.plan.proofs.stop_tree.Statement.{statement}
 use Rattle.plan.proofs.stop_tree.Tie as tie
 

@@ -2,7 +2,7 @@
 use borrow.Author.Needs.{needs}
 use native.Mathlib.Omega.{arith}
 use mathlib.Core.Path.{refl}
-use Prim.Native.Nat.{_*_, _-_}
+use Prim.Native.Nat.{_*_}
 use Rattle.stage_fill.proofs.Filling.{stages-kept, stage-block, made-then, length-next, width-next}
 use Rattle.stage_fill.proofs.blocks.fill_stage.Statement.{statement}
 use Rattle.stage_fill.proofs.blocks.fill_stage.Tie as tie
