@@ -7,7 +7,6 @@ use native.Mathlib.Omega.{arith}
 use borrow.Author.Count.{below-more}
 use lib.ListN.{getD}
 use Rattle.table.specs.Words.{HalfReady, Half, remainder, Cuts, Axis}
-use Rattle.table.proofs.Words.{cell-before}
 
 -- an entry up to half of entry b is not entry b
 pub half-below : (positions : List ℕ) (b half-end : ℕ) → half-end ≤ b → 0 < getD positions b 0 → 2 * getD positions half-end 0 ≤ getD positions b 0 → half-end < b
@@ -66,7 +65,3 @@ module _ (positions floors : List ℕ) (count : ℕ) (axis : Axis positions floo
 -- the index of the remainder's floor, as the code reads it
 pub remainder-is : (positions floors : List ℕ) (a i whole part y : ℕ) → whole ≡ getD positions a 0 → part ≡ getD positions i 0 → y ≡ getD floors (whole - part) 0 → y ≡ remainder positions floors a i
 remainder-is positions floors a i whole part y e f g = cc
-
--- the words of an earlier entry come before those of entry a
-pub entry-before : (at base stride a i : ℕ) → i < a → at ≡ base + a * stride → base + i * stride + stride ≤ at
-entry-before at base stride a i h e = omega (arith, cell-before i a stride h)
