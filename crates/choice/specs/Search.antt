@@ -77,11 +77,12 @@ abbrev pub or-length-cut : CutFound → Chosen → Chosen
 or-length-cut cut.Missing r = r
 or-length-cut (cut.At x k) r = record { node = Cut Length x; share = k }
 
--- the search for a length cut of a cell, and for a width cut
+-- the search for a length cut of a cell
 abbrev pub length-search : TableSize → Cell → Place → CutSearch
 length-search size cell at =
     record { side = cell .sides .length; last = at .a; stride = size .columns * (size .capacity + 1); base = at .b * (size .capacity + 1); share = cell .share; value = at .value }
 
+-- the search for a width cut
 abbrev pub width-search : TableSize → Cell → Place → CutSearch
 width-search size cell at =
     record { side = cell .sides .width; last = at .b; stride = size .capacity + 1; base = at .a * (size .columns * (size .capacity + 1)); share = cell .share; value = at .value }
