@@ -285,7 +285,7 @@ uint32_t planner_check_plan_staged(
 /* Computes the staged bound (refusals 1 to 9, 27, 22, 19, 20) and fills the storage within the limit. The
  * bound is exactly the most that a guillotine tree on the plate of at most that many stages and of
  * weight at most the capacity earns, and no tree of at most that many stages that keeps every demand
- * earns more.
+ * earns more. With the same weights and limit, the bound is never above that with PLANNER_FULL_DEMAND.
  * answer[0] bound, answer[1] capacity, answer[2] p, answer[3] r. */
 uint32_t planner_bound_staged(
     const uint8_t *job, size_t job_len,
@@ -318,7 +318,7 @@ uint32_t planner_certify_staged(
  * of two weights. The bound is exactly the most that a guillotine tree on the plate within both
  * capacities earns, and no tree that keeps every demand earns more. With as many second weights as first,
  * all of them 0, the second capacity is 0, and all else is as planner_bound of the first answers and
- * leaves it.
+ * leaves it. With the same weights, the bound is never above that with PLANNER_FULL_DEMAND.
  * answer[0] bound, answer[1] first capacity, answer[2] second, answer[3] p, answer[4] r. */
 uint32_t planner_bound_two(
     const uint8_t *job, size_t job_len,

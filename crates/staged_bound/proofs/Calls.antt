@@ -2,17 +2,20 @@
 use mathlib.Core.Path.{_≡_, refl, sym, _∙_, ap, subst}
 use mathlib.Core.Bool.{true, false}
 use mathlib.Core.List.{List, [], _∷_}
-use Prim.Native.Nat.{ℕ}
+use Prim.Native.Nat.{ℕ, _≤_}
 use native.Mathlib.Omega.{arith}
+use Rattle.cutting.specs.declared.Direction.{Direction}
+use Rattle.cutting.specs.declared.Direction.the-variants.{Length, Width}
 use Rattle.cutting.specs.declared.Sides.{Sides}
 use Rattle.cutting.specs.Sides.{rect-of, sides-of}
 use Rattle.cutting.specs.Limits.{most-limit}
-use Rattle.cutting.specs.Job.{Job, InRange, widened, capacity}
-use Rattle.cutting.specs.Staged.{staged-bound}
+use Rattle.cutting.specs.Job.{Job, SolidKinds, InRange, widened, capacity, at-full-demand, ordered, members, pieces}
+use Rattle.cutting.specs.Staged.{block, staged-bound}
 use Rattle.cutting.specs.Listed.{heavy-in, pieces-job, PieceArray}
 use Rattle.cutting.proofs.Members.{range-solid, widened-solid}
 use Rattle.cutting.proofs.Finer.{staged-finer}
-use Rattle.cutting.proofs.Staged.{block-recursion, block-floor, block-most, staged-most, staged-holds, staged-more, staged-less, staged-ceiling}
+use Rattle.cutting.proofs.Bound.{capacity-less}
+use Rattle.cutting.proofs.Staged.{block-figure, block-recursion, block-floor, block-most, staged-under-most, staged-under-earned, staged-most, staged-holds, staged-more, staged-less, staged-ceiling}
 use Rattle.cutting.proofs.Promises.{normal-listed}
 use Rattle.refusal.specs.Refusals.{next, first-refusal, outcome-by}
 use Rattle.refusal.specs.declared.Refusal.{Refusal}
@@ -39,6 +42,24 @@ use Rattle.staged_bound.specs.Staged.{staged-checks, StagedLeaves, limit
 use Rattle.staged_bound.specs.Contracts.{Stageable, Staged}
 use Rattle.staged_bound.proofs.Listed.{pieces-staged}
 
+-- the staged bound of the full demands is no less: its blocks are the same, and its capacity is no less
+module _ (J : Job) (solid : SolidKinds J) (weight : ℕ → ℕ) (n : ℕ) where
+  same-block : (d : Direction) (l w c : ℕ) → block (widened (at-full-demand J)) weight n d l w c ≡ block (widened J) weight n d l w c
+  unfolding pieces members ordered
+  same-block d l w c = block-figure (widened (at-full-demand J)) weight n d l w c ∙ sym (block-figure (widened J) weight n d l w c)
+
+  staged-full : staged-bound J weight n ≤ staged-bound (at-full-demand J) weight n
+  staged-full =
+      let q = capacity (at-full-demand J) weight in
+      let e = staged-under-earned J solid weight (capacity J weight) n in
+      omega (
+        arith,
+        e .3,
+        staged-under-most J solid weight q n (e .0) (e .1 .0) (omega (arith, e .2, capacity-less J weight)) (e .1 .1),
+        same-block Length (widened J .plate .0) (widened J .plate .1) q,
+        same-block Width (widened J .plate .0) (widened J .plate .1) q,
+      )
+
 -- the staged bound of a job in range holds at its capacity
 staged-held : (J : Job) (weight : ℕ → ℕ) (n : ℕ) → InRange J → StagedHolds J weight n (capacity J weight) (staged-bound J weight n)
 staged-held J weight n h = record {
@@ -50,6 +71,7 @@ staged-held J weight n h = record {
   capacity-is = refl;
   more = λ k l. staged-more J (range-solid J h) weight (capacity J weight) n k l;
   less = staged-less J (range-solid J h) weight n;
+  full-demand = staged-full J (range-solid J h) weight n;
 }
 
 said-by : (v : Checked) (b : BoundReport) → bound-outcome (answer-by v b) ≡ outcome-by v (report-values b)

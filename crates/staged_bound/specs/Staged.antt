@@ -6,7 +6,7 @@ use Prim.Native.Nat.{ℕ, _≤_, max}
 use lib.ListN.{length}
 use Rattle.cutting.specs.declared.Direction.the-variants.{Length, Width}
 use Rattle.cutting.specs.Limits.{most-figure}
-use Rattle.cutting.specs.Job.{Job, capacity, bound-of, normal-positions}
+use Rattle.cutting.specs.Job.{Job, capacity, at-full-demand, bound-of, normal-positions}
 use Rattle.cutting.specs.Promises.{NormalSums}
 use Rattle.cutting.specs.Staged.{block, staged-under, staged-bound, MostStaged, NoneStaged, NoneStagedFiner, StagedRecursion, StagedFloors, StagedFiguresMost}
 use Rattle.refusal.specs.Refusals.{Check, Outcome, next, first-refusal, by-check, outcome-by}
@@ -71,7 +71,7 @@ staged-said s choices ws n m = outcome-by (staged-verdict s choices ws n m) (rep
 -- what a staged bound m at the limit n and the capacity q is: the most that a guillotine tree of at most n stages and of weight at most q
 -- earns; no less than any tree of at most n stages that keeps the demands earns, cut at whole units or finer; at most 1,000,000,000,000; the
 -- greater of the two blocks of the limit, the kerf added to every side, at the plate and q. The capacity is the job's. A higher
--- limit gives no less, and the bound without a limit is no less
+-- limit gives no less, and the bound without a limit and that of the full demands are no less
 pub record StagedHolds (J : Job) (weight : ℕ → ℕ) (n q m : ℕ) : Type 0 where
   pub most : MostStaged J weight n q m
   pub demands : NoneStaged J n m
@@ -81,6 +81,7 @@ pub record StagedHolds (J : Job) (weight : ℕ → ℕ) (n q m : ℕ) : Type 0 w
   pub capacity-is : q ≡ capacity J weight
   pub more : (k : ℕ) → n ≤ k → m ≤ staged-under J weight k q
   pub less : m ≤ bound-of J weight
+  pub full-demand : m ≤ staged-bound (at-full-demand J) weight n
 
 -- what the staged bound call promises of its answer and of the memory that it is lent: as the bound call does; where job and weights are
 -- accepted, every figure of a block is the most that a tree of the block earns there

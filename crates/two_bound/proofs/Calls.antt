@@ -6,11 +6,12 @@ use native.Mathlib.Omega.{arith}
 use lib.ListN.{length}
 use Rattle.cutting.specs.declared.Sides.{Sides}
 use Rattle.cutting.specs.Sides.{rect-of, sides-of}
-use Rattle.cutting.specs.Job.{Job, InRange, widened, capacity}
+use Rattle.cutting.specs.Job.{Job, SolidKinds, InRange, widened, capacity, at-full-demand, ordered, members, pieces}
 use Rattle.cutting.specs.Two.{figure-two, two-bound, TwoFiguresMost}
 use Rattle.cutting.specs.Listed.{heavy-in, pieces-job, PieceArray}
 use Rattle.cutting.proofs.Members.{range-solid, widened-solid}
 use Rattle.cutting.proofs.Finer.{none-finer}
+use Rattle.cutting.proofs.Bound.{capacity-less}
 use Rattle.cutting.proofs.Two.{two-recursion, two-floor, two-figures, two-most, two-holds, two-ceiling}
 use Rattle.cutting.proofs.Promises.{normal-listed}
 use Rattle.refusal.specs.Refusals.{next, first-refusal, outcome-by}
@@ -38,6 +39,24 @@ use Rattle.two_bound.proofs.States.{statable, stated-array}
 use Rattle.two_bound.proofs.Listed.{pieces-paired}
 use Rattle.two_bound.proofs.One.{one-answer, one-memory}
 
+-- the bound of the full demands is no less: its figures are the same, and its capacities are no less
+module _ (J : Job) (first second : ℕ → ℕ) where
+  same-figure : (l w c c′ : ℕ) → figure-two (widened (at-full-demand J)) first second l w c c′ ≡ figure-two (widened J) first second l w c c′
+  unfolding figure-two pieces members ordered
+  same-figure l w c c′ = refl
+
+  two-full : SolidKinds J → two-bound J first second ≤ two-bound (at-full-demand J) first second
+  two-full solid =
+      let q = capacity (at-full-demand J) first in
+      let q′ = capacity (at-full-demand J) second in
+      let e = two-most J first second solid (capacity J first) (capacity J second) .1 in
+      omega (
+        arith,
+        e .1 .2,
+        two-most J first second solid q q′ .0 (e .0) (e .1 .0) (omega (arith, e .1 .1 .0, capacity-less J first), omega (arith, e .1 .1 .1, capacity-less J second)),
+        same-figure (widened J .plate .0) (widened J .plate .1) q q′,
+      )
+
 -- the bound of a job in range holds at its capacities
 two-held : (J : Job) (first second : ℕ → ℕ) → InRange J → TwoHolds J first second (capacity J first) (capacity J second) (two-bound J first second)
 two-held J first second h = record {
@@ -48,6 +67,7 @@ two-held J first second h = record {
   figure = refl;
   first-is = refl;
   second-is = refl;
+  full-demand = two-full J first second (range-solid J h);
 }
 
 said-by : (v : Checked) (b : TwoReport) → two-outcome (two-answer-by v b) ≡ outcome-by v (two-values b)

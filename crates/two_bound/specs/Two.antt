@@ -8,7 +8,7 @@ use lib.Dec.{ltb, eqb}
 use lib.ListN.{length}
 use Rattle.cutting.specs.declared.Direction.the-variants.{Length, Width}
 use Rattle.cutting.specs.Limits.{most-capacity, most-pairs, most-figure}
-use Rattle.cutting.specs.Job.{Job, capacity, normal-positions}
+use Rattle.cutting.specs.Job.{Job, capacity, at-full-demand, normal-positions}
 use Rattle.cutting.specs.Promises.{NoneAbove, NoneFiner, NormalSums}
 use Rattle.cutting.specs.Two.{figure-two, two-under, two-bound, MostTwo, TwoFiguresMost, TwoRecursion, TwoFloors}
 use Rattle.refusal.specs.Refusals.{Check, Outcome, next, first-refusal, by-check, refused-as, outcome-by}
@@ -106,7 +106,7 @@ two-said s choices first second m = outcome-by (two-verdict s choices first seco
 
 -- what a bound n at the capacities q and q′ is: the most that a guillotine tree of weights at most q and q′ earns; no less than any tree
 -- that keeps the demands earns, cut at whole units or finer; at most 1,000,000,000,000; the recursion's figure, the kerf added to every
--- side, at the plate, q and q′. The capacities are the job's
+-- side, at the plate, q and q′. The capacities are the job's, and the bound of the full demands is no less
 pub record TwoHolds (J : Job) (first second : ℕ → ℕ) (q q′ n : ℕ) : Type 0 where
   pub most : MostTwo J first second q q′ n
   pub demands : NoneAbove J n
@@ -115,6 +115,7 @@ pub record TwoHolds (J : Job) (first second : ℕ → ℕ) (q q′ n : ℕ) : Ty
   pub figure : n ≡ two-under J first second q q′
   pub first-is : q ≡ capacity J first
   pub second-is : q′ ≡ capacity J second
+  pub full-demand : n ≤ two-bound (at-full-demand J) first second
 
 -- the bound call's answer with a second capacity of 0
 abbrev pub with-second-none : BoundAnswer → TwoAnswer
