@@ -13,9 +13,9 @@ use Rattle.cutting.specs.Tree.{total}
 use Rattle.cutting.specs.Figure.{leaf, best, step, after, figure}
 use Rattle.cutting.specs.Pieces.{sized}
 use Rattle.cutting.specs.Saws.{floor, saw-normal, saw-written}
-use Rattle.cutting.specs.Shares.{by-weight, root, stages, stages-below}
+use Rattle.cutting.specs.Shares.{by-weight, stages, stages-below}
 use Rattle.cutting.specs.Promises.{NoneAbove}
-use Rattle.cutting.specs.Staged.{along, block, staged-bound, NoneStaged}
+use Rattle.cutting.specs.Staged.{changes, along, block, staged-bound, NoneStaged}
 use Rattle.cutting.specs.Normal.{summed, normal?, sides}
 use Rattle.cutting.specs.Choice.{choice, plan-within, written, sawn}
 use Rattle.cutting.specs.Preorder.{preorder, kinds-of, operands-of, node-count}
@@ -34,7 +34,7 @@ use Rattle.plan.specs.Trees.{trees-in}
 use Rattle.plan.specs.Calls.{JobPasses}
 use Rattle.saw.specs.Saw.{saw-checks}
 use Rattle.saw.specs.Parts.{extent}
-use Rattle.stages.specs.Stages.{stage-checks}
+use Rattle.stages.specs.Stages.{node-paths, above-checks}
 use Rattle.neat.specs.Neat.{block-neat}
 use Rattle.writer.specs.Write.{block-plan}
 use Rattle.examples.specs.Examples as line
@@ -126,7 +126,7 @@ module _ (a b c d e f weight : ℕ) where
 module _ (pair ws : List ℕ) (good : Accepted (misfit-job pair) old-block ws) where
   -- the table's computations, line by line
   computed : AllComputed (marked pair ws)
-  unfolding marked range sum filter each any greatest leaf best step after figure sized floor saw-normal saw-written by-weight summed normal? sides choice plan-within written sawn lossless-plan preorder kinds-of operands-of node-count ordered members pieces normal-positions plan-of first-refusal each-kind job-checks entries record-of walk walk-answer pieceless idle-checks plan-answer total trees-in used neat saw-checks extent root stages stages-below stage-checks along block
+  unfolding marked range sum filter each any greatest leaf best step after figure sized floor saw-normal saw-written by-weight summed normal? sides choice plan-within written sawn lossless-plan preorder kinds-of operands-of node-count ordered members pieces normal-positions plan-of first-refusal each-kind job-checks entries record-of walk walk-answer pieceless idle-checks plan-answer total trees-in used neat saw-checks extent stages stages-below changes node-paths above-checks along block
   computed =
       refl
       and refl

@@ -79,8 +79,9 @@ pub record StagedPlanOf (J : Job) (n : ℕ) (t : Tree Piece) (kinds operands : L
   pub within : stages t ≤ n
 
 -- where what stands before the plan's checks holds, an answer passes exactly for the plan of a tree of at most n stages; it then reports
--- that tree and its stages, which are the most changes of direction on a path plus one, and a refusal reports zeros. The plan of a tree of more stages is refused for the first cut in preorder whose
--- path passes the limit, and what the plan check refuses is refused as there
+-- that tree and its stages, which are the most changes of direction on a path plus one, and a refusal reports zeros. The plan of a tree of
+-- more stages is refused for the first cut in preorder whose path, from the plate down through it, passes the limit, and what the plan
+-- check refuses is refused as there
 pub record ChecksStaged (Before : Type 0) (J : Job) (n : ℕ) (kinds operands : List ℕ) (a : StagedAnswer) : Type 0 where
   pub passes : Before → (t : Tree Piece) → StagedPlanOf J n t kinds operands → a .verdict ≡ Passed
   pub before : a .verdict ≡ Passed → Before

@@ -1,7 +1,7 @@
 -- The check of a limit; the checks of a tree, which pass exactly where its stages are within the limit and else name a cut.
-use mathlib.Core.Path.{_≡_, refl, sym, _∙_, ap, subst}
+use mathlib.Core.Path.{_≡_, refl, sym, _∙_, ap}
 use mathlib.Core.Bool.{Bool, true, false, _||_}
-use mathlib.Core.List.{[], _∷_}
+use mathlib.Core.List.{List, [], _∷_, map}
 use Prim.Native.Nat.{ℕ, _+_, _-_, _≤_}
 use native.Mathlib.Omega.{arith}
 use borrow.Author.Tests.{lt-leb, leb-false, ltb-false}
@@ -11,6 +11,7 @@ use Rattle.cutting.specs.Limits.{most-limit}
 use Rattle.cutting.specs.Tree.{Tree, waste, piece, cut}
 use Rattle.cutting.specs.Pieces as laid
 use Rattle.cutting.specs.Shares.{change, stages-below, root, stages}
+use Rattle.cutting.specs.Staged.{path-stages}
 use Rattle.cutting.specs.Preorder.{node-count}
 use Rattle.cutting.proofs.Stages.{root-stages}
 use Rattle.refusal.specs.declared.Refusal.{Refusal}
@@ -19,10 +20,11 @@ use Rattle.refusal.specs.declared.Checked.{Checked}
 use Rattle.refusal.specs.declared.Checked.the-variants.{Passed, Refused}
 use Rattle.refusal.specs.Refusals.{next, refuse-when, by-check, place-of, first-refusal}
 use Rattle.job.specs.Block.{outside}
-use Rattle.job.proofs.Checks.{first-append, cons-passed, append-passed, passed-append}
+use Rattle.job.proofs.Checks.{cons-passed, append-passed, passed-append}
 use Rattle.stages.specs.declared.Staged.the-variants as answer
-use Rattle.stages.specs.Stages.{limit-check, stage-checks, limit-checks}
-use Rattle.stages.specs.Walks.{staged-as}
+use Rattle.stages.specs.Stages.{limit-check, node-paths, above-checks, limit-checks}
+use Rattle.stages.specs.Walks.{staged-as, stage-checks}
+use Rattle.stages.proofs.Place.{by-paths}
 
 -- the check of the limit
 pub limit-by : (n : ℕ) (b : Bool) → outside 1 most-limit n ≡ b → first-refusal (limit-check n ∷ []) ≡ next (refuse-when b StageLimit) Passed
@@ -57,11 +59,11 @@ below-passed (cut e x a b) d k n h =
 
 -- where check 23 passes, the plan's stages are within the limit
 pub passed-within : (t : Tree laid.Piece) (k : ℕ) → first-refusal (limit-checks k t) ≡ Passed → stages t ≤ k
-passed-within t k h = omega (arith, passed-below t (root t) k 0 h, root-stages t)
+passed-within t k h = omega (arith, passed-below t (root t) k 0 (by-paths k t ∙ h), root-stages t)
 
 -- and the other way
 pub within-passed : (t : Tree laid.Piece) (k : ℕ) → stages t ≤ k → first-refusal (limit-checks k t) ≡ Passed
-within-passed t k h = below-passed t (root t) k 0 (omega (arith, root-stages t))
+within-passed t k h = sym (by-paths k t) ∙ below-passed t (root t) k 0 (omega (arith, root-stages t))
 
 -- a check whose refusals name a cut
 abbrev Named : Checked → Type 0
@@ -76,14 +78,10 @@ named-when true n r e = let i : ManyStages n ≡ r = cc in sym i ∙ ap (λ x. M
 named-when false n r e = cc
 
 -- so does check 23
-named-below : (t : Tree laid.Piece) (d : Direction) (k n : ℕ) → Named (first-refusal (stage-checks d k n t))
-unfolding stage-checks first-refusal
-named-below waste d k n = λ r e. cc
-named-below (piece p) d k n = λ r e. cc
-named-below (cut e x a b) d k n =
-    named-next (refuse-when (leb k (change d e)) (ManyStages n)) _ (named-when (leb k (change d e)) n)
-    (subst Named (sym (first-append (stage-checks e (k - change d e) (n + 1) a) (stage-checks e (k - change d e) (n + 1 + node-count a) b)))
-    (named-next _ _ (named-below a e (k - change d e) (n + 1)) (named-below b e (k - change d e) (n + 1 + node-count a))))
+named-above : (k i : ℕ) (ss : List ℕ) → Named (first-refusal (above-checks k i ss))
+unfolding above-checks first-refusal
+named-above k i [] = λ r e. cc
+named-above k i (s ∷ ss) = named-next (refuse-when (ltb k s) (ManyStages i)) _ (named-when (ltb k s) i) (named-above k (i + 1) ss)
 
 -- what the answer for a tree decides: its stages are within the limit, or check 23 names the cut
 module _ (k : ℕ) (t : Tree laid.Piece) where
@@ -99,4 +97,4 @@ module _ (k : ℕ) (t : Tree laid.Piece) where
     where
       go : (v : Checked) → first-refusal (limit-checks k t) ≡ v → answer.Past p ≡ by-check v (answer.Within (stages t)) (λ r. answer.Past (place-of r)) → first-refusal (limit-checks k t) ≡ Refused (ManyStages p)
       go Passed h e = cc
-      go (Refused r) h e = let i : place-of r ≡ p = cc in h ∙ ap Refused (named-below t (root t) k 0 r h ∙ ap ManyStages i)
+      go (Refused r) h e = let i : place-of r ≡ p = cc in h ∙ ap Refused (named-above k 0 (map path-stages (node-paths t)) r h ∙ ap ManyStages i)

@@ -1,13 +1,13 @@
 -- The steps of the two walks: what is known while some trees wait, at one node more of each kind, and at the end.
 use mathlib.Core.Path.{_≡_, refl, sym, _∙_, ap}
 use mathlib.Core.Bool.{true, false}
-use mathlib.Core.List.{List, [], _∷_, _++_, map, append-assoc, append-nil}
-use Prim.Native.Nat.{ℕ, suc, _+_, _-_, _≤_, _<_, max}
+use mathlib.Core.List.{List, [], _∷_, _++_, append-assoc, append-nil}
+use Prim.Native.Nat.{ℕ, _+_, _-_, _≤_, _<_, max}
 use native.Mathlib.Numerals.{add-one}
 use native.Mathlib.Omega.{arith}
 use borrow.Author.Tests.{le-leb, lt-leb}
 use lib.Dec.{leb}
-use lib.ListN.{length, drop, getD, length-append, drop-of-length-le}
+use lib.ListN.{length, drop, getD, length-append, length-map, drop-of-length-le}
 use lib.Seq.{drop-cons, drop-drop, drop-at}
 use Rattle.cutting.specs.declared.Direction.{Direction}
 use Rattle.cutting.specs.declared.Direction.the-variants.{Length, Width}
@@ -27,8 +27,9 @@ use Rattle.cutting.proofs.Preorder.{kinds-cut, count-cut}
 use Rattle.stages.specs.declared.Walk.{Walk}
 use Rattle.stages.specs.declared.Walk.the-variants.{Next, Past}
 use Rattle.stages.specs.declared.Staged.the-variants as answer
-use Rattle.stages.specs.Stages.{stage-checks, limit-checks}
-use Rattle.stages.specs.Walks.{staged-as, StagesOf, kinds-all, count-all, most-below, checks-all, ended-as, Walked, answer-of}
+use Rattle.stages.specs.Stages.{limit-checks}
+use Rattle.stages.proofs.Place.{by-paths}
+use Rattle.stages.specs.Walks.{staged-as, stage-checks, StagesOf, kinds-all, count-all, most-below, checks-all, ended-as, Walked, answer-of}
 
 -- a plan's trees
 abbrev Trees : Type 0
@@ -129,15 +130,11 @@ count-first : (e : Direction) (x : ℕ) (a b : Tree laid.Piece) (vs : Trees) →
 unfolding count-all
 count-first e x a b vs = omega (arith, count-cut e x a b)
 
-map-length : {A B : Type 0} (f : A → B) (xs : List A) → length (map f xs) ≡ length xs
-map-length f [] = refl
-map-length f (x ∷ xs) = ap suc (map-length f xs)
-
 -- the kinds of trees are as many as their nodes
 kinds-count : (ts : Trees) → length (kinds-all ts) ≡ count-all ts
 unfolding kinds-all count-all kinds-of node-count
 kinds-count [] = refl
-kinds-count (t ∷ ts) = omega (arith, length-append (kinds-of t) (kinds-all ts), map-length (λ n. kind-of n) (preorder t), kinds-count ts)
+kinds-count (t ∷ ts) = omega (arith, length-append (kinds-of t) (kinds-all ts), length-map (preorder t) (λ n. kind-of n), kinds-count ts)
 
 -- of the trees `ts` from node `at` on those that wait at node n, after the most stages met so far
 pub record Waiting (d : Direction) (ks : List ℕ) (left at n waiting most : ℕ) (ts : Trees) (rest : List ℕ) : Type 0 where
@@ -351,8 +348,8 @@ module _ (ks : List ℕ) (limit kind : ℕ) (some : 1 ≤ length ks) (read : kin
   -- without a cut
   pub plan-leaf : (kind ≡ 2 → ⊥) → (kind ≡ 3 → ⊥) → StagesOf ks limit (answer.Within 0)
   unfolding stage-checks first-refusal stages
-  plan-leaf f g waste e = refl
-  plan-leaf f g (piece p) e = refl
+  plan-leaf f g waste e = ap (λ v. by-check v (answer.Within 0) (λ r. answer.Past (place-of r))) (by-paths limit waste)
+  plan-leaf f g (piece p) e = ap (λ v. by-check v (answer.Within 0) (λ r. answer.Past (place-of r))) (by-paths limit (piece p))
   plan-leaf f g (cut Length x a b) e = absurd (f (plan-split (cut Length x a b) e .0))
   plan-leaf f g (cut Width x a b) e = absurd (g (plan-split (cut Width x a b) e .0))
 
@@ -363,7 +360,7 @@ module _ (ks : List ℕ) (limit kind : ℕ) (some : 1 ≤ length ks) (read : kin
 
     first-checks : (x : ℕ) (a b : Tree laid.Piece) → first-refusal (limit-checks limit (cut d x a b)) ≡ first-refusal (checks-all d limit 1 (a ∷ b ∷ []))
     unfolding root checks-all first-refusal
-    first-checks x a b = ap first-refusal (sym (append-nil (stage-checks d limit 0 (cut d x a b)))) ∙ checks-cut d d limit limit 0 x a b [] (omega (arith, change-same d)) (omega (arith, change-same d)) ∙ sym (next-passed _)
+    first-checks x a b = sym (by-paths limit (cut d x a b)) ∙ ap first-refusal (sym (append-nil (stage-checks d limit 0 (cut d x a b)))) ∙ checks-cut d d limit limit 0 x a b [] (omega (arith, change-same d)) (omega (arith, change-same d)) ∙ sym (next-passed _)
 
     first-stages : (x : ℕ) (a b : Tree laid.Piece) → stages (cut d x a b) ≡ max 1 (most-below d (a ∷ b ∷ []))
     unfolding stages most-below

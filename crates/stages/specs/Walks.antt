@@ -1,16 +1,18 @@
--- What only inner contracts cite: the answer for the kinds of a tree, and how the walks over a plan's kinds end.
+-- What only inner contracts cite: the answer for the kinds of a tree, check 23 as the walks over a plan's kinds count it, and how they end.
 use mathlib.Core.Path.{_≡_}
 use mathlib.Core.List.{List, [], _∷_, _++_}
-use Prim.Native.Nat.{ℕ, _+_, _≤_, max}
+use Prim.Native.Nat.{ℕ, _+_, _-_, _≤_, max}
+use lib.Dec.{leb}
 use lib.ListN.{length, drop}
 use Rattle.cutting.specs.declared.Direction.{Direction}
-use Rattle.cutting.specs.Tree.{Tree}
+use Rattle.cutting.specs.Tree.{Tree, waste, piece, cut}
 use Rattle.cutting.specs.Pieces as laid
-use Rattle.cutting.specs.Shares.{stages-below, stages}
+use Rattle.cutting.specs.Shares.{change, root, stages-below, stages}
 use Rattle.cutting.specs.Preorder.{node-count, kinds-of}
+use Rattle.refusal.specs.declared.Refusal.the-variants.{ManyStages}
 use Rattle.refusal.specs.declared.Checked.{Checked}
 use Rattle.refusal.specs.Refusals.{Check, by-check, place-of, first-refusal}
-use Rattle.stages.specs.Stages.{stage-checks, limit-checks}
+use Rattle.stages.specs.Stages.{limit-checks}
 use Rattle.stages.specs.declared.Walk.{Walk}
 use Rattle.stages.specs.declared.Walk.the-variants.{Next, Past}
 use Rattle.stages.specs.declared.Staged.{Staged}
@@ -23,6 +25,17 @@ staged-as k t = by-check (first-refusal (limit-checks k t)) (answer.Within (stag
 -- the answer for the kinds of a tree
 abbrev pub StagesOf : List ℕ → ℕ → Staged → Type 0
 StagesOf ks k r = (t : Tree laid.Piece) → ks ≡ kinds-of t → r ≡ staged-as k t
+
+-- check 23 of a tree's cuts in preorder, its own node numbered n, below cuts in direction d with k stages left: a cut passes the limit
+-- where no stage is left for it
+unfoldable pub stage-checks : Direction → ℕ → ℕ → Tree laid.Piece → List Check
+stage-checks d k n waste = []
+stage-checks d k n (piece p) = []
+stage-checks d k n (cut e x a b) = (leb k (change d e), ManyStages n) ∷ (stage-checks e (k - change d e) (n + 1) a ++ stage-checks e (k - change d e) (n + 1 + node-count a) b)
+
+-- check 23 of a whole plan, so counted: its first cut begins the first stage
+abbrev pub walk-checks : ℕ → Tree laid.Piece → List Check
+walk-checks k t = stage-checks (root t) k 0 t
 
 -- the kinds of several trees, one after another
 unfoldable pub kinds-all : List (Tree laid.Piece) → List ℕ
