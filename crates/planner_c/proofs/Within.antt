@@ -8,7 +8,7 @@ use Rattle.cutting.specs.Lists.{over}
 use Rattle.cutting.specs.Job.{Job}
 use Rattle.cutting.specs.Staged.{StagedFiguresMost}
 use Rattle.cutting.proofs.Members.{range-solid}
-use Rattle.cutting.proofs.Staged.{block-most}
+use Rattle.cutting.proofs.Staged.{stages-paths, block-most}
 use Rattle.refusal.specs.Refusals.{outcome-by}
 use Rattle.refusal.proofs.Numbers.{number-some}
 use Rattle.refusal.specs.declared.Checked.{Checked}
@@ -33,6 +33,7 @@ module _ (s : List ℕ) (choices limit : ℕ) (kinds operands old : List ℕ) wh
   within-given : {n : ℕ} {new : List ℕ} (a : StagedAnswer) → ChecksStaged (LimitPasses s (choices-of choices) limit) (job-with s choices) limit kinds operands a → Gives (staged-check-outcome a) n old new → StagedChecked s choices limit kinds operands old new n
   within-given {n} a checks g = record {
     tree = λ e. (let p = passed (a .verdict) refl e in let t = checks .tree p in (t .0, t .1, g .1 ∙ ap (λ v. over (outcome-by v (staged-values (a .report) (a .stages)) .1) old) p ∙ ap₂ (λ r k. over (staged-values r k) old) (t .2 .own) (t .3), subst (λ r. Reports (job-with s choices) (t .0) r) (t .2 .own) (t .2)));
+    paths-most = checks .paths-most;
     passes = λ h u b t k. number-by (checks .passes b t k);
     past = λ h u b t d k e. (let v = checks .past b t d ∙ e in (number-by v, g .1 ∙ ap (λ v. over (outcome-by v (staged-values (a .report) (a .stages)) .1) old) v));
   }
@@ -57,6 +58,7 @@ module _ (s : List ℕ) (choices limit : ℕ) (kinds operands old : List ℕ) wh
             a .1,
             record {
               tree = λ z. absurd (omega (arith, z, h));
+              paths-most = stages-paths;
               passes = λ k u b t p. going 70 choices old e k u;
               past = λ k u b t d i p. absurd (omega (arith, h, going 70 choices old e k u));
             },

@@ -4,12 +4,12 @@ use mathlib.Core.Bool.{false}
 use mathlib.Core.List.{List, [], _∷_}
 use Prim.Native.Nat.{ℕ, _≤_}
 use lib.ListN.{length}
-use Rattle.cutting.specs.Lists.{over}
+use Rattle.cutting.specs.Lists.{greatest, over}
 use Rattle.cutting.specs.Tree.{Tree}
 use Rattle.cutting.specs.Pieces.{Piece}
 use Rattle.cutting.specs.Shares.{stages}
 use Rattle.cutting.specs.Job.{Job}
-use Rattle.cutting.specs.Staged.{staged-bound, NoneStagedBetter}
+use Rattle.cutting.specs.Staged.{paths, path-stages, staged-bound, NoneStagedBetter}
 use Rattle.refusal.specs.Refusals.{first-refusal}
 use Rattle.refusal.specs.declared.Refusal.the-variants.{ManyStages}
 use Rattle.refusal.specs.declared.Checked.the-variants.{Refused}
@@ -24,10 +24,12 @@ use Rattle.staged_certificate.specs.Certificate.{staged-plan-verdict, EarnsStag
 use Rattle.planner_c.specs.Exports.{unknown, choices-of, job-with, answer-word, GivenAmong}
 
 -- the staged check returns 0 only for the plan of a tree of at most so many stages, and its words are then that tree's own report and its
--- stages; where the answer has words enough, the choices are known and no check of job block and limit refuses them, it returns 0 for every
--- such plan, and for the plan of a tree of more stages 23 with the first cut in preorder whose path passes the limit
+-- stages, which are the most changes of direction on a path plus one; where the answer has words enough, the choices are known and no check
+-- of job block and limit refuses them, it returns 0 for every such plan, and for the plan of a tree of more stages 23 with the first cut in
+-- preorder whose path, from the plate down through it, passes the limit
 pub record StagedChecked (s : List ℕ) (choices limit : ℕ) (kinds operands old new : List ℕ) (n : ℕ) : Type 0 where
   pub tree : n ≡ 0 → (t : Tree Piece) × StagedPlanOf (job-with s choices) limit t kinds operands × (new ≡ over (staged-values (tree-report (job-with s choices) t) (stages t)) old) × Reports (job-with s choices) t (tree-report (job-with s choices) t)
+  pub paths-most : (t : Tree Piece) → stages t ≡ greatest path-stages (paths t)
   pub passes : 70 ≤ length old → unknown choices ≡ false → LimitPasses s (choices-of choices) limit → (t : Tree Piece) → StagedPlanOf (job-with s choices) limit t kinds operands → n ≡ 0
   pub past : 70 ≤ length old → unknown choices ≡ false → LimitPasses s (choices-of choices) limit → (t : Tree Piece) → PlanOf (job-with s choices) t kinds operands
       → (k : ℕ) → first-refusal (limit-checks limit t) ≡ Refused (ManyStages k) → (n ≡ 23) × (new ≡ over (k ∷ []) old)
