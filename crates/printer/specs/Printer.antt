@@ -16,7 +16,7 @@ job-end s = min (length s) (6 + 10 * count-at s)
 
 -- where the job passes, the answer is true exactly for the plan of a tree that keeps every demand, without an idle cut; a true answer is
 -- about such a tree
-pub record Keeps (JobPassed : Type 0) (J : Job) (ks os : List ℕ) (r : Bool) : Type 0 where
+pub record DemandsKept (JobPassed : Type 0) (J : Job) (ks os : List ℕ) (r : Bool) : Type 0 where
   pub passed : r ≡ true → JobPassed
   pub tree : r ≡ true → (t : Tree Piece) × PlanOf J t ks os
   pub complete : JobPassed → (t : Tree Piece) → PlanOf J t ks os → r ≡ true

@@ -15,7 +15,7 @@ ghost use Prim.Native.Nat.{_≤_};
 ghost use lib.ListN.{length};
 ghost use Rattle.job.specs.Weights.{block-job};
 ghost use Rattle.plan.specs.Calls.{JobPasses};
-ghost use Rattle.printer.specs.Printer.{job-end, Keeps};
+ghost use Rattle.printer.specs.Printer.{job-end, DemandsKept};
 
 // Where the job, an old block, ends in the input.
 pub fn job_end(input: &[u8]) -> usize
@@ -34,7 +34,7 @@ pub fn job_end(input: &[u8]) -> usize
 
 // Whether two arrays are a plan of the job that keeps every demand.
 pub fn keeps_demands(block: &[u8], choices: Choices, kinds: &[u8], operands: &[u16]) -> bool
-    ensures { λ r. ⌜ Keeps (JobPasses (now (block .entry)) choices) (block-job (now (block .entry)) choices) (now (kinds .entry)) (now (operands .entry)) r ⌝ }
+    ensures { λ r. ⌜ DemandsKept (JobPasses (now (block .entry)) choices) (block-job (now (block .entry)) choices) (now (kinds .entry)) (now (operands .entry)) r ⌝ }
 {
     let answer = check_plan(block, choices, kinds, operands);
     let verdict = answer.verdict;
