@@ -76,10 +76,11 @@ unfoldable pub with-own : List ℕ → List ℕ → ℕ → List ℕ
 with-own totals own zero = totals
 with-own totals own (suc n) = set (with-own totals own n) n (getD totals n 0 + getD own n 0)
 
--- what the rack answers: the profits of its plates in their order, 0 past the last; a refusal has none
+-- what the rack answers: the profits of its plates in their order, 0 past the last
 abbrev pub rack-passed : List ℕ → RackAnswer
 rack-passed profits = record { verdict = Passed; profits = profits }
 
+-- a refused rack has no profit
 abbrev pub rack-stopped : Checked → RackAnswer
 rack-stopped v = record { verdict = v; profits = replicate most-plates 0 }
 
