@@ -6,6 +6,7 @@ use Rattle.cutting.specs.Limits.{most-kinds}
 use Rattle.cutting.specs.Job.{Job}
 use Rattle.cutting.specs.Promises.{NoneAbove, NoneFiner}
 use Rattle.rounds.specs.declared.WeightsFound.{WeightsFound}
+use Rattle.rounds.specs.Step.{most-rounds}
 use Rattle.rounds.specs.Rounds.{answer-of, LeastMet}
 use Rattle.planner_c.specs.Exports.{answer-word}
 
@@ -17,6 +18,6 @@ found-in answer = answer-of (answer-word answer 0) (answer-word answer 1) (take 
 -- guillotine tree on the plate that keeps every demand, cut at whole units or finer, earns more than the bound
 pub record FoundGiven (J : Job) (lower : ℕ) (answer : List ℕ) : Type 0 where
   pub least : LeastMet J lower (found-in answer)
-  pub rounds : answer-word answer 1 ≤ 18
+  pub rounds : answer-word answer 1 ≤ most-rounds
   pub demands : NoneAbove J (answer-word answer 0)
   pub finer : NoneFiner J (answer-word answer 0)

@@ -12,7 +12,7 @@ use Rattle.cutting.specs.Lists.{range, sum, any}
 use Rattle.cutting.specs.Job.{Job, capacity}
 use Rattle.refusal.specs.declared.Checked.{Checked}
 use Rattle.refusal.specs.declared.Checked.the-variants.{Passed, Refused}
-use Rattle.rounds.specs.Step.{factor, factors, distance, pick-number, WholeRoot, scale, weight-step, StepRules}
+use Rattle.rounds.specs.Step.{most-rounds, factor, factors, distance, pick-number, WholeRoot, scale, weight-step, StepRules}
 use Rattle.rounds.specs.Rounds.{plan-copies, squares, weight-at, within, Lent, round-verdict, refuses, last-here, last-from, last-round, rounds-by, rounds-run, StopRules}
 use Rattle.rounds.proofs.Sums.{any-none, any-more, none-passes}
 use Rattle.rounds.proofs.Roots.{root-whole, root-exists}
@@ -31,7 +31,7 @@ unfolding any range
 factor-tabled k h = eqb-true (getD factors k 0) (factor k) (not-false _ (none-passes (λ k. not (eqb (getD factors k 0) (factor k))) 18 k refl h))
 
 -- so each entry of the table is half of the entry three before it
-table-halved : (k : ℕ) → k < 15 → getD factors (k + 3) 0 ≡ getD factors k 0 / 2
+table-halved : (k : ℕ) → k + 3 < most-rounds → getD factors (k + 3) 0 ≡ getD factors k 0 / 2
 table-halved k h = factor-tabled (k + 3) (omega arith) ∙ factor-halved k ∙ sym (ap (λ n. n / 2) (factor-tabled k (omega arith)))
 
 -- the step is the whole part of the square root of d · s, and 255 where that is above

@@ -13,7 +13,7 @@ use Rattle.refusal.specs.declared.Checked.the-variants.{Refused}
 use Rattle.job.specs.Block.{entries}
 use Rattle.writer.specs.declared.WriteAnswer.{WriteAnswer}
 use Rattle.writer.specs.declared.WriteAnswer.the-variants as write
-use Rattle.rounds.specs.Step.{distance}
+use Rattle.rounds.specs.Step.{most-rounds, final-round, distance}
 use Rattle.rounds.specs.Rounds.{plan-copies, next-weight, within, answer-of, refused-answer}
 use Rattle.rounds.specs.declared.WeightsFound.{WeightsFound}
 
@@ -36,7 +36,7 @@ summed copies demands n = sum n (λ i. distance (getD copies i 0) (getD demands 
 -- what a round knows when its plan is written: the bound is that of its weights, and the pieces in the arrays are the plan's copies
 pub record Made (J : Job) (lower round bound nodes : ℕ) (weight : ℕ → ℕ) (kinds operands : List ℕ) : Type 0 where
   pub in-range : InRange J
-  pub round-small : round < 18
+  pub round-small : round < most-rounds
   pub bound-is : bound ≡ bound-of J weight
   pub lower-most : lower ≤ bound
   pub nodes-most : (nodes ≤ most-nodes) × (nodes ≤ length kinds) × (nodes ≤ length operands)
@@ -44,7 +44,7 @@ pub record Made (J : Job) (lower round bound nodes : ℕ) (weight : ℕ → ℕ)
 
 -- what it says of the next round: whether the run stops before it, and else its weights
 pub record Turned (J : Job) (lower round : ℕ) (weight : ℕ → ℕ) (over : Bool) (weights : List ℕ) : Type 0 where
-  pub stops : over ≡ (within J (plan-copies J weight) || (eqb round 17 || ltb most-capacity (capacity J (next-weight J lower round weight))))
+  pub stops : over ≡ (within J (plan-copies J weight) || (eqb round final-round || ltb most-capacity (capacity J (next-weight J lower round weight))))
   pub goes-on : over ≡ false → weights ≡ entries (next-weight J lower round weight) (J .count)
 
 -- the best answer with one round more, by whether that round's bound is the best

@@ -20,7 +20,7 @@ use Rattle.job.specs.Weights.{block-job}
 use Rattle.plan.specs.Calls.{arrays-answer}
 use Rattle.bound.specs.Bound.{Memory, lent, Leaves, memory-checks, list-after}
 use Rattle.writer.specs.Write.{nodes-verdict}
-use Rattle.rounds.specs.Step.{factor, distance, pick-number, adjusted, StepRules}
+use Rattle.rounds.specs.Step.{most-rounds, final-round, factor, distance, pick-number, adjusted, StepRules}
 use Rattle.rounds.specs.declared.WeightsFound.{WeightsFound}
 
 -- the copies of kind i in the plan behind the bound
@@ -54,7 +54,7 @@ within J copies = not (any (λ i. ltb (J .demand i) (copies i)) (range 0 (J .cou
 
 -- whether the run stops after round k: its plan keeps all demands, it is round 17, or the next capacity passes 4,095
 abbrev pub stops-after : Job → ℕ → ℕ → Bool
-stops-after J lower k = within J (plan-copies J (weight-at J lower k)) || (eqb k 17 || ltb most-capacity (capacity J (weight-at J lower (suc k))))
+stops-after J lower k = within J (plan-copies J (weight-at J lower k)) || (eqb k final-round || ltb most-capacity (capacity J (weight-at J lower (suc k))))
 
 -- all that a call lends: two lists, a table and two arrays for the rounds' plans
 pub record Lent : Type 0 where
@@ -85,7 +85,7 @@ last-from J lower m (suc n) k = pick-number (last-here J lower m k) k (last-from
 
 -- the last round begun: at most 18 rounds, numbered from 0
 abbrev pub last-round : Job → ℕ → Lent → ℕ
-last-round J lower m = last-from J lower m 17 0
+last-round J lower m = last-from J lower m final-round 0
 
 -- the rounds run up to round k, by its verdict: a refused round is not counted
 abbrev pub rounds-by : Checked → ℕ → ℕ
@@ -200,7 +200,7 @@ pub record FindPromises (s : List ℕ) (choices : Choices) (kinds operands : Lis
   pub outcome : found-outcome r ≡ find-said s choices kinds operands old
   pub memory : FindLeaves s choices kinds operands old new
   pub least : r .verdict ≡ Passed → LeastMet (block-job s choices) (lower-figure s choices kinds operands) r
-  pub rounds : r .rounds ≤ 18
+  pub rounds : r .rounds ≤ most-rounds
   pub demands : r .verdict ≡ Passed → NoneAbove (block-job s choices) (r .bound)
   pub finer : r .verdict ≡ Passed → NoneFiner (block-job s choices) (r .bound)
   pub steps : StepRules

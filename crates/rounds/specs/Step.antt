@@ -6,6 +6,18 @@ use Prim.Native.Nat.{ℕ, zero, suc, _+_, _-_, _*_, _/_, _^_, _≤_, _<_, max, m
 use lib.Dec.{leb, ltb}
 use lib.ListN.{getD}
 
+-- the most rounds of a run, numbered from 0
+abbrev pub most-rounds : ℕ
+most-rounds = 18
+
+-- the number of the last of them
+abbrev pub final-round : ℕ
+final-round = 17
+
+-- the greatest weight of a kind
+abbrev pub most-weight : ℕ
+most-weight = 255
+
 -- the factor of a round in sixteenths: 2, halved after every third round
 abbrev pub factor : ℕ → ℕ
 factor k = 32 / 2 ^ (k / 3)
@@ -38,11 +50,11 @@ scale f gap squares = max (16 * squares) (f * gap)
 
 -- the step: the whole part of the square root of d · s, and 255 where it is above
 abbrev pub weight-step : ℕ → ℕ → ℕ → ℕ → ℕ
-weight-step f gap squares d = root-below 255 (d * scale f gap squares) (16 * squares)
+weight-step f gap squares d = root-below most-weight (d * scale f gap squares) (16 * squares)
 
 -- the weight after a step: added where copies are more than the demand, and else taken off, not below 0; at most 255
 abbrev pub stepped : Bool → ℕ → ℕ → ℕ
-stepped true weight x = min 255 (weight + x)
+stepped true weight x = min most-weight (weight + x)
 stepped false weight x = weight - x
 
 -- the weight of a kind in the next round
@@ -50,11 +62,12 @@ abbrev pub adjusted : ℕ → ℕ → ℕ → ℕ → ℕ → ℕ → ℕ
 adjusted f gap squares weight copies demand = stepped (ltb demand copies) weight (weight-step f gap squares (distance copies demand))
 
 -- the rules of the steps: the factor is 2 in rounds 0 to 2 and is halved after every third round, and each entry of the table is its round's
--- factor, half of the entry three before it; a step is the whole part of the square root of d · s, and 255 where that is above; where the summed squares are not 0 there is such a root
+-- factor, half of the entry three before it; a step is the whole part of the square root of d · s, and 255 where that is above; where the
+-- summed squares are not 0 there is such a root
 pub record StepRules : Type 0 where
   pub first : (k : ℕ) → k < 3 → factor k ≡ 32
   pub halved : (k : ℕ) → factor (k + 3) ≡ factor k / 2
-  pub tabled : (k : ℕ) → k < 18 → getD factors k 0 ≡ factor k
-  pub table-halved : (k : ℕ) → k < 15 → getD factors (k + 3) 0 ≡ getD factors k 0 / 2
-  pub whole : (f gap squares d x : ℕ) → WholeRoot (d * scale f gap squares) (16 * squares) x → weight-step f gap squares d ≡ min 255 x
+  pub tabled : (k : ℕ) → k < most-rounds → getD factors k 0 ≡ factor k
+  pub table-halved : (k : ℕ) → k + 3 < most-rounds → getD factors (k + 3) 0 ≡ getD factors k 0 / 2
+  pub whole : (f gap squares d x : ℕ) → WholeRoot (d * scale f gap squares) (16 * squares) x → weight-step f gap squares d ≡ min most-weight x
   pub exists : (f gap squares d : ℕ) → 1 ≤ squares → (x : ℕ) × WholeRoot (d * scale f gap squares) (16 * squares) x
