@@ -64,7 +64,7 @@ module _ (choices : Choices) (s ws : List ℕ) where
       (bound-in - profit) ∷ bound-in ∷ profit ∷ []
 
   module _ (good : Accepted s choices ws) where
-    bound-normal : bound-of (block-job s choices) (weight-in ws) ≡ bound-in
+    pub bound-normal : bound-of (block-job s choices) (weight-in ws) ≡ bound-in
     bound-normal = figure-normal (wide-job s choices) (weight-in ws) (widened-solid (block-job s choices) (range-solid (block-job s choices) (accepted-in-range s choices ws good))) _ _ capacity-in (omega arith) (omega arith)
 
     -- no tree cut finer that keeps the demands earns more

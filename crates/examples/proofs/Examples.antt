@@ -90,8 +90,8 @@ holds (line.part s kinds operands node first entries) c = c
 holds (line.stages-pass s limit kinds operands profit pieces waste trim copies sawdust stages) c = c
 holds (line.stages-refused s limit kinds operands number place) c = c
 holds (line.stages-bound s ws limit words bound q p r) c = λ m h. call.staged-answered s ws limit (c .0) (c .1) m (rw (c .2) h) ∙ ap (λ vs. (0, vs)) (c .3)
-holds (line.finer-most choices s ws m most) c = subst (NoneAbove (finer m (block-job s choices))) (c .2) (call.finer-below choices s ws (c .0) m (c .1))
-holds (line.finer-stages s ws limit m most) c = subst (NoneStaged (finer m (block-job s old-block)) limit) (c .2) (call.staged-below s ws limit (c .0) m (c .1))
+holds (line.finer-most choices s ws m most) c = (call.bound-normal choices s ws (c .0) ∙ c .2, subst (NoneAbove (finer m (block-job s choices))) (c .2) (call.finer-below choices s ws (c .0) m (c .1)))
+holds (line.finer-stages s ws limit m most) c = (c .2, subst (NoneStaged (finer m (block-job s old-block)) limit) (c .2) (call.staged-below s ws limit (c .0) m (c .1)))
 holds (line.finer-passes s m kinds operands profit neat-kinds neat-operands) c = c
 
 -- the computations of lines, in their order

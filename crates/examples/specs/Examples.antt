@@ -8,16 +8,16 @@ use lib.ListN.{length, replicate}
 use Rattle.cutting.specs.declared.Direction.{Direction}
 use Rattle.cutting.specs.declared.Direction.the-variants.{Length, Width}
 use Rattle.cutting.specs.Limits.{most-kinds, most-nodes}
-use Rattle.cutting.specs.Job.{finer, normal-positions}
+use Rattle.cutting.specs.Job.{finer, bound-of, normal-positions}
 use Rattle.cutting.specs.Preorder.{kinds-of, operands-of}
 use Rattle.cutting.specs.Promises.{NoneAbove}
-use Rattle.cutting.specs.Staged.{NoneStaged}
+use Rattle.cutting.specs.Staged.{staged-bound, NoneStaged}
 use Rattle.refusal.specs.Refusals.{number-of, place-of, refused-as}
 use Rattle.refusal.specs.declared.Checked.{Checked}
 use Rattle.refusal.specs.declared.Checked.the-variants.{Passed, Refused}
 use Rattle.job.specs.declared.Choices.{Choices}
 use Rattle.job.specs.Block.{with-full-demand}
-use Rattle.job.specs.Weights.{block-job}
+use Rattle.job.specs.Weights.{block-job, weight-in}
 use Rattle.plan.specs.Plan.{plan-answer}
 use Rattle.plan.specs.Calls.{arrays-answer}
 use Rattle.saw.specs.Saw.{saw-said}
@@ -59,9 +59,9 @@ pub data Example : Type 0 where
   stages-refused : (job : List ℕ) (limit : ℕ) (kinds operands : List ℕ) (number place : ℕ) → Example
   -- the staged bound call answers the bound, Q, p and r
   stages-bound : (job weights : List ℕ) (limit words bound q p r : ℕ) → Example
-  -- no tree cut at multiples of one m-th of a unit that keeps the demands earns more, by the bound of these weights
+  -- the bound of these weights, and no tree cut at multiples of one m-th of a unit that keeps the demands earns more
   finer-most : Choices → (job weights : List ℕ) (m most : ℕ) → Example
-  -- no such tree within a limit of stages earns more, by the staged bound
+  -- the staged bound of these weights, and no such tree within the limit of stages earns more
   finer-stages : (job weights : List ℕ) (limit m most : ℕ) → Example
   -- a plan cut at m-ths passes the check of the job measured in m-ths, with a profit, and its neat plan at whole units is this one
   finer-passes : (job : List ℕ) (m : ℕ) (kinds operands : List ℕ) (profit : ℕ) (neat-kinds neat-operands : List ℕ) → Example
@@ -137,8 +137,8 @@ ExampleHolds (stages-pass s limit kinds operands profit pieces waste trim copies
     staged-check-said s old-block limit kinds operands ≡ (0, profit ∷ pieces ∷ waste ∷ trim ∷ ((padded copies ++ (sawdust ∷ [])) ++ (stages ∷ [])))
 ExampleHolds (stages-refused s limit kinds operands number place) = staged-check-said s old-block limit kinds operands ≡ (number, place ∷ [])
 ExampleHolds (stages-bound s ws limit words bound q p r) = (m : Memory) → Enough s old-block words m → staged-said s old-block ws limit m ≡ (0, bound ∷ q ∷ p ∷ r ∷ [])
-ExampleHolds (finer-most choices s ws m most) = NoneAbove (finer m (block-job s choices)) most
-ExampleHolds (finer-stages s ws limit m most) = NoneStaged (finer m (block-job s old-block)) limit most
+ExampleHolds (finer-most choices s ws m most) = (bound-of (block-job s choices) (weight-in ws) ≡ most) × NoneAbove (finer m (block-job s choices)) most
+ExampleHolds (finer-stages s ws limit m most) = (staged-bound (block-job s old-block) (weight-in ws) limit ≡ most) × NoneStaged (finer m (block-job s old-block)) limit most
 ExampleHolds (finer-passes s m kinds operands profit neat-kinds neat-operands) =
     (plan-answer (finer m (block-job s old-block)) kinds operands .verdict ≡ Passed) × (plan-answer (finer m (block-job s old-block)) kinds operands .report .profit ≡ profit)
     × (kinds-of (block-neat s old-block kinds operands) ≡ neat-kinds) × (operands-of (block-neat s old-block kinds operands) ≡ neat-operands)
