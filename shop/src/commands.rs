@@ -109,7 +109,7 @@ fn recheck(file: &Path, memory: u64) -> Done<String> {
     let verdict = Verdict::new(&mut planner, &job, &plan, &stamp.proof);
     let verdict = verdict.map_err(|error| error.to_string())?;
     let (profit, ceiling) = (verdict.report.profit, verdict.ceiling);
-    let sentence = verdict.sentence("whole units");
+    let sentence = verdict.sentence("whole units", Some("plate, panels and kerf as filed"));
     Ok(format!("earns {profit}, no plan earns more than {ceiling}\n{sentence}\n"))
 }
 

@@ -1,6 +1,6 @@
 // A judged plan of an order, as it is given: in words, as a drawing, for machines and as a stamp.
 use crate::layout::{Layout, Rect};
-use crate::order::Order;
+use crate::order::{Order, Rounded};
 use crate::search::Proof;
 use crate::stamp::Stamp;
 use crate::verdict::Verdict;
@@ -25,7 +25,21 @@ impl Outcome {
     }
 
     pub fn sentence(&self) -> String {
-        self.verdict.sentence(&format!("steps of {} mm", self.order.unit))
+        let steps = format!("steps of {} mm", self.order.unit);
+        self.verdict.sentence(&steps, self.rounding().as_deref())
+    }
+
+    /// What was rounded, if anything was: with smaller panels, a thinner blade or a larger plate more may fit.
+    fn rounding(&self) -> Option<String> {
+        let Rounded { kerf, panels, plate } = self.order.rounded();
+        let on_fence = self.order.length_of(self.job.kerf);
+        let said = [
+            kerf.then(|| format!("kerf {} mm planned as {on_fence} mm", self.order.kerf)),
+            panels.then(|| "panels rounded up".to_string()),
+            plate.then(|| "plate rounded down".to_string()),
+        ];
+        let said: Vec<String> = said.into_iter().flatten().collect();
+        (!said.is_empty()).then(|| said.join(", "))
     }
 
     /// The copies cut of a kind.

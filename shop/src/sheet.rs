@@ -53,6 +53,11 @@ impl Sheet {
         [MARGIN / self.scale, (MARGIN + 4.0) / self.scale]
     }
 
+    /// The greatest height of text at which a line of the heading stays on the page.
+    pub fn heading_text(&self, line: &str) -> f64 {
+        (self.page[0] - 2.0 * MARGIN) / text_width(line)
+    }
+
     /// The place of the key to waste, trim and kerf, each in a third of the page.
     pub fn key(&self, third: usize) -> [f64; 2] {
         self.cell(third, 3, 0)

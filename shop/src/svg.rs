@@ -68,9 +68,12 @@ impl Drawing<'_> {
             format!("{name} {}.{} %", tenths / 10, tenths % 10)
         });
         let [x, y] = self.sheet.heading();
-        self.words(x, y, 4.2, "start", &title);
-        self.words(x, y + 5.2 / self.sheet.scale, 3.2, "start", &shares.join(", "));
-        self.words(x, y + 9.8 / self.sheet.scale, 3.2, "start", &self.outcome.sentence());
+        for (below, height, line) in
+            [(0.0, 4.2, title), (5.2, 3.2, shares.join(", ")), (9.8, 3.2, self.outcome.sentence())]
+        {
+            let height = self.sheet.heading_text(&line).min(height);
+            self.words(x, y + below / self.sheet.scale, height, "start", &line);
+        }
     }
 
     /// Words of a height on paper, in millimetres.

@@ -43,13 +43,21 @@ impl Verdict {
         self.report.profit == self.ceiling
     }
 
-    /// The verdict in one sentence. `steps` says how fine the plans are that it speaks of.
-    pub fn sentence(&self, steps: &str) -> String {
+    /// The verdict in one sentence. `steps` says how fine the plans are that it speaks of, `sizes` which of their
+    /// sizes are not the order's own.
+    pub fn sentence(&self, steps: &str, sizes: Option<&str>) -> String {
+        if self.whole {
+            return "best: every piece of the order is cut".to_string();
+        }
+        let sizes = sizes.map(|sizes| format!(" ({sizes})")).unwrap_or_default();
+        self.against_all(steps) + &sizes
+    }
+
+    /// What the plan earns against every plan of its sizes.
+    fn against_all(&self, steps: &str) -> String {
         let profit = self.report.profit;
         let more = self.ceiling - profit;
-        if self.whole {
-            "best: every piece of the order is cut".to_string()
-        } else if more == 0 {
+        if more == 0 {
             format!("best: no guillotine plan of this plate in {steps} earns more")
         } else if profit == 0 {
             format!("the plan earns nothing; at most {more} is possible")

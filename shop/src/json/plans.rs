@@ -3,7 +3,7 @@
 use super::Value;
 use crate::layout::{Cut, Part, Use};
 use crate::millimetres::Millimetres;
-use crate::order::Order;
+use crate::order::{Order, Rounded};
 use crate::outcome::Outcome;
 use crate::search::Proof;
 use planner::{Direction, Tree};
@@ -33,11 +33,19 @@ pub fn document(outcome: &Outcome) -> Value {
         ("most_possible", Value::number(verdict.ceiling)),
         ("best", Value::Truth(verdict.is_best())),
         ("verdict", Value::text(outcome.sentence())),
+        ("rounded", rounded(order)),
         ("exact", Value::Truth(outcome.proof == Proof::Exact)),
         ("weights", first),
         ("second_weights", second),
         ("plan", node(outcome, &outcome.layout.plate)),
     ])
+}
+
+/// What was rounded, by the names of the members.
+fn rounded(order: &Order) -> Value {
+    let Rounded { kerf, panels, plate } = order.rounded();
+    let members = [("kerf", kerf), ("pieces", panels), ("plate", plate)];
+    Value::List(members.iter().filter(|member| member.1).map(|member| Value::text(member.0)).collect())
 }
 
 fn weights(proof: &Proof) -> [Value; 2] {

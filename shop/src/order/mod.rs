@@ -1,5 +1,5 @@
 // An order: the plate, the saw and the panels in millimetres, and the job that it makes in whole units of
-// the fence. Piece sides and the kerf are rounded up, the plate down: what is planned can be cut.
+// the fence. Sides of panels and the kerf are rounded up, the plate down: what is planned can be cut.
 mod cells;
 mod checks;
 mod fault;
@@ -30,6 +30,15 @@ pub struct Order {
     pub pieces: Vec<Piece>,
 }
 
+/// What of an order is not in whole units, and so is planned otherwise than it was given.
+#[derive(Clone, Copy, Debug, PartialEq, Eq)]
+pub struct Rounded {
+    pub kerf: bool,
+    /// The sides of a panel that is wanted.
+    pub panels: bool,
+    pub plate: bool,
+}
+
 impl Order {
     pub fn job(&self) -> Job {
         let [length, width] = self.plate.map(|side| side.units_down(self.unit) as u16);
@@ -39,6 +48,16 @@ impl Order {
 
     pub fn choices(&self) -> Choices {
         Choices { turning: self.turning, ..Choices::default() }
+    }
+
+    pub fn rounded(&self) -> Rounded {
+        let is_rounded = |side: &Millimetres| side.units(self.unit).is_none();
+        let wanted = self.pieces.iter().filter(|piece| piece.count > 0);
+        Rounded {
+            kerf: is_rounded(&self.kerf),
+            panels: wanted.flat_map(|piece| &piece.sides).any(is_rounded),
+            plate: self.plate.iter().any(is_rounded),
+        }
     }
 
     /// The length of so many units.

@@ -105,11 +105,15 @@ fn stamps_are_certified_again() {
     assert_eq!(
         best,
         "earns 16, no plan earns more than 16\n\
-         best: no guillotine plan of this plate in whole units earns more\n"
+         best: no guillotine plan of this plate in whole units earns more (plate, panels and kerf as filed)\n"
     );
     let gap = Stamp { proof: Proof::Weights(vec![0; 3]), ..stamp.clone() };
     let gap = rechecked("gap", &gap.bytes()).expect("a stamp");
-    assert_eq!(gap, "earns 16, no plan earns more than 19\nat most 18.8 % more is possible\n");
+    assert_eq!(
+        gap,
+        "earns 16, no plan earns more than 19\n\
+         at most 18.8 % more is possible (plate, panels and kerf as filed)\n"
+    );
     for proof in [Proof::Exact, Proof::TwoWeights(vec![0; 3], vec![0, 1, 0])] {
         let other = Stamp { proof, ..stamp.clone() };
         assert_eq!(rechecked("other", &other.bytes()).expect("a stamp"), best);

@@ -1,5 +1,5 @@
 // Tests of the shop's command: orders and their faults, the sample, drawings replayed cut by cut, filed plans,
-// and generated orders against an exhaustive search.
+// verdicts on rounded sizes, and generated orders against an exhaustive search.
 mod drawings;
 mod exhaustive;
 mod faults;
@@ -8,4 +8,5 @@ mod generated;
 mod orders;
 mod sample;
 mod scratch;
+mod verdicts;
 mod xml;
