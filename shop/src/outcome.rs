@@ -42,6 +42,15 @@ impl Outcome {
         (!said.is_empty()).then(|| said.join(", "))
     }
 
+    /// The kerf as it is, and as it is planned where that differs.
+    pub fn kerf(&self) -> String {
+        let (kerf, on_fence) = (self.order.kerf, self.order.length_of(self.job.kerf));
+        match kerf == on_fence {
+            true => format!("kerf {kerf} mm"),
+            false => format!("kerf {kerf} mm, planned as {on_fence} mm"),
+        }
+    }
+
     /// The copies cut of a kind.
     pub fn copies(&self, kind: usize) -> u64 {
         self.verdict.report.copies[kind]

@@ -17,12 +17,8 @@ fn heading(outcome: &Outcome, text: &mut String) {
     let order = &outcome.order;
     let [length, width] = order.plate;
     let turned = if order.turning { "may be turned" } else { "are not turned" };
-    let on_fence = order.length_of(outcome.job.kerf);
-    let kerf = match order.kerf == on_fence {
-        true => format!("kerf {on_fence} mm"),
-        false => format!("kerf {} mm, planned as {on_fence} mm", order.kerf),
-    };
-    line(text, format!("plate {length} x {width} mm in steps of {} mm, {kerf}; pieces {turned}", order.unit));
+    let (unit, kerf) = (order.unit, outcome.kerf());
+    line(text, format!("plate {length} x {width} mm in steps of {unit} mm, {kerf}; pieces {turned}"));
 }
 
 fn pieces(outcome: &Outcome, text: &mut String) {

@@ -1,5 +1,5 @@
-// The drawing of a plan for the saw, on an A4 sheet: pieces named and dimensioned, waste hatched, the kerf in its
-// true width, cuts numbered in the order of sawing, a legend. All numbers on the plate are millimetres.
+// The drawing of a plan for the saw, on an A4 sheet: pieces named and dimensioned, waste hatched, the kerf as wide as
+// planned, cuts numbered in the order of sawing, a legend. All numbers on the plate are millimetres.
 use crate::layout::{Cut, Laid, Rect};
 use crate::millimetres::Millimetres;
 use crate::outcome::Outcome;
@@ -60,9 +60,8 @@ impl Drawing<'_> {
     fn heading(&mut self) {
         let order = &self.outcome.order;
         let title = format!(
-            "Plate {} x {} mm, steps of {} mm, kerf {} mm, scale 1 : {:.1}",
-            order.plate[0], order.plate[1], order.unit,
-            order.length_of(self.outcome.job.kerf), 1.0 / self.sheet.scale,
+            "Plate {} x {} mm, steps of {} mm, {}, scale 1 : {:.1}",
+            order.plate[0], order.plate[1], order.unit, self.outcome.kerf(), 1.0 / self.sheet.scale,
         );
         let shares = self.outcome.shares().map(|(name, tenths)| {
             format!("{name} {}.{} %", tenths / 10, tenths % 10)
@@ -171,7 +170,7 @@ impl Drawing<'_> {
         self.put("</g>");
     }
 
-    /// A cut as a line of the blade's width; a hair line where the blade has none.
+    /// A cut as a line of the planned kerf's width; a hair line where that is 0.
     fn cut(&mut self, cut: &Cut) {
         let order = &self.outcome.order;
         let kerf = order.length_of(self.outcome.job.kerf).as_f64();

@@ -217,3 +217,17 @@ fn plans_with_too_many_nodes_are_left_out() {
     let shown = planned_in_time("small", "plate, 300 x 300\n", "a, 5, 5, 255\nb, 7, 4, 255\n");
     assert_eq!(shown.pieces.len(), 510);
 }
+
+#[test]
+fn the_title_has_the_kerf_as_given_and_as_planned() {
+    let scratch = Scratch::new("title");
+    let panel = "name, length, width, count\na, 100, 50, 2\n";
+    for (saw, title) in [
+        ("kerf 3.2, unit 5", "steps of 5 mm, kerf 3.2 mm, planned as 5 mm, scale 1 :"),
+        ("kerf 5, unit 5", "steps of 5 mm, kerf 5 mm, scale 1 :"),
+    ] {
+        let order = scratch.write("order.csv", format!("plate, 300 x 200\nsaw, {saw}\n{panel}"));
+        scratch.plan(&order).expect("an order without fault");
+        assert!(scratch.read("plan.svg").contains(title), "{saw}");
+    }
+}
