@@ -1,7 +1,7 @@
-// The three commands: plan an order, check a plan that somebody has drawn, certify a filed stamp again.
+// The commands: plan an order, check a plan that somebody has drawn, certify a filed stamp again, say the usage.
 // Each gives the text to print, or what is wrong; files are written only after all has gone well.
 use crate::json::{self, Filed};
-use crate::options::{Command, Options};
+use crate::options::{Command, Options, USAGE};
 use crate::order::{self, Order};
 use crate::outcome::Outcome;
 use crate::search::{search, with_waste_freed, Found, Proof, Stock};
@@ -22,6 +22,7 @@ pub fn run(options: &Options) -> Done<String> {
         Command::Plan { order } => plan(order, options),
         Command::Check { order, plan } => check(order, plan, options),
         Command::Recheck { stamp } => recheck(stamp, options.limits.memory),
+        Command::Help => Ok(format!("{USAGE}\n")),
     }
 }
 

@@ -7,6 +7,7 @@ pub const USAGE: &str = "\
 usage: plan ORDER [--svg FILE] [--json FILE] [--stamp FILE] [--seconds N] [--memory SIZE] [--turning yes|no]
        plan check ORDER PLAN.json [--memory SIZE] [--turning yes|no]
        plan recheck STAMP [--memory SIZE]
+       plan --help
 SIZE is the greatest table, as 512M or 2G; 1G if it is not said.";
 
 /// A table for a plate of the greatest size under weights of 0 always fits.
@@ -17,6 +18,7 @@ pub enum Command {
     Plan { order: PathBuf },
     Check { order: PathBuf, plan: PathBuf },
     Recheck { stamp: PathBuf },
+    Help,
 }
 
 #[derive(Clone, Debug)]
@@ -39,6 +41,7 @@ impl Options {
         let (mut files, mut words) = (Vec::new(), words);
         while let Some(word) = words.next() {
             match word.strip_prefix("--") {
+                Some("help") => return Ok(Options { command: Command::Help, ..options }),
                 Some(name) => {
                     let value = words.next().ok_or(format!("--{name} needs a value"))?;
                     options.set(name, value)?;

@@ -1,5 +1,5 @@
-// Tests of the shop's command: orders and their faults, the sample, drawings replayed cut by cut, filed plans,
-// verdicts on rounded sizes, and generated orders against an exhaustive search.
+// Tests of the shop's command: its usage, orders and their faults, the sample, drawings replayed cut by cut, filed
+// plans, verdicts on rounded sizes, and generated orders against an exhaustive search.
 mod drawings;
 mod exhaustive;
 mod faults;
@@ -8,5 +8,6 @@ mod generated;
 mod orders;
 mod sample;
 mod scratch;
+mod usage;
 mod verdicts;
 mod xml;
