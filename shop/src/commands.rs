@@ -4,7 +4,7 @@ use crate::json::{self, Filed};
 use crate::options::{Command, Options, USAGE};
 use crate::order::{self, Order};
 use crate::outcome::Outcome;
-use crate::search::{search, with_waste_freed, Found, Proof, Stock};
+use crate::search::{search, with_waste_freed, BoundBy, Found, JobView};
 use crate::stamp::Stamp;
 use crate::summary::summary;
 use crate::svg::svg;
@@ -44,22 +44,22 @@ fn plan(file: &Path, options: &Options) -> Done<String> {
 fn judged(order: Order, job: &Job, found: Found, memory: u64) -> Result<Outcome, Error> {
     let choices = order.choices();
     let mut planner = Planner::new(job, choices, memory);
-    let plan = sawn(&planner, &Stock::new(job, choices), &found);
-    let none = Proof::Weights(vec![0; job.kinds.len()]);
-    let (proof, bound) = found.limit.map_or((none, None), |l| (l.proof, Some(l.bound)));
-    let verdict = match (&proof, bound) {
-        (Proof::Exact | Proof::TwoWeights(..), Some(bound)) => {
+    let plan = sawn(&planner, &JobView::new(job, choices), &found);
+    let none = BoundBy::Weights(vec![0; job.kinds.len()]);
+    let (bound_by, bound) = found.least.map_or((none, None), |least| (least.bound_by, Some(least.bound)));
+    let verdict = match (&bound_by, bound) {
+        (BoundBy::Exact | BoundBy::TwoWeights(..), Some(bound)) => {
             Verdict::of(planner.check(&plan).map_err(Error::Refused)?, job, bound)
         }
-        _ => Verdict::new(&mut planner, job, &plan, &proof)?,
+        _ => Verdict::new(&mut planner, job, &plan, &bound_by)?,
     };
-    Ok(Outcome::new(order, plan, verdict, proof))
+    Ok(Outcome::new(order, plan, verdict, bound_by))
 }
 
 /// The plan with every cut that brings a piece to its size, unless that makes too many nodes.
-fn sawn(planner: &Planner, stock: &Stock, found: &Found) -> Plan {
+fn sawn(planner: &Planner, view: &JobView, found: &Found) -> Plan {
     let tree = found.plan.tree().unwrap_or(Tree::Waste);
-    let sawn = with_waste_freed(stock, tree).plan();
+    let sawn = with_waste_freed(view, tree).plan();
     match planner.check(&sawn) {
         Ok(report) if report.profit == found.profit => sawn,
         _ => found.plan.clone(),
@@ -75,9 +75,9 @@ fn check(file: &Path, plan: &Path, options: &Options) -> Done<String> {
     let filed = Filed::new(&document, &order).map_err(at)?;
     let mut planner = Planner::new(&job, choices, options.limits.memory);
     let plan = filed.tree.plan();
-    let proof = filed.proof.unwrap_or(Proof::Weights(vec![0; job.kinds.len()]));
-    match Verdict::new(&mut planner, &job, &plan, &proof) {
-        Ok(verdict) => Ok(summary(&Outcome::new(order, plan, verdict, proof))),
+    let bound_by = filed.bound_by.unwrap_or(BoundBy::Weights(vec![0; job.kinds.len()]));
+    match Verdict::new(&mut planner, &job, &plan, &bound_by) {
+        Ok(verdict) => Ok(summary(&Outcome::new(order, plan, verdict, bound_by))),
         Err(Error::Refused(refusal)) => Err(in_order(&refusal, &order, &filed.tree)),
         Err(error) => Err(error.to_string()),
     }
@@ -87,7 +87,7 @@ fn check(file: &Path, plan: &Path, options: &Options) -> Done<String> {
 fn in_order(refusal: &Refusal, order: &Order, tree: &Tree) -> String {
     let Some(place) = refusal.node() else { return refusal.to_string() };
     let what = match tree.nodes().get(place as usize) {
-        Some(Tree::Piece { kind, .. }) => format!(", {}", order.pieces[usize::from(*kind)].name),
+        Some(Tree::Piece { kind, .. }) => format!(", {}", order.panels[usize::from(*kind)].name),
         Some(Tree::Cut { direction: Direction::Length, at, .. }) => {
             format!(", the cut of the length at {}", order.length_of(*at))
         }
@@ -96,7 +96,8 @@ fn in_order(refusal: &Refusal, order: &Order, tree: &Tree) -> String {
         }
         _ => String::new(),
     };
-    format!("refusal {} at node {place}{what}: {}", refusal.number, refusal.words())
+    let words = refusal.words().replace("piece", "panel");
+    format!("refusal {} at node {place}{what}: {words}", refusal.number)
 }
 
 fn recheck(file: &Path, memory: u64) -> Done<String> {
@@ -107,7 +108,7 @@ fn recheck(file: &Path, memory: u64) -> Done<String> {
     let plan = Plan::from_block(&stamp.plan).expect("a block that passes its check");
     let job = Job::from_block(&stamp.job, Choices::from_word(stamp.choices));
     let job = job.expect("a job that passes its check");
-    let verdict = Verdict::new(&mut planner, &job, &plan, &stamp.proof);
+    let verdict = Verdict::new(&mut planner, &job, &plan, &stamp.bound_by);
     let verdict = verdict.map_err(|error| error.to_string())?;
     let (profit, ceiling) = (verdict.report.profit, verdict.ceiling);
     let sentence = verdict.sentence("whole units", Some("plate, panels and kerf as filed"));

@@ -1,7 +1,7 @@
 // A judged plan of an order, as it is given: in words, as a drawing, for machines and as a stamp.
 use crate::layout::{Layout, Rect};
 use crate::order::{Order, Rounded};
-use crate::search::Proof;
+use crate::search::BoundBy;
 use crate::stamp::Stamp;
 use crate::verdict::Verdict;
 use planner::{Job, Plan};
@@ -12,16 +12,16 @@ pub struct Outcome {
     pub plan: Plan,
     pub layout: Layout,
     pub verdict: Verdict,
-    pub proof: Proof,
+    pub bound_by: BoundBy,
 }
 
 impl Outcome {
     /// The outcome of a plan that passed its check.
-    pub fn new(order: Order, plan: Plan, verdict: Verdict, proof: Proof) -> Outcome {
+    pub fn new(order: Order, plan: Plan, verdict: Verdict, bound_by: BoundBy) -> Outcome {
         let job = order.job();
         let tree = plan.tree().expect("a plan that passes is a tree");
         let layout = Layout::new(&job, &tree);
-        Outcome { order, job, plan, layout, verdict, proof }
+        Outcome { order, job, plan, layout, verdict, bound_by }
     }
 
     pub fn sentence(&self) -> String {
@@ -78,6 +78,6 @@ impl Outcome {
     pub fn stamp(&self) -> Stamp {
         let choices = self.order.choices();
         let (job, plan) = (self.job.block(choices), self.plan.block());
-        Stamp { choices: choices.word(), job, proof: self.proof.clone(), plan }
+        Stamp { choices: choices.word(), job, bound_by: self.bound_by.clone(), plan }
     }
 }

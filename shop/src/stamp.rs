@@ -1,6 +1,6 @@
 // A stamp: what a shop files with a plan, so that it can be certified again from nothing. docs/STAMP.md has its
 // format: a mark, the choices, four lengths, then job block, weights, second weights and plan block.
-use crate::search::Proof;
+use crate::search::BoundBy;
 
 const MARK: &[u8; 8] = b"CUTSTAMP";
 
@@ -8,16 +8,16 @@ const MARK: &[u8; 8] = b"CUTSTAMP";
 pub struct Stamp {
     pub choices: u32,
     pub job: Vec<u8>,
-    pub proof: Proof,
+    pub bound_by: BoundBy,
     pub plan: Vec<u8>,
 }
 
 impl Stamp {
     pub fn bytes(&self) -> Vec<u8> {
-        let (first, second) = match &self.proof {
-            Proof::Exact => (&[][..], &[][..]),
-            Proof::Weights(weights) => (&weights[..], &[][..]),
-            Proof::TwoWeights(first, second) => (&first[..], &second[..]),
+        let (first, second) = match &self.bound_by {
+            BoundBy::Exact => (&[][..], &[][..]),
+            BoundBy::Weights(weights) => (&weights[..], &[][..]),
+            BoundBy::TwoWeights(first, second) => (&first[..], &second[..]),
         };
         let sections = [&self.job[..], first, second, &self.plan[..]];
         let mut bytes = MARK.to_vec();
@@ -47,11 +47,11 @@ impl Stamp {
         if !rest.is_empty() {
             return Err("expected no bytes after the plan block".to_string());
         }
-        let proof = match (first.is_empty(), second.is_empty()) {
-            (true, true) => Proof::Exact,
-            (false, true) => Proof::Weights(first),
-            _ => Proof::TwoWeights(first, second),
+        let bound_by = match (first.is_empty(), second.is_empty()) {
+            (true, true) => BoundBy::Exact,
+            (false, true) => BoundBy::Weights(first),
+            _ => BoundBy::TwoWeights(first, second),
         };
-        Ok(Stamp { choices, job, proof, plan })
+        Ok(Stamp { choices, job, bound_by, plan })
     }
 }

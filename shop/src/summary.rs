@@ -7,7 +7,7 @@ use std::fmt::Write;
 pub fn summary(outcome: &Outcome) -> String {
     let mut text = String::new();
     heading(outcome, &mut text);
-    pieces(outcome, &mut text);
+    panels(outcome, &mut text);
     areas(outcome, &mut text);
     cuts(outcome, &mut text);
     text
@@ -18,20 +18,20 @@ fn heading(outcome: &Outcome, text: &mut String) {
     let [length, width] = order.plate;
     let turned = if order.turning { "may be turned" } else { "are not turned" };
     let (unit, kerf) = (order.unit, outcome.kerf());
-    line(text, format!("plate {length} x {width} mm in steps of {unit} mm, {kerf}; pieces {turned}"));
+    line(text, format!("plate {length} x {width} mm in steps of {unit} mm, {kerf}; panels {turned}"));
 }
 
-fn pieces(outcome: &Outcome, text: &mut String) {
-    let pieces = &outcome.order.pieces;
-    let widest = pieces.iter().map(|piece| piece.name.chars().count()).max().unwrap_or(0).max(5);
-    line(text, format!("\n{:widest$}  {:>15}  cut  ordered", "piece", "size in mm"));
-    for (kind, piece) in pieces.iter().enumerate() {
-        let size = format!("{} x {}", piece.sides[0], piece.sides[1]);
-        let (cut, ordered) = (outcome.copies(kind), piece.count);
-        line(text, format!("{:widest$}  {size:>15}  {cut:>3}  {ordered:>7}", piece.name));
+fn panels(outcome: &Outcome, text: &mut String) {
+    let panels = &outcome.order.panels;
+    let widest = panels.iter().map(|panel| panel.name.chars().count()).max().unwrap_or(0).max(5);
+    line(text, format!("\n{:widest$}  {:>15}  cut  ordered", "panel", "size in mm"));
+    for (kind, panel) in panels.iter().enumerate() {
+        let size = format!("{} x {}", panel.sides[0], panel.sides[1]);
+        let (cut, ordered) = (outcome.copies(kind), panel.count);
+        line(text, format!("{:widest$}  {size:>15}  {cut:>3}  {ordered:>7}", panel.name));
     }
-    let cut: u64 = (0..pieces.len()).map(|kind| outcome.copies(kind)).sum();
-    let ordered: u32 = pieces.iter().map(|piece| u32::from(piece.count)).sum();
+    let cut: u64 = (0..panels.len()).map(|kind| outcome.copies(kind)).sum();
+    let ordered: u32 = panels.iter().map(|panel| u32::from(panel.count)).sum();
     line(text, format!("{:widest$}  {:>15}  {cut:>3}  {ordered:>7}", "all", ""));
 }
 
@@ -75,14 +75,14 @@ fn becomes(outcome: &Outcome, part: &Part) -> String {
         Use::Cut(number) => format!("{size}: cut {number}"),
         Use::Waste => format!("{size}: waste"),
         Use::Piece { kind, turned } => {
-            let name = &outcome.order.pieces[kind].name;
+            let name = &outcome.order.panels[kind].name;
             let turned = if turned { " turned" } else { "" };
             format!("{size}: {name}{turned}{}", trimmed(outcome, part))
         }
     }
 }
 
-/// The size that a piece is trimmed to, where it is cut out larger.
+/// The size that a panel is trimmed to, where it is cut out larger.
 fn trimmed(outcome: &Outcome, part: &Part) -> String {
     let laid = outcome.layout.pieces.iter().find(|laid| laid.cut_for_it == part.rect);
     match laid {

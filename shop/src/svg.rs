@@ -11,7 +11,7 @@ use std::fmt::Write;
 pub fn svg(outcome: &Outcome) -> String {
     let order = &outcome.order;
     let plate = [outcome.job.length, outcome.job.width].map(|units| order.length_of(units));
-    let kinds = 0..order.pieces.len();
+    let kinds = 0..order.panels.len();
     let entry_width = |kind| text_width(&entry(outcome, kind, f64::INFINITY));
     let widest = kinds.clone().map(entry_width).fold(0.0, f64::max);
     let sheet = Sheet::new(plate.map(Millimetres::as_f64), kinds.len(), widest);
@@ -128,7 +128,7 @@ impl Drawing<'_> {
     fn piece(&mut self, laid: &Laid) {
         let (place, fill) = (self.place(laid.piece), colour(laid.kind));
         let thin = 0.2 / self.sheet.scale;
-        let ordered = &self.outcome.order.pieces[laid.kind];
+        let ordered = &self.outcome.order.panels[laid.kind];
         let name = escaped(&ordered.name);
         self.put(format!(
             "<rect class=\"piece\" {place} fill=\"{fill}\" stroke=\"black\" \
@@ -226,7 +226,7 @@ impl Drawing<'_> {
             let [x, y] = self.sheet.key(column);
             self.entry(x, y, fill, words);
         }
-        for kind in 0..self.outcome.order.pieces.len() {
+        for kind in 0..self.outcome.order.panels.len() {
             let [x, y] = self.sheet.entry(kind);
             let words = entry(self.outcome, kind, self.sheet.entry_room());
             self.entry(x, y, &colour(kind), &words);
@@ -247,12 +247,12 @@ impl Drawing<'_> {
 
 /// A kind in the legend, in so much room: its number, its name, its size and how many are cut.
 fn entry(outcome: &Outcome, kind: usize, room: f64) -> String {
-    let piece = &outcome.order.pieces[kind];
-    let size = format!("{} x {}", piece.sides[0], piece.sides[1]);
+    let panel = &outcome.order.panels[kind];
+    let size = format!("{} x {}", panel.sides[0], panel.sides[1]);
     let before = format!("{} ", kind + 1);
-    let after = format!(" {size}, {} of {}", outcome.copies(kind), piece.count);
+    let after = format!(" {size}, {} of {}", outcome.copies(kind), panel.count);
     let left = room - text_width(&before) - text_width(&after);
-    format!("{before}{}{after}", shortened(&piece.name, left))
+    format!("{before}{}{after}", shortened(&panel.name, left))
 }
 
 /// A light colour for a kind; neighbours in the order differ most.

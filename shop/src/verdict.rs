@@ -1,6 +1,6 @@
 // What the proved calls say of a plan: what it earns, the most that any plan can earn, and that in one plain
 // sentence.
-use crate::search::Proof;
+use crate::search::BoundBy;
 use planner::answers::Report;
 use planner::{Error, Job, Plan, Planner};
 
@@ -9,7 +9,7 @@ use planner::{Error, Job, Plan, Planner};
 pub struct Verdict {
     pub report: Report,
     pub ceiling: u64,
-    /// Whether every piece of the order is cut.
+    /// Whether every panel of the order is cut.
     pub whole: bool,
 }
 
@@ -19,13 +19,13 @@ impl Verdict {
         planner: &mut Planner,
         job: &Job,
         plan: &Plan,
-        proof: &Proof,
+        bound_by: &BoundBy,
     ) -> Result<Verdict, Error> {
         let report = planner.check(plan).map_err(Error::Refused)?;
-        let bound = match proof {
-            Proof::Exact => planner.exact()?.0.optimum,
-            Proof::Weights(weights) => planner.certify(weights, plan)?.bound,
-            Proof::TwoWeights(first, second) => planner.bound_two(first, second)?.bound,
+        let bound = match bound_by {
+            BoundBy::Exact => planner.exact()?.0.optimum,
+            BoundBy::Weights(weights) => planner.certify(weights, plan)?.bound,
+            BoundBy::TwoWeights(first, second) => planner.bound_two(first, second)?.bound,
         };
         Ok(Verdict::of(report, job, bound))
     }
@@ -47,7 +47,7 @@ impl Verdict {
     /// sizes are not the order's own.
     pub fn sentence(&self, steps: &str, sizes: Option<&str>) -> String {
         if self.whole {
-            return "best: every piece of the order is cut".to_string();
+            return "best: every panel of the order is cut".to_string();
         }
         let sizes = sizes.map(|sizes| format!(" ({sizes})")).unwrap_or_default();
         self.against_all(steps) + &sizes

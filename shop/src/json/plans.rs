@@ -5,13 +5,13 @@ use crate::layout::{Cut, Part, Use};
 use crate::millimetres::Millimetres;
 use crate::order::{Order, Rounded};
 use crate::outcome::Outcome;
-use crate::search::Proof;
+use crate::search::BoundBy;
 use planner::{Direction, Tree};
 
 /// A plan as it was filed: its tree and, where they are given, the weights that judge it.
 pub struct Filed {
     pub tree: Tree,
-    pub proof: Option<Proof>,
+    pub bound_by: Option<BoundBy>,
 }
 
 pub fn document(outcome: &Outcome) -> Value {
@@ -20,21 +20,21 @@ pub fn document(outcome: &Outcome) -> Value {
     let shares = outcome.shares().map(|(name, tenths)| {
         (name, Value::number(format!("{}.{}", tenths / 10, tenths % 10)))
     });
-    let [first, second] = weights(&outcome.proof);
+    let [first, second] = weights(&outcome.bound_by);
     let verdict = &outcome.verdict;
     Value::object([
         ("plate", Value::List(vec![length(outcome.job.length), length(outcome.job.width)])),
         ("unit", Value::number(order.unit)),
         ("kerf", length(outcome.job.kerf)),
         ("turning", Value::Truth(order.turning)),
-        ("pieces", Value::List((0..order.pieces.len()).map(|kind| piece(outcome, kind)).collect())),
+        ("pieces", Value::List((0..order.panels.len()).map(|kind| panel(outcome, kind)).collect())),
         ("per_cent", Value::object(shares)),
         ("profit", Value::number(verdict.report.profit)),
         ("most_possible", Value::number(verdict.ceiling)),
         ("best", Value::Truth(verdict.is_best())),
         ("verdict", Value::text(outcome.sentence())),
         ("rounded", rounded(order)),
-        ("exact", Value::Truth(outcome.proof == Proof::Exact)),
+        ("exact", Value::Truth(outcome.bound_by == BoundBy::Exact)),
         ("weights", first),
         ("second_weights", second),
         ("plan", node(outcome, &outcome.layout.plate)),
@@ -48,23 +48,23 @@ fn rounded(order: &Order) -> Value {
     Value::List(members.iter().filter(|member| member.1).map(|member| Value::text(member.0)).collect())
 }
 
-fn weights(proof: &Proof) -> [Value; 2] {
+fn weights(bound_by: &BoundBy) -> [Value; 2] {
     let list = |weights: &[u8]| Value::List(weights.iter().map(Value::number).collect());
-    match proof {
-        Proof::Exact => [Value::Null, Value::Null],
-        Proof::Weights(weights) => [list(weights), Value::Null],
-        Proof::TwoWeights(first, second) => [list(first), list(second)],
+    match bound_by {
+        BoundBy::Exact => [Value::Null, Value::Null],
+        BoundBy::Weights(weights) => [list(weights), Value::Null],
+        BoundBy::TwoWeights(first, second) => [list(first), list(second)],
     }
 }
 
-fn piece(outcome: &Outcome, kind: usize) -> Value {
-    let piece = &outcome.order.pieces[kind];
+fn panel(outcome: &Outcome, kind: usize) -> Value {
+    let panel = &outcome.order.panels[kind];
     Value::object([
-        ("name", Value::text(&piece.name)),
-        ("length", Value::number(piece.sides[0])),
-        ("width", Value::number(piece.sides[1])),
+        ("name", Value::text(&panel.name)),
+        ("length", Value::number(panel.sides[0])),
+        ("width", Value::number(panel.sides[1])),
         ("price", Value::number(outcome.job.kinds[kind].price)),
-        ("ordered", Value::number(piece.count)),
+        ("ordered", Value::number(panel.count)),
         ("cut", Value::number(outcome.copies(kind))),
     ])
 }
@@ -75,7 +75,7 @@ fn node(outcome: &Outcome, part: &Part) -> Value {
     match part.becomes {
         Use::Waste => Value::object([("waste", Value::Truth(true)), ("size", size)]),
         Use::Piece { kind, turned } => Value::object([
-            ("piece", Value::text(&outcome.order.pieces[kind].name)),
+            ("piece", Value::text(&outcome.order.panels[kind].name)),
             ("turned", Value::Truth(turned)),
             ("size", size),
         ]),
@@ -103,13 +103,13 @@ impl Filed {
         let tree = tree(document.get("plan").unwrap_or(document), "the plan", order)?;
         let first = weights_of(document, "weights")?;
         let second = weights_of(document, "second_weights")?;
-        let proof = match (first, second) {
-            (Some(first), Some(second)) => Some(Proof::TwoWeights(first, second)),
-            (Some(weights), None) => Some(Proof::Weights(weights)),
+        let bound_by = match (first, second) {
+            (Some(first), Some(second)) => Some(BoundBy::TwoWeights(first, second)),
+            (Some(weights), None) => Some(BoundBy::Weights(weights)),
             _ => None,
         };
         let exact = document.get("exact") == Some(&Value::Truth(true));
-        Ok(Filed { tree, proof: if exact { Some(Proof::Exact) } else { proof } })
+        Ok(Filed { tree, bound_by: if exact { Some(BoundBy::Exact) } else { bound_by } })
     }
 }
 
@@ -145,7 +145,7 @@ fn tree(value: &Value, place: &str, order: &Order) -> Result<Tree, String> {
     }
     match (value.get("piece"), value.get("waste")) {
         (Some(Value::Text(name)), _) => {
-            let Some(kind) = order.pieces.iter().position(|piece| piece.name == *name) else {
+            let Some(kind) = order.panels.iter().position(|panel| panel.name == *name) else {
                 return expected(&format!("a panel of the order, found \"{name}\""));
             };
             let turned = value.get("turned") == Some(&Value::Truth(true));

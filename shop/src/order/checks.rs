@@ -2,7 +2,7 @@
 // brings all into what the planner accepts.
 use super::fault::{Expected, Fault};
 use super::reader::{Draft, Heading, Placed};
-use super::{Order, Piece};
+use super::{Order, Panel};
 use crate::millimetres::Millimetres;
 
 /// The most units of a plate's side and of the kerf.
@@ -22,19 +22,19 @@ impl Draft {
         if !matches!(self.heading, Some(Heading::Columns(_))) {
             return Err(end("a heading name, length, width, count, price"));
         }
-        if self.pieces.is_empty() {
+        if self.panels.is_empty() {
             return Err(end("a line for each panel"));
         }
         let unit = fence_unit(plate, self.unit.as_ref()).map_err(|fault| vec![fault])?;
         let kerf = kerf_in(self.kerf.as_ref(), unit).map_err(|fault| vec![fault])?;
         let (plate, turning) = (plate.value, self.turning.unwrap_or(false));
-        let misfit = |piece: &Placed<Piece>| misfit(piece, plate, unit, turning);
-        let faults: Vec<Fault> = self.pieces.iter().filter_map(misfit).collect();
+        let misfit = |panel: &Placed<Panel>| misfit(panel, plate, unit, turning);
+        let faults: Vec<Fault> = self.panels.iter().filter_map(misfit).collect();
         if !faults.is_empty() {
             return Err(faults);
         }
-        let pieces = self.pieces.into_iter().map(|piece| piece.value).collect();
-        Ok(Order { plate, kerf, unit, turning, pieces })
+        let panels = self.panels.into_iter().map(|panel| panel.value).collect();
+        Ok(Order { plate, kerf, unit, turning, panels })
     }
 }
 
@@ -76,13 +76,13 @@ fn kerf_in(
 
 /// The fault of a panel that fits the plate in no way in which it may lie.
 fn misfit(
-    piece: &Placed<Piece>,
+    panel: &Placed<Panel>,
     plate: [Millimetres; 2],
     unit: Millimetres,
     turning: bool,
 ) -> Option<Fault> {
     let [length, width] = plate.map(|side| side.units_down(unit));
-    let [along, across] = piece.value.sides.map(|side| side.units_up(unit));
+    let [along, across] = panel.value.sides.map(|side| side.units_up(unit));
     let fits = along <= length && across <= width;
     if fits || turning && across <= length && along <= width {
         return None;
@@ -90,6 +90,6 @@ fn misfit(
     let plate = [length, width].map(|units| unit.times(units));
     let expected =
         format!("a panel that fits the plate, in steps of {unit} mm {} x {}", plate[0], plate[1]);
-    let [along, across] = piece.value.sides;
-    Some(piece.fault(expected, format!("{along} x {across}")))
+    let [along, across] = panel.value.sides;
+    Some(panel.fault(expected, format!("{along} x {across}")))
 }

@@ -13,7 +13,7 @@ use planner::{Choices, Job, Kind};
 
 /// A panel of the order, of which `count` copies are wanted. Without a price its area counts.
 #[derive(Clone, Debug, PartialEq, Eq)]
-pub struct Piece {
+pub struct Panel {
     pub name: String,
     pub sides: [Millimetres; 2],
     pub count: u16,
@@ -27,7 +27,7 @@ pub struct Order {
     pub kerf: Millimetres,
     pub unit: Millimetres,
     pub turning: bool,
-    pub pieces: Vec<Piece>,
+    pub panels: Vec<Panel>,
 }
 
 /// What of an order is not in whole units, and so is planned otherwise than it was given.
@@ -43,7 +43,7 @@ impl Order {
     pub fn job(&self) -> Job {
         let [length, width] = self.plate.map(|side| side.units_down(self.unit) as u16);
         let kerf = self.kerf.units_up(self.unit) as u16;
-        Job { length, width, kerf, kinds: self.pieces.iter().map(|p| self.kind(p)).collect() }
+        Job { length, width, kerf, kinds: self.panels.iter().map(|p| self.kind(p)).collect() }
     }
 
     pub fn choices(&self) -> Choices {
@@ -52,10 +52,10 @@ impl Order {
 
     pub fn rounded(&self) -> Rounded {
         let is_rounded = |side: &Millimetres| side.units(self.unit).is_none();
-        let wanted = self.pieces.iter().filter(|piece| piece.count > 0);
+        let wanted = self.panels.iter().filter(|panel| panel.count > 0);
         Rounded {
             kerf: is_rounded(&self.kerf),
-            panels: wanted.flat_map(|piece| &piece.sides).any(is_rounded),
+            panels: wanted.flat_map(|panel| &panel.sides).any(is_rounded),
             plate: self.plate.iter().any(is_rounded),
         }
     }
@@ -65,9 +65,9 @@ impl Order {
         self.unit.times(units.into())
     }
 
-    fn kind(&self, piece: &Piece) -> Kind {
-        let [length, width] = piece.sides.map(|side| side.units_up(self.unit) as u16);
-        let price = piece.price.unwrap_or(u32::from(length) * u32::from(width));
-        Kind { length, width, price, demand: piece.count }
+    fn kind(&self, panel: &Panel) -> Kind {
+        let [length, width] = panel.sides.map(|side| side.units_up(self.unit) as u16);
+        let price = panel.price.unwrap_or(u32::from(length) * u32::from(width));
+        Kind { length, width, price, demand: panel.count }
     }
 }

@@ -2,7 +2,7 @@
 // All faulty lines are reported, each with its first fault.
 use super::cells::{cells, Cell};
 use super::fault::{Expected, Fault};
-use super::{Order, Piece};
+use super::{Order, Panel};
 use crate::millimetres::Millimetres;
 
 const LENGTH: &str = "a length in millimetres, above 0 and with at most three decimals";
@@ -36,7 +36,7 @@ pub struct Draft {
     pub unit: Option<Placed<Millimetres>>,
     pub turning: Option<bool>,
     pub heading: Option<Heading>,
-    pub pieces: Vec<Placed<Piece>>,
+    pub panels: Vec<Placed<Panel>>,
     pub lines: usize,
 }
 
@@ -79,7 +79,7 @@ impl Draft {
     fn line(&mut self, cells: &[Cell]) -> Result<(), Expected> {
         let Some((first, rest)) = cells.split_first() else { return Ok(()) };
         match self.heading {
-            Some(Heading::Columns(columns)) => return self.piece(cells, columns),
+            Some(Heading::Columns(columns)) => return self.panel(cells, columns),
             Some(Heading::Faulty) => return Ok(()),
             None => {}
         }
@@ -158,7 +158,7 @@ impl Draft {
         Ok(())
     }
 
-    fn piece(&mut self, cells: &[Cell], columns: [Option<usize>; 5]) -> Result<(), Expected> {
+    fn panel(&mut self, cells: &[Cell], columns: [Option<usize>; 5]) -> Result<(), Expected> {
         let headed = columns.iter().flatten().count();
         if let Some(cell) = cells.get(headed) {
             return Err(Expected::in_cell(cell, format!("no more than {headed} cells")));
@@ -176,8 +176,8 @@ impl Draft {
             Ok(cell) if !cell.text.is_empty() => Some(whole(cell, "a price", MOST_PRICE)?),
             _ => None,
         };
-        let piece = Piece { name: name.text.clone(), sides, count, price };
-        self.pieces.push(self.placed(length, piece));
+        let panel = Panel { name: name.text.clone(), sides, count, price };
+        self.panels.push(self.placed(length, panel));
         Ok(())
     }
 
@@ -185,10 +185,10 @@ impl Draft {
         if cell.text.is_empty() {
             return Err(Expected::in_cell(cell, "a name"));
         }
-        if self.pieces.len() == MOST_KINDS {
+        if self.panels.len() == MOST_KINDS {
             return Err(Expected::in_cell(cell, format!("no more than {MOST_KINDS} panels")));
         }
-        match self.pieces.iter().find(|piece| piece.value.name == cell.text) {
+        match self.panels.iter().find(|panel| panel.value.name == cell.text) {
             Some(other) => Err(Expected::in_cell(
                 cell,
                 format!("a name that no other panel has, and line {} has it", other.line),

@@ -1,6 +1,6 @@
 // How much work a search may do, counted in table words and cuts and never by the clock, so that the same order
 // always gets the same plan. One unit takes a tenth to a third of a nanosecond.
-use super::stock::Stock;
+use super::job_view::JobView;
 
 /// The work of all rounds together, of one, and of an exact call.
 const ALL: u64 = 40_000_000_000;
@@ -44,9 +44,9 @@ impl Effort {
 
     /// Whether the exact call can be tried: its work grows with the ways to share copies out to two parts. Where the
     /// clock ends the search, it may be as long as it likes `in_the_end`.
-    pub fn allows_exact(&self, stock: &Stock, in_the_end: bool) -> bool {
+    pub fn allows_exact(&self, view: &JobView, in_the_end: bool) -> bool {
         let (mut states, mut shares) = (1_u64, 1_u64);
-        for demand in stock.demands.iter().map(|demand| u64::from(*demand)) {
+        for demand in view.demands.iter().map(|demand| u64::from(*demand)) {
             states *= demand + 1;
             shares *= (demand + 1) * (demand + 2) / 2;
             if states > MOST_STATES {

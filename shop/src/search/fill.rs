@@ -1,7 +1,7 @@
 // Fills waste greedily with pieces that are still wanted: a piece into a corner, then what the two cuts
 // beside it leave. Which piece is taken follows a favour for each kind, so that the same waste can be filled in
 // many ways.
-use super::stock::{along, Lying, Note, Sides, Stock};
+use super::job_view::{along, JobView, Lying, Note, Sides};
 use planner::{Direction, Tree};
 
 /// The most pieces of a plan of 4,095 nodes.
@@ -9,7 +9,7 @@ const MOST_PIECES: usize = 2_048;
 
 /// What one filling has: the copies still wanted, a favour for each kind, the order of the cuts.
 pub struct Filler<'a> {
-    stock: &'a Stock,
+    view: &'a JobView,
     wanted: Vec<u16>,
     favours: Vec<u64>,
     order: CutOrder,
@@ -32,23 +32,23 @@ pub const CUT_ORDERS: [CutOrder; 4] =
     [CutOrder::KeepGreater, CutOrder::KeepLesser, CutOrder::LengthFirst, CutOrder::WidthFirst];
 
 /// The tree drawn together, with every cut that brings a piece to its size: the greater rest is kept whole.
-pub fn with_waste_freed(stock: &Stock, tree: Tree) -> Tree {
-    Filler::that_frees_waste(stock).refill(tree, stock.plate)
+pub fn with_waste_freed(view: &JobView, tree: Tree) -> Tree {
+    Filler::that_frees_waste(view).refill(tree, view.plate)
 }
 
 impl<'a> Filler<'a> {
     /// A filler beside a tree that keeps the demands.
-    pub fn beside(stock: &'a Stock, tree: &Tree, favours: Vec<u64>, order: CutOrder) -> Filler<'a> {
-        let pieces: usize = stock.copies(tree).into_iter().map(usize::from).sum();
+    pub fn beside(view: &'a JobView, tree: &Tree, favours: Vec<u64>, order: CutOrder) -> Filler<'a> {
+        let pieces: usize = view.copies(tree).into_iter().map(usize::from).sum();
         let room = MOST_PIECES.saturating_sub(pieces);
-        let wanted = stock.wanted(tree);
-        Filler { stock, wanted, favours, order, room, frees_waste: false }
+        let wanted = view.wanted(tree);
+        Filler { view, wanted, favours, order, room, frees_waste: false }
     }
 
     /// A filler that has no pieces and cuts off all waste.
-    fn that_frees_waste(stock: &'a Stock) -> Filler<'a> {
-        let (wanted, favours) = (vec![0; stock.demands.len()], Vec::new());
-        Filler { stock, wanted, favours, order: CutOrder::KeepGreater, room: 0, frees_waste: true }
+    fn that_frees_waste(view: &'a JobView) -> Filler<'a> {
+        let (wanted, favours) = (vec![0; view.demands.len()], Vec::new());
+        Filler { view, wanted, favours, order: CutOrder::KeepGreater, room: 0, frees_waste: true }
     }
 
     /// A tree of wanted pieces on a rectangle.
@@ -69,7 +69,7 @@ impl<'a> Filler<'a> {
     /// Cuts a tree of these used sides off a rectangle and fills the rest; no cut where that stays waste.
     fn with_rest(&mut self, tree: Tree, used: Sides, sides: Sides, direction: Direction) -> Tree {
         let at = along(used, direction);
-        let rest = match self.stock.parts(sides, direction, at) {
+        let rest = match self.view.parts(sides, direction, at) {
             Some((_, rest)) => self.fill(rest),
             None => Tree::Waste,
         };
@@ -85,7 +85,7 @@ impl<'a> Filler<'a> {
             return None;
         }
         let fits = |l: &&Lying| l.sides.0 <= sides.0 && l.sides.1 <= sides.1;
-        let open = self.stock.lying.iter().filter(|l| self.wanted[l.kind] > 0).filter(fits);
+        let open = self.view.lying.iter().filter(|l| self.wanted[l.kind] > 0).filter(fits);
         let worth = |l: &&Lying| {
             let spans = l.sides.0 == sides.0 || l.sides.1 == sides.1;
             l.price * self.favours[l.kind] * if spans { 3 } else { 2 }
@@ -113,7 +113,7 @@ impl<'a> Filler<'a> {
     /// Draws a tree together on its rectangle, dropping cuts that free only waste, and fills what is left beside
     /// its pieces.
     pub fn refill(&mut self, tree: Tree, sides: Sides) -> Tree {
-        let notes = self.stock.notes(&tree);
+        let notes = self.view.notes(&tree);
         self.refill_node(tree, &notes, sides)
     }
 
@@ -122,7 +122,7 @@ impl<'a> Filler<'a> {
         let Some(used) = notes[0].used else { return self.fill(sides) };
         for direction in self.cut_order(sides, used) {
             let at = along(used, direction);
-            let Some((part, rest)) = self.stock.parts(sides, direction, at) else { continue };
+            let Some((part, rest)) = self.view.parts(sides, direction, at) else { continue };
             let rest = self.fill(rest);
             if rest != Tree::Waste || self.frees_waste {
                 return Tree::cut(direction, at, self.refill_node(tree, notes, part), rest);
@@ -137,7 +137,7 @@ impl<'a> Filler<'a> {
             return self.refill_node(*first, first_notes, sides);
         }
         let at = along(used, direction);
-        let parts = self.stock.parts(sides, direction, at).expect("the second part has a piece");
+        let parts = self.view.parts(sides, direction, at).expect("the second part has a piece");
         let first = self.refill_node(*first, first_notes, parts.0);
         Tree::cut(direction, at, first, self.refill_node(*second, second_notes, parts.1))
     }

@@ -5,7 +5,7 @@ use std::time::Duration;
 
 /// How a bound was got: by a proved call that can be made again.
 #[derive(Clone, Debug, PartialEq, Eq)]
-pub enum Proof {
+pub enum BoundBy {
     /// The optimum of a short order.
     Exact,
     /// One weight a kind.
@@ -16,9 +16,9 @@ pub enum Proof {
 
 /// A bound, and how long the call took that gave it.
 #[derive(Clone, Debug)]
-pub struct Limit {
+pub struct TimedBound {
     pub bound: u64,
-    pub proof: Proof,
+    pub bound_by: BoundBy,
     pub took: Duration,
 }
 
@@ -27,7 +27,7 @@ pub struct Limit {
 pub struct Found {
     pub plan: Plan,
     pub profit: u64,
-    pub limit: Option<Limit>,
+    pub least: Option<TimedBound>,
     pub rounds: u32,
     /// What the whole order would earn.
     pub worth: u64,
@@ -36,7 +36,7 @@ pub struct Found {
 impl Found {
     /// The plan that cuts nothing, and no bound.
     pub fn nothing(worth: u64) -> Found {
-        Found { plan: Tree::Waste.plan(), profit: 0, limit: None, rounds: 0, worth }
+        Found { plan: Tree::Waste.plan(), profit: 0, least: None, rounds: 0, worth }
     }
 
     pub fn keep_plan(&mut self, plan: Plan, profit: u64) {
@@ -45,20 +45,20 @@ impl Found {
         }
     }
 
-    pub fn keep_limit(&mut self, limit: Limit) {
-        if self.limit.as_ref().is_none_or(|least| limit.bound < least.bound) {
-            self.limit = Some(limit);
+    pub fn keep_bound(&mut self, timed: TimedBound) {
+        if self.least.as_ref().is_none_or(|least| timed.bound < least.bound) {
+            self.least = Some(timed);
         }
     }
 
     /// The most that any plan can earn, as far as it is known.
     pub fn ceiling(&self) -> u64 {
-        self.limit.as_ref().map_or(self.worth, |limit| limit.bound.min(self.worth))
+        self.least.as_ref().map_or(self.worth, |least| least.bound.min(self.worth))
     }
 
     /// How long the certificate will take.
     pub fn certified_in(&self) -> Duration {
-        self.limit.as_ref().map_or(Duration::ZERO, |limit| limit.took)
+        self.least.as_ref().map_or(Duration::ZERO, |least| least.took)
     }
 
     /// Whether the plan earns as much as any can.

@@ -1,7 +1,7 @@
 // Improves a plan by taking parts of it out and filling their place anew, with other favours each time.
 // The same job always gets the same plan: the random numbers have a fixed seed.
 use super::fill::{Filler, CUT_ORDERS};
-use super::stock::Stock;
+use super::job_view::JobView;
 use planner::Tree;
 
 /// Steps without a better plan after which the search goes back to the best.
@@ -28,16 +28,16 @@ impl Dice {
 }
 
 /// The best tree that is met from this one. `work` is what may be done, counted in nodes.
-pub fn improve(stock: &Stock, tree: Tree, work: usize, dice: &mut Dice) -> Tree {
-    let worth = stock.worth();
-    let mut best = (stock.profit(&tree), tree);
+pub fn improve(view: &JobView, tree: Tree, work: usize, dice: &mut Dice) -> Tree {
+    let worth = view.worth();
+    let mut best = (view.profit(&tree), tree);
     let mut now = best.clone();
     let (mut done, mut idle) = (0, 0);
     while done < work && best.0 < worth {
         let nodes = now.1.nodes().len();
         done += nodes + LEAST_WORK;
-        let next = changed(stock, now.1.clone(), nodes, dice);
-        let profit = stock.profit(&next);
+        let next = changed(view, now.1.clone(), nodes, dice);
+        let profit = view.profit(&next);
         let slack = best.0 / 50 * work.saturating_sub(done) as u64 / work as u64;
         if profit + slack >= best.0 {
             now = (profit, next);
@@ -55,12 +55,12 @@ pub fn improve(stock: &Stock, tree: Tree, work: usize, dice: &mut Dice) -> Tree 
 }
 
 /// The tree with one to three of its nodes taken out, filled anew.
-fn changed(stock: &Stock, tree: Tree, nodes: usize, dice: &mut Dice) -> Tree {
+fn changed(view: &JobView, tree: Tree, nodes: usize, dice: &mut Dice) -> Tree {
     let out: Vec<_> = (0..=dice.below(3)).map(|_| dice.below(nodes)).collect();
     let tree = without(tree, &mut 0, &out);
-    let favours = stock.demands.iter().map(|_| 64 + dice.below(64) as u64).collect();
+    let favours = view.demands.iter().map(|_| 64 + dice.below(64) as u64).collect();
     let order = CUT_ORDERS[dice.below(CUT_ORDERS.len())];
-    Filler::beside(stock, &tree, favours, order).refill(tree, stock.plate)
+    Filler::beside(view, &tree, favours, order).refill(tree, view.plate)
 }
 
 /// Makes waste of nodes, by their numbers in preorder. `next` is the number of the tree's own node.

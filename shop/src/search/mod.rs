@@ -5,13 +5,13 @@ mod fill;
 mod finder;
 mod found;
 mod improve;
+mod job_view;
 mod repair;
-mod stock;
 mod weights;
 
 pub use fill::with_waste_freed;
-pub use found::{Found, Proof};
-pub use stock::Stock;
+pub use found::{BoundBy, Found};
+pub use job_view::JobView;
 
 use finder::Finder;
 use planner::{Choices, Job};
@@ -36,7 +36,7 @@ pub struct Limits {
 /// Searches within the limits. Time is kept for the certificate, which takes as long as the least bound did.
 pub fn search(job: &Job, choices: Choices, limits: Limits, mut show: impl FnMut(&Found)) -> Found {
     let start = Instant::now();
-    let worth = Stock::new(job, choices).worth();
+    let worth = JobView::new(job, choices).worth();
     let found = Arc::new(Mutex::new(Found::nothing(worth)));
     let timed = limits.seconds.is_some();
     let finder = Finder::new(job, choices, limits.memory, timed, Arc::clone(&found));
@@ -51,7 +51,7 @@ pub fn search(job: &Job, choices: Choices, limits: Limits, mut show: impl FnMut(
         let now = now();
         show(&now);
         let late = |limit| now.certified_in() + start.elapsed() >= limit;
-        if now.limit.is_some() && limits.seconds.is_some_and(late) {
+        if now.least.is_some() && limits.seconds.is_some_and(late) {
             return now;
         }
     }

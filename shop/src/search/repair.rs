@@ -1,14 +1,14 @@
 // Makes a plan behind a bound keep the demands: copies above the demand become waste, cuts that then free only
 // waste go, and what is left is filled with what is still wanted.
 use super::fill::{CutOrder, Filler};
-use super::stock::Stock;
+use super::job_view::JobView;
 use planner::Tree;
 
-pub fn repaired(stock: &Stock, tree: Tree) -> Tree {
-    let mut left = stock.demands.clone();
+pub fn repaired(view: &JobView, tree: Tree) -> Tree {
+    let mut left = view.demands.clone();
     let kept = within(tree, &mut left);
-    let favours = vec![1; stock.demands.len()];
-    Filler::beside(stock, &kept, favours, CutOrder::KeepGreater).refill(kept, stock.plate)
+    let favours = vec![1; view.demands.len()];
+    Filler::beside(view, &kept, favours, CutOrder::KeepGreater).refill(kept, view.plate)
 }
 
 fn within(tree: Tree, left: &mut [u16]) -> Tree {

@@ -1,6 +1,6 @@
 // Weights for the rounds: where they start, and how a round's plan moves them (Morabito and Pureza, formulas 12
 // and 13), in whole numbers.
-use super::stock::Stock;
+use super::job_view::JobView;
 
 /// The factor of each round, in sixteenths: 2, halved after every third round.
 pub const FACTORS: [u64; 18] = [32, 32, 32, 16, 16, 16, 8, 8, 8, 4, 4, 4, 2, 2, 2, 1, 1, 1];
@@ -9,20 +9,20 @@ pub const FACTORS: [u64; 18] = [32, 32, 32, 16, 16, 16, 8, 8, 8, 4, 4, 4, 2, 2, 
 const MOST: u64 = 255;
 
 /// Weights in proportion to the prices, the greatest being `most`; none for kinds that are not wanted.
-pub fn by_price(stock: &Stock, most: u64) -> Vec<u8> {
-    let dearest = stock.prices.iter().copied().max().unwrap_or(0).max(1);
+pub fn by_price(view: &JobView, most: u64) -> Vec<u8> {
+    let dearest = view.prices.iter().copied().max().unwrap_or(0).max(1);
     let weight = |(price, demand): (&u64, &u16)| {
         if *demand == 0 {
             return 0;
         }
         ((price * most + dearest / 2) / dearest) as u8
     };
-    stock.prices.iter().zip(&stock.demands).map(weight).collect()
+    view.prices.iter().zip(&view.demands).map(weight).collect()
 }
 
 /// A weight of 1 for every kind of which a plan has more copies than the demand.
-pub fn on_excess(stock: &Stock, copies: &[u16]) -> Vec<u8> {
-    copies.iter().zip(&stock.demands).map(|(copies, demand)| u8::from(copies > demand)).collect()
+pub fn on_excess(view: &JobView, copies: &[u16]) -> Vec<u8> {
+    copies.iter().zip(&view.demands).map(|(copies, demand)| u8::from(copies > demand)).collect()
 }
 
 /// The next weights: raised where the round's plan has too many copies, lowered where it has too few.

@@ -1,7 +1,7 @@
 // Filed plans: stamps that are damaged, and plans that somebody else has drawn, with their faults and refusals in
 // words.
 use crate::scratch::{shop, Scratch};
-use shop::search::Proof;
+use shop::search::BoundBy;
 use shop::stamp::Stamp;
 
 const ORDER: &str = "plate, 50 x 30\nsaw, unit 10\nname, length, width, count, price\n\
@@ -32,7 +32,7 @@ fn plans_of_others_are_judged() {
 #[test]
 fn refusals_are_said_in_words() {
     for (index, (from, to, words)) in [
-        ("\"c\"", "\"a\"", "refusal 15 at node 4, a: the piece does not fit its rectangle"),
+        ("\"c\"", "\"a\"", "refusal 15 at node 4, a: the panel does not fit its rectangle"),
         ("\"at\": 20", "\"at\": 50", "refusal 14 at node 0, the cut of the length at 50: the cut leaves"),
         ("\"at\": 10", "\"at\": 9990", "refusal 14 at node 2, the cut of the width at 9990: the cut leaves"),
         ("{\"piece\": \"a\"}", "{\"piece\": \"c\"}", "refusal 16 at node 4, c: this copy"),
@@ -93,7 +93,7 @@ fn stamp(weights: &[u8]) -> Stamp {
     let order = scratch.write("order.csv", ORDER);
     scratch.plan(&order).expect("an order without fault");
     let bytes = std::fs::read(scratch.path("plan.stamp")).expect("a stamp");
-    Stamp { proof: Proof::Weights(weights.to_vec()), ..Stamp::read(&bytes).expect("a stamp") }
+    Stamp { bound_by: BoundBy::Weights(weights.to_vec()), ..Stamp::read(&bytes).expect("a stamp") }
 }
 
 #[test]
@@ -107,15 +107,15 @@ fn stamps_are_certified_again() {
         "earns 16, no plan earns more than 16\n\
          best: no guillotine plan of this plate in whole units earns more (plate, panels and kerf as filed)\n"
     );
-    let gap = Stamp { proof: Proof::Weights(vec![0; 3]), ..stamp.clone() };
+    let gap = Stamp { bound_by: BoundBy::Weights(vec![0; 3]), ..stamp.clone() };
     let gap = rechecked("gap", &gap.bytes()).expect("a stamp");
     assert_eq!(
         gap,
         "earns 16, no plan earns more than 19\n\
          at most 18.8 % more is possible (plate, panels and kerf as filed)\n"
     );
-    for proof in [Proof::Exact, Proof::TwoWeights(vec![0; 3], vec![0, 1, 0])] {
-        let other = Stamp { proof, ..stamp.clone() };
+    for bound_by in [BoundBy::Exact, BoundBy::TwoWeights(vec![0; 3], vec![0, 1, 0])] {
+        let other = Stamp { bound_by, ..stamp.clone() };
         assert_eq!(rechecked("other", &other.bytes()).expect("a stamp"), best);
     }
 }
@@ -130,7 +130,7 @@ fn damaged_stamps_are_refused() {
     }
     let longer = rechecked("longer", &[&bytes[..], &[0]].concat()).expect_err("a byte too many");
     assert!(longer.contains("expected no bytes after the plan block"));
-    let few = Stamp { proof: Proof::Weights(vec![1]), ..stamp.clone() };
+    let few = Stamp { bound_by: BoundBy::Weights(vec![1]), ..stamp.clone() };
     assert!(rechecked("few", &few.bytes()).expect_err("one weight").contains("refusal 8"));
     let bits = Stamp { choices: 8, ..stamp.clone() };
     assert!(rechecked("bits", &bits.bytes()).expect_err("no choice").contains("a choice has no meaning"));

@@ -105,7 +105,7 @@ fn generated_orders_are_planned_as_well_as_the_verdict_says() {
         assert!(again.starts_with(&head) && again.contains("best: ") == says_best, "{again}\n{summary}");
         no_other_plan_is_best(&scratch, &order, &document, most);
         best += usize::from(says_best);
-        whole += usize::from(summary.contains("every piece"));
+        whole += usize::from(summary.contains("every panel"));
         exact += usize::from(document.get("exact") == Some(&Value::Truth(true)));
         two += usize::from(document.get("second_weights") != Some(&Value::Null));
     }

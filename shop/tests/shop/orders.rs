@@ -30,7 +30,7 @@ fn an_order_may_be_written_in_many_ways() {
 #[test]
 fn names_are_kept() {
     let named = order(&format!("{HEAD}\"a, \"\"b\"\"\", 1, 1, 1\n棚 #2, 1, 1, 1\nplate, 1, 1, 1\n"));
-    let names: Vec<_> = named.pieces.iter().map(|piece| piece.name.as_str()).collect();
+    let names: Vec<_> = named.panels.iter().map(|piece| piece.name.as_str()).collect();
     assert_eq!(names, ["a, \"b\"", "棚 #2", "plate"]);
 }
 

@@ -54,7 +54,7 @@ fn nothing_is_named_where_nothing_was_rounded() {
     ] {
         says(name, &order("2440 x 100", kerf, panels), BEST, &[]);
     }
-    let whole = "best: every piece of the order is cut";
+    let whole = "best: every panel of the order is cut";
     says("whole-order", &order("2440 x 100", "3.2", "a, 485, 100, 4"), whole, &["kerf"]);
 }
 

@@ -15,7 +15,7 @@ pub struct Lying {
 
 /// Plate, kerf, demands and pieces.
 #[derive(Clone, Debug)]
-pub struct Stock {
+pub struct JobView {
     pub plate: Sides,
     pub kerf: u16,
     pub turning: bool,
@@ -33,8 +33,8 @@ pub struct Note {
     pub nodes: usize,
 }
 
-impl Stock {
-    pub fn new(job: &Job, choices: Choices) -> Stock {
+impl JobView {
+    pub fn new(job: &Job, choices: Choices) -> JobView {
         let mut lying = Vec::new();
         for (number, kind) in job.kinds.iter().enumerate() {
             let price = kind.price.into();
@@ -45,7 +45,7 @@ impl Stock {
                 lying.push(Lying { kind: number, turned: true, sides, price });
             }
         }
-        Stock {
+        JobView {
             plate: (job.length, job.width),
             kerf: job.kerf,
             turning: choices.turning,
