@@ -49,7 +49,7 @@ fn judged(order: Order, job: &Job, found: Found, memory: u64) -> Result<Outcome,
     let (bound_by, bound) = found.least.map_or((none, None), |least| (least.bound_by, Some(least.bound)));
     let verdict = match (&bound_by, bound) {
         (BoundBy::Exact | BoundBy::TwoWeights(..), Some(bound)) => {
-            Verdict::of(planner.check(&plan).map_err(Error::Refused)?, job, bound)
+            Verdict::of(planner.check(&plan)?, job, bound)
         }
         _ => Verdict::new(&mut planner, job, &plan, &bound_by)?,
     };
@@ -104,7 +104,7 @@ fn recheck(file: &Path, memory: u64) -> Done<String> {
     let stamp = Stamp::read(&read_file(file)?);
     let stamp = stamp.map_err(|fault| format!("{}: {fault}", file.display()))?;
     let mut planner = Planner::of_block(stamp.job.clone(), stamp.choices, memory);
-    planner.check_block(&stamp.plan).map_err(|refusal| refusal.to_string())?;
+    planner.check_block(&stamp.plan).map_err(|error| error.to_string())?;
     let plan = Plan::from_block(&stamp.plan).expect("a block that passes its check");
     let job = Job::from_block(&stamp.job, Choices::from_word(stamp.choices));
     let job = job.expect("a job that passes its check");

@@ -21,7 +21,7 @@ impl Verdict {
         plan: &Plan,
         bound_by: &BoundBy,
     ) -> Result<Verdict, Error> {
-        let report = planner.check(plan).map_err(Error::Refused)?;
+        let report = planner.check(plan)?;
         let bound = match bound_by {
             BoundBy::Exact => planner.exact()?.0.optimum,
             BoundBy::Weights(weights) => planner.certify(weights, plan)?.bound,

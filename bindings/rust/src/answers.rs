@@ -1,5 +1,5 @@
-// The choices of the calls, what they answer and borrow, and how an answer is laid out in words.
-// Wrapper, reference and baselines share these types.
+//! The choices of the calls, what they answer and borrow, and how an answer is laid out in words.
+//! They stand apart from the calls, so that other implementations of the calls can share them.
 
 /// The choice that a piece may be turned.
 pub const TURNING: u32 = 1;
@@ -31,67 +31,94 @@ pub const UNKNOWN_CHOICE: u32 = 101;
 /// A refusal: its number and its place.
 #[derive(Clone, Copy, Debug, PartialEq, Eq)]
 pub struct Refusal {
+    /// The number, which [`Refusal::words`] says in words.
     pub number: u32,
+    /// The kind, node or plate that is refused, or the words or nodes that are needed, or 0.
     pub place: u64,
 }
 
 /// What a passed plan reports. Copies are 0 past the job's kinds.
 #[derive(Clone, Copy, Debug, PartialEq, Eq)]
 pub struct Report {
+    /// What the pieces earn.
     pub profit: u64,
+    /// The area of all pieces.
     pub pieces: u64,
+    /// The area of all waste.
     pub waste: u64,
+    /// The area cut off beside pieces.
     pub trim: u64,
+    /// The copies of each kind.
     pub copies: [u64; 64],
+    /// The area that the blade took.
     pub sawdust: u64,
 }
 
 /// What a passed plan reports, and its stages.
 #[derive(Clone, Copy, Debug, PartialEq, Eq)]
 pub struct StagedReport {
+    /// What it reports without a limit on stages.
     pub report: Report,
+    /// The stages of the plan.
     pub stages: u64,
 }
 
 /// What the saw reports of a passed plan: no profit.
 #[derive(Clone, Copy, Debug, PartialEq, Eq)]
 pub struct SawReport {
+    /// The area of all pieces.
     pub pieces: u64,
+    /// The area of all waste.
     pub waste: u64,
+    /// The area cut off beside pieces.
     pub trim: u64,
+    /// The copies of each kind.
     pub copies: [u64; 64],
+    /// The area that the blade took.
     pub sawdust: u64,
 }
 
 /// A part of an array: its first entry and the number of its entries.
 #[derive(Clone, Copy, Debug, PartialEq, Eq)]
 pub struct Part {
+    /// The place of its first entry.
     pub first: u64,
+    /// How many entries it has.
     pub entries: u64,
 }
 
 /// The bound, the capacity and the numbers of normal lengths and widths.
 #[derive(Clone, Copy, Debug, PartialEq, Eq)]
 pub struct Bound {
+    /// No plan within the demands, and within the limit on stages where there is one, earns more.
     pub bound: u64,
+    /// The capacity of the plate under the weights.
     pub capacity: u64,
+    /// How many normal lengths there are.
     pub lengths: u64,
+    /// How many normal widths there are.
     pub widths: u64,
 }
 
 /// The bound, both capacities and the numbers of normal lengths and widths.
 #[derive(Clone, Copy, Debug, PartialEq, Eq)]
 pub struct BoundTwo {
+    /// No plan within the demands earns more.
     pub bound: u64,
+    /// The capacities under the first weights and under the second.
     pub capacities: [u64; 2],
+    /// How many normal lengths there are.
     pub lengths: u64,
+    /// How many normal widths there are.
     pub widths: u64,
 }
 
 /// The bound and the number of nodes of the plan that was written behind it.
 #[derive(Clone, Copy, Debug, PartialEq, Eq)]
 pub struct Written {
+    /// The bound that the plan earns.
     pub bound: Bound,
+    /// How many nodes the plan has.
     pub nodes: u64,
 }
 
@@ -99,16 +126,22 @@ pub struct Written {
 /// of the plan that was written.
 #[derive(Clone, Copy, Debug, PartialEq, Eq)]
 pub struct Exact {
+    /// The most that a plan within the demands earns.
     pub optimum: u64,
+    /// In how many ways copies can be taken within the demands.
     pub states: u64,
+    /// How many normal lengths there are.
     pub lengths: u64,
+    /// How many normal widths there are.
     pub widths: u64,
+    /// How many nodes the plan has.
     pub nodes: u64,
 }
 
 /// The number of nodes of a neat plan.
 #[derive(Clone, Copy, Debug, PartialEq, Eq)]
 pub struct Neat {
+    /// How many nodes the plan has.
     pub nodes: u64,
 }
 
@@ -116,8 +149,11 @@ pub struct Neat {
 /// the job's kinds.
 #[derive(Clone, Copy, Debug, PartialEq, Eq)]
 pub struct Found {
+    /// The least bound.
     pub bound: u64,
+    /// How many rounds were run.
     pub rounds: u64,
+    /// The weights that first gave the bound.
     pub weights: [u64; 64],
 }
 
@@ -128,28 +164,39 @@ pub struct Passed;
 /// Bound less profit (0: the plan is best), with both.
 #[derive(Clone, Copy, Debug, PartialEq, Eq)]
 pub struct Certificate {
+    /// How much more a plan earns at most; 0 where this one is best.
     pub gap: u64,
+    /// The bound under the weights.
     pub bound: u64,
+    /// What the plan earns.
     pub profit: u64,
 }
 
 /// The lent lists and table.
 pub struct Storage<'a> {
+    /// The normal lengths.
     pub lengths: &'a mut [u16],
+    /// The normal widths.
     pub widths: &'a mut [u16],
+    /// The figures.
     pub table: &'a mut [u64],
 }
 
 /// The lent arrays that a plan is written to.
 pub struct PlanArrays<'a> {
+    /// The kind of each node.
     pub kinds: &'a mut [u8],
+    /// The operand of each node.
     pub operands: &'a mut [u16],
 }
 
 /// The lent rack: of each plate its length, its width and the profit that its plan brought.
 pub struct Rack<'a> {
+    /// The length of each plate.
     pub lengths: &'a [u16],
+    /// The width of each plate.
     pub widths: &'a [u16],
+    /// What the plan of each plate brought.
     pub profits: &'a mut [u64],
 }
 
@@ -169,7 +216,9 @@ impl PlanArrays<'_> {
 
 /// An answer as the words of planner.h.
 pub trait Words<const N: usize>: Sized {
+    /// The words of an answer.
     fn to_words(&self) -> [u64; N];
+    /// The answer of words.
     fn from_words(words: [u64; N]) -> Self;
 }
 

@@ -1,5 +1,5 @@
-// Building job blocks and plan blocks.
-// Nothing is checked: a block may be one that the planner refuses.
+//! Building job blocks and plan blocks.
+//! Nothing is checked: a block may be one that the planner refuses.
 
 /// A kind: length, width, price, demand.
 pub type Kind = (u16, u16, u32, u16);
@@ -35,6 +35,7 @@ fn block(header: &[u16], kinds: &[Kind]) -> Vec<u8> {
     block
 }
 
+/// A plan block: the number of nodes, their kinds, their operands.
 pub fn plan_block(kinds: &[u8], operands: &[u16]) -> Vec<u8> {
     let mut block = Vec::from((kinds.len() as u16).to_le_bytes());
     block.extend(kinds);

@@ -1,23 +1,32 @@
-// Jobs and choices as types, and how they become what the calls take and are read from it.
-// Nothing is checked here: the calls refuse what they do not accept.
+//! Jobs and choices as types, and how they become what the calls take and are read from it.
+//! Nothing is checked here: the calls refuse what they do not accept.
+
 use crate::answers::{FULL_DEMAND, OLD_BLOCK, TURNING};
 use crate::blocks::{kerf_block, old_block};
 
-/// A kind of piece. The demand is the most copies that may be cut.
+/// A kind of piece.
 #[derive(Clone, Copy, Debug, PartialEq, Eq)]
 pub struct Kind {
+    /// The side along the plate's length, unless it is turned.
     pub length: u16,
+    /// The side along the plate's width, unless it is turned.
     pub width: u16,
+    /// What a copy earns.
     pub price: u32,
+    /// The most copies that may be cut.
     pub demand: u16,
 }
 
 /// A plate, the blade's width and the kinds, all in whole units.
 #[derive(Clone, Debug, PartialEq, Eq)]
 pub struct Job {
+    /// The plate's length.
     pub length: u16,
+    /// The plate's width.
     pub width: u16,
+    /// What the blade takes at each cut.
     pub kerf: u16,
+    /// The kinds of pieces, numbered from 0.
     pub kinds: Vec<Kind>,
 }
 

@@ -1,5 +1,7 @@
-// The proved planner for Rust programs: jobs, choices and plans as types, a planner that has every call
-// and lends and grows the storage, refusals in words. `slices` has the same calls on borrowed slices.
+//! The proved planner for Rust programs: jobs, choices and plans as types, a planner that has every call
+//! and lends and grows the storage, refusals in words. `slices` has the same calls on borrowed slices.
+#![warn(missing_docs)]
+
 pub mod answers;
 pub mod blocks;
 mod job;

@@ -1,7 +1,8 @@
-// A planner for one job: every call of planner.h with plans as types and storage that it lends itself.
-// Limits, weights, plans and jobs are taken as they are: the calls refuse what they do not accept.
+//! A planner for one job: every call of planner.h with plans as types and storage that it lends itself.
+//! Limits, weights, plans and jobs are taken as they are: the calls refuse what they do not accept.
+
 use crate::answers::{
-    Bound, BoundTwo, Certificate, Exact, Found, Rack, Refusal, Report, SawReport, StagedReport, Written,
+    Bound, BoundTwo, Certificate, Exact, Found, Rack, Report, SawReport, StagedReport, Written,
 };
 use crate::job::{Choices, Job};
 use crate::slices;
@@ -30,24 +31,24 @@ impl Planner {
     }
 
     /// Checks a plan.
-    pub fn check(&self, plan: &Plan) -> Result<Report, Refusal> {
-        slices::check_plan(&self.block, self.choices, &plan.kinds, &plan.operands)
+    pub fn check(&self, plan: &Plan) -> Result<Report, Error> {
+        Ok(slices::check_plan(&self.block, self.choices, &plan.kinds, &plan.operands)?)
     }
 
     /// Checks a plan block.
-    pub fn check_block(&self, plan: &[u8]) -> Result<Report, Refusal> {
-        slices::check_plan_block(&self.block, self.choices, plan)
+    pub fn check_block(&self, plan: &[u8]) -> Result<Report, Error> {
+        Ok(slices::check_plan_block(&self.block, self.choices, plan)?)
     }
 
     /// Checks a plan against a limit on its stages.
-    pub fn check_staged(&self, limit: u32, plan: &Plan) -> Result<StagedReport, Refusal> {
+    pub fn check_staged(&self, limit: u32, plan: &Plan) -> Result<StagedReport, Error> {
         let Plan { kinds, operands } = plan;
-        slices::check_plan_staged(&self.block, self.choices, limit, kinds, operands)
+        Ok(slices::check_plan_staged(&self.block, self.choices, limit, kinds, operands)?)
     }
 
     /// Checks the trees of a rack, which share the demands, and gives what each earns. A refused node is
     /// counted through all of them; the sides of the job's own plate are not read.
-    pub fn check_rack(&self, rack: &[Plate]) -> Result<Vec<u64>, Refusal> {
+    pub fn check_rack(&self, rack: &[Plate]) -> Result<Vec<u64>, Error> {
         let lengths: Vec<u16> = rack.iter().map(|plate| plate.length).collect();
         let widths: Vec<u16> = rack.iter().map(|plate| plate.width).collect();
         let mut profits = vec![0; rack.len()];
@@ -58,13 +59,13 @@ impl Planner {
     }
 
     /// Checks a plan as the saw does, which reads no price.
-    pub fn check_at_saw(&self, plan: &Plan) -> Result<SawReport, Refusal> {
-        slices::saw_check(&self.block, self.choices, &plan.kinds, &plan.operands)
+    pub fn check_at_saw(&self, plan: &Plan) -> Result<SawReport, Error> {
+        Ok(slices::saw_check(&self.block, self.choices, &plan.kinds, &plan.operands)?)
     }
 
     /// The tree at a node of a plan, for the saw; none where the plan does not pass or has no such node.
     /// Nothing is refused but a choice without a meaning.
-    pub fn tree_at_saw(&self, plan: &Plan, node: u64) -> Result<Option<Tree>, Refusal> {
+    pub fn tree_at_saw(&self, plan: &Plan, node: u64) -> Result<Option<Tree>, Error> {
         let Plan { kinds, operands } = plan;
         let part = Plan {
             kinds: slices::saw_kinds(&self.block, self.choices, kinds, operands, node)?.to_vec(),
@@ -74,7 +75,7 @@ impl Planner {
     }
 
     /// The neat plan of a plan.
-    pub fn neat(&self, plan: &Plan) -> Result<Plan, Refusal> {
+    pub fn neat(&self, plan: &Plan) -> Result<Plan, Error> {
         let ((), neat) = written(|arrays| {
             slices::neat_plan(&self.block, self.choices, &plan.kinds, &plan.operands, arrays)
                 .map(|neat| ((), neat.nodes))

@@ -1,5 +1,6 @@
-// What a planner lends its calls: lists and plan arrays with the most that any job and plan can need, and a
-// table that grows to what refusal 20 asks for, up to a limit.
+//! What a planner lends its calls: lists and plan arrays with the most that any job and plan can need, and a
+//! table that grows to what refusal 20 asks for, up to a limit.
+
 use crate::answers::{PlanArrays, Refusal, Storage};
 use crate::tree::Plan;
 use std::fmt;
@@ -16,6 +17,7 @@ const TABLE_TOO_SHORT: u32 = 20;
 /// Why a call gave no answer.
 #[derive(Clone, Copy, Debug, PartialEq, Eq)]
 pub enum Error {
+    /// The call refused what it was given.
     Refused(Refusal),
     /// The table would need this many words, more than may be lent.
     Memory(u64),
@@ -67,9 +69,9 @@ impl Lender {
         match made(self) {
             Err(Refusal { number: TABLE_TOO_SHORT, place }) => {
                 self.grow(place, times)?;
-                made(self).map_err(Error::Refused)
+                Ok(made(self)?)
             }
-            answer => answer.map_err(Error::Refused),
+            answer => Ok(answer?),
         }
     }
 
@@ -94,6 +96,12 @@ pub fn written<A>(
     plan.kinds.truncate(nodes as usize);
     plan.operands.truncate(nodes as usize);
     Ok((answer, plan))
+}
+
+impl From<Refusal> for Error {
+    fn from(refusal: Refusal) -> Error {
+        Error::Refused(refusal)
+    }
 }
 
 impl fmt::Display for Error {

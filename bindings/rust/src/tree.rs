@@ -1,34 +1,59 @@
-// Plans as trees and as the two arrays that the calls take: the preorder of a tree.
-// A tree may be one that the planner refuses.
+//! Plans as trees and as the two arrays that the calls take: the preorder of a tree.
+//! A tree may be one that the planner refuses.
+
 use crate::blocks::plan_block;
 
 /// The side of a rectangle that a cut divides.
 #[derive(Clone, Copy, Debug, PartialEq, Eq)]
 pub enum Direction {
+    /// The cut divides the length.
     Length,
+    /// The cut divides the width.
     Width,
 }
 
-/// What becomes of a rectangle. `at` is the first part's size on the side that is cut.
+/// What becomes of a rectangle.
 #[derive(Clone, Debug, PartialEq, Eq)]
 pub enum Tree {
+    /// Nothing is made of it.
     Waste,
-    Piece { kind: u16, turned: bool },
-    Cut { direction: Direction, at: u16, first: Box<Tree>, second: Box<Tree> },
+    /// A piece lies in its corner; what is left beside it is trim.
+    Piece {
+        /// The number of its kind, from 0.
+        kind: u16,
+        /// Whether it is turned by a quarter.
+        turned: bool,
+    },
+    /// It is cut in two, and the blade takes the kerf between the parts.
+    Cut {
+        /// The side that is divided.
+        direction: Direction,
+        /// The first part's size on that side.
+        at: u16,
+        /// What becomes of the first part.
+        first: Box<Tree>,
+        /// What becomes of the second part.
+        second: Box<Tree>,
+    },
 }
 
 /// A plate of a rack, and what becomes of it.
 #[derive(Clone, Debug, PartialEq, Eq)]
 pub struct Plate {
+    /// The plate's length.
     pub length: u16,
+    /// The plate's width.
     pub width: u16,
+    /// What becomes of it.
     pub tree: Tree,
 }
 
-/// A tree in preorder: the kind of each node and its operand.
+/// A tree in preorder.
 #[derive(Clone, Debug, Default, PartialEq, Eq)]
 pub struct Plan {
+    /// The kind of each node.
     pub kinds: Vec<u8>,
+    /// The operand of each node: a position, the number of a kind, or 0.
     pub operands: Vec<u16>,
 }
 
@@ -39,10 +64,12 @@ const CUT_OF_WIDTH: u8 = 3;
 const TURNED_PIECE: u8 = 4;
 
 impl Tree {
+    /// A cut of a rectangle.
     pub fn cut(direction: Direction, at: u16, first: Tree, second: Tree) -> Tree {
         Tree::Cut { direction, at, first: Box::new(first), second: Box::new(second) }
     }
 
+    /// The tree as a plan.
     pub fn plan(&self) -> Plan {
         Plan::of_trees([self])
     }
@@ -96,6 +123,7 @@ impl Plan {
         (nodes.next().is_none() && self.kinds.len() == self.operands.len()).then_some(tree)
     }
 
+    /// The plan as a block.
     pub fn block(&self) -> Vec<u8> {
         plan_block(&self.kinds, &self.operands)
     }

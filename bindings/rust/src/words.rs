@@ -1,5 +1,6 @@
-// Refusals in words: what planner.h says of each number, and what its place is.
-// Kinds and nodes are numbered from 0.
+//! Refusals in words: what planner.h says of each number, and what its place is.
+//! Kinds and nodes are numbered from 0.
+
 use crate::answers::{Refusal, ANSWER_TOO_SHORT, UNKNOWN_CHOICE};
 use std::error::Error;
 use std::fmt;

@@ -1,8 +1,10 @@
-// The functions of planner.h on slices: the code that C gets, and the answer as words.
-// Safe: borrowed slices are valid, aligned and do not overlap where they are written.
+//! The functions of planner.h on slices: the code that C gets, and the answer as words.
+//! Safe: borrowed slices are valid, aligned and do not overlap where they are written.
+
 use super::foreign;
 use crate::answers::{PlanArrays, Rack, Storage};
 
+/// [`check_plan`](super::check_plan), the answer in words.
 pub fn check_plan(
     job: &[u8],
     choices: u32,
@@ -21,6 +23,7 @@ pub fn check_plan(
     }
 }
 
+/// [`check_plan_block`](super::check_plan_block), the answer in words.
 pub fn check_plan_block(job: &[u8], choices: u32, plan: &[u8], answer: &mut [u64]) -> u32 {
     unsafe {
         foreign::planner_check_plan_block(
@@ -32,6 +35,7 @@ pub fn check_plan_block(job: &[u8], choices: u32, plan: &[u8], answer: &mut [u64
     }
 }
 
+/// [`bound`](super::bound), the answer in words.
 pub fn bound(
     job: &[u8],
     choices: u32,
@@ -52,6 +56,7 @@ pub fn bound(
     }
 }
 
+/// [`write_plan`](super::write_plan), the answer in words.
 pub fn write_plan(
     job: &[u8],
     choices: u32,
@@ -75,6 +80,7 @@ pub fn write_plan(
     }
 }
 
+/// [`neat_plan`](super::neat_plan), the answer in words.
 pub fn neat_plan(
     job: &[u8],
     choices: u32,
@@ -96,6 +102,7 @@ pub fn neat_plan(
     }
 }
 
+/// [`certify`](super::certify), the answer in words.
 pub fn certify(
     job: &[u8],
     choices: u32,
@@ -120,6 +127,7 @@ pub fn certify(
     }
 }
 
+/// [`saw_check`](super::saw_check), the answer in words.
 pub fn saw_check(
     job: &[u8],
     choices: u32,
@@ -138,6 +146,7 @@ pub fn saw_check(
     }
 }
 
+/// [`saw_kinds`](super::saw_kinds), the answer in words.
 pub fn saw_kinds(
     job: &[u8],
     choices: u32,
@@ -158,6 +167,7 @@ pub fn saw_kinds(
     }
 }
 
+/// [`saw_operands`](super::saw_operands), the answer in words.
 pub fn saw_operands(
     job: &[u8],
     choices: u32,
@@ -178,6 +188,7 @@ pub fn saw_operands(
     }
 }
 
+/// [`check_plan_staged`](super::check_plan_staged), the answer in words.
 pub fn check_plan_staged(
     job: &[u8],
     choices: u32,
@@ -198,6 +209,7 @@ pub fn check_plan_staged(
     }
 }
 
+/// [`bound_staged`](super::bound_staged), the answer in words.
 pub fn bound_staged(
     job: &[u8],
     choices: u32,
@@ -220,6 +232,7 @@ pub fn bound_staged(
     }
 }
 
+/// [`certify_staged`](super::certify_staged), the answer in words.
 pub fn certify_staged(
     job: &[u8],
     choices: u32,
@@ -246,6 +259,7 @@ pub fn certify_staged(
     }
 }
 
+/// [`bound_two`](super::bound_two), the answer in words.
 pub fn bound_two(
     job: &[u8],
     choices: u32,
@@ -268,6 +282,7 @@ pub fn bound_two(
     }
 }
 
+/// [`exact`](super::exact), the answer in words.
 pub fn exact(
     job: &[u8],
     choices: u32,
@@ -289,6 +304,7 @@ pub fn exact(
     }
 }
 
+/// [`find_weights`](super::find_weights), the answer in words.
 pub fn find_weights(
     job: &[u8],
     choices: u32,
@@ -314,6 +330,7 @@ pub fn find_weights(
     }
 }
 
+/// [`check_rack`](super::check_rack), the answer in words.
 pub fn check_rack(
     job: &[u8],
     choices: u32,

@@ -1,5 +1,6 @@
-// The functions of planner.h, as C declares them.
-// Every slice is a pointer and a length.
+//! The functions of planner.h, as C declares them.
+//! Every slice is a pointer and a length.
+
 extern "C" {
     pub fn planner_check_plan(
         job: *const u8, job_len: usize,

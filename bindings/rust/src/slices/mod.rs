@@ -1,5 +1,6 @@
-// The safe wrapper over planner.h: the proved calls with typed answers.
-// `calls` has the same calls with the answer as the words that C sees.
+//! The safe wrapper over planner.h: the proved calls with typed answers.
+//! `calls` has the same calls with the answer as the words that C sees.
+
 pub mod calls;
 mod foreign;
 
@@ -80,7 +81,8 @@ pub fn saw_check(
     typed(|answer| calls::saw_check(job, choices, kinds, operands, answer))
 }
 
-/// The part of the kinds that belongs to a node and all below it; none is a refusal but 101.
+/// The part of the kinds that belongs to a node and all below it. It refuses nothing but a word of choices
+/// without a meaning (101).
 pub fn saw_kinds<'a>(
     job: &[u8],
     choices: u32,
@@ -92,7 +94,7 @@ pub fn saw_kinds<'a>(
     Ok(part_of(kinds, part))
 }
 
-/// The part of the operands that belongs to it.
+/// The part of the operands that belongs to a node and all below it, as [`saw_kinds`] gives the kinds.
 pub fn saw_operands<'a>(
     job: &[u8],
     choices: u32,

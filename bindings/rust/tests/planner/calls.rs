@@ -3,12 +3,8 @@ use crate::{across, along, best, first_nodes, job_s, kind, piece, planner, AMPLE
 use planner::answers::{Bound, BoundTwo, Certificate, Exact, Refusal, Report};
 use planner::{Choices, Error, Job, Planner, Plate, Tree};
 
-fn refusal(number: u32, place: u64) -> Refusal {
-    Refusal { number, place }
-}
-
 fn refused<A>(number: u32, place: u64) -> Result<A, Error> {
-    Err(Error::Refused(refusal(number, place)))
+    Err(Error::Refused(Refusal { number, place }))
 }
 
 /// What the best tree reports: pieces of 6, 3 and 4, and the strip above the last.
@@ -22,17 +18,17 @@ fn best_report() -> Report {
 fn plans_are_checked() {
     let plan = best().plan();
     assert_eq!(planner(0).check(&plan), Ok(best_report()));
-    assert_eq!(planner(0).check(&first_nodes(&plan, 3)), Err(refusal(17, 3)));
+    assert_eq!(planner(0).check(&first_nodes(&plan, 3)), refused(17, 3));
     assert_eq!(planner(0).check_block(&plan.block()), Ok(best_report()));
-    assert_eq!(planner(0).check_block(&plan.block()[1..]), Err(refusal(10, 0)));
+    assert_eq!(planner(0).check_block(&plan.block()[1..]), refused(10, 0));
 }
 
 #[test]
 fn stages_are_checked() {
     let within = planner(0).check_staged(2, &best().plan()).expect("two stages");
     assert_eq!((within.report, within.stages), (best_report(), 2));
-    assert_eq!(planner(0).check_staged(1, &best().plan()), Err(refusal(23, 2)));
-    assert_eq!(planner(0).check_staged(9, &best().plan()), Err(refusal(22, 0)));
+    assert_eq!(planner(0).check_staged(1, &best().plan()), refused(23, 2));
+    assert_eq!(planner(0).check_staged(9, &best().plan()), refused(22, 0));
 }
 
 #[test]
@@ -40,10 +36,10 @@ fn racks_are_checked() {
     let plate = |length, width, tree| Plate { length, width, tree };
     let rack = |width, second| planner(0).check_rack(&[plate(5, 3, best()), plate(3, width, second)]);
     assert_eq!(rack(2, across(1, piece(1), Tree::Waste)), Ok(vec![16, 4]));
-    assert_eq!(rack(2, piece(2)), Err(refusal(29, 1)));
-    assert_eq!(rack(2, across(1, Tree::Waste, Tree::Waste)), Err(refusal(26, 5)));
-    assert_eq!(rack(0, Tree::Waste), Err(refusal(2, 1)));
-    assert_eq!(planner(0).check_rack(&[]), Err(refusal(28, 0)));
+    assert_eq!(rack(2, piece(2)), refused(29, 1));
+    assert_eq!(rack(2, across(1, Tree::Waste, Tree::Waste)), refused(26, 5));
+    assert_eq!(rack(0, Tree::Waste), refused(2, 1));
+    assert_eq!(planner(0).check_rack(&[]), refused(28, 0));
     let own = Planner::new(&Job { length: 0, ..job_s() }, Choices::default(), 0);
     assert_eq!(own.check_rack(&[plate(5, 3, best())]), Ok(vec![16]));
 }
@@ -54,18 +50,18 @@ fn the_saw_reads_no_price() {
     job.kinds[1].price = u32::MAX;
     let planner = Planner::new(&job, Choices::default(), 0);
     let plan = best().plan();
-    assert_eq!(planner.check(&plan), Err(refusal(6, 1)));
+    assert_eq!(planner.check(&plan), refused(6, 1));
     let report = planner.check_at_saw(&plan).expect("no price is read");
     assert_eq!((report.pieces, report.waste, report.trim, report.sawdust), (13, 0, 2, 0));
     assert_eq!(report.copies, best_report().copies);
-    assert_eq!(planner.check_at_saw(&first_nodes(&plan, 3)), Err(refusal(17, 3)));
+    assert_eq!(planner.check_at_saw(&first_nodes(&plan, 3)), refused(17, 3));
     for (node, tree) in best().nodes().into_iter().enumerate() {
         assert_eq!(planner.tree_at_saw(&plan, node as u64), Ok(Some(tree.clone())));
     }
     assert_eq!(planner.tree_at_saw(&plan, 5), Ok(None));
     assert_eq!(planner.tree_at_saw(&first_nodes(&plan, 3), 1), Ok(None));
     let unknown = Planner::of_block(job.block(Choices::default()), 8, 0);
-    assert_eq!(unknown.tree_at_saw(&plan, 0), Err(refusal(101, 0)));
+    assert_eq!(unknown.tree_at_saw(&plan, 0), refused(101, 0));
 }
 
 #[test]
@@ -73,7 +69,7 @@ fn plans_become_neat() {
     let wide = along(3, piece(0), piece(2)).plan();
     let neat = along(2, piece(0), piece(2));
     assert_eq!(planner(0).neat(&wide).expect("a plan of S").tree(), Some(neat));
-    assert_eq!(planner(0).neat(&first_nodes(&wide, 2)), Err(refusal(17, 2)));
+    assert_eq!(planner(0).neat(&first_nodes(&wide, 2)), refused(17, 2));
 }
 
 #[test]

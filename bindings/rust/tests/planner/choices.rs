@@ -13,16 +13,8 @@ fn turning() -> Planner {
     Planner::new(&job_s(), Choices { turning: true, ..Choices::default() }, AMPLE)
 }
 
-fn lent<A>(answer: Result<A, Error>) -> Result<(), Refusal> {
-    match answer {
-        Ok(_) => Ok(()),
-        Err(Error::Refused(refusal)) => Err(refusal),
-        Err(Error::Memory(words)) => panic!("{words} words are ample"),
-    }
-}
-
 /// What becomes of the tree in each call that reads a plan.
-fn judged(planner: &mut Planner) -> [Result<(), Refusal>; 9] {
+fn judged(planner: &mut Planner) -> [Result<(), Error>; 9] {
     let plan = turned().plan();
     let plate = Plate { length: 5, width: 3, tree: turned() };
     [
@@ -32,16 +24,16 @@ fn judged(planner: &mut Planner) -> [Result<(), Refusal>; 9] {
         planner.check_rack(&[plate]).map(drop),
         planner.check_at_saw(&plan).map(drop),
         planner.neat(&plan).map(drop),
-        lent(planner.certify(&WEIGHTS, &plan)),
-        lent(planner.certify_staged(&WEIGHTS, 2, &plan)),
-        lent(planner.find_weights(&plan)),
+        planner.certify(&WEIGHTS, &plan).map(drop),
+        planner.certify_staged(&WEIGHTS, 2, &plan).map(drop),
+        planner.find_weights(&plan).map(drop),
     ]
 }
 
 #[test]
 fn turned_pieces_are_refused_unless_chosen() {
     assert_eq!(judged(&mut turning()), [Ok(()); 9]);
-    assert_eq!(judged(&mut planner(AMPLE)), [Err(Refusal { number: 12, place: 1 }); 9]);
+    assert_eq!(judged(&mut planner(AMPLE)), [Err(Error::Refused(Refusal { number: 12, place: 1 })); 9]);
     let part = Tree::Piece { kind: 1, turned: true };
     assert_eq!(turning().tree_at_saw(&turned().plan(), 1), Ok(Some(part)));
     assert_eq!(planner(0).tree_at_saw(&turned().plan(), 1), Ok(None));
