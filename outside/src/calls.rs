@@ -1,7 +1,7 @@
 // The twelve calls of planner.h that the tests share, as one value, so that they run the same
 // cases on several implementations.
 use crate::answers::{PlanArrays, Storage};
-use crate::planner::calls as proved;
+use crate::slices::calls as proved;
 
 pub struct Calls {
     pub name: &'static str,

@@ -5,4 +5,4 @@ pub mod calls;
 pub mod random;
 pub mod reference;
 
-pub use ::planner::{answers, blocks, slices as planner};
+pub use planner::{answers, blocks, slices};

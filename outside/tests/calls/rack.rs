@@ -4,8 +4,7 @@ use crate::lent::{Lent, Sizes};
 use crate::run::Input;
 use outside::answers::{Passed, Rack, Refusal, OLD_BLOCK, TURNING};
 use outside::blocks::{job_block, job_s, kerf_block, old_block};
-use outside::planner;
-use outside::{planner::calls, reference};
+use outside::{reference, slices, slices::calls};
 
 /// Job, choices and arrays of an input, whose nodes are the plans one after another; and the plates.
 #[derive(Clone, Debug)]
@@ -255,9 +254,9 @@ fn typed_answers() {
     let (kinds, operands) = ([1, 3, 1, 1], [0, 1, 1, 2]);
     let mut profits = [1, 1];
     let rack = Rack { lengths: &[2, 3], widths: &[3, 3], profits: &mut profits };
-    assert_eq!(planner::check_rack(&job_s(), 0, rack, &kinds, &operands), Ok(Passed));
+    assert_eq!(slices::check_rack(&job_s(), 0, rack, &kinds, &operands), Ok(Passed));
     assert_eq!(profits, [7, 9]);
     let rack = Rack { lengths: &[2, 0], widths: &[3, 3], profits: &mut profits };
-    let refused = planner::check_rack(&job_s(), 0, rack, &kinds, &operands);
+    let refused = slices::check_rack(&job_s(), 0, rack, &kinds, &operands);
     assert_eq!((refused, profits), (Err(Refusal { number: 2, place: 1 }), [7, 9]));
 }

@@ -14,9 +14,9 @@ use crate::stack::fits_small_stack;
 use outside::answers::{FULL_DEMAND, OLD_BLOCK, TURNING};
 use outside::baseline::checks;
 use outside::blocks::{kerf_block, Kind};
-use outside::planner::calls;
 use outside::random::Random;
 use outside::reference::{self, Job};
+use outside::slices::calls;
 use std::collections::BTreeMap;
 
 /// A job and a plan for each of its plates. In every other rack the plans share the demands, in the rest

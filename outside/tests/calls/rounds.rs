@@ -6,7 +6,7 @@ use crate::lent::{Lent, Sizes, AMPLE};
 use crate::run::{compare, Call, Input, ALL_CHOICES, IMPLEMENTATIONS};
 use outside::answers::{Refusal, FOUND_WORDS, TURNING};
 use outside::blocks::{job_block, job_s, kerf_block};
-use outside::planner;
+use outside::slices;
 
 pub const ROOM: Sizes = Sizes { table: 1 << 18, ..AMPLE };
 
@@ -291,9 +291,9 @@ fn typed_answers() {
     let sizes = Sizes { lengths: 6, widths: 4, table: 60, kinds: 7, operands: 7, answer: 0 };
     let mut lent = Lent::new(sizes);
     let (storage, plan, _) = lent.split();
-    let found = planner::find_weights(&job_s(), 0, &[1], &[0], storage, plan).expect("weights");
+    let found = slices::find_weights(&job_s(), 0, &[1], &[0], storage, plan).expect("weights");
     assert_eq!((found.bound, found.rounds, &found.weights[..3]), (19, 1, &[0, 0, 0][..]));
     let (storage, plan, _) = lent.split();
-    let refused = planner::find_weights(&job_s(), 0, &[1], &[3], storage, plan);
+    let refused = slices::find_weights(&job_s(), 0, &[1], &[3], storage, plan);
     assert_eq!(refused, Err(Refusal { number: 13, place: 0 }));
 }

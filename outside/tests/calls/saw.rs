@@ -9,9 +9,9 @@ use crate::run::Input;
 use crate::stack::fits_small_stack;
 use outside::answers::{Refusal, FULL_DEMAND, OLD_BLOCK, SAW_WORDS, TURNING};
 use outside::blocks::{job_block, job_s, kerf_block, old_block};
-use outside::planner;
 use outside::random::Random;
 use outside::reference;
+use outside::slices;
 use std::collections::BTreeMap;
 
 const PLAN: [Node; 5] = [(2, 2), (1, 0), (3, 1), (1, 1), (1, 2)];
@@ -30,7 +30,7 @@ impl Saw {
     }
 
     fn proved(self, i: &Input, answer: &mut [u64]) -> u32 {
-        use planner::calls::{saw_check, saw_kinds, saw_operands};
+        use slices::calls::{saw_check, saw_kinds, saw_operands};
         match self {
             Saw::Check => saw_check(&i.job, i.choices, &i.kinds, &i.operands, answer),
             Saw::Kinds(n) => saw_kinds(&i.job, i.choices, &i.kinds, &i.operands, n, answer),
@@ -117,9 +117,9 @@ fn parts_are_those_of_the_callers_own_arrays() {
             assert_eq!(call.agrees(&i, 2), (0, vec![first, entries]));
         }
         let end = (first + entries) as usize;
-        let kinds = planner::saw_kinds(&i.job, 0, &i.kinds, &i.operands, node).expect("a part");
+        let kinds = slices::saw_kinds(&i.job, 0, &i.kinds, &i.operands, node).expect("a part");
         assert!(std::ptr::eq(kinds, &i.kinds[first as usize..end]));
-        let operands = planner::saw_operands(&i.job, 0, &i.kinds, &i.operands, node).expect("a part");
+        let operands = slices::saw_operands(&i.job, 0, &i.kinds, &i.operands, node).expect("a part");
         assert!(std::ptr::eq(operands, &i.operands[first as usize..end]));
     }
 }
@@ -145,7 +145,7 @@ fn short_answers_and_unknown_choices_change_nothing() {
         assert_eq!(call.agrees(&i.clone().with(8), call.words()).0, 101);
         assert_eq!(call.agrees(&i.clone().with(8), call.words() - 1).0, 100);
     }
-    let unknown = planner::saw_kinds(&i.job, 8, &i.kinds, &i.operands, 0);
+    let unknown = slices::saw_kinds(&i.job, 8, &i.kinds, &i.operands, 0);
     assert_eq!(unknown.map_err(|refusal| refusal.number), Err(101));
 }
 
@@ -188,8 +188,8 @@ fn saw_agrees(random: &mut Random, office: &Input, saw: &Input) -> usize {
 /// Where the office's check passes, so does the saw's at any prices, with its copies and areas.
 fn beside_the_office(office: &Input, saw: &Input) -> bool {
     let Input { job, choices, kinds, operands, .. } = office;
-    let given = planner::saw_check(&saw.job, *choices, kinds, operands);
-    match planner::check_plan(job, *choices, kinds, operands) {
+    let given = slices::saw_check(&saw.job, *choices, kinds, operands);
+    match slices::check_plan(job, *choices, kinds, operands) {
         Ok(r) => {
             let s = given.expect("a plan that the office passes");
             assert_eq!((s.copies, s.pieces, s.waste), (r.copies, r.pieces, r.waste));

@@ -14,7 +14,7 @@ use outside::answers::{Words, FULL_DEMAND, TURNING};
 use outside::blocks::{job_block, job_s, kerf_block, Kind};
 use outside::random::Random;
 use outside::reference::{normal_positions, Job};
-use outside::{baseline, planner};
+use outside::{baseline, slices};
 
 const ROOM: Sizes = Sizes { table: 1 << 17, ..AMPLE };
 
@@ -206,12 +206,12 @@ fn typed_answers() {
     let sizes = Sizes { lengths: 6, widths: 4, table: 240, kinds: 5, operands: 5, answer: 0 };
     let mut lent = Lent::new(sizes);
     let (storage, plan, _) = lent.split();
-    let exact = planner::exact(&job_s(), 0, storage, plan).expect("the optimum");
+    let exact = slices::exact(&job_s(), 0, storage, plan).expect("the optimum");
     assert_eq!((exact.optimum, exact.states, exact.nodes), (16, 12, 5));
     assert_eq!((exact.lengths, exact.widths), (5, 4));
     let long = job_block(1, 1, &[(1, 1, 1, 255), (1, 1, 1, 16)]);
     let (storage, plan, _) = lent.split();
-    let refused = planner::exact(&long, 0, storage, plan);
+    let refused = slices::exact(&long, 0, storage, plan);
     assert_eq!(refused.map_err(|refusal| (refusal.number, refusal.place)), Err((30, 0)));
 }
 

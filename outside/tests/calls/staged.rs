@@ -11,9 +11,9 @@ use crate::run::{compare, Call, Input, ALL_CHOICES, STAGED_CALLS};
 use crate::trees::{most, MOST_STAGES};
 use outside::answers::{Words, TURNING};
 use outside::blocks::{job_block, job_s, kerf_block, Kind};
-use outside::planner;
 use outside::random::Random;
 use outside::reference::Job;
+use outside::slices;
 
 const ROOM: Sizes = Sizes { table: 1 << 18, ..AMPLE };
 
@@ -263,14 +263,14 @@ fn kinds_that_are_turned_or_cancelled_count_as_in_the_bound() {
 fn typed_answers() {
     let mut lent = Lent::new(Sizes { lengths: 6, widths: 4, table: 300, ..AMPLE });
     let (kinds, operands) = ([2, 1, 3, 1, 1], [2, 0, 1, 1, 2]);
-    let report = planner::check_plan_staged(&job_s(), 0, 2, &kinds, &operands).expect("a plan of S");
+    let report = slices::check_plan_staged(&job_s(), 0, 2, &kinds, &operands).expect("a plan of S");
     assert_eq!((report.report.profit, report.stages), (16, 2));
-    let bound = planner::bound_staged(&job_s(), 0, &[0, 1, 0], 2, lent.split().0);
+    let bound = slices::bound_staged(&job_s(), 0, &[0, 1, 0], 2, lent.split().0);
     assert_eq!(bound.expect("a bound").to_words(), [16, 2, 5, 4]);
     let best =
-        planner::certify_staged(&job_s(), 0, &[0, 1, 0], 2, &kinds, &operands, lent.split().0);
+        slices::certify_staged(&job_s(), 0, &[0, 1, 0], 2, &kinds, &operands, lent.split().0);
     assert_eq!(best.expect("a certificate").to_words(), [0, 16, 16]);
-    let refused = planner::bound_staged(&job_s(), 0, &[0, 1, 0], 9, lent.split().0);
+    let refused = slices::bound_staged(&job_s(), 0, &[0, 1, 0], 9, lent.split().0);
     assert_eq!(refused.map_err(|refusal| refusal.number), Err(22));
 }
 

@@ -13,7 +13,7 @@ use outside::answers::{Words, FULL_DEMAND, TURNING};
 use outside::blocks::{job_block, job_s, kerf_block, Kind};
 use outside::random::Random;
 use outside::reference::{normal_positions, Job};
-use outside::{baseline, planner};
+use outside::{baseline, slices};
 
 const ROOM: Sizes = Sizes { table: 1 << 17, ..AMPLE };
 
@@ -115,9 +115,9 @@ fn words_needed_are_counted_in_64_bits() {
 #[test]
 fn typed_answers() {
     let mut lent = Lent::new(Sizes { lengths: 6, widths: 4, table: 120, ..AMPLE });
-    let both = planner::bound_two(&job_s(), 0, &[0, 1, 0], &[1, 0, 0], lent.split().0);
+    let both = slices::bound_two(&job_s(), 0, &[0, 1, 0], &[1, 0, 0], lent.split().0);
     assert_eq!(both.expect("a bound").to_words(), [16, 2, 1, 5, 4]);
-    let refused = planner::bound_two(&job_s(), 0, &[0, 1, 0], &[1, 0], lent.split().0);
+    let refused = slices::bound_two(&job_s(), 0, &[0, 1, 0], &[1, 0], lent.split().0);
     assert_eq!(refused.map_err(|refusal| refusal.number), Err(24));
 }
 

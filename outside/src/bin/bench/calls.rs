@@ -4,7 +4,7 @@ use crate::jobs::Job;
 use crate::memory::Memory;
 use outside::answers::Words;
 use outside::baseline::{c, checks, rust};
-use outside::planner::calls as ours;
+use outside::slices::calls as ours;
 
 /// Makes a call and gives the refusal's number, 0 for none; the answer stands in the memory.
 pub type Run = fn(&Job, &mut Memory) -> u32;

@@ -1,11 +1,11 @@
 // The jobs that are measured. All are generated from fixed seeds, so every run has the same.
 // Prices are areas with a premium of up to a quarter; demands are raised until Q is as wanted, which
 // counts them in full where the plate cannot hold so many.
-use ::planner::{Choices, Job as Typed, Plan, Planner};
 use outside::answers::{FULL_DEMAND, TURNING};
 use outside::blocks::{job_s, kerf_block, plan_block, Kind};
 use outside::random::Random;
 use outside::reference;
+use planner::{Choices, Job as Typed, Plan, Planner};
 
 /// What the calls read.
 #[derive(Clone, Default)]
