@@ -177,7 +177,7 @@ fn a_printed_sheet_is_a4_and_can_be_read() {
     let scratch = Scratch::new("printed");
     let sample = concat!(env!("CARGO_MANIFEST_DIR"), "/../samples/wardrobe.csv");
     let sample = std::fs::read_to_string(sample).expect("the sample");
-    let wide = "plate, 1220 x 2440\nsaw, kerf 3.2, unit 5\nname, length, width, count\nwide shelf, 590, 480, 9\n";
+    let wide = "plate, 1222 x 2444\nsaw, kerf 3.2, unit 5\nname, length, width, count\nwide shelf, 588, 478, 11\n";
     for (file, order, page) in [
         ("long.csv", sample.as_str(), "@page { size: 297mm 210mm; margin: 0 }"),
         ("wide.csv", wide, "@page { size: 210mm 297mm; margin: 0 }"),
