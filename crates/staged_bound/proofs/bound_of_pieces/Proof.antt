@@ -104,8 +104,7 @@ sub-before c = let k = c .before .before .before .before .before .before .before
 mul-greater : tie.Need-mul-greater
 mul-greater c =
     let k = c .before .before .before .before .before .before .before .before in
-    let h : k .before .layout2 .given .0 .1 .0 - 1 - c .words .result < length (now (start k .args .table)) = omega (arith, last k .1) in
-    scaled-fits _ _ 8 h (start k .good .1 .1 .1 .1 .1 .1 .1 .1 .0 .1)
+    scaled-fits _ (length (now (start k .args .table))) 8 (omega (arith, last k .1)) (start k .good .1 .1 .1 .1 .1 .1 .1 .1 .0 .1)
 
 slice-read-greater : tie.Need-slice-read-greater
 slice-read-greater c = omega (arith, c .before .before .before .before .fill-table .ensures .1 .0, last (c .before .before .before .before .before .before .before .before .before) .1)
@@ -121,7 +120,8 @@ greater-requires c κs =
     let w = c .before .before in
     let k = w .before .before .before .before .before .before .before .before in
     let e = start k in
-    (omega (arith, length-first w, block-small (J k) (heavy-in (now (e .args .pieces))) (e .pre .0 .in-range) (e .args .limit) Length (e .args .q)), omega (arith, width-first w, block-small (J k) (heavy-in (now (e .args .pieces))) (e .pre .0 .in-range) (e .args .limit) Width (e .args .q)))
+    let small = block-small (J k) (heavy-in (now (e .args .pieces))) (e .pre .0 .in-range) (e .args .limit) in
+    (omega (arith, length-first w, width-first w, small Length (e .args .q), small Width (e .args .q)), omega (arith, width-first w, small Width (e .args .q)))
 
 returns : tie.Need-returns
 returns c = refused _ _ _ _ (rw (c .before .layout .given .1) at (c .before .before .before .before .before .before .before .before .before .lay-out .ensures))
