@@ -12,11 +12,11 @@ use Rattle.job.specs.declared.Choices.{Choices}
 use Rattle.job.proofs.Checks.{first-append, cons-passed, passed-both}
 use Rattle.job.proofs.Read.{or-false, inside}
 use Rattle.plan.specs.Plan.{plan-checks}
-use Rattle.rack.specs.Check.{plate-at, size-check, order-checks, plate-checks, rack-checks}
+use Rattle.rack.specs.Check.{plate-at, rack-size-check, order-checks, plate-checks, rack-checks}
 
 module _ (s : List ℕ) (choices : Choices) (lengths widths kinds operands : List ℕ) where
   abbrev size : Checked
-  size = first-refusal (size-check lengths widths ∷ [])
+  size = first-refusal (rack-size-check lengths widths ∷ [])
 
   abbrev order : Checked
   order = first-refusal (order-checks s choices)
@@ -30,7 +30,7 @@ module _ (s : List ℕ) (choices : Choices) (lengths widths kinds operands : Lis
   -- they are those of the four parts
   pub before-parts : first-refusal (rack-checks s choices lengths widths kinds operands) ≡ next size (next order (next sides whole))
   unfolding rack-checks
-  before-parts = first-append (size-check lengths widths ∷ []) _
+  before-parts = first-append (rack-size-check lengths widths ∷ []) _
       ∙ ap (next size) (first-append (order-checks s choices) _ ∙ ap (next order) (first-append (plate-checks (plate-at lengths widths) (length lengths)) (plan-checks kinds operands)))
 
   -- where they pass, each part does
@@ -42,7 +42,7 @@ module _ (s : List ℕ) (choices : Choices) (lengths widths kinds operands : Lis
       (a .0, b .0, d .0, d .1)
 
 -- where 28 passes, there are as many lengths as widths, of 1 to 16 plates
-pub size-passed : (lengths widths : List ℕ) → first-refusal (size-check lengths widths ∷ []) ≡ Passed → (length lengths ≡ length widths) × (1 ≤ length lengths) × (length lengths ≤ 16)
+pub size-passed : (lengths widths : List ℕ) → first-refusal (rack-size-check lengths widths ∷ []) ≡ Passed → (length lengths ≡ length widths) × (1 ≤ length lengths) × (length lengths ≤ 16)
 size-passed lengths widths p =
     let q = or-false _ _ (cons-passed _ _ _ p .0) in
     let r = inside 1 16 (length lengths) (q .1) in

@@ -32,7 +32,7 @@ use Rattle.plan.proofs.Preorder.{written, firsts, seconds, arrays-written, kind
 use Rattle.plan.proofs.Whole.{whole-counts}
 use Rattle.rack.specs.declared.RackAnswer.{RackAnswer}
 use Rattle.rack.specs.Racks.{plated, OnPlates, SharesDemands, rack-profit, rack-bound, chained}
-use Rattle.rack.specs.Check.{plate-at, size-check, order-checks, plate-checks, rack-checks, own-answer, total-checks, with-own, rack-passed, rack-stopped, rack-by, rack-walk, plans-answer, rack-answer, rack-outcome}
+use Rattle.rack.specs.Check.{plate-at, rack-size-check, order-checks, plate-checks, rack-checks, own-answer, total-checks, with-own, rack-passed, rack-stopped, rack-by, rack-walk, plans-answer, rack-answer, rack-outcome}
 use Rattle.rack.specs.Promises.{OrderPasses, BeforePasses, RackOf, RackUpTo, IdleAt, OverAt, RackChecks, PlatesPromises}
 use Rattle.rack.proofs.Racks.{rack-keeps, rack-holds, rack-finer}
 use Rattle.rack.proofs.Before.{before-passed, size-passed}
@@ -143,7 +143,7 @@ module _ (s : List ℕ) (choices : Choices) where
     bounded p tree on shares weight = rack-holds J n tree shares (order-solid p) plate on weight
 
     module _ (b : BeforePasses s choices lengths widths kinds operands) where
-      parts : (first-refusal (size-check lengths widths ∷ []) ≡ Passed) × OrderPasses s choices × (first-refusal (plate-checks plate n) ≡ Passed) × (first-refusal (plan-checks kinds operands) ≡ Passed)
+      parts : (first-refusal (rack-size-check lengths widths ∷ []) ≡ Passed) × OrderPasses s choices × (first-refusal (plate-checks plate n) ≡ Passed) × (first-refusal (plan-checks kinds operands) ≡ Passed)
       parts = before-passed s choices lengths widths kinds operands b
 
       -- plans that are refused with x at a tree

@@ -19,7 +19,7 @@ use Rattle.job.proofs.Checks.{check-stops}
 use Rattle.rack.specs.declared.Plate.{Plate}
 use Rattle.rack.specs.declared.RackSides.{RackSides}
 use Rattle.rack.specs.declared.RackAnswer.{RackAnswer}
-use Rattle.rack.specs.Check.{plate-at, size-check, rack-checks, rack-by, rack-stopped, plans-answer, rack-answer}
+use Rattle.rack.specs.Check.{plate-at, rack-size-check, rack-checks, rack-by, rack-stopped, plans-answer, rack-answer}
 use Rattle.rack.specs.Records.{blank, paid, paid-count, lengths-of, widths-of, records-answer, RackPromises}
 use Rattle.rack.specs.Read.{too-many, read-count, no-sides, with-plate, sides-of, first-answer}
 use Rattle.rack.proofs.Records.{rack-met}
@@ -102,9 +102,9 @@ module _ (s : List ℕ) (choices : Choices) (rack : List Plate) (kinds operands 
   unfolding rack-checks
   many-stopped h =
       let b : ltb 16 (length (lengths-of rack)) ≡ true = lt-ltb 16 (length (lengths-of rack)) (omega (arith, h, length-map rack (λ p. p .length))) in
-      let c : size-check (lengths-of rack) (widths-of rack) .0 ≡ true = last-true (not (eqb (length (lengths-of rack)) (length (widths-of rack)))) (ltb (length (lengths-of rack)) 1) b in
+      let c : rack-size-check (lengths-of rack) (widths-of rack) .0 ≡ true = last-true (not (eqb (length (lengths-of rack)) (length (widths-of rack)))) (ltb (length (lengths-of rack)) 1) b in
       ap (λ v. rack-by v (plans-answer (block-job s choices) (plate-at (lengths-of rack) (widths-of rack)) (length (lengths-of rack)) kinds operands))
-      (sym (check-stops (size-check (lengths-of rack) (widths-of rack) .0) RackSize _ (sym (ap (λ t. refuse-when t RackSize) c)) refl))
+      (sym (check-stops (rack-size-check (lengths-of rack) (widths-of rack) .0) RackSize _ (sym (ap (λ t. refuse-when t RackSize) c)) refl))
 
   few-sides : n ≤ 16 → first-answer s choices (read .lengths) (read .widths) n kinds operands ≡ records-answer s choices rack kinds operands
   few-sides h =

@@ -30,8 +30,8 @@ abbrev pub plate-at : List ℕ → List ℕ → ℕ → Rect
 plate-at lengths widths i = (getD lengths i 0, getD widths i 0)
 
 -- 28: not 1 to 16 plates, or not as many lengths as widths
-abbrev pub size-check : List ℕ → List ℕ → Check
-size-check lengths widths = (not (eqb (length lengths) (length widths)) || outside 1 most-plates (length lengths), RackSize)
+abbrev pub rack-size-check : List ℕ → List ℕ → Check
+rack-size-check lengths widths = (not (eqb (length lengths) (length widths)) || outside 1 most-plates (length lengths), RackSize)
 
 -- the checks of a job block whose plate is not read: 1, 3, 27, 4, then 5 to 7
 unfoldable pub order-checks : List ℕ → Choices → List Check
@@ -48,7 +48,7 @@ plate-checks plate n = each-kind (plate-check plate) 0 n
 -- the checks before any plan's
 unfoldable pub rack-checks : List ℕ → Choices → List ℕ → List ℕ → List ℕ → List ℕ → List Check
 rack-checks s choices lengths widths kinds operands =
-    size-check lengths widths ∷ (order-checks s choices ++ (plate-checks (plate-at lengths widths) (length lengths) ++ plan-checks kinds operands))
+    rack-size-check lengths widths ∷ (order-checks s choices ++ (plate-checks (plate-at lengths widths) (length lengths) ++ plan-checks kinds operands))
 
 -- the walk over a plan from node k on, on the job's plate: 12 to 17
 abbrev pub walked-at : Job → List ℕ → List ℕ → ℕ → TreeAnswer

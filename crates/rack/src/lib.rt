@@ -26,7 +26,7 @@ ghost use Rattle.cutting.specs.Limits.{most-kinds};
 ghost use Rattle.refusal.specs.Refusals.{first-refusal};
 ghost use Rattle.job.specs.Block.{job-of};
 ghost use Rattle.plan.specs.Walk.{Walkable};
-ghost use Rattle.rack.specs.Check.{most-plates, plate-at, size-check, order-checks, plate-checks, rack-checks, own-answer, rack-stopped, plans-answer};
+ghost use Rattle.rack.specs.Check.{most-plates, plate-at, rack-size-check, order-checks, plate-checks, rack-checks, own-answer, rack-stopped, plans-answer};
 ghost use Rattle.rack.specs.Promises.{PlatesPromises};
 ghost use Rattle.rack.specs.Plates.{on-plate, OneEach, TotalsAfter};
 ghost use Rattle.rack.specs.Records.{paid, paid-count, RackPromises};
@@ -73,7 +73,7 @@ fn on_plate(job: JobRecord, length: u16, width: u16) -> JobRecord
 
 // Refusal 28.
 fn check_size(lengths: &[u16], widths: &[u16]) -> Checked
-    ensures { λ r. ⌜ r ≡ first-refusal (size-check (now (lengths .entry)) (now (widths .entry)) ∷ []) ⌝ }
+    ensures { λ r. ⌜ r ≡ first-refusal (rack-size-check (now (lengths .entry)) (now (widths .entry)) ∷ []) ⌝ }
 {
     let n = lengths.len();
     if n != widths.len() {
