@@ -14,7 +14,7 @@ use Rattle.storage.specs.declared.Layout.the-variants as layout
 use Rattle.storage.specs.Contracts.{cell-words, storage-verdict, LaidOut}
 use Rattle.storage.proofs.Storage.{refused-laid, ready-laid}
 use Rattle.bound.specs.Bound.{lent}
-use Rattle.two_bound.specs.Two.{two-report, answer-by}
+use Rattle.two_bound.specs.Two.{two-report, two-answer-by}
 use Rattle.two_bound.specs.Contracts.{Paired}
 use Rattle.two_bound.specs.declared.TwoReport.{TwoReport}
 use Rattle.two_bound.specs.declared.TwoAnswer.the-variants as answer
@@ -37,11 +37,11 @@ module _ (J : Job) (F : ℕ → ℕ → ℕ → ℕ → ℕ) (q q′ : ℕ) {len
   -- the storage is refused: so is the bound, and the table is untouched
   pub refused : {r : Refusal} → LaidOut J q (pair-count q q′) (length table) lengths widths floors new-lengths new-widths new-floors (layout.Refused r)
       → Paired J F q q′ (lent lengths widths table) (lent new-lengths new-widths table) (answer.Refused r)
-  refused laid = let v = same-verdict J q q′ (length table) lengths widths (refused-laid laid) in record { answer = sym (ap (λ v. answer-by v (two-report J F q q′)) v); memory = record { lengths = laid .lengths-left; widths = laid .widths-left; table = rw v refl } }
+  refused laid = let v = same-verdict J q q′ (length table) lengths widths (refused-laid laid) in record { answer = sym (ap (λ v. two-answer-by v (two-report J F q q′)) v); memory = record { lengths = laid .lengths-left; widths = laid .widths-left; table = rw v refl } }
 
   -- there is room: the report and the figures
   pub reported : {size : TableSize} {n : ℕ} {new-table : List ℕ} {b : TwoReport} → LaidOut J q (pair-count q q′) (length table) lengths widths floors new-lengths new-widths new-floors (layout.Ready size n)
       → b ≡ two-report J F q q′ → TwoBy J F q q′ table new-table → Paired J F q q′ (lent lengths widths table) (lent new-lengths new-widths new-table) (answer.Answered b)
   reported laid e f =
       let v = same-verdict J q q′ (length table) lengths widths (ready-laid laid .passed) in
-      record { answer = ap (λ x. answer.Answered x) e ∙ sym (ap (λ v. answer-by v (two-report J F q q′)) v); memory = record { lengths = laid .lengths-left; widths = laid .widths-left; table = rw v f } }
+      record { answer = ap (λ x. answer.Answered x) e ∙ sym (ap (λ v. two-answer-by v (two-report J F q q′)) v); memory = record { lengths = laid .lengths-left; widths = laid .widths-left; table = rw v f } }
