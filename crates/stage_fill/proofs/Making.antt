@@ -24,7 +24,7 @@ use Rattle.table.proofs.Weighed.{plain-order}
 use Rattle.table.proofs.Complete.{singles}
 use Rattle.table.proofs.Staged.{sided, block-above, block-larger, block-uncut, block-single, sided-above, sided-larger, sided-prior, sided-joins, block-complete}
 use Rattle.state_fill.specs.declared.parts.Line.{Line}
-use Rattle.state_fill.specs.Cells.{held, Level, Levelled, Rises, Flagged, Listed, Low, Ready, Steps, Finished, FlaggedBelow}
+use Rattle.state_fill.specs.Cells.{held, Level, Levelled, Rises, Flagged, Listed, Served, Low, Ready, Steps, Finished, FlaggedBelow}
 use Rattle.state_fill.proofs.Growing.{outside-chain}
 use Rattle.state_fill.proofs.Joining.{held-kept, note-kept, listed-kept}
 use Rattle.state_fill.proofs.Making.{covers-more, covers-same, covers-steps, start-covers, level-past, side-low, side-taken}
@@ -78,8 +78,8 @@ either-covers words some more flag f g b f′ g′ top is low low′ rises flags
     go (yes x) (no y) z p q = second (omega arith) (omega arith) q
 
 -- a cell whose flags cover its figures is made when they have become its list
-made-done : {words at : ℕ} {f g h : ℕ → ℕ} {xs new : List ℕ} → Finished 0 at words xs new → ((s : ℕ) → s < words → held xs at s ≡ f s) → Rises leb words g → Rises leb words h → Covers leb words (Flagged xs at) f g → Covers leb words (Flagged xs at) f h → Made words at f g h new
-made-done {words} {at} {f} {g} {h} {xs} {new} done figures under-first under-second first second = record {
+made-done : {words at shorter narrower : ℕ} {f g h : ℕ → ℕ} {xs new : List ℕ} → Finished 0 at shorter narrower words xs new → ((s : ℕ) → s < words → held xs at s ≡ f s) → Rises leb words g → Rises leb words h → Covers leb words (Flagged xs at) f g → Covers leb words (Flagged xs at) f h → Made words at f g h new
+made-done {words} {at} {shorter} {narrower} {f} {g} {h} {xs} {new} done figures under-first under-second first second = record {
   figures = λ s l. done .same s l ∙ figures s l;
   notes = done .notes;
   ended = done .ended;
@@ -90,7 +90,7 @@ made-done {words} {at} {f} {g} {h} {xs} {new} done figures under-first under-sec
   where
     listed : (g : ℕ → ℕ) → Rises leb words g → Covers leb words (Flagged xs at) f g → Covers leb words (Listed new at words) f g
     listed g r c = covers-more leb words (λ t. Flagged xs at t × Steps 0 f t) (Listed new at words) f g
-        (λ t l x. done .listed t l (x .0) (λ e k. omega (arith, x .1 e k, figures t l, figures (t - 1) (omega arith))))
+        (λ t l x. (let q = done .listed t l (x .0) (λ e k. omega (arith, x .1 e k, figures t l, figures (t - 1) (omega arith))) in (q .0, q .1, q .2)))
         (covers-steps leb 0 words (Flagged xs at) f g (λ e t s l. le→leb t s l) leb→le r c)
 
 -- the figures of one cell are the same from the next state on
@@ -203,11 +203,11 @@ module _ {J : Job} {own : ℕ → ℕ} {k : ℕ} {d : Direction} {count : ℕ} {
   line-figures : (j s : ℕ) → j < a → s < words → held (steps .t4) (line .base + j * line .stride) s ≡ F j s
   line-figures j s h l = made-kept ((spot .earlier) j h) o4 ((spot .cells) j h) .figures s l
 
-  line-covers : (j : ℕ) → j < a → Covers leb words (Listed (steps .t4) (line .base + j * line .stride) words) (F j) (F (j - 1))
-  line-covers j h = made-kept ((spot .earlier) j h) o4 ((spot .cells) j h) .first
+  line-covers : (j : ℕ) → j < a → Covers leb words (Served 0 (line .skip) (steps .t4) (line .base + j * line .stride) words) (F j) (F (j - 1))
+  line-covers j h = covers-more leb words (Listed (steps .t4) (line .base + j * line .stride) words) (Served 0 (line .skip) (steps .t4) (line .base + j * line .stride) words) (F j) (F (j - 1)) (λ t l m. (m, λ k. absurd (omega (arith, k)))) (made-kept ((spot .earlier) j h) o4 ((spot .cells) j h) .first)
 
   sound : Low (F a) (line .at) words (steps .t5)
-  sound = side-low J leb plain-order (spot .fit) d count positions floors (spot .given) (sided J leb own d (suc k) d o) (sided-joins J leb own plain-order (spot .fit) k d o) a (line .«half_end») (line .base) (line .stride) (line .at) words (steps .t4) (steps .t5) (spot .inside .1) (spot .half) line-figures line-covers (steps .taken)
+  sound = side-low J leb plain-order (spot .fit) d count positions floors (spot .given) (sided J leb own d (suc k) d o) (sided-joins J leb own plain-order (spot .fit) k d o) 0 (line .skip) a (line .«half_end») (line .base) (line .stride) (line .at) words (steps .t4) (steps .t5) (spot .inside .1) (spot .half) line-figures line-covers (steps .taken)
       (λ s h. omega (arith, same s h, sided-prior J leb own plain-order (spot .fit) k d o (getD positions a 0) s, sided-larger J leb own plain-order (spot .fit) d (suc k) d o o (getD positions (a - 1) 0) (getD positions a 0) s (omega arith) shorter))
 
   rises : Rises leb words (held (steps .t5) (line .at))
@@ -216,7 +216,7 @@ module _ {J : Job} {own : ℕ → ℕ} {k : ℕ} {d : Direction} {count : ℕ} {
   full : (s : ℕ) → s < words → F a s ≤ held (steps .t5) (line .at) s
   full s h = block-complete J leb own plain-order (spot .fit) k d count positions floors (spot .given) o a (line .«half_end») s (held (steps .t5) (line .at) s) (spot .inside .1) (spot .on) (spot .half)
       (omega (arith, same s h, steps .taken .grown .more s h))
-      (side-taken J leb plain-order (spot .fit) d count positions floors (spot .given) (sided J leb own d (suc k) d o) (sided-joins J leb own plain-order (spot .fit) k d o) a (line .«half_end») (line .base) (line .stride) (line .at) words (steps .t4) (steps .t5) (spot .inside .1) (spot .half) line-figures line-covers (steps .taken)
+      (side-taken J leb plain-order (spot .fit) d count positions floors (spot .given) (sided J leb own d (suc k) d o) (sided-joins J leb own plain-order (spot .fit) k d o) 0 (line .skip) a (line .«half_end») (line .base) (line .stride) (line .at) words (steps .t4) (steps .t5) (spot .inside .1) (spot .half) line-figures line-covers (steps .taken)
       s (held (steps .t5) (line .at) s) h (omega (arith, same s h, steps .taken .grown .more s h)) (λ t m. rises t s h m))
 
   figures : (s : ℕ) → s < words → held (steps .t5) (line .at) s ≡ F a s

@@ -50,7 +50,7 @@ pub record UncutSteps (J : Job) (own : ℕ → ℕ) (count words stride at l w f
   pub second : Inherited (at - stride) (at - words) at words t2 t3
   pub placed : Placed leb J own count l w at words t3 t4
   pub topped : Topped at words 0 top t1 t4
-  pub done : Finished 0 at words t4 new
+  pub done : Finished 0 at (at - stride) (at - words) words t4 new
   pub flat-is : next ≡ max flat top
 
 -- a cell of a later block can be made: its source, the cells before it along the line and the one before it in the other direction are
@@ -78,7 +78,7 @@ pub record LaterSteps (positions floors : List ℕ) (line : Line) (source across
   pub first : Inherited source (line .at - line .stride) (line .at) words t1 t2
   pub second : Inherited source across (line .at) words t2 t3
   pub third : Inherited (line .at - line .stride) across (line .at) words t3 t4
-  pub taken : CutAt leb positions floors (line .index) 1 (line .«half_end») (line .base) (line .stride) (line .at) words t4 t5
+  pub taken : CutAt leb 0 (line .skip) positions floors (line .index) 1 (line .«half_end») (line .base) (line .stride) (line .at) words t4 t5
   pub topped : Topped (line .at) words 0 top t1 t5
-  pub done : Finished 0 (line .at) words t5 new
+  pub done : Finished 0 (line .at) (line .at - line .stride) across words t5 new
   pub flat-is : next ≡ max flat top

@@ -49,7 +49,7 @@ fn source_number(block: Block) -> usize
     2 * stage
 }
 
-// The line of cells that ends at the cell of an entry, at word `at`.
+// The line of cells that ends at the cell of an entry, at word `at`. Shares are states of one digit, of which cuts read no marks.
 fn line_to(positions: &[u16], at: usize, index: usize, stride: usize) -> Line
     requires { ⌜ HalfReady (now positions) 1 index × (index * stride ≤ at) ⌝ }
     ensures { λ r. ⌜ LineTo (now (positions .entry)) at index stride r ⌝ }
@@ -61,6 +61,7 @@ fn line_to(positions: &[u16], at: usize, index: usize, stride: usize) -> Line
         at: at,
         base: at - index * stride,
         stride: stride,
+        skip: 0,
     }
 }
 

@@ -41,7 +41,7 @@ pub fn make_uncut(
     let mut top = inherit(table, at, narrower, shorter, words, 0);
     top = inherit(table, at, shorter, narrower, words, top);
     top = place_pieces(table, pieces, &blocks, shape, at, l, w, top);
-    finish(table, 0, at, words, top);
+    finish(table, 0, at, shorter, narrower, words, top);
     further(flat, top)
 }
 
@@ -68,6 +68,6 @@ pub fn make_later(
     top = inherit(table, at, source, across, words, top);
     top = inherit(table, at, along, across, words, top);
     top = cut(table, positions, floors, &blocks, 0, words, line, top);
-    finish(table, 0, at, words, top);
+    finish(table, 0, at, along, across, words, top);
     further(flat, top)
 }

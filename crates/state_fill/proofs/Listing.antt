@@ -1,5 +1,5 @@
 -- A cell that starts, inherits and lists: loops over the words of a cell, or over the list of another, one step at a time.
-use mathlib.Core.Path.{_≡_, refl, sym, _∙_, ap}
+use mathlib.Core.Path.{_≡_, refl, sym, _∙_, ap, subst}
 use mathlib.Core.List.{List}
 use Prim.Native.Nat.{ℕ, _+_, _-_, _*_, _≤_, _<_}
 use native.Mathlib.Decide.{ℕ-discrete, decLe}
@@ -7,8 +7,8 @@ use native.Mathlib.Omega.{arith}
 use lib.ListN.{length, getD, set, length-set}
 use lib.Seq.{getD-set-same, getD-set-other}
 use Rattle.table.specs.Words.{Outside, Run}
-use Rattle.state_fill.specs.Cells.{figure-in, note-in, held, note, Flagged, FlaggedBelow, Inherited, Steps, Finished}
-use Rattle.state_fill.proofs.Noted.{figure-small, figure-plain, note-plain, figure-noted, note-noted, figure-flagged, note-flagged}
+use Rattle.state_fill.specs.Cells.{figure-in, note-in, mark-in, held, note, mark, Flagged, FlaggedBelow, Inherited, Steps, Told, Finished}
+use Rattle.state_fill.proofs.Noted.{figure-small, figure-plain, note-plain, figure-noted, note-noted, mark-noted, figure-flagged, note-flagged}
 use Rattle.state_fill.proofs.Growing.{outside-same}
 use Rattle.state_fill.proofs.Joining.{held-kept, note-kept}
 
@@ -90,18 +90,18 @@ module _ (first second at words : ℕ) (rx : first + words ≤ at) (ry : second 
   inherit-end k old new done p = record { same = p .same; kept = p .kept; flags = λ t l f. p .flags (l .0) t (done (l .0) t (l .1) (l .2)) (l .2) f; rest = p .rest }
 
 -- the flags of the first s words are off, and those of their states that are to be listed are the first k entries of the list
-pub record Listing (d at words s k : ℕ) (old new : List ℕ) : Type 0 where
+pub record Listing (d at shorter narrower words s k : ℕ) (old new : List ℕ) : Type 0 where
   pub most : k ≤ s
   pub same : (j : ℕ) → j < words → held new at j ≡ held old at j
   pub some : (j : ℕ) → j < k → (1 ≤ note new at j) × (note new at j ≤ s)
   pub sorted : (i j : ℕ) → i ≤ j → j < k → note new at i ≤ note new at j
   pub none : (j : ℕ) → k ≤ j → j < s → note new at j ≡ 0
   pub left : (j : ℕ) → s ≤ j → j < words → getD new (at + j) 0 ≡ getD old (at + j) 0
-  pub found : (t : ℕ) → t < s → Flagged old at t → Steps d (held old at) t → (i : ℕ) × (i < k) × (note new at i ≡ t + 1)
+  pub found : (t : ℕ) → t < s → Flagged old at t → Steps d (held old at) t → (i : ℕ) × (i < k) × (note new at i ≡ t + 1) × Told shorter narrower old t (held old at t) (mark new at i)
   pub rest : Outside at (at + words) old new
 
-module _ (d at words : ℕ) where
-  pub listing-none : (xs : List ℕ) → Listing d at words 0 0 xs xs
+module _ (d at shorter narrower words : ℕ) where
+  pub listing-none : (xs : List ℕ) → Listing d at shorter narrower words 0 0 xs xs
   listing-none xs = record {
     most = omega arith;
     same = λ j h. refl;
@@ -114,7 +114,7 @@ module _ (d at words : ℕ) where
   }
 
   -- a word without a flag
-  pub listing-passed : (s k : ℕ) (old xs : List ℕ) → s < words → note xs at s ≡ 0 → Listing d at words s k old xs → Listing d at words (s + 1) k old xs
+  pub listing-passed : (s k : ℕ) (old xs : List ℕ) → s < words → note xs at s ≡ 0 → Listing d at shorter narrower words s k old xs → Listing d at shorter narrower words (s + 1) k old xs
   listing-passed s k old xs hs z p = record {
     most = omega (arith, p .most);
     same = p .same;
@@ -130,13 +130,13 @@ module _ (d at words : ℕ) where
       none j h l (yes e) = rw e z
       none j h l (no e) = p .none j h (omega arith)
 
-      found : (t : ℕ) → t < s + 1 → Flagged old at t → Steps d (held old at) t → Dec (t ≡ s) → (i : ℕ) × (i < k) × (note xs at i ≡ t + 1)
+      found : (t : ℕ) → t < s + 1 → Flagged old at t → Steps d (held old at) t → Dec (t ≡ s) → (i : ℕ) × (i < k) × (note xs at i ≡ t + 1) × Told shorter narrower old t (held old at t) (mark xs at i)
       found t h f g (yes e) = absurd (omega (arith, ap (λ t. note old at t) e, ap note-in (p .left s (omega arith) hs)))
       found t h f g (no e) = p .found t (omega arith) f g
 
   -- a flagged word that is not to be listed
-  pub listing-left : (s k w : ℕ) (old xs : List ℕ) → at + words ≤ length xs → s < words → w ≡ held xs at s → (d ≡ 0) × (1 ≤ s) × (w ≤ held (set xs (at + s) w) at (s - 1)) → Listing d at words s k old xs
-      → Listing d at words (s + 1) k old (set xs (at + s) w)
+  pub listing-left : (s k w : ℕ) (old xs : List ℕ) → at + words ≤ length xs → s < words → w ≡ held xs at s → (d ≡ 0) × (1 ≤ s) × (w ≤ held (set xs (at + s) w) at (s - 1)) → Listing d at shorter narrower words s k old xs
+      → Listing d at shorter narrower words (s + 1) k old (set xs (at + s) w)
   listing-left s k w old xs room hs hw repeats p = record {
     most = omega (arith, p .most);
     same = λ j h. same j h (ℕ-discrete j s);
@@ -168,20 +168,23 @@ module _ (d at words : ℕ) where
       none j h l (yes e) = rw e (ap note-in put ∙ note-plain w low)
       none j h l (no e) = ap note-in (older j e) ∙ p .none j h (omega arith)
 
-      found : (t : ℕ) → t < s + 1 → Flagged old at t → Steps d (held old at) t → Dec (t ≡ s) → (i : ℕ) × (i < k) × (note (set xs (at + s) w) at i ≡ t + 1)
+      found : (t : ℕ) → t < s + 1 → Flagged old at t → Steps d (held old at) t → Dec (t ≡ s) → (i : ℕ) × (i < k) × (note (set xs (at + s) w) at i ≡ t + 1) × Told shorter narrower old t (held old at t) (mark (set xs (at + s) w) at i)
       found t h f g (yes e) = absurd (omega (arith, rises (rw e at g), same (s - 1) (omega arith) (ℕ-discrete (s - 1) s), hw, p .same s hs, repeats .2))
         where
           rises : Steps d (held old at) s → held old at (s - 1) < held old at s
           rises g = g (repeats .0) (repeats .1)
-      found t h f g (no e) = let q = p .found t (omega arith) f g in (q .0, q .1, ap note-in (older (q .0) (λ z. omega (arith, q .1, p .most))) ∙ q .2)
+      found t h f g (no e) = let q = p .found t (omega arith) f g in
+          let e : getD (set xs (at + s) w) (at + q .0) 0 ≡ getD xs (at + q .0) 0 = older (q .0) (λ z. omega (arith, q .1, p .most)) in
+          (q .0, q .1, ap note-in e ∙ q .2, subst (Told shorter narrower old t (held old at t)) (sym (ap mark-in e)) (q .3))
 
   -- a flagged word that is
-  module _ (s k w v : ℕ) (old xs : List ℕ) (room : at + words ≤ length xs) (hs : s < words) (hw : w ≡ held xs at s) (hv : v ≡ held (set xs (at + s) w) at k) (p : Listing d at words s k old xs) where
+  module _ (s k w v g : ℕ) (old xs : List ℕ) (rx : shorter + words ≤ at) (ry : narrower + words ≤ at) (room : at + words ≤ length xs) (hs : s < words) (hw : w ≡ held xs at s) (hv : v ≡ held (set xs (at + s) w) at k)
+      (hg : g ≤ 2) (told : Told shorter narrower (set xs (at + s) w) s w g) (p : Listing d at shorter narrower words s k old xs) where
     abbrev ys : List ℕ
     ys = set xs (at + s) w
 
     abbrev zs : List ℕ
-    zs = set ys (at + k) (v + 2199023255552 * (s + 1))
+    zs = set ys (at + k) (v + 2199023255552 * (4 * s + 1 + g))
 
     low : w < 2199023255552
     low = omega (arith, hw, figure-small (getD xs (at + s) 0))
@@ -192,11 +195,11 @@ module _ (d at words : ℕ) where
     put : getD ys (at + s) 0 ≡ w
     put = getD-set-same xs (at + s) w 0 (omega arith)
 
-    here : getD zs (at + k) 0 ≡ v + 2199023255552 * (s + 1)
-    here = getD-set-same ys (at + k) (v + 2199023255552 * (s + 1)) 0 (simp length-set (omega (arith, p .most)))
+    here : getD zs (at + k) 0 ≡ v + 2199023255552 * (4 * s + 1 + g)
+    here = getD-set-same ys (at + k) (v + 2199023255552 * (4 * s + 1 + g)) 0 (simp length-set (omega (arith, p .most)))
 
     before : (j : ℕ) → (j ≡ k → ⊥) → getD zs (at + j) 0 ≡ getD ys (at + j) 0
-    before j h = getD-set-other ys (at + k) (at + j) (v + 2199023255552 * (s + 1)) 0 (λ z. h (omega arith))
+    before j h = getD-set-other ys (at + k) (at + j) (v + 2199023255552 * (4 * s + 1 + g)) 0 (λ z. h (omega arith))
 
     older : (j : ℕ) → (j ≡ s → ⊥) → getD ys (at + j) 0 ≡ getD xs (at + j) 0
     older j h = getD-set-other xs (at + s) (at + j) w 0 (λ z. h (omega arith))
@@ -206,15 +209,31 @@ module _ (d at words : ℕ) where
     figures j h (no e) = ap figure-in (older j e) ∙ p .same j h
 
     same : (j : ℕ) → j < words → Dec (j ≡ k) → held zs at j ≡ held old at j
-    same j h (yes e) = rw e (ap figure-in here ∙ (figure-noted v (s + 1) small ∙ (hv ∙ figures k (omega (arith, p .most)) (ℕ-discrete k s))))
+    same j h (yes e) = rw e (ap figure-in here ∙ (figure-noted v (4 * s + 1 + g) small ∙ (hv ∙ figures k (omega (arith, p .most)) (ℕ-discrete k s))))
     same j h (no e) = ap figure-in (before j e) ∙ figures j h (ℕ-discrete j s)
 
     own : note zs at k ≡ s + 1
-    own = ap note-in here ∙ note-noted v (s + 1) small
+    own = ap note-in here ∙ note-noted v s g small hg
+
+    own-mark : mark zs at k ≡ g
+    own-mark = ap mark-in here ∙ mark-noted v s g small hg
+
+    -- the cells before are as they were
+    lower : (x : ℕ) → x + words ≤ at → held ys x s ≡ held old x s
+    lower x h = ap figure-in (getD-set-other xs (at + s) (x + s) w 0 (λ z. omega arith) ∙ p .rest .before (x + s) (omega arith))
+
+    own-told : Told shorter narrower old s (held old at s) (mark zs at k)
+    own-told = record {
+      longer = λ h e. told .longer (omega (arith, lower shorter rx, hw, p .same s hs)) (omega (arith, own-mark));
+      wider = λ h e. told .wider (omega (arith, lower narrower ry, hw, p .same s hs)) (omega (arith, own-mark));
+    }
 
     -- an earlier entry of the list
+    entry : (j : ℕ) → j < k → getD zs (at + j) 0 ≡ getD xs (at + j) 0
+    entry j h = before j (λ z. omega arith) ∙ older j (λ z. omega (arith, p .most))
+
     earlier : (j : ℕ) → j < k → note zs at j ≡ note xs at j
-    earlier j h = ap note-in (before j (λ z. omega arith) ∙ older j (λ z. omega (arith, p .most)))
+    earlier j h = ap note-in (entry j h)
 
     some : (j : ℕ) → j < k + 1 → Dec (j ≡ k) → (1 ≤ note zs at j) × (note zs at j ≤ s + 1)
     some j h (yes e) = rw e (omega (arith, own), omega (arith, own))
@@ -228,11 +247,11 @@ module _ (d at words : ℕ) where
     none j h l (yes e) = rw e (ap note-in (before s (λ z. omega arith) ∙ put) ∙ note-plain w low)
     none j h l (no e) = ap note-in (before j (λ z. omega arith) ∙ older j e) ∙ p .none j (omega arith) (omega arith)
 
-    found : (t : ℕ) → t < s + 1 → Flagged old at t → Steps d (held old at) t → Dec (t ≡ s) → (i : ℕ) × (i < k + 1) × (note zs at i ≡ t + 1)
-    found t h f g (yes e) = (k, omega arith, own ∙ ap (λ t. t + 1) (sym e))
-    found t h f g (no e) = let q = p .found t (omega arith) f g in (q .0, omega (arith, q .1), earlier (q .0) (q .1) ∙ q .2)
+    found : (t : ℕ) → t < s + 1 → Flagged old at t → Steps d (held old at) t → Dec (t ≡ s) → (i : ℕ) × (i < k + 1) × (note zs at i ≡ t + 1) × Told shorter narrower old t (held old at t) (mark zs at i)
+    found t h f steps (yes e) = rw e (k, omega arith, own, own-told)
+    found t h f steps (no e) = let q = p .found t (omega arith) f steps in (q .0, omega (arith, q .1), earlier (q .0) (q .1) ∙ q .2, subst (Told shorter narrower old t (held old at t)) (sym (ap mark-in (entry (q .0) (q .1)))) (q .3))
 
-    pub listing-more : Listing d at words (s + 1) (k + 1) old zs
+    pub listing-more : Listing d at shorter narrower words (s + 1) (k + 1) old zs
     listing-more = record {
       most = omega (arith, p .most);
       same = λ j h. same j h (ℕ-discrete j k);
@@ -240,18 +259,18 @@ module _ (d at words : ℕ) where
       sorted = λ i j h l. sorted i j h l (ℕ-discrete j k);
       none = λ j h l. none j h l (ℕ-discrete j s);
       left = λ j h l. before j (λ z. omega (arith, p .most)) ∙ (older j (λ z. omega arith) ∙ p .left j (omega arith) l);
-      found = λ t h f g. found t h f g (ℕ-discrete t s);
+      found = λ t h f steps. found t h f steps (ℕ-discrete t s);
       rest = record {
-        before = λ i l. getD-set-other ys (at + k) i (v + 2199023255552 * (s + 1)) 0 (λ z. omega arith) ∙ (getD-set-other xs (at + s) i w 0 (λ z. omega arith) ∙ p .rest .before i l);
-        after = λ i l. getD-set-other ys (at + k) i (v + 2199023255552 * (s + 1)) 0 (λ z. omega (arith, p .most)) ∙ (getD-set-other xs (at + s) i w 0 (λ z. omega arith) ∙ p .rest .after i l);
+        before = λ i l. getD-set-other ys (at + k) i (v + 2199023255552 * (4 * s + 1 + g)) 0 (λ z. omega arith) ∙ (getD-set-other xs (at + s) i w 0 (λ z. omega arith) ∙ p .rest .before i l);
+        after = λ i l. getD-set-other ys (at + k) i (v + 2199023255552 * (4 * s + 1 + g)) 0 (λ z. omega (arith, p .most)) ∙ (getD-set-other xs (at + s) i w 0 (λ z. omega arith) ∙ p .rest .after i l);
       };
     }
 
   -- all flagged states are listed
-  pub listing-end : (s k : ℕ) (old new : List ℕ) → FlaggedBelow at words s old → Listing d at words s k old new → Finished d at words old new
+  pub listing-end : (s k : ℕ) (old new : List ℕ) → FlaggedBelow at words s old → Listing d at shorter narrower words s k old new → Finished d at shorter narrower words old new
   listing-end s k old new below p = record {
     same = p .same;
-    listed = λ t h f g. (let q = p .found t (below .flags t h f) f g in (q .0, omega (arith, q .1, p .most, below .most), q .2));
+    listed = λ t h f g. (let q = p .found t (below .flags t h f) f g in (q .0, omega (arith, q .1, p .most, below .most), q .2, q .3));
     notes = λ j h. notes j h (decLe k j);
     ended = λ i j h l z. none j l (past i j h z (decLe k i));
     sorted = λ i j h l z. sorted i j h l z (decLe k j);

@@ -24,7 +24,7 @@ use Rattle.table.proofs.Words.{cell-before}
 use Rattle.table.proofs.Halves.{half-cuts, half-parts}
 use Rattle.table.proofs.Figures.{positions-axis}
 use Rattle.table.specs.States.{Order, Covers}
-use Rattle.state_fill.specs.Cells.{figure-in, note-in, held, under, Summed, Level, Startable, Levelled, Rises, Flagged, Listed, Low, Grown, Growing, Ready, Cuttable, CutAt, Placed, Inherited, Steps, Finished, FlaggedBelow, Topped}
+use Rattle.state_fill.specs.Cells.{figure-in, note-in, mark-in, held, note, mark, under, Summed, Level, Startable, Levelled, Rises, Flagged, Listed, Marked, Served, Told, Low, Grown, Growing, Ready, Cuttable, CutAt, Placed, Inherited, Steps, Finished, FlaggedBelow, Topped}
 use Rattle.state_fill.specs.Tables.{tabled, cell, Made, Spot}
 use Rattle.state_fill.proofs.Noted.{figure-small, figure-plain, note-plain}
 use Rattle.table.proofs.Across.{across, across-joins, state-above, state-low, more-side, piece-most}
@@ -41,6 +41,15 @@ covers-more le words some more f g h c s l = go (c s l)
     go : (f s ≤ g s) ⊎ ((t : ℕ) × (t < words) × T (le t s) × some t × (f s ≤ f t)) → (f s ≤ g s) ⊎ ((t : ℕ) × (t < words) × T (le t s) × more t × (f s ≤ f t))
     go (inl x) = inl x
     go (inr x) = inr (x .0, x .1, x .2, h (x .0) (x .1) (x .3), x .4)
+
+-- what covers f over g covers it by states at which f is above g, where g rises
+pub covers-rising : (le : ℕ → ℕ → Bool) (words : ℕ) (some : ℕ → Type 0) (f g : ℕ → ℕ) → Rises le words g → Covers le words some f g → Covers le words (λ t. some t × (g t < f t)) f g
+covers-rising le words some f g rises c s l = go (decLe (f s) (g s)) (c s l)
+  where
+    go : Dec (f s ≤ g s) → (f s ≤ g s) ⊎ ((t : ℕ) × (t < words) × T (le t s) × some t × (f s ≤ f t)) → (f s ≤ g s) ⊎ ((t : ℕ) × (t < words) × T (le t s) × (some t × (g t < f t)) × (f s ≤ f t))
+    go (yes k) x = inl k
+    go (no k) (inl x) = inl x
+    go (no k) (inr x) = inr (x .0, x .1, x .2, (x .3, omega (arith, rises (x .0) s l (x .2), x .4)), x .4)
 
 -- the same values
 pub covers-same : (le : ℕ → ℕ → Bool) (words : ℕ) (some : ℕ → Type 0) (f h g : ℕ → ℕ) → ((t : ℕ) → t < words → f t ≡ h t) → Covers le words some f g → Covers le words some h g
@@ -113,9 +122,12 @@ made-same {J} {le} {own} {normal-lengths} {normal-widths} {words} {i} {j} {old} 
   notes = λ k l. omega (arith, ap note-in (e k l), w .notes k l);
   ended = λ x k l m z. ap note-in (e k m) ∙ w .ended x k l m (sym (ap note-in (e x (omega arith))) ∙ z);
   sorted = λ x k l m z. omega (arith, ap note-in (e x (omega arith)), ap note-in (e k m), w .sorted x k l m (omega (arith, ap note-in (e k m))));
-  longer = covers-more le words _ _ _ _ (λ t l s. (s .0, s .1, ap note-in (e (s .0) (s .1)) ∙ s .2)) (w .longer);
-  wider = covers-more le words _ _ _ _ (λ t l s. (s .0, s .1, ap note-in (e (s .0) (s .1)) ∙ s .2)) (w .wider);
+  longer = covers-more le words _ _ _ _ (λ t l s. marked-same _ t s) (w .longer);
+  wider = covers-more le words _ _ _ _ (λ t l s. marked-same _ t s) (w .wider);
 }
+  where
+    marked-same : (skip t : ℕ) → Marked skip old (cell J words i j) words t → Marked skip new (cell J words i j) words t
+    marked-same skip t s = (s .0, s .1, (ap note-in (e (s .0) (s .1)) ∙ s .2 .0, λ z. s .2 .1 (sym (ap mark-in (e (s .0) (s .1))) ∙ z)))
 
 -- so it does where words after it are written
 pub made-kept : {J : Job} {le : ℕ → ℕ → Bool} {own : ℕ → ℕ} {normal-lengths normal-widths : List ℕ} {words i j at end : ℕ} {old new : List ℕ}
@@ -124,10 +136,10 @@ made-kept {J} {le} {own} {normal-lengths} {normal-widths} {words} {i} {j} h o w 
 
 -- the cuts of one side, along which a cell of length x has the figures h x
 module _ (J : Job) (le : ℕ → ℕ → Bool) (order : Order le) (fit : InTableRange J) (d : Direction) (count : ℕ) (positions floors : List ℕ) (given : Positions J d count positions floors)
-    (h : ℕ → ℕ → ℕ) (joins : Joins le h) (a half-end base stride at words : ℕ) (old new : List ℕ) (ha : a < count) (half : Half positions a half-end)
+    (h : ℕ → ℕ → ℕ) (joins : Joins le h) (digits skip a half-end base stride at words : ℕ) (old new : List ℕ) (ha : a < count) (half : Half positions a half-end)
     (figures : (i s : ℕ) → i < a → s < words → held old (base + i * stride) s ≡ h (getD positions i 0) s)
-    (covers : (i : ℕ) → i < a → Covers le words (Listed old (base + i * stride) words) (h (getD positions i 0)) (h (getD positions (i - 1) 0)))
-    (cuts : CutAt le positions floors a 1 half-end base stride at words old new) where
+    (covers : (i : ℕ) → i < a → Covers le words (Served digits skip old (base + i * stride) words) (h (getD positions i 0)) (h (getD positions (i - 1) 0)))
+    (cuts : CutAt le digits skip positions floors a 1 half-end base stride at words old new) where
   -- no word is above the figure
   pub side-low : Low (h (getD positions a 0)) at words old → Low (h (getD positions a 0)) at words new
   side-low below = cuts .low (h (getD positions a 0)) (λ t s l b. joins .above (getD positions a 0) t s b) (λ i t u l m ht hu z b.
@@ -142,7 +154,7 @@ module _ (J : Job) (le : ℕ → ℕ → Bool) (order : Order le) (fit : InTable
   -- and no cut gives more than g at a state, if what the cell has at the states below is at most g
   pub side-taken : (s g : ℕ) → s < words → h (getD positions (a - 1) 0) s ≤ g → ((t : ℕ) → T (le t s) → held new at t ≤ g)
       → (i : ℕ) → 1 ≤ i → i < half-end → (e m : ℕ) → T (le e (e + m)) → e + m ≡ s → h (getD positions i 0) e + h (getD positions (remainder positions floors a i) 0) m ≤ g
-  side-taken s g hs before has = side-covered J le order fit d count positions floors given h joins a half-end s g words (λ i. Listed old (base + i * stride) words) ha half hs before covers
+  side-taken s g hs before has = side-covered J le order fit d count positions floors given h joins a half-end s g words (λ i. Served digits skip old (base + i * stride) words) ha half hs before covers
       (λ i j l m e hj x t u ht hu f y b v. omega (
         arith,
         figures i t (omega (arith, half .most)) ht,
@@ -151,7 +163,7 @@ module _ (J : Job) (le : ℕ → ℕ → Bool) (order : Order le) (fit : InTable
         has (t + u) v,
       ))
     where
-      taken : (i j : ℕ) → 1 ≤ i → i < half-end → j ≡ remainder positions floors a i → getD positions i 0 + getD positions j 0 ≡ getD positions a 0 → (t u : ℕ) → Listed old (base + i * stride) words t → Listed old (base + j * stride) words u
+      taken : (i j : ℕ) → 1 ≤ i → i < half-end → j ≡ remainder positions floors a i → getD positions i 0 + getD positions j 0 ≡ getD positions a 0 → (t u : ℕ) → Served digits skip old (base + i * stride) words t → Served digits skip old (base + j * stride) words u
           → t + u < words → T (le t (t + u)) → held old (base + i * stride) t + held old (base + j * stride) u ≤ held new at (t + u)
       taken i j l m e x t u f y z b = rw e (cuts .sums i t u l m (rw e at x) f (rw e at y) z b)
 
@@ -349,9 +361,9 @@ module _ {J : Job} {own : ℕ → ℕ} {normal-lengths length-floors normal-widt
 
       -- the flags cover the start over both cells before
       covers-shorter : Covers (under blocks d) words (Flagged t3 at) (held t3 at) (F (a - 1) b)
-      covers-shorter = start-covers (under blocks d) words (Listed t0 (cell J words a (b - 1)) words) (Flagged t3 at) (F a (b - 1)) (F (a - 1) b) (F (a - 1) (b - 1)) (held t3 at)
+      covers-shorter = start-covers (under blocks d) words (Marked 2 t0 (cell J words a (b - 1)) words) (Flagged t3 at) (F a (b - 1)) (F (a - 1) b) (F (a - 1) (b - 1)) (held t3 at)
           (λ s h. omega (arith, same s h, started s h)) (λ s. wider (a - 1) (b - 1) b s (omega arith) (spot .width-in .1)) (rising (a - 1) b)
-          (λ t h l m. second .kept t h (first .flags t (listed-kept at (at + words) t0 t1 (run .rest) (at - words) words t (narrower-ready t0 none .before) (rw narrower-word l))
+          (λ t h l m. second .kept t h (first .flags t (listed-kept at (at + words) t0 t1 (run .rest) (at - words) words t (narrower-ready t0 none .before) (rw narrower-word (l .0, l .1, l .2 .0)))
           (omega (arith, shorter-figure t h, narrower-figure t h, held-kept at (at + words) t0 t1 (run .rest) (at - words) t (omega (arith, narrower-ready t0 none .before)), held-kept at (at + words) t0 t1 (run .rest) (at - stride) t (omega (arith, shorter-ready t0 none .before))))))
           (spot .cells (b - 1) (omega (arith, spot .width-in .0)) .longer)
         where
@@ -359,9 +371,9 @@ module _ {J : Job} {own : ℕ → ℕ} {normal-lengths length-floors normal-widt
           none = record { before = λ i h. refl; after = λ i h. refl }
 
       covers-narrower : Covers (under blocks d) words (Flagged t3 at) (held t3 at) (F a (b - 1))
-      covers-narrower = start-covers (under blocks d) words (Listed t0 (cell J words (a - 1) b) words) (Flagged t3 at) (F (a - 1) b) (F a (b - 1)) (F (a - 1) (b - 1)) (held t3 at)
+      covers-narrower = start-covers (under blocks d) words (Marked 1 t0 (cell J words (a - 1) b) words) (Flagged t3 at) (F (a - 1) b) (F a (b - 1)) (F (a - 1) (b - 1)) (held t3 at)
           (λ s h. omega (arith, same s h, started s h)) (λ s. longer (a - 1) a (b - 1) s (omega arith) (spot .length-in .1)) (rising a (b - 1))
-          (λ t h l m. second .flags t (listed-kept at (at + words) t0 t2 kept (at - stride) words t (shorter-ready t0 none .before) (rw shorter-word l))
+          (λ t h l m. second .flags t (listed-kept at (at + words) t0 t2 kept (at - stride) words t (shorter-ready t0 none .before) (rw shorter-word (l .0, l .1, l .2 .0)))
           (omega (arith, shorter-figure t h, narrower-figure t h, held-kept at (at + words) t0 t2 kept (at - words) t (omega (arith, narrower-ready t0 none .before)), held-kept at (at + words) t0 t2 kept (at - stride) t (omega (arith, shorter-ready t0 none .before)))))
           (spot .rows (a - 1) b (omega (arith, spot .length-in .0)) (spot .width-in .1) (omega (arith, spot .width-in .0)) .wider)
         where
@@ -373,7 +385,7 @@ module _ {J : Job} {own : ℕ → ℕ} {normal-lengths length-floors normal-widt
 
       -- the kinds and the cuts
       module _ (t4 t5 t6 t7 : List ℕ) (kinds : Placed (under blocks d) J own (J .count) (getD normal-lengths a 0) (getD normal-widths b 0) at words t3 t4)
-          (length-cuts : CutAt (under blocks d) normal-lengths length-floors a 1 length-half-end column stride at words t4 t5) (width-cuts : CutAt (under blocks d) normal-widths width-floors b 1 width-half-end (at - column) words at words t5 t6) (done : Finished d at words t6 t7) where
+          (length-cuts : CutAt (under blocks d) d 2 normal-lengths length-floors a 1 length-half-end column stride at words t4 t5) (width-cuts : CutAt (under blocks d) d 1 normal-widths width-floors b 1 width-half-end (at - column) words at words t5 t6) (done : Finished d at (at - stride) (at - words) words t6 t7) where
         o4 : Outside at (at + words) t0 t4
         o4 = outside-chain at (at + words) t0 t3 t4 inherited-rest (kinds .grown .rest)
 
@@ -389,19 +401,19 @@ module _ {J : Job} {own : ℕ → ℕ} {normal-lengths length-floors normal-widt
         length-figures : (i s : ℕ) → i < a → s < words → held t4 (column + i * stride) s ≡ F i b s
         length-figures i s h l = rw (row-word i) (made-kept (row-earlier i h) o4 (spot .rows i b h (spot .width-in .1) (omega (arith, spot .width-in .0))) .figures s l)
 
-        length-covers : (i : ℕ) → i < a → Covers (under blocks d) words (Listed t4 (column + i * stride) words) (F i b) (F (i - 1) b)
-        length-covers i h = rw (row-word i) (made-kept (row-earlier i h) o4 (spot .rows i b h (spot .width-in .1) (omega (arith, spot .width-in .0))) .longer)
+        length-covers : (i : ℕ) → i < a → Covers (under blocks d) words (Served d 2 t4 (column + i * stride) words) (F i b) (F (i - 1) b)
+        length-covers i h = rw (row-word i) (covers-more (under blocks d) words (Marked 2 t4 (cell J words i b) words) (Served d 2 t4 (cell J words i b) words) (F i b) (F (i - 1) b) (λ t l m. ((m .0, m .1, m .2 .0), λ k. m)) (made-kept (row-earlier i h) o4 (spot .rows i b h (spot .width-in .1) (omega (arith, spot .width-in .0))) .longer))
 
         width-figures : (j s : ℕ) → j < b → s < words → held t5 (at - column + j * words) s ≡ F a j s
         width-figures j s h l = rw (cell-word j) (made-kept (cell-earlier j h) o5 (spot .cells j h) .figures s l)
 
-        width-covers : (j : ℕ) → j < b → Covers (under blocks d) words (Listed t5 (at - column + j * words) words) (F a j) (F a (j - 1))
-        width-covers j h = rw (cell-word j) (made-kept (cell-earlier j h) o5 (spot .cells j h) .wider)
+        width-covers : (j : ℕ) → j < b → Covers (under blocks d) words (Served d 1 t5 (at - column + j * words) words) (F a j) (F a (j - 1))
+        width-covers j h = rw (cell-word j) (covers-more (under blocks d) words (Marked 1 t5 (cell J words a j) words) (Served d 1 t5 (cell J words a j) words) (F a j) (F a (j - 1)) (λ t l m. ((m .0, m .1, m .2 .0), λ k. m)) (made-kept (cell-earlier j h) o5 (spot .cells j h) .wider))
 
         -- no figure is too large
         sound : Low (F a b) at words t6
-        sound = side-low J (under blocks d) order fit Width (position-count J Width) normal-widths width-floors (spot .lent .widths) (across J (under blocks d) own Width (getD normal-lengths a 0)) (across-joins J (under blocks d) own order fit Width (getD normal-lengths a 0)) b width-half-end (at - column) words at words t5 t6 (spot .width-in .1) (spot .width-half) width-figures width-covers width-cuts
-            (side-low J (under blocks d) order fit Length (position-count J Length) normal-lengths length-floors (spot .lent .lengths) (across J (under blocks d) own Length (getD normal-widths b 0)) (across-joins J (under blocks d) own order fit Length (getD normal-widths b 0)) a length-half-end column stride at words t4 t5 (spot .length-in .1) (spot .length-half) length-figures length-covers length-cuts
+        sound = side-low J (under blocks d) order fit Width (position-count J Width) normal-widths width-floors (spot .lent .widths) (across J (under blocks d) own Width (getD normal-lengths a 0)) (across-joins J (under blocks d) own order fit Width (getD normal-lengths a 0)) d 1 b width-half-end (at - column) words at words t5 t6 (spot .width-in .1) (spot .width-half) width-figures width-covers width-cuts
+            (side-low J (under blocks d) order fit Length (position-count J Length) normal-lengths length-floors (spot .lent .lengths) (across J (under blocks d) own Length (getD normal-widths b 0)) (across-joins J (under blocks d) own order fit Length (getD normal-widths b 0)) d 2 a length-half-end column stride at words t4 t5 (spot .length-in .1) (spot .length-half) length-figures length-covers length-cuts
             (kinds .low (F a b) (rising a b) (λ i h e f l. piece-most J (under blocks d) own order fit (upright i) (getD normal-lengths a 0) (getD normal-widths b 0) (own i) (table-lies J fit i h) (omega arith) (omega arith) (order .same (own i))) inherited-low))
 
         rises : Rises (under blocks d) words (held t6 at)
@@ -412,9 +424,9 @@ module _ {J : Job} {own : ℕ → ℕ} {normal-lengths length-floors normal-widt
         full s h = complete J (under blocks d) own order fit (position-count J Length) (position-count J Width) normal-lengths length-floors normal-widths width-floors (spot .lent .lengths) (spot .lent .widths) a b s (held t6 at s) (spot .length-in .1) (spot .width-in .1)
             above before (λ i l e f m. (let k : own i < words = omega (arith, order .less (own i) s m) in omega (arith, kinds .taken i l e f k, length-cuts .grown .more (own i) k, width-cuts .grown .more (own i) k, rises (own i) s h m)))
             length-half-end width-half-end (spot .length-half) (spot .width-half)
-            (side-taken J (under blocks d) order fit Length (position-count J Length) normal-lengths length-floors (spot .lent .lengths) (across J (under blocks d) own Length (getD normal-widths b 0)) (across-joins J (under blocks d) own order fit Length (getD normal-widths b 0)) a length-half-end column stride at words t4 t5 (spot .length-in .1) (spot .length-half) length-figures length-covers length-cuts
+            (side-taken J (under blocks d) order fit Length (position-count J Length) normal-lengths length-floors (spot .lent .lengths) (across J (under blocks d) own Length (getD normal-widths b 0)) (across-joins J (under blocks d) own order fit Length (getD normal-widths b 0)) d 2 a length-half-end column stride at words t4 t5 (spot .length-in .1) (spot .length-half) length-figures length-covers length-cuts
             s (held t6 at s) h above (λ t m. omega (arith, width-cuts .grown .more t (omega (arith, order .less t s m)), rises t s h m)))
-            (side-taken J (under blocks d) order fit Width (position-count J Width) normal-widths width-floors (spot .lent .widths) (across J (under blocks d) own Width (getD normal-lengths a 0)) (across-joins J (under blocks d) own order fit Width (getD normal-lengths a 0)) b width-half-end (at - column) words at words t5 t6 (spot .width-in .1) (spot .width-half) width-figures width-covers width-cuts
+            (side-taken J (under blocks d) order fit Width (position-count J Width) normal-widths width-floors (spot .lent .widths) (across J (under blocks d) own Width (getD normal-lengths a 0)) (across-joins J (under blocks d) own order fit Width (getD normal-lengths a 0)) d 1 b width-half-end (at - column) words at words t5 t6 (spot .width-in .1) (spot .width-half) width-figures width-covers width-cuts
             s (held t6 at s) h before (λ t m. rises t s h m))
           where
             above : F (a - 1) b s ≤ held t6 at s
@@ -449,11 +461,22 @@ module _ {J : Job} {own : ℕ → ℕ} {normal-lengths length-floors normal-widt
           notes = λ k h. rw (← spot .at-is) (done .notes k h);
           ended = λ j k h l z. rw (← spot .at-is) (done .ended j k h l (rw (← spot .at-is) at z));
           sorted = λ j k h l z. rw (← spot .at-is) (done .sorted j k h l (rw (← spot .at-is) at z));
-          longer = listed (F (a - 1) b) (rising (a - 1) b) covers-length;
-          wider = listed (F a (b - 1)) (rising a (b - 1)) covers-width;
+          longer = listed 2 (F (a - 1) b) (rising (a - 1) b) (λ t m h o r. o .longer (omega (arith, r, before (at - stride) (shorter-ready t0 none .before) t h, shorter-figure t h, figures t h))) covers-length;
+          wider = listed 1 (F a (b - 1)) (rising a (b - 1)) (λ t m h o r. o .wider (omega (arith, r, before (at - words) (narrower-ready t0 none .before) t h, narrower-figure t h, figures t h))) covers-width;
         }
           where
-            listed : (g : ℕ → ℕ) → Rises (under blocks d) words g → Covers (under blocks d) words (Flagged t6 at) (F a b) g → Covers (under blocks d) words (Listed t7 (cell J words a b) words) (F a b) g
-            listed g r c = covers-more (under blocks d) words (λ t. Flagged t6 at t × Steps d (F a b) t) (Listed t7 (cell J words a b) words) (F a b) g
-                (λ t h f. rw (← spot .at-is) (done .listed t h (f .0) (λ e k. omega (arith, f .1 e k, figures t h, figures (t - 1) (omega arith)))))
-                (covers-steps (under blocks d) d words (Flagged t6 at) (F a b) g (under-zero blocks d) (order .less) r c)
+            none : Outside at (at + words) t0 t0
+            none = outside-same at (at + words) t0
+
+            -- the cells before are as they were
+            before : (x : ℕ) → x + words ≤ at → (t : ℕ) → t < words → held t6 x t ≡ held t0 x t
+            before x h t l = held-kept at (at + words) t0 t6 (outside-chain at (at + words) t0 t3 t6 inherited-rest (grown .rest)) x t (omega arith)
+
+            listed : (skip : ℕ) (g : ℕ → ℕ) → Rises (under blocks d) words g → ((t mark : ℕ) → t < words → Told (at - stride) (at - words) t6 t (held t6 at t) mark → g t < F a b t → mark ≡ skip → ⊥)
+                → Covers (under blocks d) words (Flagged t6 at) (F a b) g → Covers (under blocks d) words (Marked skip t7 (cell J words a b) words) (F a b) g
+            listed skip g r tells c = covers-more (under blocks d) words (λ t. (Flagged t6 at t × Steps d (F a b) t) × (g t < F a b t)) (Marked skip t7 (cell J words a b) words) (F a b) g
+                (λ t h f. rw (← spot .at-is) (entry t h (done .listed t h (f .0 .0) (λ e k. omega (arith, f .0 .1 e k, figures t h, figures (t - 1) (omega arith)))) (f .1)))
+                (covers-rising (under blocks d) words (λ t. Flagged t6 at t × Steps d (F a b) t) (F a b) g r (covers-steps (under blocks d) d words (Flagged t6 at) (F a b) g (under-zero blocks d) (order .less) r c))
+              where
+                entry : (t : ℕ) → t < words → (k : ℕ) × (k < words) × (note t7 at k ≡ t + 1) × Told (at - stride) (at - words) t6 t (held t6 at t) (mark t7 at k) → g t < F a b t → Marked skip t7 at words t
+                entry t h q rise = (q .0, q .1, (q .2, tells t (mark t7 at (q .0)) h (q .3) rise))

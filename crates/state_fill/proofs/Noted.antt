@@ -1,8 +1,8 @@
--- A figure below 2^41 and a note above it, put together and taken apart.
+-- A figure below 2^41 and a note above it, with or without a mark, put together and taken apart.
 use mathlib.Core.Path.{_≡_}
-use Prim.Native.Nat.{ℕ, _+_, _*_, _<_}
+use Prim.Native.Nat.{ℕ, _+_, _*_, _≤_, _<_}
 use native.Mathlib.Omega.{arith}
-use Rattle.state_fill.specs.Cells.{figure-in, note-in}
+use Rattle.state_fill.specs.Cells.{figure-in, note-in, mark-in}
 
 pub figure-small : (w : ℕ) → figure-in w < 2199023255552
 unfolding figure-in
@@ -20,9 +20,13 @@ pub figure-noted : (v k : ℕ) → v < 2199023255552 → figure-in (v + 21990232
 unfolding figure-in
 figure-noted v k h = omega arith
 
-pub note-noted : (v k : ℕ) → v < 2199023255552 → note-in (v + 2199023255552 * k) ≡ k
+pub note-noted : (v s g : ℕ) → v < 2199023255552 → g ≤ 2 → note-in (v + 2199023255552 * (4 * s + 1 + g)) ≡ s + 1
 unfolding note-in
-note-noted v k h = omega arith
+note-noted v s g h l = omega arith
+
+pub mark-noted : (v s g : ℕ) → v < 2199023255552 → g ≤ 2 → mark-in (v + 2199023255552 * (4 * s + 1 + g)) ≡ g
+unfolding mark-in
+mark-noted v s g h l = omega arith
 
 pub figure-flagged : (v : ℕ) → v < 2199023255552 → figure-in (v + 2199023255552) ≡ v
 unfolding figure-in

@@ -1,6 +1,7 @@
 -- Inner definitions, cited by the contracts of this crate alone. The words of a cell while the table is filled: a figure below 2^41, and a
 -- note above it. While the cell is made, a note other than 0 is a flag: the state stands for a rise. In a finished cell the notes of the
--- first words are its list of states, each plus 1, ended by 0.
+-- first words are its list of states, each plus 1, ended by 0; the mark of an entry says in which direction the cell
+-- does not rise there, 1 in width and 2 in length.
 use mathlib.Core.Path.{_≡_}
 use mathlib.Core.Logic.{_⊎_}
 use mathlib.Core.Bool.{Bool}
@@ -17,9 +18,13 @@ use Rattle.table.specs.States.{below, Blocks, Covers}
 unfoldable pub figure-in : ℕ → ℕ
 figure-in w = w % 2199023255552
 
--- the note of a word, the bits above them
+-- the note of a word: a fourth of the number above them, rounded up
 unfoldable pub note-in : ℕ → ℕ
-note-in w = w / 2199023255552
+note-in w = (w / 2199023255552 + 3) / 4
+
+-- the mark of a word with a note: how far that number is past the least with this note
+unfoldable pub mark-in : ℕ → ℕ
+mark-in w = (w / 2199023255552 + 3) % 4
 
 -- the figure at state s of the cell from word x on
 abbrev pub held : List ℕ → ℕ → ℕ → ℕ
@@ -28,6 +33,10 @@ held xs x s = figure-in (getD xs (x + s) 0)
 -- the note at state s, or at place s of the list, of that cell
 abbrev pub note : List ℕ → ℕ → ℕ → ℕ
 note xs x s = note-in (getD xs (x + s) 0)
+
+-- the mark at place k of the list of that cell
+abbrev pub mark : List ℕ → ℕ → ℕ → ℕ
+mark xs x k = mark-in (getD xs (x + k) 0)
 
 -- the order of states that a list of numbers of states gives
 abbrev pub under : List ℕ → ℕ → ℕ → ℕ → Bool
@@ -117,6 +126,18 @@ Flagged xs x t = 1 ≤ note xs x t
 abbrev pub Listed : List ℕ → ℕ → ℕ → ℕ → Type 0
 Listed xs x words t = (k : ℕ) × (k < words) × (note xs x k ≡ t + 1)
 
+-- entry k of the list of the cell from x on is state t, with another mark than `skip`
+abbrev pub Entry : ℕ → List ℕ → ℕ → ℕ → ℕ → Type 0
+Entry skip xs x k t = (note xs x k ≡ t + 1) × (mark xs x k ≡ skip → ⊥)
+
+-- state t is on the list of the cell from x on, with another mark than `skip`
+abbrev pub Marked : ℕ → List ℕ → ℕ → ℕ → ℕ → Type 0
+Marked skip xs x words t = (k : ℕ) × (k < words) × Entry skip xs x k t
+
+-- a cut reads state t of the cell from x on: one that is listed, and where states have several digits, with another mark than `skip`
+abbrev pub Served : ℕ → ℕ → List ℕ → ℕ → ℕ → ℕ → Type 0
+Served d skip xs x words t = Listed xs x words t × (1 ≤ d → Marked skip xs x words t)
+
 -- the states on the list of the cell from x on do not fall
 abbrev pub Sorted : List ℕ → ℕ → ℕ → Type 0
 Sorted xs x words = (j k : ℕ) → j ≤ k → k < words → 1 ≤ note xs x k → note xs x j ≤ note xs x k
@@ -167,17 +188,32 @@ pub record Joinable (blocks : List ℕ) (d words at second t v : ℕ) (xs : List
   pub small : v ≤ most-wide-figure
   pub summed : Summed blocks d words at xs
 
--- the cell has taken v at state t with the figure of each state on the list of the cell from `second` on
-pub record JoinedWith (le : ℕ → ℕ → Bool) (at words t v second : ℕ) (old new : List ℕ) : Type 0 where
+-- the cell has taken v at state t with the figures of some states of the cell from `second` on
+pub record JoinedWith (le : ℕ → ℕ → Bool) (at words t v second : ℕ) (some : ℕ → Type 0) (old new : List ℕ) : Type 0 where
   pub grown : Grown le at words old new
-  pub sums : (u : ℕ) → Listed old second words u → t + u < words → T (le t (t + u)) → v + held old second u ≤ held new at (t + u)
+  pub sums : (u : ℕ) → some u → t + u < words → T (le t (t + u)) → v + held old second u ≤ held new at (t + u)
   pub low : (f : ℕ → ℕ) → Rises le words f → ((u : ℕ) → u < words → t + u < words → T (le t (t + u)) → v + held old second u ≤ f (t + u)) → Low f at words old → Low f at words new
 
--- the cell has taken the sums of the listed states of the cells from `first` and `second` on
-pub record Joined (le : ℕ → ℕ → Bool) (at words first second : ℕ) (old new : List ℕ) : Type 0 where
+-- the cell has taken the sums of some states of the cell from `first` on and some of the cell from `second` on
+pub record Joined (le : ℕ → ℕ → Bool) (at words first second : ℕ) (some more : ℕ → Type 0) (old new : List ℕ) : Type 0 where
   pub grown : Grown le at words old new
-  pub sums : (t u : ℕ) → Listed old first words t → Listed old second words u → t + u < words → T (le t (t + u)) → held old first t + held old second u ≤ held new at (t + u)
+  pub sums : (t u : ℕ) → some t → more u → t + u < words → T (le t (t + u)) → held old first t + held old second u ≤ held new at (t + u)
   pub low : (f : ℕ → ℕ) → Rises le words f → ((t u : ℕ) → t < words → u < words → t + u < words → T (le t (t + u)) → held old first t + held old second u ≤ f (t + u)) → Low f at words old → Low f at words new
+
+-- the first `count` numbers of a list of at most 512 are states, which do not fall
+pub record Numbers (words count : ℕ) (list : List ℕ) : Type 0 where
+  pub most : count ≤ 512
+  pub states : (i : ℕ) → i < count → getD list i 0 < words
+  pub sorted : (i j : ℕ) → i ≤ j → j < count → getD list i 0 ≤ getD list j 0
+
+-- state u is among them
+abbrev pub Among : ℕ → List ℕ → ℕ → Type 0
+Among count list u = (i : ℕ) × (i < count) × (getD list i 0 ≡ u)
+
+-- they are all that the cell from x on lists with another mark than `skip`
+pub record Gathered (skip x words count : ℕ) (xs list : List ℕ) : Type 0 where
+  pub numbers : Numbers words count list
+  pub found : (u : ℕ) → Marked skip xs x words u → Among count list u
 
 -- what is needed to take the cuts of entry a at the entries from `from` to `end` less 1, where the cell of entry i begins at word
 -- base + i · stride: all cells of earlier entries can be read
@@ -190,10 +226,10 @@ pub record Cuttable (blocks positions floors : List ℕ) (d words a from end bas
 
 -- the cell has taken the cuts of entry a at the entries from `from` to `end` less 1 whose parts make up the whole, where the cell of
 -- entry i begins at word base + i · stride
-pub record CutAt (le : ℕ → ℕ → Bool) (positions floors : List ℕ) (a from end base stride at words : ℕ) (old new : List ℕ) : Type 0 where
+pub record CutAt (le : ℕ → ℕ → Bool) (d skip : ℕ) (positions floors : List ℕ) (a from end base stride at words : ℕ) (old new : List ℕ) : Type 0 where
   pub grown : Grown le at words old new
   pub sums : (i t u : ℕ) → from ≤ i → i < end → getD positions i 0 + getD positions (remainder positions floors a i) 0 ≡ getD positions a 0
-      → Listed old (base + i * stride) words t → Listed old (base + remainder positions floors a i * stride) words u → t + u < words → T (le t (t + u))
+      → Served d skip old (base + i * stride) words t → Served d skip old (base + remainder positions floors a i * stride) words u → t + u < words → T (le t (t + u))
       → held old (base + i * stride) t + held old (base + remainder positions floors a i * stride) u ≤ held new at (t + u)
   pub low : (f : ℕ → ℕ) → Rises le words f
       → ((i t u : ℕ) → from ≤ i → i < end → t < words → u < words → t + u < words → T (le t (t + u)) → held old (base + i * stride) t + held old (base + remainder positions floors a i * stride) u ≤ f (t + u))
@@ -216,10 +252,17 @@ pub record Inherited (first second at words : ℕ) (old new : List ℕ) : Type 0
 abbrev pub Steps : ℕ → (ℕ → ℕ) → ℕ → Type 0
 Steps d f t = d ≡ 0 → 1 ≤ t → f (t - 1) < f t
 
--- the flagged states of the cell have become its list, of one digit those at which its figures rise
-pub record Finished (d at words : ℕ) (old new : List ℕ) : Type 0 where
+-- the mark is not 2 where v is above the figure of the cell from `shorter` on at state t, and not 1 where it is above that of the cell
+-- from `narrower` on
+pub record Told (shorter narrower : ℕ) (xs : List ℕ) (t v mark : ℕ) : Type 0 where
+  pub longer : held xs shorter t < v → mark ≡ 2 → ⊥
+  pub wider : held xs narrower t < v → mark ≡ 1 → ⊥
+
+-- the flagged states of the cell have become its list, of one digit those at which its figures rise, with marks that tell where it is
+-- above the cells from `shorter` and `narrower` on
+pub record Finished (d at shorter narrower words : ℕ) (old new : List ℕ) : Type 0 where
   pub same : (s : ℕ) → s < words → held new at s ≡ held old at s
-  pub listed : (t : ℕ) → t < words → Flagged old at t → Steps d (held old at) t → Listed new at words t
+  pub listed : (t : ℕ) → t < words → Flagged old at t → Steps d (held old at) t → (k : ℕ) × (k < words) × (note new at k ≡ t + 1) × Told shorter narrower old t (held old at t) (mark new at k)
   pub notes : (k : ℕ) → k < words → note new at k ≤ words
   pub ended : (j k : ℕ) → j ≤ k → k < words → note new at j ≡ 0 → note new at k ≡ 0
   pub sorted : Sorted new at words

@@ -15,15 +15,15 @@ use Rattle.table.specs.States.{figure-at, Covers}
 use Rattle.state_fill.specs.declared.shape.Shape.{Shape}
 use Rattle.state_fill.specs.declared.cells.Place.{Place}
 use Rattle.state_fill.specs.declared.parts.Line.{Line}
-use Rattle.state_fill.specs.Cells.{held, note, under, Digits, Summed, Listed, Sorted, Level}
+use Rattle.state_fill.specs.Cells.{held, note, under, Digits, Summed, Marked, Sorted, Level}
 
 -- the cells of a cell's width, along the lengths
 abbrev pub length-line : Shape → Place → Line
-length-line shape place = record { index = place .a; «half_end» = place .«length_half_end»; at = place .at; base = place .column; stride = shape .stride }
+length-line shape place = record { index = place .a; «half_end» = place .«length_half_end»; at = place .at; base = place .column; stride = shape .stride; skip = 2 }
 
 -- the cells of a cell's length, along the widths
 abbrev pub width-line : Shape → Place → Line
-width-line shape place = record { index = place .b; «half_end» = place .«width_half_end»; at = place .at; base = place .at - place .column; stride = shape .words }
+width-line shape place = record { index = place .b; «half_end» = place .«width_half_end»; at = place .at; base = place .at - place .column; stride = shape .words; skip = 1 }
 
 -- the plain job of a plate and of the array of its pieces
 abbrev pub job-in : Shape → List ℕ → Job
@@ -38,14 +38,14 @@ abbrev pub cell : Job → ℕ → ℕ → ℕ → ℕ
 cell J words a b = (a * position-count J Width + b) * words
 
 -- the cell is made: its words hold its figures, its list has states only, which do not fall, nothing is noted past its end, and the list
--- covers the figures over those of the cells before it
+-- covers the figures over those of the cell before it in each direction, by entries whose mark does not deny a rise in that direction
 pub record Made (J : Job) (le : ℕ → ℕ → Bool) (own : ℕ → ℕ) (normal-lengths normal-widths : List ℕ) (words a b : ℕ) (xs : List ℕ) : Type 0 where
   pub figures : (s : ℕ) → s < words → held xs (cell J words a b) s ≡ tabled J le own normal-lengths normal-widths a b s
   pub notes : (k : ℕ) → k < words → note xs (cell J words a b) k ≤ words
   pub ended : (j k : ℕ) → j ≤ k → k < words → note xs (cell J words a b) j ≡ 0 → note xs (cell J words a b) k ≡ 0
   pub sorted : Sorted xs (cell J words a b) words
-  pub longer : Covers le words (Listed xs (cell J words a b) words) (tabled J le own normal-lengths normal-widths a b) (tabled J le own normal-lengths normal-widths (a - 1) b)
-  pub wider : Covers le words (Listed xs (cell J words a b) words) (tabled J le own normal-lengths normal-widths a b) (tabled J le own normal-lengths normal-widths a (b - 1))
+  pub longer : Covers le words (Marked 2 xs (cell J words a b) words) (tabled J le own normal-lengths normal-widths a b) (tabled J le own normal-lengths normal-widths (a - 1) b)
+  pub wider : Covers le words (Marked 1 xs (cell J words a b) words) (tabled J le own normal-lengths normal-widths a b) (tabled J le own normal-lengths normal-widths a (b - 1))
 
 -- the cells of the rows below a are made, but for the first, which no cut reads
 abbrev pub Rows : Job → (ℕ → ℕ → Bool) → (ℕ → ℕ) → List ℕ → List ℕ → ℕ → ℕ → List ℕ → Type 0

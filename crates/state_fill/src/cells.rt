@@ -18,7 +18,7 @@ ghost use lib.ListN.{length};
 ghost use Rattle.cutting.specs.Limits.{most-pieces};
 ghost use Rattle.cutting.specs.Listed.{heavy-in};
 ghost use Rattle.table.specs.Words.{Outside, Run};
-ghost use Rattle.state_fill.specs.Cells.{held, note, under, Summed, Startable, Levelled, Growing, Taken, Ready, Inherited, Placed, Finished, FlaggedBelow, Topped};
+ghost use Rattle.state_fill.specs.Cells.{held, note, under, Summed, Startable, Levelled, Growing, Taken, Ready, Inherited, Placed, Told, Finished, FlaggedBelow, Topped};
 ghost use Rattle.state_fill.specs.Tables.{job-in, length-line, width-line, tabled, Made, Spot};
 
 // The first words of the cell become the greater of the figures of the cells before it.
@@ -137,10 +137,34 @@ fn starts(table: &[u64], d: usize, at: usize, s: usize, v: u64) -> bool
     true
 }
 
-// The flagged states that are to be listed, all below `top`, become the cell's list: the k-th one, plus 1, above the figure of word k.
-pub fn finish(table: &mut [u64], d: usize, at: usize, words: usize, top: usize)
-    requires { ⌜ (at + words ≤ length (now table)) × (words ≤ 65536) × FlaggedBelow at words top (now table) ⌝ }
-    ensures { λ _. ⌜ Finished d at words (now (table .entry)) (now (table .exit)) ⌝ }
+// The mark of state s with the figure v: 2 where that is not above the cell from `shorter` on, else 1 where it is not above the cell from
+// `narrower` on, else 0.
+fn tell(table: &[u64], shorter: usize, narrower: usize, s: usize, v: u64) -> u64
+    requires { ⌜ (shorter + s < length (now table)) × (narrower + s < length (now table)) ⌝ }
+    ensures { λ r. ⌜ (r ≤ 2) × Told shorter narrower (now (table .entry)) s v r ⌝ }
+{
+    if v <= figure(table[shorter + s]) {
+        return 2;
+    }
+    if v <= figure(table[narrower + s]) {
+        return 1;
+    }
+    0
+}
+
+// The flagged states that are to be listed, all below `top`, become the cell's list: the k-th one, plus 1, above the figure of word k, with
+// the mark that tells where it is above the cells before it.
+pub fn finish(
+    table: &mut [u64],
+    d: usize,
+    at: usize,
+    shorter: usize,
+    narrower: usize,
+    words: usize,
+    top: usize,
+)
+    requires { ⌜ (at + words ≤ length (now table)) × (words ≤ 65536) × FlaggedBelow at words top (now table) × (shorter + words ≤ at) × (narrower + words ≤ at) ⌝ }
+    ensures { λ _. ⌜ Finished d at shorter narrower words (now (table .entry)) (now (table .exit)) ⌝ }
 {
     let mut k: usize = 0;
     for s in 0..top {
@@ -149,7 +173,9 @@ pub fn finish(table: &mut [u64], d: usize, at: usize, words: usize, top: usize)
             let v = figure(word);
             table[at + s] = v;
             if starts(&table[..], d, at, s, v) {
-                table[at + k] = figure(table[at + k]) + 2199023255552 * ((s as u64) + 1);
+                let told = tell(&table[..], shorter, narrower, s, v);
+                let entry = 4 * (s as u64) + 1 + told;
+                table[at + k] = figure(table[at + k]) + 2199023255552 * entry;
                 k = k + 1;
             }
         }
@@ -189,6 +215,7 @@ fn length_line(shape: Shape, place: Place) -> Line
         at: place.at,
         base: place.column,
         stride: shape.stride,
+        skip: 2,
     }
 }
 
@@ -203,6 +230,7 @@ fn width_line(shape: Shape, place: Place) -> Line
         at: place.at,
         base: place.at - place.column,
         stride: shape.words,
+        skip: 1,
     }
 }
 
@@ -259,6 +287,6 @@ pub fn make_cell(
         by_width,
         top,
     );
-    finish(table, shape.d, at, words, top);
+    finish(table, shape.d, at, shorter, narrower, words, top);
     flat_after(shape.d, words, place.flat, top)
 }

@@ -1,10 +1,14 @@
-// Joining two finished cells into one that is being made: each state that the first one lists with each that the second one lists.
+// Joining two finished cells into one that is being made: each state that the first one lists with each that the second one lists. Where
+// states have several digits, only those are read at which the cells can rise in the cut's direction.
 use crate::raise::take;
 use crate::words::figure;
+use crate::words::mark;
 use crate::words::note;
 use table::entry;
-ghost use Prim.Native.Nat.{_+_};
-ghost use Rattle.state_fill.specs.Cells.{under, Summed, Growing, Ready, Joinable, JoinedWith, Joined, Cuttable, CutAt, Topped};
+ghost use mathlib.Core.Path.{_≡_};
+ghost use Prim.Native.Nat.{_+_, _≤_};
+ghost use lib.ListN.{length};
+ghost use Rattle.state_fill.specs.Cells.{under, Summed, Growing, Listed, Marked, Served, Ready, Joinable, JoinedWith, Joined, Numbers, Among, Gathered, Cuttable, CutAt, Topped};
 
 // The cell takes v at state t together with the figure of each state that the cell from `second` on lists. Nothing is to be taken where
 // even the greatest figure of that cell, at its last state, gives no more than state t has. Listed states do not fall: the first that is
@@ -21,7 +25,7 @@ fn join_with(
     top: usize,
 ) -> usize
     requires { ⌜ Joinable (now blocks) d words at second t v (now table) ⌝ }
-    ensures { λ r. ⌜ JoinedWith (under (now (blocks .entry)) d) at words t v second (now (table .entry)) (now (table .exit)) × Topped at words top r (now (table .entry)) (now (table .exit)) ⌝ }
+    ensures { λ r. ⌜ JoinedWith (under (now (blocks .entry)) d) at words t v second (Listed (now (table .entry)) second words) (now (table .entry)) (now (table .exit)) × Topped at words top r (now (table .entry)) (now (table .exit)) ⌝ }
 {
     let most = v + figure(table[second + (words - 1)]);
     if most <= figure(table[at + t]) {
@@ -44,7 +48,7 @@ fn join_with(
 }
 
 // The cell takes the sums of the states that the cells from `first` and `second` on list.
-fn join(
+fn join_all(
     table: &mut [u64],
     blocks: &[u32],
     d: usize,
@@ -55,7 +59,7 @@ fn join(
     top: usize,
 ) -> usize
     requires { ⌜ Growing (now blocks) d words at (now table) × Ready (now table) first words at × Ready (now table) second words at × Summed (now blocks) d words at (now table) ⌝ }
-    ensures { λ r. ⌜ Joined (under (now (blocks .entry)) d) at words first second (now (table .entry)) (now (table .exit)) × Topped at words top r (now (table .entry)) (now (table .exit)) ⌝ }
+    ensures { λ r. ⌜ Joined (under (now (blocks .entry)) d) at words first second (Listed (now (table .entry)) first words) (Listed (now (table .entry)) second words) (now (table .entry)) (now (table .exit)) × Topped at words top r (now (table .entry)) (now (table .exit)) ⌝ }
 {
     let mut high = top;
     for k in 0..words {
@@ -70,14 +74,148 @@ fn join(
     high
 }
 
+// The states that the cell from `second` on lists with another mark than `skip` come into `list`, as far as it goes: 513 is returned
+// where there are more.
+fn gather(table: &[u64], list: &mut [u32], second: usize, words: usize, skip: usize) -> usize
+    requires { ⌜ Ready (now table) second words (length (now table)) × (words ≤ 65536) × (length (now list) ≡ 512) ⌝ }
+    ensures { λ r. ⌜ (r ≤ 512 → Gathered skip second words r (now (table .entry)) (now (list .exit))) ⌝ }
+{
+    let mut n: usize = 0;
+    for k in 0..words {
+        let word = table[second + k];
+        let listed = note(word);
+        if listed == 0 {
+            return n;
+        }
+        if mark(word) != skip {
+            if n == 512 {
+                return 513;
+            }
+            list[n] = (listed - 1) as u32;
+            n = n + 1;
+        }
+    }
+    n
+}
+
+// A state of a first part and its figure, the word of the second part's cell, and how many of its states are gathered.
+struct Addend {
+    t: usize,
+    v: u64,
+    second: usize,
+    count: usize,
+}
+
+// The cell takes what `join_with` takes, of the gathered states alone.
+fn join_list(
+    table: &mut [u64],
+    blocks: &[u32],
+    list: &[u32],
+    d: usize,
+    words: usize,
+    at: usize,
+    addend: Addend,
+    top: usize,
+) -> usize
+    requires { ⌜ Joinable (now blocks) d words at (addend .second) (addend .t) (addend .v) (now table) × Numbers words (addend .count) (now list) × (length (now list) ≡ 512) ⌝ }
+    ensures { λ r. ⌜ JoinedWith (under (now (blocks .entry)) d) at words (addend .t) (addend .v) (addend .second) (Among (addend .count) (now (list .entry))) (now (table .entry)) (now (table .exit))
+        × Topped at words top r (now (table .entry)) (now (table .exit)) ⌝ }
+{
+    let t = addend.t;
+    let v = addend.v;
+    let second = addend.second;
+    let count = addend.count;
+    let most = v + figure(table[second + (words - 1)]);
+    if most <= figure(table[at + t]) {
+        return top;
+    }
+    let mut high = top;
+    for k in 0..count {
+        let u = list[k] as usize;
+        if words <= u + t {
+            return high;
+        }
+        let sum = v + figure(table[second + u]);
+        high = take(table, blocks, d, words, at, t, u, sum, high);
+    }
+    high
+}
+
+// The cell takes the sums of the states that the cells from `first` and `second` on list with another mark than `skip`; of all that they
+// list where these are too many to gather.
+fn join_marked(
+    table: &mut [u64],
+    blocks: &[u32],
+    d: usize,
+    words: usize,
+    at: usize,
+    first: usize,
+    second: usize,
+    skip: usize,
+    top: usize,
+) -> usize
+    requires { ⌜ Growing (now blocks) d words at (now table) × Ready (now table) first words at × Ready (now table) second words at × Summed (now blocks) d words at (now table) ⌝ }
+    ensures { λ r. ⌜ Joined (under (now (blocks .entry)) d) at words first second (Marked skip (now (table .entry)) first words) (Marked skip (now (table .entry)) second words) (now (table .entry)) (now (table .exit))
+        × Topped at words top r (now (table .entry)) (now (table .exit)) ⌝ }
+{
+    let mut list = [0u32; 512];
+    let count = gather(&table[..], &mut list, second, words, skip);
+    if 512 < count {
+        return join_all(table, blocks, d, words, at, first, second, top);
+    }
+    let mut high = top;
+    for k in 0..words {
+        let word = table[first + k];
+        let listed = note(word);
+        if listed == 0 {
+            return high;
+        }
+        if mark(word) != skip {
+            let t = listed - 1;
+            let v = figure(table[first + t]);
+            let addend = Addend {
+                t: t,
+                v: v,
+                second: second,
+                count: count,
+            };
+            high = join_list(table, blocks, &list, d, words, at, addend, high);
+        }
+    }
+    high
+}
+
+// The cell takes the sums of the states of the cells from `first` and `second` on that a cut reads.
+fn join(
+    table: &mut [u64],
+    blocks: &[u32],
+    d: usize,
+    words: usize,
+    at: usize,
+    first: usize,
+    second: usize,
+    skip: usize,
+    top: usize,
+) -> usize
+    requires { ⌜ Growing (now blocks) d words at (now table) × Ready (now table) first words at × Ready (now table) second words at × Summed (now blocks) d words at (now table) ⌝ }
+    ensures { λ r. ⌜ Joined (under (now (blocks .entry)) d) at words first second (Served d skip (now (table .entry)) first words) (Served d skip (now (table .entry)) second words) (now (table .entry)) (now (table .exit))
+        × Topped at words top r (now (table .entry)) (now (table .exit)) ⌝ }
+{
+    if 0 < d {
+        return join_marked(table, blocks, d, words, at, first, second, skip, top);
+    }
+    join_all(table, blocks, d, words, at, first, second, top)
+}
+
 // A line of cells, along the lengths or along the widths: the cell of entry i begins at word base + i · stride, and the one of `index`, at
-// word `at`, is made. `half_end` is the end of the first half of its side.
+// word `at`, is made. `half_end` is the end of the first half of its side, and `skip` the mark of the entries that its cuts need not read.
 pub struct Line {
     pub index: usize,
     pub half_end: usize,
     pub at: usize,
     pub base: usize,
     pub stride: usize,
+    pub skip: usize,
 }
 
 // The cell takes the cut at entry i, if its parts make up the whole.
@@ -93,7 +231,7 @@ fn cut_at(
     top: usize,
 ) -> usize
     requires { ⌜ Cuttable (now blocks) (now positions) (now floors) d words (line .index) i (i + 1) (line .base) (line .stride) (line .at) (now table) ⌝ }
-    ensures { λ r. ⌜ CutAt (under (now (blocks .entry)) d) (now (positions .entry)) (now (floors .entry)) (line .index) i (i + 1) (line .base) (line .stride) (line .at) words (now (table .entry)) (now (table .exit))
+    ensures { λ r. ⌜ CutAt (under (now (blocks .entry)) d) d (line .skip) (now (positions .entry)) (now (floors .entry)) (line .index) i (i + 1) (line .base) (line .stride) (line .at) words (now (table .entry)) (now (table .exit))
         × Topped (line .at) words top r (now (table .entry)) (now (table .exit)) ⌝ }
 {
     let left = entry(positions, line.index) - entry(positions, i);
@@ -101,7 +239,17 @@ fn cut_at(
     if entry(positions, rest) == left {
         let first = line.base + i * line.stride;
         let second = line.base + rest * line.stride;
-        return join(table, blocks, d, words, line.at, first, second, top);
+        return join(
+            table,
+            blocks,
+            d,
+            words,
+            line.at,
+            first,
+            second,
+            line.skip,
+            top,
+        );
     }
     top
 }
@@ -118,7 +266,7 @@ pub fn cut(
     top: usize,
 ) -> usize
     requires { ⌜ Cuttable (now blocks) (now positions) (now floors) d words (line .index) 1 (line .«half_end») (line .base) (line .stride) (line .at) (now table) ⌝ }
-    ensures { λ r. ⌜ CutAt (under (now (blocks .entry)) d) (now (positions .entry)) (now (floors .entry)) (line .index) 1 (line .«half_end») (line .base) (line .stride) (line .at) words (now (table .entry)) (now (table .exit))
+    ensures { λ r. ⌜ CutAt (under (now (blocks .entry)) d) d (line .skip) (now (positions .entry)) (now (floors .entry)) (line .index) 1 (line .«half_end») (line .base) (line .stride) (line .at) words (now (table .entry)) (now (table .exit))
         × Topped (line .at) words top r (now (table .entry)) (now (table .exit)) ⌝ }
 {
     let mut high = top;

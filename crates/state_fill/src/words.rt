@@ -1,7 +1,7 @@
-// A word of a cell: a figure below 2^41, and a note above it.
+// A word of a cell: a figure below 2^41, and a note above it, which in a list has a mark.
 ghost use mathlib.Core.Path.{_≡_};
 ghost use Prim.Native.Nat.{_<_};
-ghost use Rattle.state_fill.specs.Cells.{figure-in, note-in};
+ghost use Rattle.state_fill.specs.Cells.{figure-in, note-in, mark-in};
 
 // The figure of a word.
 pub fn figure(w: u64) -> u64
@@ -14,5 +14,12 @@ pub fn figure(w: u64) -> u64
 pub fn note(w: u64) -> usize
     ensures { λ r. ⌜ (r ≡ note-in w) × (r < 8388608) ⌝ }
 {
-    (w / 2199023255552) as usize
+    ((w / 2199023255552 + 3) / 4) as usize
+}
+
+// The mark of a word with a note.
+pub fn mark(w: u64) -> usize
+    ensures { λ r. ⌜ r ≡ mark-in w ⌝ }
+{
+    ((w / 2199023255552 + 3) % 4) as usize
 }

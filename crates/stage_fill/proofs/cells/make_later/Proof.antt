@@ -54,7 +54,7 @@ finish-requires c κs =
     let second = c .before .before .before .before .before .before .before .before .before .before .before .before .inherit2 in
     let third = c .before .before .before .before .before .before .before .before .inherit3 in
     let taken = c .before .before .before .cut in
-    (omega (arith, p .starts .room, started .kept .0, first .kept .0, second .kept .0, third .kept .0, taken .kept .0), p .states .1, start-topped _ _ _ _ _ _ (started .ensures) (topped-then _ _ _ _ _ _ _ _ (first .ensures .1) (topped-then _ _ _ _ _ _ _ _ (second .ensures .1) (topped-then _ _ _ _ _ _ _ _ (third .ensures .1) (taken .ensures .1)))))
+    (omega (arith, p .starts .room, started .kept .0, first .kept .0, second .kept .0, third .kept .0, taken .kept .0), p .states .1, start-topped _ _ _ _ _ _ (started .ensures) (topped-then _ _ _ _ _ _ _ _ (first .ensures .1) (topped-then _ _ _ _ _ _ _ _ (second .ensures .1) (topped-then _ _ _ _ _ _ _ _ (third .ensures .1) (taken .ensures .1)))), p .starts .second-before, p .across-before)
 
 same-length : tie.Need-same-length
 same-length c =

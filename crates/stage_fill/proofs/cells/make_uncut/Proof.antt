@@ -45,6 +45,8 @@ finish-requires c κs =
       omega (arith, p .starts .room, started .kept .0, first .kept .0, second .kept .0, placed .kept .0),
       p .states .1,
       start-topped _ _ _ _ _ _ (started .ensures) (topped-then _ _ _ _ _ _ _ _ (first .ensures .1) (topped-then _ _ _ _ _ _ _ _ (second .ensures .1) (placed .ensures .1))),
+      p .starts .first-before,
+      p .starts .second-before,
     )
 
 returns : tie.Need-returns

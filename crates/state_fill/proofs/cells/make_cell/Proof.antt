@@ -98,7 +98,7 @@ finish-requires c κs =
     let kinds = c .before .before .before .before .before .before .before .before .before .before .before .before .before .place-pieces in
     let by-length = rw (c .before .before .before .before .before .before .before .before .before .before .length-line .ensures) at (c .before .before .before .before .before .before .before .before .cut .ensures .1) in
     let by-width = rw (c .before .before .before .before .before .width-line .ensures) at (c .before .before .before .cut2 .ensures .1) in
-    (omega (arith, room spot, started .kept .0, first .kept .0, second .kept .0, kinds .kept .0, c .before .before .before .before .before .before .before .before .cut .kept .0, c .before .before .before .cut2 .kept .0), spot .lent .digits .most, start-topped spot _ (started .ensures) _ _ (topped-then _ _ _ _ _ _ _ _ (first .ensures .1) (topped-then _ _ _ _ _ _ _ _ (second .ensures .1) (topped-then _ _ _ _ _ _ _ _ (kinds .ensures .1) (topped-then _ _ _ _ _ _ _ _ by-length by-width)))))
+    (omega (arith, room spot, started .kept .0, first .kept .0, second .kept .0, kinds .kept .0, c .before .before .before .before .before .before .before .before .cut .kept .0, c .before .before .before .cut2 .kept .0), spot .lent .digits .most, start-topped spot _ (started .ensures) _ _ (topped-then _ _ _ _ _ _ _ _ (first .ensures .1) (topped-then _ _ _ _ _ _ _ _ (second .ensures .1) (topped-then _ _ _ _ _ _ _ _ (kinds .ensures .1) (topped-then _ _ _ _ _ _ _ _ by-length by-width)))), startable spot .first-before, startable spot .second-before)
 
 flat-after-requires : tie.Need-flat-after-requires
 flat-after-requires c κs = tt

@@ -12,13 +12,13 @@ use Rattle.state_fill.proofs.parts.cut.Statement.{statement}
 use Rattle.state_fill.proofs.parts.cut.Tie as tie
 
 abbrev Inv-loop : tie.InvT-loop
-Inv-loop table₀ positions floors blocks d words line top high₀ i₀ i-end table high i = (i-end ≡ line .«half_end») × (1 ≤ i) × (i ≤ i-end) × (length table ≡ length table₀) × CutAt (under blocks d) positions floors (line .index) 1 i (line .base) (line .stride) (line .at) words table₀ table × Topped (line .at) words top high table₀ table
+Inv-loop table₀ positions floors blocks d words line top high₀ i₀ i-end table high i = (i-end ≡ line .«half_end») × (1 ≤ i) × (i ≤ i-end) × (length table ≡ length table₀) × CutAt (under blocks d) d (line .skip) positions floors (line .index) 1 i (line .base) (line .stride) (line .at) words table₀ table × Topped (line .at) words top high table₀ table
 
 abbrev μ-loop : tie.MeasureT-loop
 μ-loop table₀ positions floors blocks d words line top high₀ i₀ i-end table high i = i-end - i
 
 loop-holds : tie.Need-loop-holds Inv-loop μ-loop
-loop-holds c = (refl, omega arith, c .before .before .before .before .pre .cuts .least, refl, cut-none _ _ _ _ _ _ _ _ 1 _, topped-none _ _ _ _)
+loop-holds c = (refl, omega arith, c .before .before .before .before .pre .cuts .least, refl, cut-none _ _ _ _ _ _ _ _ _ _ 1 _, topped-none _ _ _ _)
 
 cut-at-requires : tie.Need-cut-at-requires Inv-loop μ-loop
 cut-at-requires c κs =
@@ -36,7 +36,7 @@ loop-again : tie.Need-loop-again Inv-loop μ-loop
 loop-again c =
     let given = c .before .before .before .before .before .before .before .before .before .before .pre in
     let inv = c .before .before .before .before .before .loop .inv in
-    (refl, omega arith, omega arith, c .before .before .cut-at .kept .0 ∙ inv .3, cut-then _ _ _ _ _ _ _ _ 1 _ _ _ _ _ (λ j l m. (given .ready j (omega (arith, given .cuts .most)) .before, given .ready _ (given .cuts .earlier j l (omega arith)) .before)) (inv .1) (omega arith) (inv .4) (c .before .before .cut-at .ensures .0), topped-then _ _ _ _ _ _ _ _ (inv .5) (c .before .before .cut-at .ensures .1))
+    (refl, omega arith, omega arith, c .before .before .cut-at .kept .0 ∙ inv .3, cut-then _ _ _ _ _ _ _ _ _ _ 1 _ _ _ _ _ (λ j l m. (given .ready j (omega (arith, given .cuts .most)) .before, given .ready _ (given .cuts .earlier j l (omega arith)) .before)) (inv .1) (omega arith) (inv .4) (c .before .before .cut-at .ensures .0), topped-then _ _ _ _ _ _ _ _ (inv .5) (c .before .before .cut-at .ensures .1))
 
 same-length : tie.Need-same-length Inv-loop μ-loop
 same-length c = c .before .loop .inv .3

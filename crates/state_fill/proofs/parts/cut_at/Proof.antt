@@ -50,13 +50,13 @@ join-requires c κs =
 returns : tie.Need-returns
 returns c =
     let given = c .before .before .before .before .before .before .before .before .before .before .before .before .before .before .before .before .before .pre in
-    (cut-part _ _ _ _ _ _ _ _ _ _ _ _ (second-entry given _ _ _ (c .before .before .before .before .before .before .before .before .before .before .before .before .entry .ensures .0) (c .before .before .before .before .before .before .before .before .before .before .before .entry2 .ensures .0) (c .before .before .before .before .before .before .before .before .before .before .entry3 .ensures .0) .0) (c .before .before .join .ensures .0), c .before .before .join .ensures .1)
+    (cut-part _ _ _ _ _ _ _ _ _ _ _ _ _ _ (second-entry given _ _ _ (c .before .before .before .before .before .before .before .before .before .before .before .before .entry .ensures .0) (c .before .before .before .before .before .before .before .before .before .before .before .entry2 .ensures .0) (c .before .before .before .before .before .before .before .before .before .before .entry3 .ensures .0) .0) (c .before .before .join .ensures .0), c .before .before .join .ensures .1)
 
 returns-2 : tie.Need-returns-2
 returns-2 c =
     let given = c .before .before .before .before .before .before .before .before .before .pre in
     let other = second-entry given _ _ _ (c .before .before .before .before .entry .ensures .0) (c .before .before .before .entry2 .ensures .0) (c .before .before .entry3 .ensures .0) .0 in
-    (cut-passed _ _ _ _ _ _ _ _ _ _ (λ e. c .if1 .left (omega (arith, ap (λ k. getD (now (c .before .before .before .before .before .before .before .before .before .args .positions)) k 0) other, c .before .entry4 .ensures .0, c .before .before .before .before .entry .ensures .0, c .before .before .before .entry2 .ensures .0))), topped-none _ _ _ _)
+    (cut-passed _ _ _ _ _ _ _ _ _ _ _ _ (λ e. c .if1 .left (omega (arith, ap (λ k. getD (now (c .before .before .before .before .before .before .before .before .before .args .positions)) k 0) other, c .before .entry4 .ensures .0, c .before .before .before .before .entry .ensures .0, c .before .before .before .entry2 .ensures .0))), topped-none _ _ _ _)
 
 pub cut-at-spec : {M : Type 1} → statement M
 cut-at-spec =

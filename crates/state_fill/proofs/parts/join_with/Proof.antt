@@ -5,14 +5,14 @@ use mathlib.Core.Path.{_≡_, refl, sym, _∙_}
 use Prim.Native.Nat.{_-_, _≤_}
 use lib.ListN.{length}
 use Rattle.state_fill.specs.Cells.{under, note, Topped}
-use Rattle.state_fill.proofs.Joining.{note-kept, ready-kept, growing-kept, entry-state, past-end, past-states, With, with-none, with-more, with-end, with-skip}
+use Rattle.state_fill.proofs.Joining.{note-kept, ready-kept, growing-kept, entry-state, past-end, past-states, At, With, with-none, with-listed, with-listed-end, with-skip}
 use Rattle.state_fill.proofs.Carries.{summed-kept}
 use Rattle.state_fill.proofs.Topping.{topped-none, topped-then}
 use Rattle.state_fill.proofs.parts.join_with.Statement.{statement}
 use Rattle.state_fill.proofs.parts.join_with.Tie as tie
 
 abbrev Inv-loop : tie.InvT-loop
-Inv-loop table₀ blocks d words at second t v top most high₀ k₀ table high k = (k ≤ words) × (length table ≡ length table₀) × With (under blocks d) at words t v second k table₀ table × Topped at words top high table₀ table
+Inv-loop table₀ blocks d words at second t v top most high₀ k₀ table high k = (k ≤ words) × (length table ≡ length table₀) × With (under blocks d) at words (At table₀ second) t v second k table₀ table × Topped at words top high table₀ table
 
 abbrev μ-loop : tie.MeasureT-loop
 μ-loop table₀ blocks d words at second t v top most high₀ k₀ table high k = words - k
@@ -20,10 +20,10 @@ abbrev μ-loop : tie.MeasureT-loop
 returns : tie.Need-returns Inv-loop μ-loop
 returns c =
     let given = c .before .before .before .before .before .before .before .pre in
-    (with-skip _ _ _ _ _ _ _ (given .ready) (given .growing .rises) (omega (arith, c .before .figure2 .ensures .0, c .before .before .before .figure .ensures .0)), topped-none _ _ _ _)
+    (with-skip _ _ _ _ _ _ _ _ (given .ready) (given .growing .rises) (omega (arith, c .before .figure2 .ensures .0, c .before .before .before .figure .ensures .0)), topped-none _ _ _ _)
 
 loop-holds : tie.Need-loop-holds Inv-loop μ-loop
-loop-holds c = (omega arith, refl, with-none _ _ _ _ _ _ _, topped-none _ _ _ _)
+loop-holds c = (omega arith, refl, with-none _ _ _ _ _ _ _ _, topped-none _ _ _ _)
 
 slice-read-note : tie.Need-slice-read-note Inv-loop μ-loop
 slice-read-note c = omega (arith, c .before .before .loop .inv .1, c .before .before .before .before .before .before .before .before .before .before .pre .ready .before, c .before .before .before .before .before .before .before .before .before .before .pre .growing .room)
@@ -35,7 +35,7 @@ returns-2 : tie.Need-returns-2 Inv-loop μ-loop
 returns-2 c =
     let given = c .before .before .before .before .before .before .before .before .before .before .before .before .pre in
     let loop = c .before .before .before .before .loop in
-    (with-end _ _ _ _ _ _ _ _ _ (λ i u h e l. past-end _ _ _ _ _ _ _ (given .ready) h (sym (note-kept _ _ _ _ (loop .inv .2 .grown .rest) (c .before .before .before .before .before .before .before .before .before .before .before .before .args .second) (loop .k) (omega (arith, given .ready .before))) ∙ (sym (c .before .note .ensures .0) ∙ c .if2 .taken)) e) (loop .inv .2), loop .inv .3)
+    (with-listed-end _ _ _ _ _ _ _ _ _ (λ i u h e l. past-end _ _ _ _ _ _ _ (given .ready) h (sym (note-kept _ _ _ _ (loop .inv .2 .grown .rest) (c .before .before .before .before .before .before .before .before .before .before .before .before .args .second) (loop .k) (omega (arith, given .ready .before))) ∙ (sym (c .before .note .ensures .0) ∙ c .if2 .taken)) e) (loop .inv .2), loop .inv .3)
 
 add-if3 : tie.Need-add-if3 Inv-loop μ-loop
 add-if3 c =
@@ -52,7 +52,7 @@ returns-3 c =
     let given = c .before .before .before .before .before .before .before .before .before .before .before .before .before .pre in
     let loop = c .before .before .before .before .before .loop in
     let entry = sym (note-kept _ _ _ _ (loop .inv .2 .grown .rest) (c .before .before .before .before .before .before .before .before .before .before .before .before .before .args .second) (loop .k) (omega (arith, given .ready .before))) ∙ sym (c .before .before .note .ensures .0) in
-    (with-end _ _ _ _ _ _ _ _ _ (λ i u h e l. past-states _ _ _ _ _ _ _ _ (c .before .before .note .result - 1) (given .ready) h (entry ∙ omega arith) (c .if3 .taken) e l) (loop .inv .2), loop .inv .3)
+    (with-listed-end _ _ _ _ _ _ _ _ _ (λ i u h e l. past-states _ _ _ _ _ _ _ _ (c .before .before .note .result - 1) (given .ready) h (entry ∙ omega arith) (c .if3 .taken) e l) (loop .inv .2), loop .inv .3)
 
 slice-read-figure-3 : tie.Need-slice-read-figure-3 Inv-loop μ-loop
 slice-read-figure-3 c =
@@ -77,13 +77,13 @@ loop-again c =
     let given = c .before .before .before .before .before .before .before .before .before .before .before .before .before .before .before .before .before .before .before .pre in
     let loop = c .before .before .before .before .before .before .before .before .before .before .before .loop in
     let state = entry-state (given .ready) (loop .inv .2 .grown .rest) (loop .k) _ (omega arith) (c .before .before .before .before .before .before .before .before .note .ensures .0) in
-    (omega arith, c .before .before .take .kept .0 ∙ loop .inv .1, with-more _ _ _ _ _ _ _ _ _ _ _ _ (given .ready .before) (omega arith) state (sym (c .before .before .before .before .before .before .before .before .note .ensures .0) ∙ omega arith) (omega (arith, c .before .before .before .before .figure3 .ensures .0)) (loop .inv .2) (c .before .before .take .ensures .0), topped-then _ _ _ _ _ _ _ _ (loop .inv .3) (c .before .before .take .ensures .1))
+    (omega arith, c .before .before .take .kept .0 ∙ loop .inv .1, with-listed _ _ _ _ _ _ _ _ _ _ _ _ (given .ready .before) (omega arith) state (sym (c .before .before .before .before .before .before .before .before .note .ensures .0) ∙ omega arith) (omega (arith, c .before .before .before .before .figure3 .ensures .0)) (loop .inv .2) (c .before .before .take .ensures .0), topped-then _ _ _ _ _ _ _ _ (loop .inv .3) (c .before .before .take .ensures .1))
 
 same-length-3 : tie.Need-same-length-3 Inv-loop μ-loop
 same-length-3 c = c .before .loop .inv .1
 
 returns-4 : tie.Need-returns-4 Inv-loop μ-loop
-returns-4 c = (with-end _ _ _ _ _ _ _ _ _ (λ i u h e l. omega arith) (c .before .loop .inv .2), c .before .loop .inv .3)
+returns-4 c = (with-listed-end _ _ _ _ _ _ _ _ _ (λ i u h e l. omega arith) (c .before .loop .inv .2), c .before .loop .inv .3)
 
 pub join-with-spec : {M : Type 1} → statement M
 join-with-spec =

@@ -1,4 +1,5 @@
 -- `state_fill::words::note` meets its contract: a word is below 2^64.
+use borrow.Author.Needs.{needs}
 use native.Mathlib.Omega.{arith}
 use mathlib.Core.Path.{refl}
 use Rattle.state_fill.specs.Cells.{note-in}
@@ -10,4 +11,4 @@ unfolding note-in
 returns c = (refl, omega arith)
 
 pub note-spec : {M : Type 1} → statement M
-note-spec = tie.close (tie.spec returns)
+note-spec = tie.close (tie.spec (λ c. search needs) returns)
