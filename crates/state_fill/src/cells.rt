@@ -138,11 +138,14 @@ fn starts(table: &[u64], d: usize, at: usize, s: usize, v: u64) -> bool
 }
 
 // The mark of state s with the figure v: 2 where that is not above the cell from `shorter` on, else 1 where it is not above the cell from
-// `narrower` on, else 0.
-fn tell(table: &[u64], shorter: usize, narrower: usize, s: usize, v: u64) -> u64
+// `narrower` on, else 0. Where states have fewer than three digits, no join reads it.
+fn tell(table: &[u64], d: usize, shorter: usize, narrower: usize, s: usize, v: u64) -> u64
     requires { ⌜ (shorter + s < length (now table)) × (narrower + s < length (now table)) ⌝ }
     ensures { λ r. ⌜ (r ≤ 2) × Told shorter narrower (now (table .entry)) s v r ⌝ }
 {
+    if d < 2 {
+        return 0;
+    }
     if v <= figure(table[shorter + s]) {
         return 2;
     }
@@ -173,7 +176,7 @@ pub fn finish(
             let v = figure(word);
             table[at + s] = v;
             if starts(&table[..], d, at, s, v) {
-                let told = tell(&table[..], shorter, narrower, s, v);
+                let told = tell(&table[..], d, shorter, narrower, s, v);
                 let entry = 4 * (s as u64) + 1 + told;
                 table[at + k] = figure(table[at + k]) + 2199023255552 * entry;
                 k = k + 1;

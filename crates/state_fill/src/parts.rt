@@ -1,5 +1,5 @@
 // Joining two finished cells into one that is being made: each state that the first one lists with each that the second one lists. Where
-// states have several digits, only those are read at which the cells can rise in the cut's direction.
+// states have three digits or more, only those are read at which the cells can rise in the cut's direction.
 use crate::raise::take;
 use crate::words::figure;
 use crate::words::mark;
@@ -201,7 +201,7 @@ fn join(
     ensures { λ r. ⌜ Joined (under (now (blocks .entry)) d) at words first second (Served d skip (now (table .entry)) first words) (Served d skip (now (table .entry)) second words) (now (table .entry)) (now (table .exit))
         × Topped at words top r (now (table .entry)) (now (table .exit)) ⌝ }
 {
-    if 0 < d {
+    if 1 < d {
         return join_marked(table, blocks, d, words, at, first, second, skip, top);
     }
     join_all(table, blocks, d, words, at, first, second, top)
