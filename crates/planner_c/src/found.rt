@@ -3,7 +3,7 @@ use crate::choices;
 use crate::words;
 ghost use mathlib.Core.Path.{_≡_};
 ghost use Rattle.rounds.specs.Rounds.{lent-all, lower-figure, find-said, FindLeaves};
-ghost use Rattle.planner_c.specs.Exports.{choices-of, job-with, returned, answered, Left};
+ghost use Rattle.planner_c.specs.Exports.{choices-of, returned, answered, Left};
 ghost use Rattle.planner_c.specs.Found.{FoundGiven};
 
 // Weights found for a job block, with the profit of a lent plan as the lower figure; each round's plan stands in the two written arrays.
@@ -29,7 +29,7 @@ pub extern "C" fn planner_find_weights(
         (FindLeaves (now (block .entry)) (choices-of choices) (now (kinds .entry)) (now (operands .entry)))
         (lent-all (now (lengths .entry)) (now (widths .entry)) (now (table .entry)) (now («written_kinds» .entry)) (now («written_operands» .entry)))
         (lent-all (now (lengths .exit)) (now (widths .exit)) (now (table .exit)) (now («written_kinds» .exit)) (now («written_operands» .exit))) ⌝ }
-    ensures trees { λ n. ⌜ (n ≡ 0 → FoundGiven (job-with (now (block .entry)) choices) (lower-figure (now (block .entry)) (choices-of choices) (now (kinds .entry)) (now (operands .entry))) (now (answer .exit))) ⌝ }
+    ensures trees { λ n. ⌜ (n ≡ 0 → FoundGiven (now (block .entry)) (choices-of choices) (lower-figure (now (block .entry)) (choices-of choices) (now (kinds .entry)) (now (operands .entry))) (now (answer .exit))) ⌝ }
 {
     let stop = choices::early(answer.len(), 66, choices);
     if 0 < stop {

@@ -1,13 +1,15 @@
 -- What the call promises, from the verdicts of the job and of the lent plan and from the run of the rounds.
 use mathlib.Core.Path.{_≡_, refl, sym, _∙_, ap, subst}
-use mathlib.Core.Bool.{Bool, true, false}
+use mathlib.Core.Bool.{Bool, true, false, _||_}
 use mathlib.Core.List.{List}
 use Prim.Native.Nat.{ℕ, zero, suc, _≤_, _<_}
 use native.Mathlib.Decide.{ℕ-discrete}
 use native.Mathlib.Omega.{arith}
 use borrow.Author.Tests.{ltb-true, ltb-false}
-use lib.Dec.{ltb}
-use Rattle.cutting.specs.Job.{Job, bound-of}
+use lib.Dec.{ltb, eqb}
+use lib.ListN.{length, take}
+use lib.Seq.{length-take-le}
+use Rattle.cutting.specs.Job.{Job, capacity, bound-of}
 use Rattle.cutting.specs.Promises.{NoneAbove}
 use Rattle.cutting.proofs.Members.{range-solid}
 use Rattle.cutting.proofs.Finer.{none-finer}
@@ -18,8 +20,10 @@ use Rattle.refusal.specs.declared.Checked.{Checked}
 use Rattle.refusal.specs.declared.Checked.the-variants.{Passed, Refused}
 use Rattle.job.specs.declared.Choices.{Choices}
 use Rattle.job.specs.Block.{job-checks}
-use Rattle.job.specs.Weights.{block-job}
+use Rattle.job.specs.Weights.{block-job, weight-in}
+use Rattle.job.proofs.Entries.{entries-length}
 use Rattle.job.proofs.Read.{read-in-range}
+use Rattle.job.proofs.Weights.{both-accepted}
 use Rattle.plan.specs.declared.Report.{Report}
 use Rattle.plan.specs.declared.PlanAnswer.{PlanAnswer}
 use Rattle.plan.specs.Plan.{proceed, plan-answer}
@@ -27,8 +31,10 @@ use Rattle.plan.specs.Calls.{arrays-answer}
 use Rattle.plan.proofs.Plans.{plans-checked}
 use Rattle.rounds.specs.declared.WeightsFound.{WeightsFound}
 use Rattle.rounds.specs.Step.{pick-number}
-use Rattle.rounds.specs.Rounds.{Lent, weight-at, round-verdict, rounds-by, rounds-run, bound-at, best-round, found, refused-answer, find-answer-by, before-verdict, lower-figure, run-answer, find-verdict, find-found, find-answer, found-values, found-outcome, find-said, last-round, RunLeaves, LeastMet, FindPromises}
+use Rattle.rounds.specs.Rounds.{Lent, weight-at, round-verdict, rounds-by, rounds-run, bound-at, best-round, found, refused-answer, find-answer-by, before-verdict, lower-figure, run-answer, find-verdict, find-found, find-answer, found-values, found-outcome, find-said, refuses, last-here, last-round, within, plan-copies, RunLeaves, LeastMet, BoundAgain, FindPromises}
 use Rattle.rounds.proofs.Rules.{rounds-most, step-rules, stop-rules}
+use Rattle.rounds.proofs.Run.{neither, weights-good, weight-past, no-capacity}
+use Rattle.rounds.proofs.Turns.{listed}
 
 module _ (J : Job) (lower : ℕ) where
   -- the best round's bound is the least, and no earlier round has it
@@ -101,6 +107,33 @@ module _ (J : Job) (lower : ℕ) (m : Lent) where
       go Passed e p = found-least J lower (rounds-run J lower m) (rounds-some e)
       go (Refused x) e p = absurd (let z : _≡_ {A = ℕ} 0 1 = cc in omega arith)
 
+  -- an answer that counts a round counts the rounds run
+  run-rounds : {r : WeightsFound} {k : ℕ} → r ≡ run-answer J lower m → k < r .rounds → r .rounds ≡ rounds-run J lower m
+  run-rounds {r} {k} = go (round-verdict J (weight-at J lower 0) m)
+    where
+      go : (v : Checked) → r ≡ find-answer-by v (found J lower (rounds-run J lower m)) → k < r .rounds → r .rounds ≡ rounds-run J lower m
+      go Passed e h = ap (λ (x : WeightsFound). x .rounds) e ∙ found-passed J lower (rounds-run J lower m) .1
+      go (Refused x) e h = absurd (omega (arith, ap (λ (x : WeightsFound). x .rounds) e))
+
+  -- a round that is begun has a capacity of at most 4,095
+  begun-capacity : (k : ℕ) → k ≤ last-round J lower m → capacity J (weight-at J lower k) ≤ 4095
+  unfolding last-here
+  begun-capacity zero h = no-capacity J lower
+  begun-capacity (suc k) h =
+      let full = ltb 4095 (capacity J (weight-at J lower (suc k))) in
+      let kept = within J (plan-copies J (weight-at J lower k)) in
+      let p = neither (refuses (round-verdict J (weight-at J lower k) m)) (kept || (eqb k 17 || full)) (stop-rules J lower m .first k (omega arith)) in
+      let q = neither kept (eqb k 17 || full) (p .1) in
+      ltb-false 4095 (capacity J (weight-at J lower (suc k))) (neither (eqb k 17) full (q .1) .1)
+
+  -- a round that is counted was begun
+  counted-begun : (k : ℕ) → k < rounds-run J lower m → k ≤ last-round J lower m
+  counted-begun k = go (round-verdict J (weight-at J lower (last-round J lower m)) m)
+    where
+      go : (v : Checked) → k < rounds-by v (last-round J lower m) → k ≤ last-round J lower m
+      go Passed h = omega arith
+      go (Refused x) h = omega arith
+
   -- and at most 18 rounds are run
   run-few : run-answer J lower m .rounds ≤ 18
   run-few = go (round-verdict J (weight-at J lower 0) m)
@@ -146,6 +179,7 @@ module _ (s : List ℕ) (choices : Choices) (kinds operands : List ℕ) where
           outcome = ap (λ x. found-outcome x) a ∙ said;
           memory = rw v o;
           least = λ p. unlike (sym (ap (λ (x : WeightsFound). x .verdict) e) ∙ p);
+          again = λ p. unlike (sym (ap (λ (x : WeightsFound). x .verdict) e) ∙ p);
           rounds = omega (arith, ap (λ (x : WeightsFound). x .rounds) e);
           demands = λ p. unlike (sym (ap (λ (x : WeightsFound). x .verdict) e) ∙ p);
           finer = λ p. unlike (sym (ap (λ (x : WeightsFound). x .verdict) e) ∙ p);
@@ -173,6 +207,19 @@ module _ (s : List ℕ) (choices : Choices) (kinds operands : List ℕ) where
         run-is : find-answer s choices kinds operands old ≡ run-answer J lower old
         run-is = ap (λ v. find-answer-by (next v (round-verdict J (weight-at J lower 0) old)) (find-found s choices kinds operands old)) before-passed
 
+        -- the weights of the least bound are accepted, and the bound is theirs
+        given-again : {r : WeightsFound} → r ≡ run-answer J lower old → LeastMet J lower r → BoundAgain s choices r
+        given-again {r} e l =
+            let w = weight-at J lower (l .round) in
+            let kinds-most = read-in-range s choices good .kinds .1 in
+            let ws : weight-in (take (J .count) (r .weights)) ≡ w = ap (λ x. weight-in (take (J .count) x)) (l .weights-are) ∙ listed w (J .count) kinds-most (weight-past J lower (l .round)) in
+            let many : length (take (J .count) (r .weights)) ≡ J .count = length-take-le (J .count) (r .weights) (omega (arith, ap length (l .weights-are), entries-length w (J .count), kinds-most)) in
+            let few = begun-capacity J lower old (l .round) (counted-begun J lower old (l .round) (omega (arith, l .met, run-rounds J lower old e (l .met)))) in
+            record {
+              accepted = both-accepted s choices (take (J .count) (r .weights)) good (weights-good J (take (J .count) (r .weights)) many (subst (λ v. capacity J v ≤ 4095) (sym ws) few));
+              bound-is = l .bound-is ∙ ap (bound-of J) (sym ws);
+            }
+
         -- the rounds are run
         pub ran : {r : WeightsFound} {profit : ℕ} → profit ≡ plan-answer J kinds operands .report .profit → r ≡ run-answer J profit old → RunLeaves J profit old new → FindPromises s choices kinds operands old new r
         ran {r} {profit} l a m =
@@ -186,6 +233,7 @@ module _ (s : List ℕ) (choices : Choices) (kinds operands : List ℕ) where
               outcome = ap (λ x. found-outcome x) (e ∙ sym run-is) ∙ said;
               memory = rw before-passed (subst (λ n. RunLeaves J n old new) f m);
               least = best;
+              again = λ p. given-again e (best p);
               rounds = omega (arith, ap (λ (x : WeightsFound). x .rounds) e, run-few J lower old);
               demands = none;
               finer = λ p. none-finer J (range-solid J range) (r .bound) (none p);

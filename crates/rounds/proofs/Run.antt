@@ -42,7 +42,7 @@ differ : {A : Type 0} → _≡_ {A = Bool} true false → A
 differ e = absurd (let z : _≡_ {A = ℕ} 0 1 = cc in omega arith)
 
 -- tests of which none holds
-neither : (a b : Bool) → (a || b) ≡ false → (a ≡ false) × (b ≡ false)
+pub neither : (a b : Bool) → (a || b) ≡ false → (a ≡ false) × (b ≡ false)
 neither true b e = differ e
 neither false b e = (refl, e)
 
@@ -68,7 +68,7 @@ verdict-same J weight a b h = ap₂ next
     (ap₂ (λ m n. first-refusal (plan-check (bound-plan J weight) m n ∷ [])) (h .kinds) (h .operands))
 
 -- weights that are as many as the kinds, of a capacity that is small enough
-weights-good : (J : Job) (ws : List ℕ) → length ws ≡ J .count → capacity J (weight-in ws) ≤ 4095 → first-refusal (weight-checks J ws) ≡ Passed
+pub weights-good : (J : Job) (ws : List ℕ) → length ws ≡ J .count → capacity J (weight-in ws) ≤ 4095 → first-refusal (weight-checks J ws) ≡ Passed
 unfolding first-refusal
 weights-good J ws h l = simp (eq-eqb (length ws) (J .count) h, le-ltb 4095 (capacity J (weight-in ws)) l)
 
@@ -91,7 +91,7 @@ written-by Passed b e = (refl, cc)
 written-by (Refused x) b e = absurd (let z : _≡_ {A = ℕ} 0 1 = cc in omega arith)
 
 module _ (J : Job) (lower : ℕ) where
-  weight-past : (k i : ℕ) → J .count ≤ i → weight-at J lower k i ≡ 0
+  pub weight-past : (k i : ℕ) → J .count ≤ i → weight-at J lower k i ≡ 0
   unfolding weight-at
   weight-past zero i h = refl
   weight-past (suc k) i h = next-past J lower k (weight-at J lower k) i h
@@ -108,7 +108,7 @@ module _ (J : Job) (lower : ℕ) where
       zeros true = refl
       zeros false = refl
 
-  no-capacity : capacity J (weight-at J lower 0) ≤ 4095
+  pub no-capacity : capacity J (weight-at J lower 0) ≤ 4095
   unfolding weight-at sum
   no-capacity = omega (arith, none (J .count))
     where

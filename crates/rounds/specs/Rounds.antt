@@ -5,7 +5,7 @@ use mathlib.Core.Bool.{Bool, true, false, _||_, not}
 use mathlib.Core.List.{List, _∷_}
 use Prim.Native.Nat.{ℕ, zero, suc, _+_, _-_, _*_, _≤_, _<_}
 use lib.Dec.{ltb, eqb}
-use lib.ListN.{replicate}
+use lib.ListN.{replicate, take}
 use Rattle.cutting.specs.Limits.{most-kinds, most-capacity}
 use Rattle.cutting.specs.Lists.{range, sum, only, any}
 use Rattle.cutting.specs.Preorder.{kinds-of, operands-of}
@@ -16,7 +16,7 @@ use Rattle.refusal.specs.declared.Checked.{Checked}
 use Rattle.refusal.specs.declared.Checked.the-variants.{Passed, Refused}
 use Rattle.job.specs.declared.Choices.{Choices}
 use Rattle.job.specs.Block.{entries}
-use Rattle.job.specs.Weights.{block-job}
+use Rattle.job.specs.Weights.{block-job, weight-in, Accepted}
 use Rattle.plan.specs.Calls.{arrays-answer}
 use Rattle.bound.specs.Bound.{Memory, lent, Leaves, memory-checks, list-after}
 use Rattle.writer.specs.Write.{nodes-verdict}
@@ -192,14 +192,21 @@ pub record StopRules (J : Job) (lower : ℕ) (m : Lent) : Type 0 where
   pub last : last-here J lower m (last-round J lower m) ≡ true
   pub first : (k : ℕ) → k < last-round J lower m → last-here J lower m k ≡ false
 
+-- the answered weights of the job's kinds are accepted for the job, and the answered bound is theirs: the bound call answers it again
+pub record BoundAgain (s : List ℕ) (choices : Choices) (a : WeightsFound) : Type 0 where
+  pub accepted : Accepted s choices (take (block-job s choices .count) (a .weights))
+  pub bound-is : a .bound ≡ bound-of (block-job s choices) (weight-in (take (block-job s choices .count) (a .weights)))
+
 -- what the call promises of its answer and of all that it is lent: both are the definitions', number and values too; an answered bound is
--- the least met, with the weights that first gave it, at most 18 rounds are run, and no guillotine tree on the plate that keeps every demand,
--- cut at whole units or finer, earns more than the answered bound. Steps and stop follow their rules
+-- the least met, with the weights that first gave it, which the bound call accepts and gives the same bound; at most 18 rounds are run, and no
+-- guillotine tree on the plate that keeps every demand, cut at whole units or finer, earns more than the answered bound. Steps and stop
+-- follow their rules
 pub record FindPromises (s : List ℕ) (choices : Choices) (kinds operands : List ℕ) (old new : Lent) (r : WeightsFound) : Type 0 where
   pub answers : r ≡ find-answer s choices kinds operands old
   pub outcome : found-outcome r ≡ find-said s choices kinds operands old
   pub memory : FindLeaves s choices kinds operands old new
   pub least : r .verdict ≡ Passed → LeastMet (block-job s choices) (lower-figure s choices kinds operands) r
+  pub again : r .verdict ≡ Passed → BoundAgain s choices r
   pub rounds : r .rounds ≤ most-rounds
   pub demands : r .verdict ≡ Passed → NoneAbove (block-job s choices) (r .bound)
   pub finer : r .verdict ≡ Passed → NoneFiner (block-job s choices) (r .bound)
