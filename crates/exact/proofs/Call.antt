@@ -34,6 +34,7 @@ use Rattle.exact.specs.Exact.{state-check, ExactLeaves, short-verdict, S
 use Rattle.exact.specs.Contracts.{StatesCounted, Short, job-report, job-plan, room-verdict, Drawn}
 use Rattle.exact.proofs.States.{states-some}
 use Rattle.exact.proofs.Optimum.{exact-recursion, exact-figures, exact-floors, optimum-earned, optimum-exact, optimum-finer, optimum-follows, optimum-idle, bounds-above, two-above}
+use Rattle.exact.proofs.Remaining.{copies-by-digits}
 use Rattle.exact.proofs.Accepted.{untouched}
 
 said-by : (v : Checked) (b : ExactReport) → exact-outcome (exact-answer-by v b) ≡ outcome-by v (exact-values b)
@@ -117,6 +118,7 @@ module _ (s : List ℕ) (choices : Choices) where
         optimal = λ h. optimum-holds J (short-in-range h);
         planned = λ h. optimum-planned J (short-in-range h);
         figures = figures-held;
+        digits = λ h. copies-by-digits J (short-in-range h .kinds .0);
         floor = λ h. exact-floors J (short-in-range h);
         plan = λ b w. written w;
       }

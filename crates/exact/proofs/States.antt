@@ -50,7 +50,7 @@ module _ (f : ℕ → ℕ) where
   states-rise m zero = let e : m + 0 ≡ m = omega arith in rw e (omega arith)
   states-rise m (suc k) = let e : m + suc k ≡ suc (m + k) = omega arith in rw e (omega (arith, states-rise m k, step (m + k)))
 
-  rise : (m n : ℕ) → m ≤ n → states f m ≤ states f n
+  pub rise : (m n : ℕ) → m ≤ n → states f m ≤ states f n
   rise m n h = let e : m + (n - m) ≡ n = omega arith in rw e at (states-rise m (n - m))
 
   -- they are digits

@@ -3,7 +3,7 @@
 use mathlib.Core.Path.{_≡_}
 use mathlib.Core.List.{List, [], _∷_, _++_}
 use Prim.Native.Nat.{ℕ, _+_, _≤_, _<_}
-use lib.Dec.{ltb}
+use lib.Dec.{T, ltb}
 use lib.ListN.{length, getD}
 use Rattle.cutting.specs.declared.Direction.the-variants.{Length, Width}
 use Rattle.cutting.specs.Lists.{over}
@@ -13,7 +13,7 @@ use Rattle.cutting.specs.Preorder.{kinds-of, operands-of, node-count}
 use Rattle.cutting.specs.Job.{Job, at-full-demand, bound-of, normal-positions}
 use Rattle.cutting.specs.Promises.{NoneFiner, NormalSums, PlanFollows}
 use Rattle.cutting.specs.Two.{two-bound}
-use Rattle.cutting.specs.Exact.{state-count, full-state, by-copies, exact-figure, optimum, optimum-plan, ExactRecursion, ExactFloors, EarnsExactly, MostExact, ExactFiguresMost}
+use Rattle.cutting.specs.Exact.{state-count, full-state, one-copy, no-more, copies-left, by-copies, exact-figure, optimum, optimum-plan, ExactRecursion, ExactFloors, EarnsExactly, MostExact, ExactFiguresMost}
 use Rattle.refusal.specs.Refusals.{Check, Outcome, next, first-refusal, by-check, refused-as, outcome-by}
 use Rattle.refusal.specs.declared.Checked.{Checked}
 use Rattle.refusal.specs.declared.Checked.the-variants.{Passed}
@@ -102,6 +102,14 @@ exact-said s choices m kinds operands = outcome-by (exact-verdict s choices m ki
 abbrev pub exact-array-after : List ℕ → Choices → Memory → List ℕ → List ℕ → List ℕ → List ℕ → List ℕ
 exact-array-after s choices m kinds operands xs old = list-after (exact-verdict s choices m kinds operands) xs old
 
+-- what the numbers of states say of copies: a state has of no kind more copies than another exactly if no digit of it is above, and the
+-- state of one copy of an ordered kind has no more exactly where a copy of the kind remains
+pub record CopiesByDigits (J : Job) : Type 0 where
+  pub fewer : (t s i : ℕ) → t < state-count J → s < state-count J → i < J .count → T (no-more J t s) → copies-left J t i ≤ copies-left J s i
+  pub none-more : (t s : ℕ) → t < state-count J → s < state-count J → ((i : ℕ) → i < J .count → copies-left J t i ≤ copies-left J s i) → T (no-more J t s)
+  pub remains : (s i : ℕ) → s < state-count J → i < J .count → 1 ≤ J .demand i → T (no-more J (one-copy J i) s) → 1 ≤ copies-left J s i
+  pub one-more : (s i : ℕ) → s < state-count J → i < J .count → 1 ≤ J .demand i → 1 ≤ copies-left J s i → T (no-more J (one-copy J i) s)
+
 -- what an optimum n of a job is: the most that a guillotine tree on the plate that keeps every demand earns, and no less than one cut finer
 -- earns; every bound of one weight a kind or of two, in either form of the capacity, lies at or above it; the last word's figure
 pub record OptimumHolds (J : Job) (n : ℕ) : Type 0 where
@@ -129,7 +137,7 @@ pub record OptimumWritten (J : Job) (t : Tree Piece) (kinds operands new-kinds n
 -- what the call promises of its answer and of all that it is lent: answer, lists, table and plan arrays are the definitions', number and
 -- values too; with the kerf added to every side the figures follow the recursion over the remaining copies and the normal positions are the
 -- sums. Of a short order, whatever storage is lent: its optimum and its plan hold, the figure of a state is the most that a tree earns there
--- with of no kind more copies than remain, and a tabled figure is that of every rectangle whose largest normal sides it has. An answered
+-- with of no kind more copies than remain, the order of states is that of these copies, and a tabled figure is that of every rectangle whose largest normal sides it has. An answered
 -- optimum holds, and an answer reports the plan as it was written
 pub record ExactPromises (s : List ℕ) (choices : Choices) (old new : Memory) (kinds operands new-kinds new-operands : List ℕ) (r : ExactAnswer) : Type 0 where
   pub answers : r ≡ exact-answer s choices old kinds operands
@@ -143,5 +151,6 @@ pub record ExactPromises (s : List ℕ) (choices : Choices) (old new : Memory) (
   pub optimal : ShortOrder s choices → OptimumHolds (block-job s choices) (optimum (block-job s choices))
   pub planned : ShortOrder s choices → OptimumPlanned (block-job s choices)
   pub figures : ShortOrder s choices → ExactFiguresMost (block-job s choices)
+  pub digits : ShortOrder s choices → CopiesByDigits (block-job s choices)
   pub floor : ShortOrder s choices → ExactFloors (wide-job s choices)
   pub plan : (b : ExactReport) → r ≡ answer.Answered b → OptimumWritten (block-job s choices) (optimum-plan (block-job s choices)) kinds operands new-kinds new-operands b
