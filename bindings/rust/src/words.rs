@@ -22,7 +22,7 @@ impl Refusal {
             11 => "the plan has no node, or more than 4,095",
             12 => "no node has this kind, or the piece is turned and pieces may not be",
             13 => "the job has no piece of this number",
-            14 => "the cut leaves no part of at least one unit, or waste has an operand",
+            14 => "the cut leaves a part below one unit, or waste has an operand",
             15 => "the piece does not fit its rectangle",
             16 => "this copy passes the demand",
             17 => "the plan ends before its tree",
