@@ -6,7 +6,7 @@ use mathlib.Core.Path.{_≡_}
 use mathlib.Core.Logic.{_⊎_}
 use mathlib.Core.Bool.{Bool}
 use mathlib.Core.List.{List}
-use Prim.Native.Nat.{ℕ, zero, suc, _+_, _-_, _*_, _/_, _%_, _≤_, _<_}
+use Prim.Native.Nat.{ℕ, zero, suc, _+_, _-_, _*_, _/_, _%_, _≤_, _<_, min}
 use lib.Dec.{T}
 use lib.ListN.{length, getD}
 use Rattle.cutting.specs.Limits.{most-wide-figure}
@@ -18,11 +18,11 @@ use Rattle.table.specs.States.{below, Blocks, Covers}
 unfoldable pub figure-in : ℕ → ℕ
 figure-in w = w % 2199023255552
 
--- the note of a word: a fourth of the number above them, rounded up
+-- the note of a word: 0 where the number above them is 0, and else one more than a fourth of that number
 unfoldable pub note-in : ℕ → ℕ
-note-in w = (w / 2199023255552 + 3) / 4
+note-in w = w / 8796093022208 + min 1 (w / 2199023255552)
 
--- the mark of a word with a note: how far that number is past the least with this note
+-- the mark of a word with a note: how far that number is past the least of an entry with this note
 unfoldable pub mark-in : ℕ → ℕ
 mark-in w = (w / 2199023255552 + 3) % 4
 

@@ -10,11 +10,14 @@ pub fn figure(w: u64) -> u64
     w % 2199023255552
 }
 
-// The note of a word.
+// The note of a word. An entry of a list is 4 · s + 1 and a mark from 0 to 2 above the figure, so state s is what stands above two more bits.
 pub fn note(w: u64) -> usize
     ensures { λ r. ⌜ (r ≡ note-in w) × (r < 8388608) ⌝ }
 {
-    ((w / 2199023255552 + 3) / 4) as usize
+    if w < 2199023255552 {
+        return 0;
+    }
+    (w / 8796093022208 + 1) as usize
 }
 
 // The mark of a word with a note.

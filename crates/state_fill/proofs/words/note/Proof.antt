@@ -1,14 +1,17 @@
 -- `state_fill::words::note` meets its contract: a word is below 2^64.
 use borrow.Author.Needs.{needs}
 use native.Mathlib.Omega.{arith}
-use mathlib.Core.Path.{refl}
 use Rattle.state_fill.specs.Cells.{note-in}
 use Rattle.state_fill.proofs.words.note.Statement.{statement}
 use Rattle.state_fill.proofs.words.note.Tie as tie
 
 returns : tie.Need-returns
 unfolding note-in
-returns c = (refl, omega arith)
+returns c = (omega arith, omega arith)
+
+returns-2 : tie.Need-returns-2
+unfolding note-in
+returns-2 c = (omega arith, omega arith)
 
 pub note-spec : {M : Type 1} → statement M
-note-spec = tie.close (tie.spec (λ c. search needs) returns)
+note-spec = tie.close (tie.spec returns (λ c. search needs) returns-2)
