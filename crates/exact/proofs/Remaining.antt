@@ -14,8 +14,8 @@ use Rattle.cutting.specs.Job.{Job, KeepsDemands, pieces}
 use Rattle.cutting.specs.Exact.{states, state-count, full-state, no-more, by-copies, copies-left, OfState}
 use Rattle.cutting.proofs.Members.{member-lies}
 use Rattle.table.specs.States.{digit, own-state}
-use Rattle.state_fill.proofs.Digits.{quotient}
-use Rattle.state_fill.proofs.Ties.{within-digits, digits-within}
+use Rattle.states.proofs.Digits.{quotient}
+use Rattle.states.proofs.Ties.{within-digits, digits-within}
 use Rattle.exact.proofs.States.{zero-one, B, one, states-some, step, blocked, digit-full, within-own, d, lying-own, full-is}
 
 -- a digit reads nothing of the digits above it
