@@ -28,7 +28,7 @@ use Rattle.table.specs.declared.TableSize.{TableSize}
 use Rattle.table.specs.Table.{position-count, position}
 use Rattle.table.specs.Contracts.{Listed, Mapped, size-job}
 use Rattle.table.specs.States.{by-state}
-use Rattle.state_fill.specs.Cells.{under}
+use Rattle.states.specs.States.{under}
 use Rattle.choice.specs.declared.Cell.{Cell}
 use Rattle.choice.specs.declared.Chosen.{Chosen}
 use Rattle.choice.specs.declared.Place.{Place}

@@ -16,8 +16,7 @@ use Rattle.table.specs.declared.TableSize.{TableSize}
 use Rattle.table.specs.Table.{position-count, words-needed}
 use Rattle.table.specs.States.{Order}
 use Rattle.table.specs.Contracts.{Listed, Mapped, size-job}
-use Rattle.state_fill.specs.Cells.{under}
-use Rattle.state_fill.specs.Tables.{Figures}
+use Rattle.states.specs.States.{under, Figures}
 use Rattle.choice.specs.declared.Cell.{Cell}
 use Rattle.choice.specs.declared.Chosen.{Chosen}
 use Rattle.choice.specs.Search.{numbered-node, Numbered, Ordered}

@@ -4,7 +4,7 @@
 use cutting::Direction;
 use cutting::Node;
 use cutting::Sides;
-use state_fill::below;
+use states::below;
 use table::TableSize;
 ghost use mathlib.Core.Path.{_≡_};
 ghost use mathlib.Core.Bool.{_&&_};
@@ -15,7 +15,7 @@ ghost use Rattle.cutting.specs.Lists.{range, first};
 ghost use Rattle.cutting.specs.Pieces.{fits-in};
 ghost use Rattle.cutting.specs.Sides.{rect-of};
 ghost use Rattle.table.specs.Contracts.{size-job};
-ghost use Rattle.state_fill.specs.Cells.{under};
+ghost use Rattle.states.specs.States.{under};
 ghost use Rattle.choice.specs.Search.{numbered-node, piece-test, piece-found, Numbered, Ordered, first-index, cut-found, length-search, width-search, cut-chosen, Searchable};
 ghost use Rattle.choice.specs.Choice.{ChoiceInput, Inside, chosen-at};
 

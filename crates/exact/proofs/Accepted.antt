@@ -30,8 +30,8 @@ use Rattle.job.proofs.Checks.{cons-passed}
 use Rattle.table.specs.Table.{words-needed, Kept}
 use Rattle.table.specs.States.{by-state, Order, figure-at}
 use Rattle.table.proofs.Shares.{by-state-monotone}
-use Rattle.state_fill.specs.Cells.{under, Digits}
-use Rattle.state_fill.proofs.Digits.{digits-order}
+use Rattle.states.specs.States.{under, Digits}
+use Rattle.states.proofs.Digits.{digits-order}
 use Rattle.bound.specs.declared.BoundReport.{BoundReport}
 use Rattle.bound.specs.declared.BoundAnswer.{BoundAnswer}
 use Rattle.bound.specs.declared.BoundAnswer.the-variants as bounded

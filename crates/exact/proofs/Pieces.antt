@@ -15,7 +15,7 @@ use Rattle.cutting.specs.Listed.{heavy-in, node-in, node-number, member-at, Pie
 use Rattle.cutting.proofs.Members.{member-kind, members-count}
 use Rattle.cutting.proofs.Positions.{getD-mem}
 use Rattle.table.specs.States.{below}
-use Rattle.state_fill.specs.Cells.{under, Digits}
+use Rattle.states.specs.States.{under, Digits}
 use Rattle.exact.specs.Contracts.{Multiplied, stride, Statable, Stated}
 use Rattle.exact.proofs.States.{zero-one, B, states-some, blocked}
 

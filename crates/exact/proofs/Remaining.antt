@@ -1,6 +1,6 @@
 -- The copies that remain in a state: its digit of each kind, and a tree is within a state exactly if it has of no kind more copies than
 -- remain, within the last exactly if it keeps every demand.
-use mathlib.Core.Path.{_≡_, refl, sym, _∙_, ap}
+use mathlib.Core.Path.{_≡_, sym, _∙_, ap}
 use mathlib.Core.Bool.{true, false}
 use Prim.Native.Nat.{ℕ, zero, suc, _+_, _-_, _*_, _/_, _%_, _≤_, _<_}
 use native.Mathlib.Nat.{mul-le-mul-right, mod-lt, div-add-mod', mul-add-mod-self-right, mod-eq-of-lt, div-lt-iff-lt-mul}
@@ -14,8 +14,8 @@ use Rattle.cutting.specs.Job.{Job, KeepsDemands, pieces}
 use Rattle.cutting.specs.Exact.{states, state-count, full-state, no-more, by-copies, one-copy, copies-left, OfState}
 use Rattle.cutting.proofs.Members.{member-lies}
 use Rattle.table.specs.States.{below, digit, own-state}
-use Rattle.state_fill.proofs.Digits.{quotient, below-parts, parts-below}
-use Rattle.state_fill.proofs.Ties.{within-digits, digits-within}
+use Rattle.states.proofs.Digits.{quotient, below-parts, parts-below}
+use Rattle.states.proofs.Ties.{digit-last, digit-lower, within-digits, digits-within}
 use Rattle.exact.specs.Exact.{CopiesByDigits}
 use Rattle.exact.proofs.States.{zero-one, B, one, states-some, rise, step, blocked, digit-full, within-own, d, lying-own, full-is}
 
@@ -27,15 +27,6 @@ low-digit s M K N c some e =
     sym (ap (λ x. x % N) (quotient s K (s / M * c * N + r / K) (r % K) parts (mod-lt r {m = K} some)) ∙ mul-add-mod-self-right (s / M * c) N (r / K))
 
 module _ (B : ℕ → ℕ) where
-  -- the last digit, and those before
-  digit-last : (d s : ℕ) → digit B (suc d) (suc d) s ≡ s / B d
-  unfolding digit
-  digit-last d s = ap (λ b. elim b [ true ↦ s / B d | false ↦ digit B d (suc d) (s % B d) ]) (eq-eqb (suc d) (suc d) refl)
-
-  digit-lower : (d i s : ℕ) → (i ≡ suc d → ⊥) → digit B (suc d) i s ≡ digit B d i (s % B d)
-  unfolding digit
-  digit-lower d i s h = ap (λ b. elim b [ true ↦ s / B d | false ↦ digit B d i (s % B d) ]) (ne-eqb i (suc d) h)
-
   -- a number below another has no greater digit
   digits-fewer : (d t s i : ℕ) → i ≤ d → T (below B d t s) → digit B d i t ≤ digit B d i s
   unfolding below digit
@@ -44,15 +35,15 @@ module _ (B : ℕ → ℕ) where
     where
       go : Dec (i ≡ suc d) → (t / B d ≤ s / B d) × T (below B d (t % B d) (s % B d)) → (i ≤ d → T (below B d (t % B d) (s % B d)) → digit B d i (t % B d) ≤ digit B d i (s % B d))
           → digit B (suc d) i t ≤ digit B (suc d) i s
-      go (yes e) p g = rw e (omega (arith, digit-last d t, digit-last d s, p .0))
-      go (no e) p g = omega (arith, digit-lower d i t e, digit-lower d i s e, g (omega arith) (p .1))
+      go (yes e) p g = rw e (omega (arith, digit-last B d t, digit-last B d s, p .0))
+      go (no e) p g = omega (arith, digit-lower B d i t e, digit-lower B d i s e, g (omega arith) (p .1))
 
   -- and one with no greater digit is below
   fewer-digits : (d t s : ℕ) → ((i : ℕ) → i ≤ d → digit B d i t ≤ digit B d i s) → T (below B d t s)
   unfolding below digit
   fewer-digits zero t s h = le→leb t s (h 0 (omega arith))
-  fewer-digits (suc d) t s h = parts-below B d t s (omega (arith, digit-last d t, digit-last d s, h (suc d) (omega arith)))
-      (fewer-digits d (t % B d) (s % B d) (λ i l. omega (arith, digit-lower d i t (λ e. omega arith), digit-lower d i s (λ e. omega arith), h i (omega arith))))
+  fewer-digits (suc d) t s h = parts-below B d t s (omega (arith, digit-last B d t, digit-last B d s, h (suc d) (omega arith)))
+      (fewer-digits d (t % B d) (s % B d) (λ i l. omega (arith, digit-lower B d i t (λ e. omega arith), digit-lower B d i s (λ e. omega arith), h i (omega arith))))
 
 module _ (f : ℕ → ℕ) where
   -- the states of more kinds are a multiple

@@ -17,7 +17,7 @@ use Rattle.cutting.specs.Job.{Job, MayLie}
 use Rattle.cutting.specs.Exact.{states, full-state, no-more, by-copies}
 use Rattle.table.specs.States.{by-state, Blocks, Order, digit, own-state}
 use Rattle.table.proofs.Shares.{by-state-monotone}
-use Rattle.state_fill.proofs.Digits.{quotient, rest, digits-order}
+use Rattle.states.proofs.Digits.{quotient, rest, digits-order}
 
 -- without kinds there is one state
 pub zero-one : (f : ℕ → ℕ) → states f 0 ≡ 1

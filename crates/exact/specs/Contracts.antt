@@ -17,7 +17,7 @@ use Rattle.refusal.specs.declared.Checked.{Checked}
 use Rattle.refusal.specs.declared.Checked.the-variants.{Passed}
 use Rattle.table.specs.Table.{position-count}
 use Rattle.storage.specs.Contracts.{BothMapped}
-use Rattle.state_fill.specs.Cells.{Digits}
+use Rattle.states.specs.States.{Digits}
 use Rattle.bound.specs.declared.BoundReport.{BoundReport}
 use Rattle.bound.specs.declared.BoundAnswer.{BoundAnswer}
 use Rattle.bound.specs.declared.BoundAnswer.the-variants.{Answered}

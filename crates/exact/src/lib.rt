@@ -26,7 +26,7 @@ ghost use Rattle.cutting.specs.Listed.{heavy-in, pieces-job};
 ghost use Rattle.refusal.specs.declared.Checked.the-variants.{Passed};
 ghost use Rattle.job.specs.Block.{job-of};
 ghost use Rattle.table.specs.States.{figure-at};
-ghost use Rattle.state_fill.specs.Cells.{under};
+ghost use Rattle.states.specs.States.{under};
 ghost use Rattle.bound.specs.Bound.{lent};
 ghost use Rattle.exact.specs.Exact.{ExactLeaves, ExactPromises};
 ghost use Rattle.exact.specs.Contracts.{StatesCounted, stride, Statable, Stated, Countable, Filled, Short, exact-of, job-report, job-plan, room-verdict, Drawn};

@@ -18,10 +18,11 @@ use Rattle.table.specs.States.{block-at}
 use Rattle.table.proofs.Words.{cell-before, words-past}
 use Rattle.table.proofs.Figures.{entry-is}
 use Rattle.table.proofs.Staged.{block-one, block-number-below}
-use Rattle.state_fill.specs.declared.shape.Shape.{Shape}
-use Rattle.state_fill.specs.Tables.{CellsLent, Counted, Bare, Plain}
+use Rattle.state_cells.specs.declared.shape.Shape.{Shape}
+use Rattle.state_cells.specs.Places.{CellsLent}
+use Rattle.state_fill.specs.Tables.{Counted, Bare, Plain}
 use Rattle.state_fill.proofs.Filling.{lent-kept, lent-of}
-use Rattle.state_fill.proofs.Ties.{one-digit}
+use Rattle.states.proofs.Ties.{one-digit}
 use Rattle.table.specs.declared.TableSize.{TableSize}
 use Rattle.stage_fill.specs.declared.blocks.Block.{Block}
 use Rattle.stage_fill.proofs.Numbers.{few-cells}

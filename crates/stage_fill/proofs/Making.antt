@@ -23,11 +23,13 @@ use Rattle.table.proofs.Figures.{positions-axis}
 use Rattle.table.proofs.Weighed.{plain-order}
 use Rattle.table.proofs.Complete.{singles}
 use Rattle.table.proofs.Staged.{sided, block-above, block-larger, block-uncut, block-single, sided-above, sided-larger, sided-prior, sided-joins, block-complete}
-use Rattle.state_fill.specs.declared.parts.Line.{Line}
-use Rattle.state_fill.specs.Cells.{held, Level, Levelled, Rises, Flagged, Listed, Served, Low, Ready, Steps, Finished, FlaggedBelow}
-use Rattle.state_fill.proofs.Growing.{outside-chain}
-use Rattle.state_fill.proofs.Joining.{held-kept, note-kept, listed-kept}
-use Rattle.state_fill.proofs.Making.{covers-more, covers-same, covers-steps, start-covers, level-past, side-low, side-taken}
+use Rattle.state_joins.specs.declared.cuts.Line.{Line}
+use Rattle.states.specs.States.{held, Rises, Flagged, Low}
+use Rattle.state_joins.specs.Joins.{Listed, Served, Ready}
+use Rattle.state_cells.specs.Cells.{Level, Levelled, Steps, Finished, FlaggedBelow}
+use Rattle.states.proofs.Growing.{outside-chain}
+use Rattle.state_joins.proofs.Joining.{held-kept, note-kept, listed-kept}
+use Rattle.state_cells.proofs.Making.{covers-more, covers-same, covers-steps, start-covers, level-past, side-low, side-taken}
 use Rattle.stage_fill.specs.Cells.{Made, UncutSteps, LaterSteps}
 use Rattle.stage_fill.proofs.Steps.{rises-same, started, start-topped}
 

@@ -24,12 +24,15 @@ use Rattle.table.proofs.Halves.{half-ready, half-cuts}
 use Rattle.table.proofs.Figures.{entry-is, entry-side, positions-axis}
 use Rattle.table.proofs.Weighed.{plain-order}
 use Rattle.table.proofs.Staged.{sided, sided-above, block-above, block-low, block-ceiling, block-number-source, block-number-apart}
-use Rattle.state_fill.specs.declared.shape.Shape.{Shape}
-use Rattle.state_fill.specs.declared.parts.Line.{Line}
-use Rattle.state_fill.specs.Cells.{figure-in, note-in, held, Level, Levelled, Rises, Ready}
-use Rattle.state_fill.specs.Tables.{CellsLent, Counted}
-use Rattle.state_fill.proofs.Noted.{figure-plain, note-plain}
-use Rattle.state_fill.proofs.Making.{level-later}
+use Rattle.state_cells.specs.declared.shape.Shape.{Shape}
+use Rattle.state_joins.specs.declared.cuts.Line.{Line}
+use Rattle.states.specs.States.{figure-in, note-in, held, Rises}
+use Rattle.state_joins.specs.Joins.{Ready}
+use Rattle.state_cells.specs.Cells.{Level, Levelled}
+use Rattle.state_cells.specs.Places.{CellsLent}
+use Rattle.state_fill.specs.Tables.{Counted}
+use Rattle.states.proofs.Noted.{figure-plain, note-plain}
+use Rattle.state_cells.proofs.Making.{level-later}
 use Rattle.stage_fill.specs.declared.blocks.Block.{Block}
 use Rattle.stage_fill.specs.Cells.{Made, States, UncutReady, UncutSteps, LaterReady, LaterSteps}
 use Rattle.stage_fill.specs.Blocks.{first-of, LineTo, block-start, cell-number, staged-tabled, Below, BlockLent, BlockMade}

@@ -8,9 +8,10 @@ use lib.Dec.{leb, leb→le}
 use lib.ListN.{length, getD}
 use Rattle.table.specs.States.{below}
 use Rattle.table.specs.Words.{Run}
-use Rattle.state_fill.specs.Cells.{figure-in, note-in, held, under, Summed, Rises, Flagged, Growing, FlaggedBelow, Topped}
-use Rattle.state_fill.proofs.Noted.{figure-small, figure-plain, note-plain}
-use Rattle.state_fill.proofs.Ties.{one-digit}
+use Rattle.states.specs.States.{figure-in, note-in, held, under, Summed, Rises, Flagged, Growing, Topped}
+use Rattle.state_cells.specs.Cells.{FlaggedBelow}
+use Rattle.states.proofs.Noted.{figure-small, figure-plain, note-plain}
+use Rattle.states.proofs.Ties.{one-digit}
 use Rattle.stage_fill.specs.Cells.{States}
 
 -- the order of states of one digit is that of numbers

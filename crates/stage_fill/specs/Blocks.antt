@@ -13,10 +13,11 @@ use Rattle.table.specs.Table.{position-count}
 use Rattle.table.specs.Staged.{block-number}
 use Rattle.table.specs.Words.{Half}
 use Rattle.table.specs.States.{block-at}
-use Rattle.state_fill.specs.declared.shape.Shape.{Shape}
-use Rattle.state_fill.specs.declared.parts.Line.{Line}
-use Rattle.state_fill.specs.Cells.{Level}
-use Rattle.state_fill.specs.Tables.{CellsLent, Counted}
+use Rattle.state_cells.specs.declared.shape.Shape.{Shape}
+use Rattle.state_joins.specs.declared.cuts.Line.{Line}
+use Rattle.state_cells.specs.Cells.{Level}
+use Rattle.state_cells.specs.Places.{CellsLent}
+use Rattle.state_fill.specs.Tables.{Counted}
 use Rattle.stage_fill.specs.declared.blocks.Block.{Block}
 use Rattle.stage_fill.specs.Cells.{Made}
 

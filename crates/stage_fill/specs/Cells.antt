@@ -8,9 +8,11 @@ use Rattle.cutting.specs.Limits.{most-pieces}
 use Rattle.cutting.specs.Job.{Job}
 use Rattle.table.specs.Words.{Run, Cuts}
 use Rattle.table.specs.States.{Covers}
-use Rattle.state_fill.specs.declared.shape.Shape.{Shape}
-use Rattle.state_fill.specs.declared.parts.Line.{Line}
-use Rattle.state_fill.specs.Cells.{held, note, Startable, Rises, Ready, Listed, Sorted, Inherited, Placed, CutAt, Finished, Topped}
+use Rattle.state_cells.specs.declared.shape.Shape.{Shape}
+use Rattle.state_joins.specs.declared.cuts.Line.{Line}
+use Rattle.states.specs.States.{held, note, Rises, Topped}
+use Rattle.state_joins.specs.Joins.{Ready, Listed, Sorted, CutAt}
+use Rattle.state_cells.specs.Cells.{Startable, Inherited, Placed, Finished}
 
 -- a finished cell from word x on: its words hold the figures f, its list has states only, which do not fall, nothing is noted past its end,
 -- and the list covers the figures over g and over h, those of the cells before it in the two directions

@@ -1,8 +1,8 @@
 // The blocks, cell after cell. Cells are numbered through all blocks, length after length and in a length width after width.
 use crate::cells::make_later;
 use crate::cells::make_uncut;
-use state_fill::Line;
-use state_fill::Shape;
+use state_cells::Shape;
+use state_joins::Line;
 use table::half;
 use table::set_run;
 use table::widen;
@@ -12,7 +12,7 @@ ghost use Rattle.cutting.specs.Listed.{heavy-in};
 ghost use Rattle.cutting.specs.Shares.{other};
 ghost use Rattle.table.specs.Staged.{block-number};
 ghost use Rattle.table.specs.Words.{HalfReady};
-ghost use Rattle.state_fill.specs.Tables.{job-in};
+ghost use Rattle.state_cells.specs.Places.{job-in};
 ghost use Rattle.stage_fill.specs.Blocks.{first-of, Numbered, LineTo, BlockLent, Below, block-start, BlockMade, StageLent, StagesLent, StagesMade};
 
 // A block: its stage, and whether its first cuts go across the width. The block without a cut counts as one of width cuts.

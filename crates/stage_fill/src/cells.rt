@@ -1,16 +1,16 @@
 // One cell of a block by its states: it starts from the cells before it, or from the other direction's block with one stage fewer,
 // inherits what they list, takes the pieces of exactly its size or the cuts of one side, and lists its flagged states.
-use state_fill::Line;
-use state_fill::Shape;
-use state_fill::begin;
-use state_fill::cut;
-use state_fill::finish;
-use state_fill::inherit;
-use state_fill::place_pieces;
+use state_cells::Shape;
+use state_cells::begin;
+use state_cells::finish;
+use state_cells::inherit;
+use state_cells::place_pieces;
+use state_joins::Line;
+use state_joins::cut;
 ghost use mathlib.Core.Path.{_≡_};
 ghost use Prim.Native.Nat.{max};
 ghost use Rattle.cutting.specs.Listed.{heavy-in};
-ghost use Rattle.state_fill.specs.Tables.{job-in};
+ghost use Rattle.state_cells.specs.Places.{job-in};
 ghost use Rattle.stage_fill.specs.Cells.{UncutReady, UncutSteps, LaterReady, LaterSteps};
 
 // The state from which on the figures of this cell too are the same: past every flagged one.

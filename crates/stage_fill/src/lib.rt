@@ -5,7 +5,7 @@ mod blocks;
 mod cells;
 
 use blocks::fill_blocks;
-use state_fill::Shape;
+use state_cells::Shape;
 use state_fill::strip_all;
 use table::TableSize;
 ghost use Rattle.cutting.specs.Listed.{heavy-in};

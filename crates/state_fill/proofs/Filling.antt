@@ -18,13 +18,15 @@ use Rattle.table.proofs.Words.{cell-before, words-past}
 use Rattle.table.proofs.Halves.{half-ready, half-next}
 use Rattle.table.proofs.Figures.{entry-is, positions-axis}
 use Rattle.table.specs.States.{figure-at}
-use Rattle.state_fill.specs.Cells.{figure-in, note-in, held, note, under, Digits, Summed, FirstRow, Level, Levelled}
-use Rattle.state_fill.specs.Tables.{tabled, cell, Made, Rows, Cells, LevelRows, LevelCells, CellsLent, Counted, RowSpot, Spot, Figures, Bare, Plain}
-use Rattle.state_fill.proofs.Noted.{figure-plain, note-plain, plain-word}
+use Rattle.states.specs.States.{figure-in, note-in, held, note, under, Digits, Summed, FirstRow, cell, Figures}
+use Rattle.state_cells.specs.Cells.{Level, Levelled}
+use Rattle.state_cells.specs.Places.{tabled, Made, Rows, Cells, LevelRows, LevelCells, CellsLent, Spot}
+use Rattle.state_fill.specs.Tables.{Counted, RowSpot, Bare, Plain}
+use Rattle.states.proofs.Noted.{figure-plain, note-plain, plain-word}
 use Rattle.table.proofs.Across.{no-side}
-use Rattle.state_fill.proofs.Growing.{outside-same, order-of}
-use Rattle.state_fill.proofs.Carries.{summed-before}
-use Rattle.state_fill.proofs.Making.{made-same, made-kept, level-later}
+use Rattle.states.proofs.Growing.{outside-same, order-of}
+use Rattle.states.proofs.Carries.{summed-before}
+use Rattle.state_cells.proofs.Making.{made-same, made-kept, level-later}
 
 -- there is a state
 some-state : {blocks : List ℕ} {d words : ℕ} → Digits blocks d words → 1 ≤ words

@@ -1,10 +1,10 @@
 // The table row after row, and in a row cell after cell. At the end the lists are taken off.
-use crate::cells::Place;
-use crate::cells::make_cell;
-use crate::shape::Shape;
-use crate::sums::first_row;
-use crate::words::figure;
-use crate::words::note;
+use state_cells::Place;
+use state_cells::Shape;
+use state_cells::make_cell;
+use states::figure;
+use states::first_row;
+use states::note;
 use table::half;
 use table::set_run;
 ghost use mathlib.Core.Path.{_≡_};
@@ -14,8 +14,9 @@ ghost use Rattle.cutting.specs.Listed.{heavy-in};
 ghost use Rattle.cutting.specs.declared.Direction.the-variants.{Length, Width};
 ghost use Rattle.table.specs.Table.{position-count, Kept};
 ghost use Rattle.table.specs.Words.{Outside, Run};
-ghost use Rattle.state_fill.specs.Cells.{held, note, under};
-ghost use Rattle.state_fill.specs.Tables.{job-in, Rows, LevelRows, CellsLent, Counted, RowSpot, Figures, Bare, Plain};
+ghost use Rattle.states.specs.States.{held, note, under, Figures};
+ghost use Rattle.state_cells.specs.Places.{job-in, Rows, LevelRows, CellsLent};
+ghost use Rattle.state_fill.specs.Tables.{Counted, RowSpot, Bare, Plain};
 
 // The place of a row: the index of its normal length, the end of that one's first half, its word, and the state from which on the
 // figures of all cells before it are the same.

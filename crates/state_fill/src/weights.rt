@@ -1,7 +1,7 @@
 // The states of one weight and of two. One: the shares from 0 to the capacity, one digit, and the state of a piece is its weight. Two:
 // the second share is digit 0 and the first digit 1, and a piece's entry for its weight is the number of its state.
 use crate::rows::fill;
-use crate::shape::Shape;
+use state_cells::Shape;
 use table::TableSize;
 ghost use Prim.Native.Nat.{_*_, _≤_};
 ghost use lib.ListN.{length};
@@ -10,8 +10,7 @@ ghost use Rattle.cutting.specs.declared.Direction.the-variants.{Length, Width};
 ghost use Rattle.table.specs.Table.{position-count, Kept};
 ghost use Rattle.table.specs.States.{figure-pair};
 ghost use Rattle.table.specs.Contracts.{size-job, Fillable, FilledBy, TwoFillable, TwoBy};
-ghost use Rattle.state_fill.specs.Cells.{under, Digits};
-ghost use Rattle.state_fill.specs.Tables.{Figures};
+ghost use Rattle.states.specs.States.{under, Digits, Figures};
 
 // The table of pieces over the states of the digits up to d: its words are the figures, and the rest is as it was.
 pub fn fill_states(

@@ -28,8 +28,8 @@ use Rattle.table.specs.Table.{position-count, position, words-needed, Kept}
 use Rattle.table.specs.Two.{two-words, TwoFigures}
 use Rattle.table.specs.States.{below, by-state, figure-at, pair-blocks, figure-pair, pair-state}
 use Rattle.table.proofs.Shares.{by-state-monotone}
-use Rattle.state_fill.proofs.Digits.{digits-order}
-use Rattle.state_fill.proofs.Ties.{pair-blocked, figure-two as figure-numbered}
+use Rattle.states.proofs.Digits.{digits-order}
+use Rattle.states.proofs.Ties.{pair-blocked, figure-two as figure-numbered}
 use Rattle.bound.specs.Bound.{Memory, list-check, list-after}
 use Rattle.bound.proofs.Last.{last-position, word-last, words-some}
 use Rattle.bound.proofs.Listed.{same-positions, same-count, same-position, same-words}

@@ -36,10 +36,10 @@ use Rattle.table.specs.Contracts.{Listed}
 use Rattle.table.specs.States.{below, by-state}
 use Rattle.table.proofs.Shares.{by-state-monotone}
 use Rattle.table.proofs.Weighed.{figure-one}
-use Rattle.state_fill.specs.Cells.{under}
-use Rattle.state_fill.specs.Tables as states
-use Rattle.state_fill.proofs.Digits.{digits-order}
-use Rattle.state_fill.proofs.Ties.{one-digit}
+use Rattle.states.specs.States.{under}
+use Rattle.states.specs.States as states
+use Rattle.states.proofs.Digits.{digits-order}
+use Rattle.states.proofs.Ties.{one-digit}
 use Rattle.bound.specs.declared.BoundReport.{BoundReport}
 use Rattle.bound.specs.declared.BoundAnswer.{BoundAnswer}
 use Rattle.bound.specs.declared.BoundAnswer.the-variants as bounded

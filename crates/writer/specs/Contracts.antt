@@ -21,7 +21,7 @@ use Rattle.refusal.specs.Refusals.{next, first-refusal}
 use Rattle.refusal.specs.declared.Checked.{Checked}
 use Rattle.table.specs.declared.TableSize.{TableSize}
 use Rattle.table.specs.Contracts.{size-job}
-use Rattle.state_fill.specs.Cells.{under}
+use Rattle.states.specs.States.{under}
 use Rattle.bound.specs.declared.BoundReport.{BoundReport}
 use Rattle.bound.specs.Bound.{Memory, memory-checks, list-after}
 use Rattle.choice.specs.declared.Cell.{Cell}

@@ -21,7 +21,7 @@ ghost use lib.Seq.{paste};
 ghost use Rattle.cutting.specs.Preorder.{kind-of, operand-of};
 ghost use Rattle.cutting.specs.Sides.{rect-of};
 ghost use Rattle.table.specs.Contracts.{size-job};
-ghost use Rattle.state_fill.specs.Cells.{under};
+ghost use Rattle.states.specs.States.{under};
 ghost use Rattle.choice.specs.Choice.{Inside};
 ghost use Rattle.writer.specs.Contracts.{cell-at, with-cell, plate-cell, left-out, first-of, SettledAt, Readable, sawn-plan, Waiting, Stepped, NodesListed, Copyable};
 

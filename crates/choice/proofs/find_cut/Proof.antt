@@ -1,7 +1,7 @@
 -- `choice::find_cut` meets its contract.
 use Rattle.choice.proofs.Search.{rows-left, row-left, row-starts, rows-end, row-ends, second-word, pair-fails, pair-passes}
 use Rattle.choice.specs.Search.{pair-test, first-index, cut-found}
-use Rattle.state_fill.specs.Cells.{under}
+use Rattle.states.specs.States.{under}
 use denote.Ref.{now}
 use Rattle.choice.specs.declared.CutFound.the-variants.{Missing}
 use native.Mathlib.Omega.{arith}

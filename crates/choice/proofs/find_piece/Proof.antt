@@ -3,7 +3,7 @@ use Rattle.choice.proofs.Search.{left, left-start, left-fails, left-pas
 use Rattle.choice.specs.Search.{piece-test, piece-found}
 use Rattle.choice.specs.declared.PieceFound.the-variants.{Laid}
 use Rattle.cutting.specs.Lists.{range, first}
-use Rattle.state_fill.specs.Cells.{under}
+use Rattle.states.specs.States.{under}
 use borrow.Author.Needs.{needs}
 use Prim.Native.Nat.{_-_}
 use mathlib.Core.Path.{_≡_, refl, _∙_, sym, ap}

@@ -10,9 +10,8 @@ use Rattle.cutting.specs.Job.{Job}
 use Rattle.cutting.specs.Listed.{heavy-in, pieces-job}
 use Rattle.table.specs.Table.{position-count, Kept}
 use Rattle.table.specs.Contracts.{size-job}
-use Rattle.state_fill.specs.Cells.{under}
-use Rattle.state_fill.specs.Tables.{Figures}
-use Rattle.state_fill.proofs.Digits.{digits-order}
+use Rattle.states.specs.States.{under, Figures}
+use Rattle.states.proofs.Digits.{digits-order}
 use Rattle.storage.specs.declared.Layout.the-variants.{Ready}
 use Rattle.storage.specs.Contracts.{LaidOut}
 use Rattle.storage.proofs.Storage.{ready-laid, last-laid}

@@ -4,7 +4,7 @@ use denote.Ref.{now}
 use Rattle.cutting.specs.Listed.{heavy-in}
 use Rattle.table.specs.States.{figure-pair}
 use Rattle.table.specs.Contracts.{size-job, TwoBy}
-use Rattle.state_fill.proofs.Ties.{figures-pairs}
+use Rattle.states.proofs.Ties.{figures-pairs}
 use borrow.Author.Needs.{needs}
 use Rattle.two_bound.proofs.fill_pairs.Statement.{statement}
 use Rattle.two_bound.proofs.fill_pairs.Tie as tie

@@ -2,7 +2,7 @@
 use native.Mathlib.Omega.{arith}
 use Prim.Native.Nat.{_*_, _-_}
 use Rattle.cutting.specs.Listed.{heavy-in}
-use Rattle.state_fill.specs.Tables.{job-in}
+use Rattle.state_cells.specs.Places.{job-in}
 use Rattle.stage_fill.proofs.Numbers.{few-cells}
 use Rattle.stage_fill.proofs.Filling.{block-kept, InBlock, block-begins, block-more, block-ends}
 use Rattle.stage_fill.proofs.blocks.fill_block.Statement.{statement}

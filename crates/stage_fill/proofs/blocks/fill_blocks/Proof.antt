@@ -5,7 +5,7 @@ use Prim.Native.Nat.{ℕ, _+_, _*_, _-_, _≤_}
 use lib.ListN.{length}
 use Rattle.cutting.specs.declared.Direction.the-variants.{Length, Width}
 use Rattle.cutting.specs.Listed.{heavy-in}
-use Rattle.state_fill.specs.Tables.{job-in}
+use Rattle.state_cells.specs.Places.{job-in}
 use Rattle.stage_fill.specs.Blocks.{BlockMade}
 use Rattle.stage_fill.proofs.Numbers.{below-none}
 use Rattle.stage_fill.proofs.Filling.{stages-kept, stages-fewer, stage-block, made-then, width-next, stage-next}

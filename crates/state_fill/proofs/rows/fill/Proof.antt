@@ -6,7 +6,7 @@ use Prim.Native.Nat.{_-_, _<_}
 use lib.ListN.{length}
 use denote.Ref.{now}
 use Rattle.cutting.specs.Listed.{heavy-in}
-use Rattle.state_fill.specs.Tables.{job-in}
+use Rattle.state_cells.specs.Places.{job-in}
 use Rattle.state_fill.proofs.Filling.{InTable, table-cells, table-first, table-start, table-half, table-spot, table-fits, table-more, table-clear, table-bare, table-end}
 use Rattle.state_fill.proofs.rows.fill.Statement.{statement}
 use Rattle.state_fill.proofs.rows.fill.Tie as tie

@@ -7,7 +7,7 @@ use Prim.Native.Nat.{_-_, _<_}
 use lib.ListN.{length}
 use denote.Ref.{now}
 use Rattle.cutting.specs.Listed.{heavy-in}
-use Rattle.state_fill.specs.Tables.{job-in}
+use Rattle.state_cells.specs.Places.{job-in}
 use Rattle.state_fill.proofs.Filling.{InRow, row-first, row-start, row-half, row-spot, row-fits, row-more, row-end}
 use Rattle.state_fill.proofs.rows.fill_row.Statement.{statement}
 use Rattle.state_fill.proofs.rows.fill_row.Tie as tie

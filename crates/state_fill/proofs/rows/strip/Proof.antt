@@ -6,7 +6,7 @@ use Prim.Native.Nat.{_+_, _-_, _≤_}
 use lib.ListN.{length, length-set}
 use Rattle.table.specs.Words.{Run}
 use Rattle.table.proofs.Words.{run-none, run-more}
-use Rattle.state_fill.specs.Cells.{figure-in, held}
+use Rattle.states.specs.States.{figure-in, held}
 use Rattle.state_fill.proofs.Filling.{strip-stop}
 use Rattle.state_fill.proofs.rows.strip.Statement.{statement}
 use Rattle.state_fill.proofs.rows.strip.Tie as tie

@@ -4,7 +4,7 @@ use native.Mathlib.Omega.{arith}
 use denote.Ref.{now}
 use Rattle.cutting.specs.Listed.{heavy-in}
 use Rattle.table.specs.Contracts.{size-job}
-use Rattle.state_fill.proofs.Ties.{two-digit, figures-two}
+use Rattle.states.proofs.Ties.{two-digit, figures-two}
 use Rattle.state_fill.proofs.weights.fill_two.Statement.{statement}
 use Rattle.state_fill.proofs.weights.fill_two.Tie as tie
 

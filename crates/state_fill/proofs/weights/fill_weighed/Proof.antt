@@ -4,7 +4,7 @@ use native.Mathlib.Omega.{arith}
 use denote.Ref.{now}
 use Rattle.cutting.specs.Listed.{heavy-in}
 use Rattle.table.specs.Contracts.{size-job}
-use Rattle.state_fill.proofs.Ties.{one-digit, figures-one}
+use Rattle.states.proofs.Ties.{one-digit, figures-one}
 use Rattle.state_fill.proofs.weights.fill_weighed.Statement.{statement}
 use Rattle.state_fill.proofs.weights.fill_weighed.Tie as tie
 

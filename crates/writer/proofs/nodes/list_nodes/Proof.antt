@@ -8,7 +8,7 @@ use lib.ListN.{length, replicate, length-set}
 use lib.Seq.{sets}
 use denote.Ref.{now}
 use Rattle.cutting.specs.Preorder.{kind-of, operand-of, kinds-of, operands-of, node-count}
-use Rattle.state_fill.specs.Cells.{under}
+use Rattle.states.specs.States.{under}
 use Rattle.writer.specs.Contracts.{with-cell, sawn-plan, nodes-left, Waiting}
 use Rattle.writer.proofs.Plan.{Ready}
 use Rattle.writer.proofs.Waiting.{none-left, whole-nodes, plate-waits, plan-left, count-left}

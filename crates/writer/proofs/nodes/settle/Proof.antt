@@ -6,7 +6,7 @@ use native.Mathlib.Omega.{arith}
 use borrow.Author.Needs.{needs}
 use denote.Ref.{now}
 use Rattle.table.specs.Contracts.{size-job}
-use Rattle.state_fill.specs.Cells.{under}
+use Rattle.states.specs.States.{under}
 use Rattle.choice.specs.Choice.{Inside, chosen-at}
 use Rattle.writer.specs.Contracts.{plan-at, half-of}
 use Rattle.writer.proofs.Plan.{goes-on}

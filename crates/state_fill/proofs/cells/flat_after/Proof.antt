@@ -1,9 +1,0 @@
--- `state_fill::cells::flat_after` meets its contract.
-use native.Mathlib.Omega.{arith}
-use mathlib.Core.Path.{refl}
-use mathlib.Core.Logic.{inl, inr}
-use Rattle.state_fill.proofs.cells.flat_after.Statement.{statement}
-use Rattle.state_fill.proofs.cells.flat_after.Tie as tie
-
-pub flat-after-spec : {M : Type 1} → statement M
-flat-after-spec = tie.close (tie.spec (λ c. inr refl) (λ c. inl (omega arith, omega arith)) (λ c. inl (omega arith, omega arith)))

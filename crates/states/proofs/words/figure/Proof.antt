@@ -1,0 +1,13 @@
+-- `states::words::figure` meets its contract.
+use native.Mathlib.Omega.{arith}
+use mathlib.Core.Path.{refl}
+use Rattle.states.specs.States.{figure-in}
+use Rattle.states.proofs.words.figure.Statement.{statement}
+use Rattle.states.proofs.words.figure.Tie as tie
+
+returns : tie.Need-returns
+unfolding figure-in
+returns c = (refl, omega arith)
+
+pub figure-spec : {M : Type 1} → statement M
+figure-spec = tie.close (tie.spec returns)

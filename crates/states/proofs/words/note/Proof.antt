@@ -1,0 +1,17 @@
+-- `states::words::note` meets its contract: a word is below 2^64.
+use borrow.Author.Needs.{needs}
+use native.Mathlib.Omega.{arith}
+use Rattle.states.specs.States.{note-in}
+use Rattle.states.proofs.words.note.Statement.{statement}
+use Rattle.states.proofs.words.note.Tie as tie
+
+returns : tie.Need-returns
+unfolding note-in
+returns c = (omega arith, omega arith)
+
+returns-2 : tie.Need-returns-2
+unfolding note-in
+returns-2 c = (omega arith, omega arith)
+
+pub note-spec : {M : Type 1} → statement M
+note-spec = tie.close (tie.spec returns (λ c. search needs) returns-2)
