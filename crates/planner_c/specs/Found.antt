@@ -6,7 +6,7 @@ use Rattle.cutting.specs.Limits.{most-kinds}
 use Rattle.cutting.specs.Job.{Job}
 use Rattle.cutting.specs.Promises.{NoneAbove, NoneFiner}
 use Rattle.rounds.specs.declared.WeightsFound.{WeightsFound}
-use Rattle.rounds.specs.Step.{most-rounds}
+use Rattle.weight_steps.specs.Step.{most-rounds}
 use Rattle.rounds.specs.Rounds.{answer-of, LeastMet}
 use Rattle.planner_c.specs.Exports.{answer-word}
 

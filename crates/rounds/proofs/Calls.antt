@@ -26,9 +26,10 @@ use Rattle.plan.specs.Plan.{proceed, plan-answer}
 use Rattle.plan.specs.Calls.{arrays-answer}
 use Rattle.plan.proofs.Plans.{plans-checked}
 use Rattle.rounds.specs.declared.WeightsFound.{WeightsFound}
-use Rattle.rounds.specs.Step.{pick-number}
+use Rattle.weight_steps.specs.Step.{pick-number}
 use Rattle.rounds.specs.Rounds.{Lent, weight-at, round-verdict, rounds-by, rounds-run, bound-at, best-round, found, refused-answer, find-answer-by, before-verdict, lower-figure, run-answer, find-verdict, find-found, find-answer, found-values, found-outcome, find-said, last-round, RunLeaves, LeastMet, FindPromises}
-use Rattle.rounds.proofs.Rules.{rounds-most, step-rules, stop-rules}
+use Rattle.weight_steps.proofs.Rules.{step-rules}
+use Rattle.rounds.proofs.Rules.{rounds-most, stop-rules}
 
 module _ (J : Job) (lower : ℕ) where
   -- the best round's bound is the least, and no earlier round has it

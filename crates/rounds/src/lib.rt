@@ -1,12 +1,13 @@
 // The weight rounds: weights found for a job from all weights 0, in at most 18 rounds, each a writing call (specs/Rounds). The steps
-// between the rounds are formulas 12 and 13 of Morabito and Pureza (steps).
-mod steps;
+// between the rounds are those of crate `weight_steps`.
+mod copies;
 
 use job::Choices;
 use job::JobRecord;
 use job::WeightsAnswer;
 use job::with_full_demand;
 use refusal::Checked;
+use weight_steps::next_weights;
 use writer::WriteAnswer;
 ghost use mathlib.Core.Path.{_≡_};
 ghost use mathlib.Core.Bool.{_||_};
@@ -104,8 +105,8 @@ fn next_round(
 {
     let none = [0u8; 64];
     let demands = job.demands;
-    let copies = steps::count_copies(kinds, operands, nodes);
-    if steps::keep_demands(&copies, &demands, job.count) {
+    let copies = copies::count_copies(kinds, operands, nodes);
+    if copies::keep_demands(&copies, &demands, job.count) {
         return Turn {
             over: true,
             weights: none,
@@ -117,7 +118,7 @@ fn next_round(
             weights: none,
         };
     }
-    let next = steps::next_weights(weights, &copies, &demands, job.count, round, bound - lower);
+    let next = next_weights(weights, &copies, &demands, job.count, round, bound - lower);
     let n = job.count as usize;
     let checked = job::check_weights(job, &next[..n]);
     match checked {
