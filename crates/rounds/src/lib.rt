@@ -5,7 +5,6 @@ mod copies;
 use job::Choices;
 use job::JobRecord;
 use job::WeightsAnswer;
-use job::with_full_demand;
 use refusal::Checked;
 use weight_steps::next_weights;
 use writer::WriteAnswer;
@@ -234,7 +233,7 @@ pub fn find_weights(
 // The same with the capacity of the full demands, whatever the choices say of it.
 pub fn find_weights_full_demand(
     block: &[u8],
-    choices: Choices,
+    mut choices: Choices,
     kinds: &[u8],
     operands: &[u16],
     lengths: &mut [u16],
@@ -247,9 +246,10 @@ pub fn find_weights_full_demand(
         (lent-all (now (lengths .entry)) (now (widths .entry)) (now (table .entry)) (now («written_kinds» .entry)) (now («written_operands» .entry)))
         (lent-all (now (lengths .exit)) (now (widths .exit)) (now (table .exit)) (now («written_kinds» .exit)) (now («written_operands» .exit))) r ⌝ }
 {
-    find_weights(
+    choices.full_demand = true;
+    let found = find_weights(
         block,
-        with_full_demand(choices),
+        choices,
         kinds,
         operands,
         lengths,
@@ -257,5 +257,6 @@ pub fn find_weights_full_demand(
         table,
         written_kinds,
         written_operands,
-    )
+    );
+    found
 }
