@@ -2,7 +2,6 @@
 // figures into the lent table, and the table's last word is the bound. Refusals 1 to 9, 27, 19 and 20.
 use cutting::Sides;
 use job::Choices;
-use job::with_full_demand;
 use pieces::list_pieces;
 use pieces::plate_of;
 use refusal::Checked;
@@ -123,7 +122,7 @@ pub fn bound(
 // The same with the capacity of the full demands, whatever the choices say of it: demand times weight over all kinds.
 pub fn bound_full_demand(
     block: &[u8],
-    choices: Choices,
+    mut choices: Choices,
     weights: &[u8],
     lengths: &mut [u16],
     widths: &mut [u16],
@@ -132,12 +131,6 @@ pub fn bound_full_demand(
     ensures { λ r. ⌜ BoundPromises (now (block .entry)) (with-full-demand choices) (now (weights .entry)) (lent (now (lengths .entry)) (now (widths .entry)) (now (table .entry)))
         (lent (now (lengths .exit)) (now (widths .exit)) (now (table .exit))) r ⌝ }
 {
-    bound(
-        block,
-        with_full_demand(choices),
-        weights,
-        lengths,
-        widths,
-        table,
-    )
+    choices.full_demand = true;
+    bound(block, choices, weights, lengths, widths, table)
 }

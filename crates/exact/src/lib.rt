@@ -87,25 +87,31 @@ fn put_states(pieces: &mut [u32; 640], count: u16, blocks: &[u32])
     }
 }
 
-// The figures of pieces on a plate over the states up to q: refusals 19 and 20, then the lists, the floors of both sides, the table and
-// the report.
+// The last state of an order and its last digit.
+struct Last {
+    state: u16,
+    digit: usize,
+}
+
+// The figures of pieces on a plate over the states up to the last: refusals 19 and 20, then the lists, the floors of both sides, the table
+// and the report.
 fn states_of_pieces(
     plate: Sides,
     count: u16,
     pieces: &[u32; 640],
-    q: u16,
-    d: usize,
+    last: Last,
     blocks: &[u32],
     lengths: &mut [u16],
     widths: &mut [u16],
     floors: &mut [u16],
     table: &mut [u64],
 ) -> BoundAnswer
-    requires { ⌜ Countable (pieces-job (rect-of plate) count (now pieces)) (now blocks) d q (now floors) ⌝ }
-    ensures { λ r. ⌜ Filled (pieces-job (rect-of plate) count (now (pieces .entry))) (figure-at (pieces-job (rect-of plate) count (now (pieces .entry))) (under (now (blocks .entry)) d) (heavy-in (now (pieces .entry)))) q
+    requires { ⌜ Countable (pieces-job (rect-of plate) count (now pieces)) (now blocks) (last .digit) (last .state) (now floors) ⌝ }
+    ensures { λ r. ⌜ Filled (pieces-job (rect-of plate) count (now (pieces .entry))) (figure-at (pieces-job (rect-of plate) count (now (pieces .entry))) (under (now (blocks .entry)) (last .digit)) (heavy-in (now (pieces .entry)))) (last .state)
         (lent (now (lengths .entry)) (now (widths .entry)) (now (table .entry)))
         (lent (now (lengths .exit)) (now (widths .exit)) (now (table .exit))) (now (floors .exit)) r ⌝ }
 {
+    let q = last.state;
     let cell = (q as u32) + 1;
     let room = table.len();
     let layout = lay_out(plate, count, pieces, q, cell, lengths, widths, floors, room);
@@ -114,7 +120,7 @@ fn states_of_pieces(
         Layout::Ready(size, words) => {
             fill_states(
                 size,
-                d,
+                last.digit,
                 cell as usize,
                 blocks,
                 pieces,
@@ -123,8 +129,9 @@ fn states_of_pieces(
                 &floors[..],
                 table,
             );
+            let bound = table[words - 1];
             BoundAnswer::Answered(BoundReport {
-                bound: table[words - 1],
+                bound: bound,
                 capacity: q,
                 length_count: size.rows,
                 columns: size.columns,
@@ -178,8 +185,7 @@ fn exact_accepted(
         plate,
         count,
         &pieces,
-        q,
-        d,
+        Last { state: q, digit: d },
         &blocks[..],
         normal_lengths,
         normal_widths,

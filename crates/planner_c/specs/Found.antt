@@ -7,7 +7,7 @@ use Rattle.cutting.specs.Promises.{NoneAbove, NoneFiner}
 use Rattle.job.specs.declared.Choices.{Choices}
 use Rattle.job.specs.Weights.{block-job}
 use Rattle.rounds.specs.declared.WeightsFound.{WeightsFound}
-use Rattle.rounds.specs.Step.{most-rounds}
+use Rattle.weight_steps.specs.Step.{most-rounds}
 use Rattle.rounds.specs.Rounds.{answer-of, LeastMet, BoundAgain}
 use Rattle.planner_c.specs.Exports.{answer-word}
 

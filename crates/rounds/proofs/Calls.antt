@@ -30,9 +30,10 @@ use Rattle.plan.specs.Plan.{proceed, plan-answer}
 use Rattle.plan.specs.Calls.{arrays-answer}
 use Rattle.plan.proofs.Plans.{plans-checked}
 use Rattle.rounds.specs.declared.WeightsFound.{WeightsFound}
-use Rattle.rounds.specs.Step.{pick-number}
+use Rattle.weight_steps.specs.Step.{pick-number}
 use Rattle.rounds.specs.Rounds.{Lent, weight-at, round-verdict, rounds-by, rounds-run, bound-at, best-round, found, refused-answer, find-answer-by, before-verdict, lower-figure, run-answer, find-verdict, find-found, find-answer, found-values, found-outcome, find-said, refuses, last-here, last-round, within, plan-copies, RunLeaves, LeastMet, BoundAgain, FindPromises}
-use Rattle.rounds.proofs.Rules.{rounds-most, step-rules, stop-rules}
+use Rattle.weight_steps.proofs.Rules.{step-rules}
+use Rattle.rounds.proofs.Rules.{rounds-most, stop-rules}
 use Rattle.rounds.proofs.Run.{neither, weights-good, weight-past, no-capacity}
 use Rattle.rounds.proofs.Turns.{listed}
 

@@ -18,7 +18,7 @@ use Rattle.cutting.specs.Pieces as laid
 use Rattle.cutting.specs.Preorder.{preorder, kind-of, operand-of, kinds-of, operands-of, node-count}
 use Rattle.cutting.specs.Job.{copies-of}
 use Rattle.rounds.specs.Contracts.{lays, piece-here, pieces-in}
-use Rattle.rounds.proofs.Sums.{sum-same}
+use Rattle.weight_steps.proofs.Sums.{sum-same}
 
 -- the first summand first
 sum-front : (n : ℕ) (f : ℕ → ℕ) → sum (suc n) f ≡ f 0 + sum n (λ j. f (suc j))

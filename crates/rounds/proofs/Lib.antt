@@ -1,5 +1,3 @@
-pub mod Sums
-pub mod Roots
 pub mod Count
 pub mod Turns
 pub mod Best

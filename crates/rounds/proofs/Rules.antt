@@ -1,53 +1,18 @@
--- The definitions have the scope's rules: the halving of the factor, the step as a whole root, the test of the demands, the last round.
-use mathlib.Core.Path.{_≡_, refl, sym, _∙_, ap}
+-- The definitions have the scope's rules of the stop: the test of the demands, the last round.
+use mathlib.Core.Path.{_≡_, refl, _∙_, ap}
 use mathlib.Core.Bool.{Bool, true, false, _||_, not}
-use Prim.Native.Nat.{ℕ, zero, suc, _+_, _*_, _/_, _^_, _≤_, _<_, min}
-use native.Mathlib.Nat.{add-div-right, div-div-eq-div-mul, pow-suc, div-eq-of-lt}
+use Prim.Native.Nat.{ℕ, zero, suc, _+_, _*_, _≤_, _<_}
 use native.Mathlib.Decide.{ℕ-discrete}
 use native.Mathlib.Omega.{arith}
-use borrow.Author.Tests.{ltb-true, ltb-false, le-ltb, eq-eqb, eqb-true, not-true, not-false}
+use borrow.Author.Tests.{ltb-true, ltb-false, le-ltb, eq-eqb, not-true, not-false}
 use lib.Dec.{ltb, eqb}
-use lib.ListN.{getD}
 use Rattle.cutting.specs.Lists.{range, sum, any}
 use Rattle.cutting.specs.Job.{Job, capacity}
 use Rattle.refusal.specs.declared.Checked.{Checked}
 use Rattle.refusal.specs.declared.Checked.the-variants.{Passed, Refused}
-use Rattle.rounds.specs.Step.{most-rounds, factor, factors, distance, pick-number, WholeRoot, scale, weight-step, StepRules}
+use Rattle.weight_steps.specs.Step.{distance, pick-number}
 use Rattle.rounds.specs.Rounds.{plan-copies, squares, weight-at, within, Lent, round-verdict, refuses, last-here, last-from, last-round, rounds-by, rounds-run, StopRules}
-use Rattle.rounds.proofs.Sums.{any-none, any-more, none-passes}
-use Rattle.rounds.proofs.Roots.{root-whole, root-exists}
-
--- the factor is 2 in the first three rounds
-factor-first : (k : ℕ) → k < 3 → factor k ≡ 32
-factor-first k h = ap (λ n. 32 / 2 ^ n) (div-eq-of-lt h)
-
--- and is halved after every third round
-factor-halved : (k : ℕ) → factor (k + 3) ≡ factor k / 2
-factor-halved k = ap (λ n. 32 / 2 ^ n) (add-div-right k {k = 3} (omega arith) ∙ (let e : k / 3 + 1 ≡ suc (k / 3) = omega arith in e)) ∙ ap (λ n. 32 / n) (pow-suc 2 (k / 3)) ∙ sym (div-div-eq-div-mul 32 (2 ^ (k / 3)) 2)
-
--- each entry of the table is its round's factor
-pub factor-tabled : (k : ℕ) → k < 18 → getD factors k 0 ≡ factor k
-unfolding any range
-factor-tabled k h = eqb-true (getD factors k 0) (factor k) (not-false _ (none-passes (λ k. not (eqb (getD factors k 0) (factor k))) 18 k refl h))
-
--- so each entry of the table is half of the entry three before it
-table-halved : (k : ℕ) → k + 3 < most-rounds → getD factors (k + 3) 0 ≡ getD factors k 0 / 2
-table-halved k h = factor-tabled (k + 3) (omega arith) ∙ factor-halved k ∙ sym (ap (λ n. n / 2) (factor-tabled k (omega arith)))
-
--- the step is the whole part of the square root of d · s, and 255 where that is above
-step-whole : (f gap squares d x : ℕ) → WholeRoot (d * scale f gap squares) (16 * squares) x → weight-step f gap squares d ≡ min 255 x
-step-whole f gap squares d x h = root-whole 255 (d * scale f gap squares) (16 * squares) x h
-
--- the rules of the steps
-pub step-rules : StepRules
-step-rules = record {
-  first = factor-first;
-  halved = factor-halved;
-  tabled = factor-tabled;
-  table-halved = table-halved;
-  whole = step-whole;
-  exists = λ f gap squares d h. root-exists (d * scale f gap squares) (16 * squares) (omega arith);
-}
+use Rattle.weight_steps.proofs.Sums.{any-none, any-more, none-passes}
 
 module _ (J : Job) (copies : ℕ → ℕ) where
   -- the test of the demands

@@ -29,7 +29,7 @@ use Rattle.writer.specs.declared.WriteAnswer.the-variants as write
 use Rattle.writer.specs.Write.{plan-check, nodes-verdict, reported, write-answer-by, block-plan, write-verdict, write-answer, array-after}
 use Rattle.writer.proofs.Call.{written-fits}
 use Rattle.rounds.specs.declared.WeightsFound.{WeightsFound}
-use Rattle.rounds.specs.Step.{pick-number}
+use Rattle.weight_steps.specs.Step.{pick-number}
 use Rattle.rounds.specs.Rounds.{plan-copies, next-weight, weight-at, within, stops-after, Lent, round-verdict, refuses, last-here, last-from, last-round, rounds-by, rounds-run, bound-at, best-round, answer-of, found, find-answer-by, run-answer, RoundLeaves, RoundsLeave, RunLeaves}
 use Rattle.rounds.specs.Contracts.{pieces-in, Made, Turned, better, ended}
 use Rattle.rounds.proofs.Count.{pieces-tree}

@@ -20,10 +20,10 @@ use Rattle.job.specs.Weights.{weight-in, weights-answer}
 use Rattle.job.proofs.Entries.{entries-length, entries-in, entries-past}
 use Rattle.job.proofs.Weights.{answer-passed, capacity-answered, weights-passed}
 use Rattle.bound.proofs.Holds.{bound-held}
-use Rattle.rounds.specs.Step.{factor, distance, adjusted}
+use Rattle.weight_steps.specs.Step.{factor, distance, adjusted, summed}
 use Rattle.rounds.specs.Rounds.{plan-copies, squares, gap, next-weight, within}
-use Rattle.rounds.specs.Contracts.{pieces-in, summed, Made, Turned}
-use Rattle.rounds.proofs.Sums.{any-same, sum-same}
+use Rattle.rounds.specs.Contracts.{pieces-in, Made, Turned}
+use Rattle.weight_steps.proofs.Sums.{any-same, sum-same}
 
 -- arrays whose first n entries agree
 pub entries-same : (f g : ℕ → ℕ) (n : ℕ) → ((i : ℕ) → i < n → f i ≡ g i) → entries f n ≡ entries g n

@@ -1,9 +1,9 @@
--- What only the inner contracts of the weight rounds cite: what the loops over nodes and kinds count, what the end of a round asks and
+-- What only the inner contracts of the weight rounds cite: what the loop over nodes counts, what the end of a round asks and
 -- says, and the best answer with one round more.
 use mathlib.Core.Path.{_≡_}
 use mathlib.Core.Bool.{Bool, true, false, _||_}
 use mathlib.Core.List.{List}
-use Prim.Native.Nat.{ℕ, _*_, _≤_, _<_}
+use Prim.Native.Nat.{ℕ, _≤_, _<_}
 use lib.Dec.{ltb, eqb}
 use lib.ListN.{length, getD}
 use Rattle.cutting.specs.Limits.{most-nodes, most-kinds, most-capacity}
@@ -13,7 +13,7 @@ use Rattle.refusal.specs.declared.Checked.the-variants.{Refused}
 use Rattle.job.specs.Block.{entries}
 use Rattle.writer.specs.declared.WriteAnswer.{WriteAnswer}
 use Rattle.writer.specs.declared.WriteAnswer.the-variants as write
-use Rattle.rounds.specs.Step.{most-rounds, final-round, distance}
+use Rattle.weight_steps.specs.Step.{most-rounds, final-round}
 use Rattle.rounds.specs.Rounds.{plan-copies, next-weight, within, answer-of, refused-answer}
 use Rattle.rounds.specs.declared.WeightsFound.{WeightsFound}
 
@@ -28,10 +28,6 @@ piece-here kind operand k = only (lays kind) (only (eqb operand k) 1)
 -- the pieces of kind k in the first n nodes
 abbrev pub pieces-in : List ℕ → List ℕ → ℕ → ℕ → ℕ
 pieces-in kinds operands n k = sum n (λ j. piece-here (getD kinds j 0) (getD operands j 0) k)
-
--- the summed squares over arrays of copies and demands
-abbrev pub summed : List ℕ → List ℕ → ℕ → ℕ
-summed copies demands n = sum n (λ i. distance (getD copies i 0) (getD demands i 0) * distance (getD copies i 0) (getD demands i 0))
 
 -- what a round knows when its plan is written: the bound is that of its weights, and the pieces in the arrays are the plan's copies
 pub record Made (J : Job) (lower round bound nodes : ℕ) (weight : ℕ → ℕ) (kinds operands : List ℕ) : Type 0 where

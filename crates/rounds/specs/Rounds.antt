@@ -20,7 +20,7 @@ use Rattle.job.specs.Weights.{block-job, weight-in, Accepted}
 use Rattle.plan.specs.Calls.{arrays-answer}
 use Rattle.bound.specs.Bound.{Memory, lent, Leaves, memory-checks, list-after}
 use Rattle.writer.specs.Write.{nodes-verdict}
-use Rattle.rounds.specs.Step.{most-rounds, final-round, factor, distance, pick-number, adjusted, StepRules}
+use Rattle.weight_steps.specs.Step.{most-rounds, final-round, factor, distance, pick-number, adjusted, StepRules}
 use Rattle.rounds.specs.declared.WeightsFound.{WeightsFound}
 
 -- the copies of kind i in the plan behind the bound

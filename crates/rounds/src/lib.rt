@@ -1,12 +1,12 @@
 // The weight rounds: weights found for a job from all weights 0, in at most 18 rounds, each a writing call (specs/Rounds). The steps
-// between the rounds are formulas 12 and 13 of Morabito and Pureza (steps).
-mod steps;
+// between the rounds are those of crate `weight_steps`.
+mod copies;
 
 use job::Choices;
 use job::JobRecord;
 use job::WeightsAnswer;
-use job::with_full_demand;
 use refusal::Checked;
+use weight_steps::next_weights;
 use writer::WriteAnswer;
 ghost use mathlib.Core.Path.{_≡_};
 ghost use mathlib.Core.Bool.{_||_};
@@ -104,8 +104,8 @@ fn next_round(
 {
     let none = [0u8; 64];
     let demands = job.demands;
-    let copies = steps::count_copies(kinds, operands, nodes);
-    if steps::keep_demands(&copies, &demands, job.count) {
+    let copies = copies::count_copies(kinds, operands, nodes);
+    if copies::keep_demands(&copies, &demands, job.count) {
         return Turn {
             over: true,
             weights: none,
@@ -117,7 +117,7 @@ fn next_round(
             weights: none,
         };
     }
-    let next = steps::next_weights(weights, &copies, &demands, job.count, round, bound - lower);
+    let next = next_weights(weights, &copies, &demands, job.count, round, bound - lower);
     let n = job.count as usize;
     let checked = job::check_weights(job, &next[..n]);
     match checked {
@@ -233,7 +233,7 @@ pub fn find_weights(
 // The same with the capacity of the full demands, whatever the choices say of it.
 pub fn find_weights_full_demand(
     block: &[u8],
-    choices: Choices,
+    mut choices: Choices,
     kinds: &[u8],
     operands: &[u16],
     lengths: &mut [u16],
@@ -246,9 +246,10 @@ pub fn find_weights_full_demand(
         (lent-all (now (lengths .entry)) (now (widths .entry)) (now (table .entry)) (now («written_kinds» .entry)) (now («written_operands» .entry)))
         (lent-all (now (lengths .exit)) (now (widths .exit)) (now (table .exit)) (now («written_kinds» .exit)) (now («written_operands» .exit))) r ⌝ }
 {
-    find_weights(
+    choices.full_demand = true;
+    let found = find_weights(
         block,
-        with_full_demand(choices),
+        choices,
         kinds,
         operands,
         lengths,
@@ -256,5 +257,6 @@ pub fn find_weights_full_demand(
         table,
         written_kinds,
         written_operands,
-    )
+    );
+    found
 }

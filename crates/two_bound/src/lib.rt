@@ -6,7 +6,6 @@ use job::Choices;
 use job::JobRecord;
 use job::WeightsAnswer;
 use job::check_weights;
-use job::with_full_demand;
 use pieces::list_pieces;
 use pieces::plate_of;
 use refusal::Checked;
@@ -45,6 +44,12 @@ pub struct TwoReport {
 pub enum TwoAnswer {
     Answered(TwoReport),
     Refused(Refusal),
+}
+
+// The capacities of both weights.
+struct Capacities {
+    first: u16,
+    second: u16,
 }
 
 // What two lists of weights answer: both capacities; where they are refused, 0.
@@ -109,14 +114,14 @@ fn state_of(first: u8, second: u8, q: u16, s: u16) -> u32
 }
 
 // Each piece gets the number of its state for its weight.
-fn put_states(pieces: &mut [u32; 640], count: u16, first: &[u8], second: &[u8], q: u16, s: u16)
-    requires { ⌜ Statable (now pieces) count (now first) (now second) q s ⌝ }
-    ensures { λ _. ⌜ Stated count (weight-in (now (first .entry))) (weight-in (now (second .entry))) q s (now (pieces .entry)) (now (pieces .exit)) ⌝ }
+fn put_states(pieces: &mut [u32; 640], count: u16, first: &[u8], second: &[u8], most: Capacities)
+    requires { ⌜ Statable (now pieces) count (now first) (now second) (most .first) (most .second) ⌝ }
+    ensures { λ _. ⌜ Stated count (weight-in (now (first .entry))) (weight-in (now (second .entry))) (most .first) (most .second) (now (pieces .entry)) (now (pieces .exit)) ⌝ }
 {
     for i in 0..count {
         let at = 5 * (i as usize);
         let kind = (pieces[at + 4] / 2) as usize;
-        pieces[at + 3] = state_of(first[kind], second[kind], q, s);
+        pieces[at + 3] = state_of(first[kind], second[kind], most.first, most.second);
     }
 }
 
@@ -146,18 +151,19 @@ fn two_of_pieces(
     plate: Sides,
     count: u16,
     pieces: &[u32; 640],
-    q: u16,
-    s: u16,
+    most: Capacities,
     lengths: &mut [u16],
     widths: &mut [u16],
     floors: &mut [u16],
     table: &mut [u64],
 ) -> TwoAnswer
-    requires { ⌜ Pairable (pieces-job (rect-of plate) count (now pieces)) q s (now floors) ⌝ }
-    ensures { λ r. ⌜ Paired (pieces-job (rect-of plate) count (now (pieces .entry))) (figure-pair (pieces-job (rect-of plate) count (now (pieces .entry))) q s (heavy-in (now (pieces .entry)))) q s
+    requires { ⌜ Pairable (pieces-job (rect-of plate) count (now pieces)) (most .first) (most .second) (now floors) ⌝ }
+    ensures { λ r. ⌜ Paired (pieces-job (rect-of plate) count (now (pieces .entry))) (figure-pair (pieces-job (rect-of plate) count (now (pieces .entry))) (most .first) (most .second) (heavy-in (now (pieces .entry)))) (most .first) (most .second)
         (lent (now (lengths .entry)) (now (widths .entry)) (now (table .entry)))
         (lent (now (lengths .exit)) (now (widths .exit)) (now (table .exit))) r ⌝ }
 {
+    let q = most.first;
+    let s = most.second;
     let cell = ((q as u32) + 1) * ((s as u32) + 1);
     let room = table.len();
     let layout = lay_out(plate, count, pieces, q, cell, lengths, widths, floors, room);
@@ -173,10 +179,11 @@ fn two_of_pieces(
                 &floors[..],
                 table,
             );
+            let bound = table[words - 1];
             TwoAnswer::Answered(TwoReport {
-                bound: table[words - 1],
-                first_capacity: q,
-                second_capacity: s,
+                bound: bound,
+                first_capacity: most.first,
+                second_capacity: most.second,
                 length_count: size.rows,
                 columns: size.columns,
             })
@@ -213,21 +220,17 @@ pub fn bound_two(
     let listing = list_pieces(record, first);
     let count = listing.count;
     let mut pieces = listing.pieces;
-    put_states(
-        &mut pieces,
-        count,
-        first,
-        second,
-        weighed.first,
-        weighed.second,
-    );
+    let most = Capacities {
+        first: weighed.first,
+        second: weighed.second,
+    };
+    put_states(&mut pieces, count, first, second, most);
     let mut floors = [0u16; 2042];
     two_of_pieces(
         plate,
         count,
         &pieces,
-        weighed.first,
-        weighed.second,
+        most,
         lengths,
         widths,
         &mut floors[..],
@@ -238,7 +241,7 @@ pub fn bound_two(
 // The same with the capacities of the full demands, whatever the choices say of them: demand times weight over all kinds.
 pub fn bound_two_full_demand(
     block: &[u8],
-    choices: Choices,
+    mut choices: Choices,
     first: &[u8],
     second: &[u8],
     lengths: &mut [u16],
@@ -248,13 +251,6 @@ pub fn bound_two_full_demand(
     ensures { λ r. ⌜ TwoPromises (now (block .entry)) (with-full-demand choices) (now (first .entry)) (now (second .entry)) (lent (now (lengths .entry)) (now (widths .entry)) (now (table .entry)))
         (lent (now (lengths .exit)) (now (widths .exit)) (now (table .exit))) r ⌝ }
 {
-    bound_two(
-        block,
-        with_full_demand(choices),
-        first,
-        second,
-        lengths,
-        widths,
-        table,
-    )
+    choices.full_demand = true;
+    bound_two(block, choices, first, second, lengths, widths, table)
 }

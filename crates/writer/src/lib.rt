@@ -7,7 +7,6 @@ use bound::bound_of_pieces;
 use cutting::Sides;
 use job::Choices;
 use job::JobRecord;
-use job::with_full_demand;
 use nodes::copy_nodes;
 use nodes::list_nodes;
 use pieces::list_pieces;
@@ -97,6 +96,8 @@ pub fn plan_of_pieces(
     let mut own_kinds = [0u8; 4095];
     let mut own_operands = [0u16; 4095];
     let count = list_nodes(
+        &mut own_kinds[..],
+        &mut own_operands[..],
         sawing,
         pieces,
         normal_lengths,
@@ -104,8 +105,6 @@ pub fn plan_of_pieces(
         floors,
         table,
         blocks,
-        &mut own_kinds[..],
-        &mut own_operands[..],
     );
     let nodes = count as u64;
     if too_long(nodes, kinds.len(), operands.len()) {
@@ -213,7 +212,7 @@ pub fn write_plan(
 // The same with the capacity of the full demands, whatever the choices say of it.
 pub fn write_plan_full_demand(
     block: &[u8],
-    choices: Choices,
+    mut choices: Choices,
     weights: &[u8],
     lengths: &mut [u16],
     widths: &mut [u16],
@@ -224,9 +223,10 @@ pub fn write_plan_full_demand(
     ensures { λ r. ⌜ WritePromises (now (block .entry)) (with-full-demand choices) (now (weights .entry)) (lent (now (lengths .entry)) (now (widths .entry)) (now (table .entry)))
         (lent (now (lengths .exit)) (now (widths .exit)) (now (table .exit))) (now (kinds .entry)) (now (operands .entry)) (now (kinds .exit)) (now (operands .exit)) r ⌝ }
 {
+    choices.full_demand = true;
     write_plan(
         block,
-        with_full_demand(choices),
+        choices,
         weights,
         lengths,
         widths,

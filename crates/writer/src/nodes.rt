@@ -217,6 +217,8 @@ fn put_operand(operands: &mut [u16], at: usize, node: Node)
 
 // The number of nodes of the plan from the plate downward; lists them in preorder from the first entries on, as far as the lists go.
 pub fn list_nodes(
+    kinds: &mut [u8],
+    operands: &mut [u16],
     sawing: Sawing,
     pieces: &[u32; 640],
     normal_lengths: &[u16],
@@ -224,8 +226,6 @@ pub fn list_nodes(
     floors: &[u16],
     table: &[u64],
     blocks: &[u32],
-    kinds: &mut [u8],
-    operands: &mut [u16],
 ) -> usize
     requires { ⌜ Readable sawing (now blocks) (now pieces) (now «normal_lengths») (now «normal_widths») (now floors) (now table) ⌝ }
     ensures { λ r. ⌜ NodesListed (sawn-plan sawing (now (blocks .entry)) (now (pieces .entry))) (now (kinds .entry)) (now (operands .entry)) (now (kinds .exit)) (now (operands .exit)) r ⌝ }

@@ -4,9 +4,7 @@ use Rattle.bound.proofs.bound_full_demand.Statement.{statement}
 use Rattle.bound.proofs.bound_full_demand.Tie as tie
 
 returns : tie.Need-returns
-returns c =
-    let called = c .before .before .before .before .before .before in
-    rw (called .before .before .before .before .with-full-demand .ensures) at (called .bound .ensures)
+returns c = c .before .before .before .before .before .before .bound .ensures
 
 pub bound-full-demand-spec : {M : Type 1} → statement M
-bound-full-demand-spec = tie.close (tie.spec (search needs) (search needs) (search needs) (search needs) (search needs) returns)
+bound-full-demand-spec = tie.close (tie.spec (search needs) (search needs) (search needs) (search needs) returns)

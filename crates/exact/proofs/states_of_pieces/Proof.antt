@@ -29,7 +29,7 @@ start k = k .before .before .before .before .before .before .before .before .bef
 abbrev J : tie.After-known-told2 → Job
 J k = pieces-job (rect-of (start k .args .plate)) (start k .args .count) (now (start k .args .pieces))
 
-laid : (k : tie.After-known-told2) → LaidOut (J k) (start k .args .q) (start k .args .q + 1) (length (now (start k .args .table))) (now (start k .args .lengths)) (now (start k .args .widths)) (now (start k .args .floors))
+laid : (k : tie.After-known-told2) → LaidOut (J k) (start k .args .last .state) (start k .args .last .state + 1) (length (now (start k .args .table))) (now (start k .args .lengths)) (now (start k .args .widths)) (now (start k .args .floors))
     (k .before .before .before .before .before .before .before .before .before .lay-out .last .1 .1 .1 .1 .1 .0) (k .before .before .before .before .before .before .before .before .before .lay-out .last .1 .1 .1 .1 .1 .1 .0) (k .before .before .before .before .before .before .before .before .before .lay-out .last .1 .1 .1 .1 .1 .1 .1 .0) (Ready (k .before .layout2 .given .0 .0) (k .before .layout2 .given .0 .1 .0))
 laid k = rw (k .before .layout2 .given .1) at (k .before .before .before .before .before .before .before .before .before .lay-out .ensures)
 
@@ -44,14 +44,14 @@ fill-states-requires c κs =
 last : (k : tie.After-known-told2) → (1 ≤ k .before .layout2 .given .0 .1 .0) × (k .before .layout2 .given .0 .1 .0 - 1 < length (now (start k .args .table)))
 last k = last-laid (laid k) (omega arith)
 
-sub-t26 : tie.Need-sub-t26
-sub-t26 c = last (c .before .before .before .before .before .before .before) .0
+sub-bound : tie.Need-sub-bound
+sub-bound c = last (c .before .before .before .before .before .before .before) .0
 
-mul-t35 : tie.Need-mul-t35
-mul-t35 c = let k = c .before .before .before .before .before .before .before in scaled-fits _ _ 8 (last k .1) (start k .good .1 .1 .1 .1 .1 .1 .1 .1 .1 .0 .1)
+mul-bound : tie.Need-mul-bound
+mul-bound c = let k = c .before .before .before .before .before .before .before in scaled-fits _ _ 8 (last k .1) (start k .good .1 .1 .1 .1 .1 .1 .1 .1 .0 .1)
 
-slice-read-t37 : tie.Need-slice-read-t37
-slice-read-t37 c = omega (arith, c .before .before .before .fill-states .ensures .1 .0, last (c .before .before .before .before .before .before .before .before) .1)
+slice-read-bound : tie.Need-slice-read-bound
+slice-read-bound c = omega (arith, c .before .before .before .fill-states .ensures .1 .0, last (c .before .before .before .before .before .before .before .before) .1)
 
 returns : tie.Need-returns
 returns c = refused _ _ _ (rw (c .before .layout .given .1) at (c .before .before .before .before .before .before .before .before .before .lay-out .ensures))
@@ -62,15 +62,15 @@ returns-2 c =
     let e = start k .args in
     let is = ready-laid (laid k) in
     let table = c .before .before .before .fill-states .last .1 .1 .1 .1 .1 .1 .1 .1 .0 in
-    let f = subst (λ z. Figures (size-job z (now (e .pieces))) (under (now (e .blocks)) (e .d)) (heavy-in (now (e .pieces))) (e .q + 1) table
-    × Kept (position-count (size-job z (now (e .pieces))) Length * position-count (size-job z (now (e .pieces))) Width * (e .q + 1)) (now (e .table)) table) (is .size-is) (c .before .before .before .fill-states .ensures) in
-    let order = digits-order (λ i. getD (now (e .blocks)) i 0) (e .d) (start k .pre .digits .digits) in
+    let f = subst (λ z. Figures (size-job z (now (e .pieces))) (under (now (e .blocks)) (e .last .digit)) (heavy-in (now (e .pieces))) (e .last .state + 1) table
+    × Kept (position-count (size-job z (now (e .pieces))) Length * position-count (size-job z (now (e .pieces))) Width * (e .last .state + 1)) (now (e .table)) table) (is .size-is) (c .before .before .before .fill-states .ensures) in
+    let order = digits-order (λ i. getD (now (e .blocks)) i 0) (e .last .digit) (start k .pre .digits .digits) in
     reported _ _ _ (laid k)
-    (report-is (ap (λ n. getD table (n - 1) 0) (is .words-are) ∙ states-last (J k) (under (now (e .blocks)) (e .d)) order (heavy-in (now (e .pieces))) (start k .pre .in-range) (e .q) table (f .0)) refl (ap (λ z. z .rows) (is .size-is)) (ap (λ z. z .columns) (is .size-is))) f
+    (report-is (ap (λ n. getD table (n - 1) 0) (is .words-are) ∙ states-last (J k) (under (now (e .blocks)) (e .last .digit)) order (heavy-in (now (e .pieces))) (start k .pre .in-range) (e .last .state) table (f .0)) refl (ap (λ z. z .rows) (is .size-is)) (ap (λ z. z .columns) (is .size-is))) f
 
 pub states-of-pieces-spec : {M : Type 1} → statement M
 states-of-pieces-spec =
     tie.close
     (tie.spec
-    (λ c. search needs) (λ c κs. search needs) (λ c. search needs) (λ c. search needs) (λ c. search needs) fill-states-requires sub-t26 mul-t35 slice-read-t37
+    (λ c. search needs) (λ c. search needs) (λ c κs. search needs) (λ c. search needs) (λ c. search needs) (λ c. search needs) fill-states-requires sub-bound mul-bound slice-read-bound
     (λ c. search needs) (λ c. search needs) (λ c. search needs) returns (λ c. search needs) (λ c. search needs) (λ c. search needs) (λ c. search needs) returns-2)

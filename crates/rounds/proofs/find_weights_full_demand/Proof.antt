@@ -4,12 +4,7 @@ use Rattle.rounds.proofs.find_weights_full_demand.Statement.{statement}
 use Rattle.rounds.proofs.find_weights_full_demand.Tie as tie
 
 returns : tie.Need-returns
-returns c =
-    let called = c .before .before .before .before .before .before .before .before .before .before in
-    rw (called .before .before .before .before .before .before .with-full-demand .ensures) at (called .find-weights .ensures)
+returns c = c .before .before .before .before .before .before .before .before .before .before .find-weights .ensures
 
 pub find-weights-full-demand-spec : {M : Type 1} → statement M
-find-weights-full-demand-spec =
-    tie.close
-    (tie.spec
-    (search needs) (search needs) (search needs) (search needs) (search needs) (search needs) (search needs) returns)
+find-weights-full-demand-spec = tie.close (tie.spec (search needs) (search needs) (search needs) (search needs) (search needs) (search needs) returns)

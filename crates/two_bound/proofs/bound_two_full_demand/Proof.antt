@@ -4,9 +4,7 @@ use Rattle.two_bound.proofs.bound_two_full_demand.Statement.{statement}
 use Rattle.two_bound.proofs.bound_two_full_demand.Tie as tie
 
 returns : tie.Need-returns
-returns c =
-    let called = c .before .before .before .before .before .before in
-    rw (called .before .before .before .before .with-full-demand .ensures) at (called .bound-two .ensures)
+returns c = c .before .before .before .before .before .before .bound-two .ensures
 
 pub bound-two-full-demand-spec : {M : Type 1} → statement M
-bound-two-full-demand-spec = tie.close (tie.spec (search needs) (search needs) (search needs) (search needs) (search needs) returns)
+bound-two-full-demand-spec = tie.close (tie.spec (search needs) (search needs) (search needs) (search needs) returns)

@@ -12,13 +12,13 @@ use Rattle.two_bound.proofs.put_states.Statement.{statement}
 use Rattle.two_bound.proofs.put_states.Tie as tie
 
 abbrev Inv-loop : tie.InvT-loop
-Inv-loop pieces₀ count first second q s i₀ pieces i = (i ≤ count) × Stated i (weight-in first) (weight-in second) q s pieces₀ pieces
+Inv-loop pieces₀ count first second most i₀ pieces i = (i ≤ count) × Stated i (weight-in first) (weight-in second) (most .first) (most .second) pieces₀ pieces
 
 abbrev μ-loop : tie.MeasureT-loop
-μ-loop pieces₀ count first second q s i₀ pieces i = count - i
+μ-loop pieces₀ count first second most i₀ pieces i = count - i
 
 loop-holds : tie.Need-loop-holds Inv-loop μ-loop
-loop-holds c = let e = c .before .before .args in (omega arith, stated-none (weight-in (now (e .first))) (weight-in (now (e .second))) (e .q) (e .s) (now (e .pieces)))
+loop-holds c = let e = c .before .before .args in (omega arith, stated-none (weight-in (now (e .first))) (weight-in (now (e .second))) (e .most .first) (e .most .second) (now (e .pieces)))
 
 element-copy-out-kind : tie.Need-element-copy-out-kind Inv-loop μ-loop
 element-copy-out-kind c = omega (arith, c .before .before .before .before .pre .few)
@@ -44,15 +44,15 @@ loop-again c =
     let i = c .before .before .before .before .before .loop .i in
     let so = c .before .before .before .before .before .loop .inv .1 in (
       omega arith,
-      stated-more (weight-in (now (e .first))) (weight-in (now (e .second))) (e .q) (e .s) (now (e .pieces)) i (c .state-of .result) so (omega (arith, so .entries, c .before .before .before .before .before .before .before .before .pre .entries, c .before .before .before .before .before .before .before .before .pre .few))
-          (c .state-of .ensures ∙ state-same (weight-in (now (e .first))) (weight-in (now (e .second))) (e .q) (e .s) (getD (c .before .before .before .before .before .loop .pieces) (5 * i + 4) 0 / 2)),
+      stated-more (weight-in (now (e .first))) (weight-in (now (e .second))) (e .most .first) (e .most .second) (now (e .pieces)) i (c .state-of .result) so (omega (arith, so .entries, c .before .before .before .before .before .before .before .before .pre .entries, c .before .before .before .before .before .before .before .before .pre .few))
+          (c .state-of .ensures ∙ state-same (weight-in (now (e .first))) (weight-in (now (e .second))) (e .most .first) (e .most .second) (getD (c .before .before .before .before .before .loop .pieces) (5 * i + 4) 0 / 2)),
     )
 
 returns : tie.Need-returns Inv-loop μ-loop
 returns c =
     let e = c .before .before .before .before .args in
     let k : c .before .loop .i ≡ e .count = omega (arith, c .before .loop .inv .0) in
-    subst (λ n. Stated n (weight-in (now (e .first))) (weight-in (now (e .second))) (e .q) (e .s) (now (e .pieces)) (c .before .loop .pieces)) k (c .before .loop .inv .1)
+    subst (λ n. Stated n (weight-in (now (e .first))) (weight-in (now (e .second))) (e .most .first) (e .most .second) (now (e .pieces)) (c .before .loop .pieces)) k (c .before .loop .inv .1)
 
 pub put-states-spec : {M : Type 1} → statement M
 put-states-spec =

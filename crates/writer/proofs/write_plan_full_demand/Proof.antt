@@ -4,12 +4,7 @@ use Rattle.writer.proofs.write_plan_full_demand.Statement.{statement}
 use Rattle.writer.proofs.write_plan_full_demand.Tie as tie
 
 returns : tie.Need-returns
-returns c =
-    let called = c .before .before .before .before .before .before .before .before .before .before in
-    rw (called .before .before .before .before .before .before .with-full-demand .ensures) at (called .write-plan .ensures)
+returns c = c .before .before .before .before .before .before .before .before .before .before .write-plan .ensures
 
 pub write-plan-full-demand-spec : {M : Type 1} → statement M
-write-plan-full-demand-spec =
-    tie.close
-    (tie.spec
-    (search needs) (search needs) (search needs) (search needs) (search needs) (search needs) (search needs) returns)
+write-plan-full-demand-spec = tie.close (tie.spec (search needs) (search needs) (search needs) (search needs) (search needs) (search needs) returns)

@@ -17,14 +17,14 @@ use Rattle.writer.proofs.nodes.list_nodes.Statement.{statement}
 use Rattle.writer.proofs.nodes.list_nodes.Tie as tie
 
 abbrev Inv-loop : tie.InvT-loop
-Inv-loop sawing pieces normal-lengths normal-widths floors table blocks kinds₀ operands₀ waiting₀ depth₀ nodes₀ kinds operands waiting depth nodes = Waiting (sawing .size) pieces waiting depth
+Inv-loop kinds₀ operands₀ sawing pieces normal-lengths normal-widths floors table blocks waiting₀ depth₀ nodes₀ kinds operands waiting depth nodes = Waiting (sawing .size) pieces waiting depth
     × (nodes + length (nodes-left (under blocks (sawing .d)) (sawing .kerf) (sawing .size) pieces waiting depth) ≡ node-count (sawn-plan sawing blocks pieces))
     × (length kinds ≡ length kinds₀) × (length operands ≡ length operands₀)
     × (sets kinds nodes (map (λ n. kind-of n) (nodes-left (under blocks (sawing .d)) (sawing .kerf) (sawing .size) pieces waiting depth)) ≡ sets kinds₀ 0 (kinds-of (sawn-plan sawing blocks pieces)))
     × (sets operands nodes (map (λ n. operand-of n) (nodes-left (under blocks (sawing .d)) (sawing .kerf) (sawing .size) pieces waiting depth)) ≡ sets operands₀ 0 (operands-of (sawn-plan sawing blocks pieces)))
 
 abbrev μ-loop : tie.MeasureT-loop
-μ-loop sawing pieces normal-lengths normal-widths floors table blocks kinds₀ operands₀ waiting₀ depth₀ nodes₀ kinds operands waiting depth nodes = length (nodes-left (under blocks (sawing .d)) (sawing .kerf) (sawing .size) pieces waiting depth)
+μ-loop kinds₀ operands₀ sawing pieces normal-lengths normal-widths floors table blocks waiting₀ depth₀ nodes₀ kinds operands waiting depth nodes = length (nodes-left (under blocks (sawing .d)) (sawing .kerf) (sawing .size) pieces waiting depth)
 
 put-cell-requires : tie.Need-put-cell-requires Inv-loop μ-loop
 put-cell-requires c κs = (omega arith, refl)

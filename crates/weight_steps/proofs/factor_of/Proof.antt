@@ -1,0 +1,17 @@
+-- `weight_steps::factor_of` meets its contract: each entry of the table is its round's factor.
+use Prim.Native.Nat.{_/_, _^_}
+use native.Mathlib.Nat.{div-le-self}
+use native.Mathlib.Omega.{arith}
+use borrow.Author.Needs.{needs}
+use Rattle.weight_steps.proofs.Rules.{factor-tabled}
+use Rattle.weight_steps.proofs.factor_of.Statement.{statement}
+use Rattle.weight_steps.proofs.factor_of.Tie as tie
+
+returns : tie.Need-returns
+returns c =
+    let k = c .args .round in
+    let e = factor-tabled k (search needs) in
+    (e, omega (arith, e, div-le-self 32 (2 ^ (k / 3))))
+
+pub factor-of-spec : {M : Type 1} → statement M
+factor-of-spec = tie.close (tie.spec (search needs) (search needs) returns)

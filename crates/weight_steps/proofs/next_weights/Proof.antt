@@ -1,0 +1,23 @@
+-- `weight_steps::next_weights` meets its contract.
+use mathlib.Core.Path.{_∙_, ap₂}
+use Prim.Native.Nat.{_*_}
+use denote.Ref.{now}
+use lib.Dec.{ltb}
+use lib.ListN.{getD}
+use Rattle.job.specs.Block.{entries}
+use Rattle.weight_steps.specs.Step.{distance, root-below, scale, stepped}
+use borrow.Author.Needs.{needs}
+use Rattle.weight_steps.proofs.next_weights.Statement.{statement}
+use Rattle.weight_steps.proofs.next_weights.Tie as tie
+
+returns : tie.Need-returns
+returns c = let s = c .before .before .before .sum-squares .ensures .0 in
+    let t = c .before .scale-of .ensures .0 ∙ ap₂ (λ f s. scale f (c .before .before .before .before .args .gap) s) (c .before .before .factor-of .ensures .0) s in
+    c .adjust-all .ensures ∙ ap₂ (λ t s. entries (λ i. stepped (ltb (getD (now (c .before .before .before .before .args .demands)) i 0) (getD (now (c .before .before .before .before .args .copies)) i 0)) (getD (now (c .before .before .before .before .args .weights)) i 0)
+    (root-below 255 (distance (getD (now (c .before .before .before .before .args .copies)) i 0) (getD (now (c .before .before .before .before .args .demands)) i 0) * t) (16 * s))) (c .before .before .before .before .args .n)) t s
+
+pub next-weights-spec : {M : Type 1} → statement M
+next-weights-spec =
+    tie.close
+    (tie.spec
+    (λ c κs. search needs) (λ c κs. search needs) (λ c κs. search needs) (λ c. search needs) (λ c κs. search needs) returns)
