@@ -23,7 +23,7 @@ use Rattle.certificate.specs.Promises.{GapAmong, CertifyPromises, Earns}
 use Rattle.certificate.proofs.Comparison.{gap-passed}
 use Rattle.certificate.proofs.Promises.{behind}
 use Rattle.staged_certificate.specs.Certificate.{staged-plan-verdict, certify-staged-verdict, EarnsStaged, CertifyStagedPromises}
-use Rattle.planner_c.specs.Exports.{GapWithin}
+use Rattle.answer_words.specs.Words.{GapWithin}
 
 -- a gap and its profit sum to the bound, which where the checks pass is at most its ceiling
 sums-by : (Earned None : ℕ → Type 0) (v : Checked) (c : Certificate) {r : Certificate} {bound : ℕ} → r ≡ handed-on v c → GapAmong Earned None bound r → (v ≡ Passed → bound ≤ most-figure) → GapWithin r

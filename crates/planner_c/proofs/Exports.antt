@@ -1,48 +1,17 @@
--- Values at the front of the answer words, and the two cases of every exported function: stopped, and called.
+-- The two cases of every exported function: stopped, and called.
 use mathlib.Core.Path.{_≡_, refl, sym, _∙_, ap, ap₂, subst}
 use mathlib.Core.Bool.{Bool, true, false, _||_}
-use mathlib.Core.List.{List, [], _∷_, _++_}
-use Prim.Native.Nat.{ℕ, suc, _+_, _≤_, _<_}
-use native.Mathlib.Numerals.{add-one}
+use mathlib.Core.List.{List, []}
+use Prim.Native.Nat.{ℕ, _≤_, _<_}
 use native.Mathlib.Omega.{arith}
 use lib.Dec.{ltb}
-use lib.ListN.{length, getD, set, take, drop, length-append}
-use lib.Seq.{sets, length-sets, sets-eq, paste, paste-suc, take-length}
+use lib.ListN.{length}
 use borrow.Author.Tests.{ltb-false, le-ltb}
 use Rattle.cutting.specs.Lists.{over}
-use Rattle.cutting.proofs.Lists.{over-sets}
-use Rattle.refusal.specs.Refusals.{Outcome, number-of, place-of, refused-as}
-use Rattle.refusal.specs.declared.Refusal.{Refusal}
+use Rattle.refusal.specs.Refusals.{Outcome}
 use Rattle.job.specs.declared.Choices.{Choices}
-use Rattle.planner_c.specs.Exports.{unknown, returned-by, returned, early, answered-by, answered, Left-by, Left, Gives}
-
--- a run of stores keeps the length
-pub still : (n : ℕ) (values old : List ℕ) {new : List ℕ} → new ≡ sets old 0 values → n ≤ length old → n ≤ length new
-still n values old e h = subst (λ k. n ≤ k) (sym (ap length e ∙ length-sets old 0 values)) h
-
--- a copy with one value more
-pub pasted-more : (old values new : List ℕ) (at i : ℕ) {v : ℕ} → new ≡ paste old at values i → v ≡ getD values i 0 → at + i < length old → i < length values
-    → set new (at + i) v ≡ paste old at values (i + 1)
-pasted-more old values new at i p e h l = ap₂ (λ r x. set r (at + i) x) p e ∙ paste-suc old at values i 0 h l ∙ ap (λ k. paste old at values k) (sym (add-one i))
-
--- a copy of a whole list is a run of its stores
-pub pasted : (old values : List ℕ) (at n : ℕ) → length values ≡ n → at + n ≤ length old → paste old at values n ≡ sets old at values
-pasted old values at n e h =
-    ap (λ k. paste old at values k) (sym e)
-    ∙ ap (λ r. take at old ++ r ++ drop (at + length values) old) (take-length values)
-    ∙ sym (sets-eq values old at (omega arith))
-
--- an outcome is given where an equal one is
-pub given : {A : Type 0} (f : A → Outcome) {a b : A} {number : ℕ} (old : List ℕ) {new : List ℕ} → a ≡ b → Gives (f b) number old new → Gives (f a) number old new
-given f {a} {b} {number} old {new} e g = subst (λ x. Gives (f x) number old new) (sym e) g
-
-pub refusal-given : (r : Refusal) (old : List ℕ) {number place : ℕ} → 0 < length old → number ≡ number-of r → place ≡ place-of r → Gives (refused-as r) number old (set old 0 place)
-refusal-given r old h e p = (e, ap (λ x. set old 0 x) p ∙ over-sets (place-of r ∷ []) old h)
-
--- values stored from word 0 on are given under the number 0
-pub values-given : {A : Type 0} (f : A → Outcome) {a b : A} (values old : List ℕ) {new : List ℕ} → a ≡ b → f b ≡ (0, values) → length values ≤ length old
-    → new ≡ sets old 0 values → Gives (f a) 0 old new
-values-given f values old e o h p = given f old e (given (λ x. x) old o (refl, p ∙ over-sets values old h))
+use Rattle.answer_words.specs.Words.{Gives}
+use Rattle.planner_c.specs.Exports.{unknown, returned-by, returned, early, answered-by, answered, Left-by, Left}
 
 -- what holds of the choices that are handed over holds of the word's
 pub of-word : {X : Type 0} (P : Choices → X → Type 0) {chosen wanted : Choices} {x : X} → chosen ≡ wanted → P chosen x → P wanted x
@@ -95,16 +64,11 @@ module _ (n choices : ℕ) (old : List ℕ) {before : ℕ} (e : before ≡ early
         let t = goes-on (ltb (length old) n) (unknown choices) e h in
         subst (λ b. Left-by b Leaves m new) (sym (ap₂ (λ a b. a || b) (t .0) (t .1))) l
 
--- values stored one list after the other
-pub sets-append : (xs zs old : List ℕ) (i : ℕ) → sets old i (xs ++ zs) ≡ sets (sets old i xs) (i + length xs) zs
-sets-append [] zs old i = let e : i ≡ i + 0 = omega arith in ap (λ k. sets old k zs) e
-sets-append (x ∷ xs) zs old i = let e : suc i + length xs ≡ i + suc (length xs) = omega arith in sets-append xs zs (set old i x) (suc i) ∙ ap (λ k. sets (sets (set old i x) (suc i) xs) k zs) e
-
--- one value more behind the values at the front
-pub over-more : (values old : List ℕ) (at k : ℕ) → length values ≡ at → at < length old → set (over values old) at k ≡ over (values ++ (k ∷ [])) old
-over-more values old at k e h =
-    let f : at ≡ 0 + length values = omega (arith, e) in
-    ap (λ xs. set xs at k) (sym (over-sets values old (omega (arith, e, h))))
-    ∙ ap (λ i. set (sets old 0 values) i k) f
-    ∙ sym (sets-append values (k ∷ []) old 0)
-    ∙ over-sets (values ++ (k ∷ [])) old (omega (arith, e, h, length-append values (k ∷ [])))
+-- a number of 0 is the call's own: its words are the outcome's values
+pub spoken : (n choices : ℕ) (old : List ℕ) (o : Outcome) {number : ℕ} {new : List ℕ} → number ≡ returned n old choices o → new ≡ answered n old choices o → number ≡ 0 → new ≡ over (o .1) old
+spoken n choices old o {number} {new} e w z = go (ltb (length old) n) (unknown choices) e w
+  where
+    go : (short strange : Bool) → number ≡ returned-by short strange o → new ≡ answered-by (short || strange) old o → new ≡ over (o .1) old
+    go true strange e w = absurd (omega (arith, e, z))
+    go false true e w = absurd (omega (arith, e, z))
+    go false false e w = w

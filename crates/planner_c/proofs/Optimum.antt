@@ -14,7 +14,7 @@ use Rattle.job.specs.Weights.{block-job}
 use Rattle.bound.specs.Bound.{Memory}
 use Rattle.exact.specs.declared.ExactAnswer.{ExactAnswer}
 use Rattle.exact.specs.Exact.{exact-verdict, exact-report, exact-answer-by, exact-values, exact-outcome, ExactPromises}
-use Rattle.planner_c.specs.Exports.{Gives}
+use Rattle.answer_words.specs.Words.{Gives}
 use Rattle.planner_c.specs.Exact.{ExactGiven}
 
 pub exact-given : (s : List ℕ) (choices : Choices) {m new-m : Memory} (kinds operands new-kinds new-operands : List ℕ) {n : ℕ} (old : List ℕ) {new : List ℕ} (a : ExactAnswer)

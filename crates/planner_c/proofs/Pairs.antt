@@ -9,7 +9,8 @@ use Rattle.two_bound.specs.declared.TwoReport.{TwoReport}
 use Rattle.two_bound.specs.declared.TwoAnswer.{TwoAnswer}
 use Rattle.two_bound.specs.declared.TwoAnswer.the-variants as two
 use Rattle.two_bound.specs.Two.{two-outcome, TwoHolds}
-use Rattle.planner_c.specs.Exports.{Gives, answer-word}
+use Rattle.answer_words.specs.Words.{Gives}
+use Rattle.planner_c.specs.Exports.{answer-word}
 use Rattle.planner_c.specs.Two.{TwoGiven}
 
 pub two-given : (J : Job) (first second : ℕ → ℕ) {n : ℕ} (old : List ℕ) {new : List ℕ} (a : TwoAnswer)

@@ -20,7 +20,8 @@ use Rattle.rack.specs.Check.{rack-answer}
 use Rattle.rack.specs.Promises.{RackChecks}
 use Rattle.rack.proofs.Before.{before-passed, size-passed}
 use Rattle.rack.proofs.Calls.{plates-met}
-use Rattle.planner_c.specs.Exports.{choices-of, unknown, early, Gives}
+use Rattle.answer_words.specs.Words.{Gives}
+use Rattle.planner_c.specs.Exports.{choices-of, unknown, early}
 use Rattle.planner_c.specs.Racks.{racked-verdict, RackGiven}
 use Rattle.planner_c.proofs.Exports.{going}
 

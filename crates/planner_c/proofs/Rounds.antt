@@ -15,7 +15,7 @@ use Rattle.job.specs.Weights.{block-job}
 use Rattle.job.proofs.Entries.{entries-length}
 use Rattle.rounds.specs.declared.WeightsFound.{WeightsFound}
 use Rattle.rounds.specs.Rounds.{Lent, answer-of, lower-figure, found-values, found-outcome, LeastMet, BoundAgain, FindPromises}
-use Rattle.planner_c.specs.Exports.{Gives}
+use Rattle.answer_words.specs.Words.{Gives}
 use Rattle.planner_c.specs.Found.{FoundGiven}
 
 pub found-given : (s : List ℕ) (choices : Choices) (kinds operands : List ℕ) {m new-m : Lent} {n : ℕ} (old : List ℕ) {new : List ℕ} (a : WeightsFound)

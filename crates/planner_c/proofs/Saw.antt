@@ -24,9 +24,10 @@ use Rattle.saw.specs.Parts.{tree-at, part-by, node-part, part-said}
 use Rattle.saw.proofs.Prices.{same-answer}
 use Rattle.saw.proofs.Calls.{check-met}
 use Rattle.saw.proofs.Parts.{part-tree, listed, listed-length, own-entries}
-use Rattle.planner_c.specs.Exports.{choices-of, returned, early, answered, Gives}
+use Rattle.answer_words.specs.Words.{Gives}
+use Rattle.planner_c.specs.Exports.{choices-of, returned, early, answered}
 use Rattle.planner_c.specs.Saw.{saw-job-with, PriceBlind, SawChecked, PartGiven}
-use Rattle.planner_c.proofs.Exports.{stops, going, enough}
+use Rattle.planner_c.proofs.Exports.{stops, going, enough, spoken}
 
 module _ (s : List ℕ) (choices : ℕ) (kinds operands old : List ℕ) where
   -- what the saw says is what it says at any prices
@@ -83,7 +84,7 @@ module _ (s : List ℕ) (choices : ℕ) (kinds operands old : List ℕ) where
         passed Passed p z = p
         passed (Refused x) p z = absurd (omega (arith, number-some x, z, g .0 ∙ ap (λ v. outcome-by v (saw-values (r .report)) .0) p))
 
-  -- both cases of a part, in either array
+  -- what number and words say of a part, in either array
   module _ (array : List ℕ) (node : ℕ) (g : Node → ℕ) (drawn : (t : Tree Piece) → PlanOf (saw-job-with s choices) t kinds operands → array ≡ listed g t) where
     abbrev part : List ℕ → Part
     part z = node-part z (choices-of choices) kinds operands array node
@@ -91,28 +92,12 @@ module _ (s : List ℕ) (choices : ℕ) (kinds operands old : List ℕ) where
     same-part : (z : List ℕ) → OnlyPrices (choices-of choices) s z → part-said (part s) ≡ part-said (part z)
     same-part z o = ap (λ (a : SawAnswer). part-said (part-by (a .verdict) kinds (length array) node)) (same-answer (choices-of choices) s z o kinds operands)
 
-    abbrev pub PartAnswers : ℕ → List ℕ → Type 0
-    PartAnswers n new = (n ≡ returned 2 old choices (part-said (part s))) × ((new ≡ answered 2 old choices (part-said (part s))) × PartGiven s choices kinds operands array (λ t. listed g t) node old new n)
-
-    module _ {before : ℕ} (e : before ≡ early 2 (length old) choices) where
-      pub part-stops : 0 < before → PartAnswers before old
-      part-stops h =
-          let a = stops 2 choices old e (part-said (part s)) h in
-          (a .0, (a .1, record { tree = λ z b t p l. absurd (omega (arith, z, h)); blind = blind 2 (λ z. part-said (part z)) same-part (a .0, a .1) }))
-
-      pub part-called : {n : ℕ} {new : List ℕ} {p : Part} → before ≤ 0 → p ≡ part s → Gives (part-said p) n old new → PartAnswers n new
-      part-called {n} {new} {p} h o given =
-          let a = enough 2 choices old e (part-said (part s)) h (ap (λ p. part-said p) o) given in (
-            a .0,
-            (
-              a .1,
-              record {
-                tree = λ z b t q l. (
-                    let w = part-tree s (choices-of choices) kinds operands node b t q l array (ap length (drawn t q) ∙ listed-length g t) in
-                    let m : node + node-count (tree-at t node) - node ≡ node-count (tree-at t node) = omega arith in
-                    (given .1 ∙ ap (λ p. over (part-said p .1) old) (o ∙ w) ∙ ap (λ k. over (node ∷ k ∷ []) old) m, ap (λ l. take (node-count (tree-at t node)) (drop node l)) (drawn t q) ∙ own-entries g t node l)
-                    );
-                blind = blind 2 (λ z. part-said (part z)) same-part (a .0, a .1);
-              },
-            ),
-          )
+    pub part-given : {n : ℕ} {new : List ℕ} → n ≡ returned 2 old choices (part-said (part s)) → new ≡ answered 2 old choices (part-said (part s)) → PartGiven s choices kinds operands array (λ t. listed g t) node old new n
+    part-given e w = record {
+      tree = λ z b t q l. (
+          let p = part-tree s (choices-of choices) kinds operands node b t q l array (ap length (drawn t q) ∙ listed-length g t) in
+          let m : node + node-count (tree-at t node) - node ≡ node-count (tree-at t node) = omega arith in
+          (spoken 2 choices old (part-said (part s)) e w z ∙ ap (λ p. over (part-said p .1) old) p ∙ ap (λ k. over (node ∷ k ∷ []) old) m, ap (λ l. take (node-count (tree-at t node)) (drop node l)) (drawn t q) ∙ own-entries g t node l)
+          );
+      blind = blind 2 (λ z. part-said (part z)) same-part (e, w);
+    }

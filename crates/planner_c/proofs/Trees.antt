@@ -33,7 +33,8 @@ use Rattle.certificate.specs.declared.Certificate.the-variants as certificate
 use Rattle.certificate.specs.Certificate.{certificate-outcome}
 use Rattle.certificate.specs.Promises.{BestAmong, GapAmong}
 use Rattle.plan.specs.Calls.{plan-values, plan-outcome}
-use Rattle.planner_c.specs.Exports.{Gives, answer-word, PlanGiven, NeatGiven, BoundGiven, TreeChecked, Certified, GivenAmong, job-with, returned, early, answered}
+use Rattle.answer_words.specs.Words.{Gives}
+use Rattle.planner_c.specs.Exports.{answer-word, PlanGiven, NeatGiven, BoundGiven, TreeChecked, Certified, GivenAmong, job-with, returned, early, answered}
 use Rattle.planner_c.proofs.Exports.{stops, going, enough}
 
 -- a bound

@@ -24,7 +24,8 @@ use Rattle.bound.specs.Bound.{bound-outcome}
 use Rattle.staged_plan.specs.declared.StagedAnswer.{StagedAnswer}
 use Rattle.staged_plan.specs.Check.{LimitPasses, staged-values, staged-check-outcome, ChecksStaged}
 use Rattle.staged_bound.specs.Staged.{StagedHolds}
-use Rattle.planner_c.specs.Exports.{Gives, answer-word, choices-of, job-with, returned, early, answered}
+use Rattle.answer_words.specs.Words.{Gives}
+use Rattle.planner_c.specs.Exports.{answer-word, choices-of, job-with, returned, early, answered}
 use Rattle.planner_c.specs.Within.{StagedChecked, StagedGiven}
 use Rattle.planner_c.proofs.Exports.{stops, going, enough}
 

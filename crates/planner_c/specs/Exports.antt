@@ -5,7 +5,6 @@ use mathlib.Core.List.{List, [], _∷_}
 use Prim.Native.Nat.{ℕ, _+_, _/_, _%_, _≤_}
 use lib.Dec.{ltb, eqb}
 use lib.ListN.{length, getD}
-use Rattle.cutting.specs.Limits.{most-figure}
 use Rattle.cutting.specs.Lists.{over}
 use Rattle.cutting.specs.Tree.{Tree, IdleFree}
 use Rattle.cutting.specs.Pieces.{Piece}
@@ -25,8 +24,6 @@ use Rattle.neat.specs.Neat.{neat-tree, neat-verdict, block-neat, NeatLeaves, Ne
 use Rattle.writer.specs.Write.{array-after, block-plan}
 use Rattle.certificate.specs.Certificate.{plan-verdict}
 use Rattle.certificate.specs.Promises.{Earns}
-use Rattle.certificate.specs.declared.Certificate.{Certificate}
-use Rattle.certificate.specs.declared.Certificate.the-variants.{Gap}
 
 -- a word of choices has a bit that is no choice
 abbrev pub unknown : ℕ → Bool
@@ -81,10 +78,6 @@ module _ {A : Type 0} where
   abbrev pub Left : ℕ → List ℕ → ℕ → (A → A → Type 0) → A → A → Type 0
   Left n words choices Leaves old new = Left-by (stopped n words choices) Leaves old new
 
--- an outcome handed over in answer words that are enough: its number is returned, its values stand at the front
-abbrev pub Gives : Outcome → ℕ → List ℕ → List ℕ → Type 0
-Gives o number old new = (number ≡ o .0) × (new ≡ over (o .1) old)
-
 -- what the writing call leaves in the two plan arrays, kinds and operands: the plan over their old contents where all checks pass
 abbrev pub PlanLeft : List ℕ → Choices → List ℕ → Memory → List ℕ × List ℕ → List ℕ × List ℕ → Type 0
 PlanLeft s choices ws m old new =
@@ -99,10 +92,6 @@ NeatLeft s choices kinds operands old new =
 -- what certify leaves in lent memory
 abbrev pub CertificateLeaves : List ℕ → Choices → (ws kinds operands : List ℕ) → Memory → Memory → Type 0
 CertificateLeaves s choices ws kinds operands old new = Leaves (plan-verdict s choices ws kinds operands) (wide-job s choices) (weight-in ws) (block-capacity s choices ws) old new
-
--- a certificate's profit and gap sum to at most the bound's ceiling
-abbrev pub GapWithin : Certificate → Type 0
-GapWithin r = (profit gap : ℕ) → r ≡ Gap profit gap → profit + gap ≤ most-figure
 
 -- a word of the answer
 abbrev pub answer-word : List ℕ → ℕ → ℕ

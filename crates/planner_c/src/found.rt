@@ -1,6 +1,5 @@
 // The weights found for a job.
 use crate::choices;
-use crate::words;
 ghost use mathlib.Core.Path.{_≡_};
 ghost use Rattle.rounds.specs.Rounds.{lent-all, lower-figure, find-said, FindLeaves};
 ghost use Rattle.planner_c.specs.Exports.{choices-of, returned, answered, Left};
@@ -46,5 +45,5 @@ pub extern "C" fn planner_find_weights(
         written_kinds,
         written_operands,
     );
-    words::put_found(a, answer)
+    answer_words::put_found(a, answer)
 }

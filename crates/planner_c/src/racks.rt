@@ -1,6 +1,5 @@
 // The check of a rack of plates.
 use crate::choices;
-use crate::words;
 use refusal::Refusal;
 ghost use mathlib.Core.Path.{_≡_};
 ghost use Rattle.planner_c.specs.Exports.{choices-of, returned, answered, Left};
@@ -31,15 +30,9 @@ pub extern "C" fn planner_check_rack(
         return stop;
     }
     if profits.len() != lengths.len() {
-        return words::refuse(Refusal::RackSize, answer);
+        return answer_words::refuse(Refusal::RackSize, answer);
     }
-    let a = rack::check_plates(
-        block,
-        choices::choices_of(choices),
-        lengths,
-        widths,
-        kinds,
-        operands,
-    );
-    words::put_profits(a, profits, answer)
+    let c = choices::choices_of(choices);
+    let a = rack::check_plates(block, c, lengths, widths, kinds, operands);
+    answer_words::put_profits(a, profits, answer)
 }

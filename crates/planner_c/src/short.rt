@@ -1,6 +1,5 @@
 // The exact answer for short orders.
 use crate::choices;
-use crate::words;
 ghost use mathlib.Core.Path.{_≡_};
 ghost use Rattle.cutting.specs.Exact.{ExactFiguresMost};
 ghost use Rattle.bound.specs.Bound.{lent};
@@ -36,14 +35,7 @@ pub extern "C" fn planner_exact(
     if 0 < stop {
         return stop;
     }
-    let a = exact::exact(
-        block,
-        choices::choices_of(choices),
-        lengths,
-        widths,
-        table,
-        kinds,
-        operands,
-    );
-    words::put_exact(a, answer)
+    let c = choices::choices_of(choices);
+    let a = exact::exact(block, c, lengths, widths, table, kinds, operands);
+    answer_words::put_exact(a, answer)
 }

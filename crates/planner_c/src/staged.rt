@@ -1,6 +1,5 @@
 // The calls within a limit on the stages of a plan.
 use crate::choices;
-use crate::words;
 ghost use mathlib.Core.Path.{_≡_};
 ghost use Rattle.cutting.specs.Staged.{StagedFiguresMost};
 ghost use Rattle.job.specs.Weights.{weight-in, Accepted};
@@ -29,14 +28,9 @@ pub extern "C" fn planner_check_plan_staged(
     if 0 < stop {
         return stop;
     }
-    let a = staged_plan::check_plan_staged(
-        block,
-        choices::choices_of(choices),
-        limit,
-        kinds,
-        operands,
-    );
-    words::put_staged(a, answer)
+    let c = choices::choices_of(choices);
+    let a = staged_plan::check_plan_staged(block, c, limit, kinds, operands);
+    answer_words::put_staged(a, answer)
 }
 
 // The staged bound of a job block, weights and a limit. The answer has 4 words: bound, capacity, and the numbers of normal lengths and
@@ -64,16 +58,9 @@ pub extern "C" fn planner_bound_staged(
     if 0 < stop {
         return stop;
     }
-    let a = staged_bound::bound_staged(
-        block,
-        choices::choices_of(choices),
-        weights,
-        limit,
-        lengths,
-        widths,
-        table,
-    );
-    words::put_bound(a, answer)
+    let c = choices::choices_of(choices);
+    let a = staged_bound::bound_staged(block, c, weights, limit, lengths, widths, table);
+    answer_words::put_bound(a, answer)
 }
 
 // The certificate of a plan for a job block, weights and a limit. The answer has 3 words: the gap, which is 0 for a plan that is best among
@@ -103,9 +90,10 @@ pub extern "C" fn planner_certify_staged(
     if 0 < stop {
         return stop;
     }
+    let c = choices::choices_of(choices);
     let a = staged_certificate::certify_staged(
         block,
-        choices::choices_of(choices),
+        c,
         weights,
         limit,
         kinds,
@@ -114,5 +102,5 @@ pub extern "C" fn planner_certify_staged(
         widths,
         table,
     );
-    words::put_certificate(a, answer)
+    answer_words::put_certificate(a, answer)
 }

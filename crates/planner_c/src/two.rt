@@ -1,6 +1,5 @@
 // The bound of two weights a kind.
 use crate::choices;
-use crate::words;
 ghost use mathlib.Core.Path.{_≡_};
 ghost use Rattle.cutting.specs.Two.{TwoFiguresMost};
 ghost use Rattle.job.specs.Weights.{weight-in};
@@ -36,14 +35,7 @@ pub extern "C" fn planner_bound_two(
     if 0 < stop {
         return stop;
     }
-    let a = two_bound::bound_two(
-        block,
-        choices::choices_of(choices),
-        first,
-        second,
-        lengths,
-        widths,
-        table,
-    );
-    words::put_two(a, answer)
+    let c = choices::choices_of(choices);
+    let a = two_bound::bound_two(block, c, first, second, lengths, widths, table);
+    answer_words::put_two(a, answer)
 }
