@@ -1,7 +1,7 @@
--- What a table gives for a refusal it gives for the case that the refusal is.
+-- What the table gives for a refusal it gives for the case that the refusal is.
 use mathlib.Core.Path.{_≡_, sym, ap}
-use Prim.Native.Nat.{ℕ}
 use Rattle.refusal.specs.declared.Refusal.{Refusal}
+use Rattle.refusal.specs.Refusals.{number-of, place-of}
 
-pub told : (table : Refusal → ℕ) {r case : Refusal} → r ≡ case → table case ≡ table r
-told table e = sym (ap table e)
+pub told : {r case : Refusal} → r ≡ case → (number-of case ≡ number-of r) × (place-of case ≡ place-of r)
+told e = (sym (ap number-of e), sym (ap place-of e))

@@ -44,82 +44,60 @@ pub enum Checked {
     Refused(Refusal),
 }
 
+// A line of the table: the number and the place.
+struct Line(u16, u64);
+
+// The table's line of a refusal.
+fn line_of(r: Refusal) -> Line
+    ensures { λ l. ⌜ (l .0 ≡ number-of r) × (l .1 ≡ place-of r) ⌝ }
+{
+    match r {
+        Refusal::ShortHeader => Line(1, 0),
+        Refusal::PlateSide => Line(2, 0),
+        Refusal::RackSide(k) => Line(2, k as u64),
+        Refusal::KindCount => Line(3, 0),
+        Refusal::BlockLength => Line(4, 0),
+        Refusal::KindSide(k) => Line(5, k as u64),
+        Refusal::Price(k) => Line(6, k as u64),
+        Refusal::Demand(k) => Line(7, k as u64),
+        Refusal::WeightCount => Line(8, 0),
+        Refusal::Capacity => Line(9, 0),
+        Refusal::PlanLength => Line(10, 0),
+        Refusal::NodeCount => Line(11, 0),
+        Refusal::NodeKind(k) => Line(12, k as u64),
+        Refusal::PieceNumber(k) => Line(13, k as u64),
+        Refusal::Operand(k) => Line(14, k as u64),
+        Refusal::Misfit(k) => Line(15, k as u64),
+        Refusal::Excess(k) => Line(16, k as u64),
+        Refusal::NodeMissing(k) => Line(17, k as u64),
+        Refusal::NodeLeft(k) => Line(18, k as u64),
+        Refusal::ListShort => Line(19, 0),
+        Refusal::TableShort(n) => Line(20, n),
+        Refusal::PlanLong(n) => Line(21, n),
+        Refusal::StageLimit => Line(22, 0),
+        Refusal::ManyStages(k) => Line(23, k as u64),
+        Refusal::SecondCount => Line(24, 0),
+        Refusal::CapacityProduct => Line(25, 0),
+        Refusal::IdleCut(k) => Line(26, k as u64),
+        Refusal::Kerf => Line(27, 0),
+        Refusal::RackSize => Line(28, 0),
+        Refusal::RackDemand(k) => Line(29, k as u64),
+        Refusal::DemandProduct => Line(30, 0),
+    }
+}
+
 // The table's number of a refusal.
 pub fn number(r: Refusal) -> u16
     ensures { λ n. ⌜ n ≡ number-of r ⌝ }
 {
-    match r {
-        Refusal::ShortHeader => 1,
-        Refusal::PlateSide => 2,
-        Refusal::RackSide(_) => 2,
-        Refusal::KindCount => 3,
-        Refusal::BlockLength => 4,
-        Refusal::KindSide(_) => 5,
-        Refusal::Price(_) => 6,
-        Refusal::Demand(_) => 7,
-        Refusal::WeightCount => 8,
-        Refusal::Capacity => 9,
-        Refusal::PlanLength => 10,
-        Refusal::NodeCount => 11,
-        Refusal::NodeKind(_) => 12,
-        Refusal::PieceNumber(_) => 13,
-        Refusal::Operand(_) => 14,
-        Refusal::Misfit(_) => 15,
-        Refusal::Excess(_) => 16,
-        Refusal::NodeMissing(_) => 17,
-        Refusal::NodeLeft(_) => 18,
-        Refusal::ListShort => 19,
-        Refusal::TableShort(_) => 20,
-        Refusal::PlanLong(_) => 21,
-        Refusal::StageLimit => 22,
-        Refusal::ManyStages(_) => 23,
-        Refusal::SecondCount => 24,
-        Refusal::CapacityProduct => 25,
-        Refusal::IdleCut(_) => 26,
-        Refusal::Kerf => 27,
-        Refusal::RackSize => 28,
-        Refusal::RackDemand(_) => 29,
-        Refusal::DemandProduct => 30,
-    }
+    line_of(r).0
 }
 
 // The table's place of a refusal.
 pub fn place(r: Refusal) -> u64
     ensures { λ n. ⌜ n ≡ place-of r ⌝ }
 {
-    match r {
-        Refusal::ShortHeader => 0,
-        Refusal::PlateSide => 0,
-        Refusal::RackSide(k) => k as u64,
-        Refusal::KindCount => 0,
-        Refusal::BlockLength => 0,
-        Refusal::KindSide(k) => k as u64,
-        Refusal::Price(k) => k as u64,
-        Refusal::Demand(k) => k as u64,
-        Refusal::WeightCount => 0,
-        Refusal::Capacity => 0,
-        Refusal::PlanLength => 0,
-        Refusal::NodeCount => 0,
-        Refusal::NodeKind(k) => k as u64,
-        Refusal::PieceNumber(k) => k as u64,
-        Refusal::Operand(k) => k as u64,
-        Refusal::Misfit(k) => k as u64,
-        Refusal::Excess(k) => k as u64,
-        Refusal::NodeMissing(k) => k as u64,
-        Refusal::NodeLeft(k) => k as u64,
-        Refusal::ListShort => 0,
-        Refusal::TableShort(n) => n,
-        Refusal::PlanLong(n) => n,
-        Refusal::StageLimit => 0,
-        Refusal::ManyStages(k) => k as u64,
-        Refusal::SecondCount => 0,
-        Refusal::CapacityProduct => 0,
-        Refusal::IdleCut(k) => k as u64,
-        Refusal::Kerf => 0,
-        Refusal::RackSize => 0,
-        Refusal::RackDemand(k) => k as u64,
-        Refusal::DemandProduct => 0,
-    }
+    line_of(r).1
 }
 
 // One line of the table: refused where its condition holds.

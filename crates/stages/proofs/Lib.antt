@@ -1,3 +1,4 @@
 pub mod Limit
 pub mod Place
+pub mod Steps
 pub mod Walks

@@ -29,16 +29,11 @@ use Rattle.stages.specs.declared.Walk.the-variants.{Next, Past}
 use Rattle.stages.specs.declared.Staged.the-variants as answer
 use Rattle.stages.specs.Stages.{limit-checks}
 use Rattle.stages.proofs.Place.{by-paths}
-use Rattle.stages.specs.Walks.{staged-as, stage-checks, StagesOf, kinds-all, count-all, most-below, checks-all, ended-as, Walked, answer-of}
+use Rattle.stages.specs.Walks.{staged-as, stage-checks, StagesOf, kinds-all, count-all, most-below, checks-all, ended-as, Walked, answer-of, cut-kind, Waiting, Walking}
 
 -- a plan's trees
 abbrev Trees : Type 0
 Trees = List (Tree laid.Piece)
-
--- the kind of a cut
-abbrev pub cut-kind : Direction → ℕ
-cut-kind Length = 2
-cut-kind Width = 3
 
 -- no other node has a cut's kind
 cut-code : {A : Type 0} {kind code : ℕ} (e : Direction) → kind ≡ cut-kind e → kind ≡ code → (code ≡ 2 → ⊥) → (code ≡ 3 → ⊥) → A
@@ -135,23 +130,6 @@ kinds-count : (ts : Trees) → length (kinds-all ts) ≡ count-all ts
 unfolding kinds-all count-all kinds-of node-count
 kinds-count [] = refl
 kinds-count (t ∷ ts) = omega (arith, length-append (kinds-of t) (kinds-all ts), length-map (preorder t) (λ n. kind-of n), kinds-count ts)
-
--- of the trees `ts` from node `at` on those that wait at node n, after the most stages met so far
-pub record Waiting (d : Direction) (ks : List ℕ) (left at n waiting most : ℕ) (ts : Trees) (rest : List ℕ) : Type 0 where
-  pub us : Trees
-  pub number : length us ≡ waiting
-  pub kinds : drop n ks ≡ kinds-all us ++ rest
-  pub nodes : at + count-all ts ≡ n + count-all us
-  pub checks : first-refusal (checks-all d left at ts) ≡ first-refusal (checks-all d left n us)
-  pub stages : most-below d ts ≡ max most (most-below d us)
-
--- a walk of two trees so far
-pub record Walking (d : Direction) (ks : List ℕ) (left at n waiting most : ℕ) : Type 0 where
-  pub from : at ≤ n
-  pub to : n ≤ length ks
-  pub few : waiting ≤ n - at + 2
-  pub low : most ≤ left
-  pub trees : (a b : Tree laid.Piece) (rest : List ℕ) → drop at ks ≡ kinds-all (a ∷ b ∷ []) ++ rest → Waiting d ks left at n waiting most (a ∷ b ∷ []) rest
 
 pub begins : (d : Direction) (ks : List ℕ) (left at : ℕ) → at ≤ length ks → Walking d ks left at at 2 0
 begins d ks left at h = record {
