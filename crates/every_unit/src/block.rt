@@ -1,10 +1,10 @@
 // A job as a job block and weights for the planner: how many bytes there are, and then each.
 use crate::job::DEMAND;
+use crate::job::KINDS;
 use crate::job::OLD_BLOCK;
 use crate::job::PLATE;
 use crate::job::PRICE;
 use crate::job::WEIGHTS;
-use crate::job::kind_count;
 use crate::job::kind_side;
 use test_tools::Words;
 use test_tools::minus;
@@ -26,7 +26,7 @@ fn pair_field(t: &Words, j: usize) -> usize {
 
 // A field of two bytes after the header: the sizes, then the pairs.
 fn kind_field(t: &Words, j: usize) -> usize {
-    let sizes = times(2, kind_count(t));
+    let sizes = times(2, word(t, KINDS, 0));
     if j < sizes {
         return kind_side(t, j % 2, j / 2);
     }
@@ -62,7 +62,7 @@ fn put_fields(t: &mut Words, n: usize) {
 
 // Writes the job block, old or new, and how many weights there are.
 pub fn write_block(t: &mut Words, old: bool) {
-    let n = kind_count(t);
+    let n = word(t, KINDS, 0);
     put(t, OLD_BLOCK, 0, old as usize);
     put(t, WEIGHTS, 0, n);
     put_fields(t, plus(header_fields(t), times(5, n)));

@@ -2,12 +2,12 @@
 // allows, and is admitted by the share (shares.rt says what a share is); every length cut with every division of the share; every width
 // cut likewise. The rectangles are those that the saw leaves: a cut at x of a side n leaves x and n - x - k, k the kerf, both at least 1.
 use crate::job::FIGURES;
+use crate::job::KERF;
+use crate::job::KINDS;
+use crate::job::PLATE;
 use crate::job::PRICE;
 use crate::job::fits;
-use crate::job::kerf;
-use crate::job::kind_count;
 use crate::job::may_turn;
-use crate::job::plate_side;
 use crate::job::shares;
 use crate::job::widths;
 use crate::shares::admits;
@@ -49,7 +49,7 @@ fn price_within(t: &Words, i: usize, l: usize, w: usize, c: usize) -> usize {
 // The most that one piece earns.
 pub fn best_kind(t: &Words, l: usize, w: usize, c: usize) -> usize {
     let mut best: usize = 0;
-    for i in 0..kind_count(t) {
+    for i in 0..word(t, KINDS, 0) {
         best = larger(best, price_within(t, i, l, w, c));
     }
     best
@@ -75,7 +75,7 @@ fn best_division(t: &Words, first: usize, second: usize, c: usize) -> usize {
 // The most that a cut of a side earns, the two parts taking what the blade leaves. The cell of a part of size x begins x strides after
 // the first place.
 fn best_cut(t: &Words, first: usize, stride: usize, side: usize, c: usize) -> usize {
-    let both = minus(side, kerf(t));
+    let both = minus(side, word(t, KERF, 0));
     let mut best: usize = 0;
     for i in 0..minus(both, 1) {
         let x = plus(i, 1);
@@ -107,5 +107,5 @@ pub fn figure(t: &Words, l: usize, w: usize, c: usize) -> usize {
 
 // How many figures a block has, with one more length than the plate's.
 pub fn figure_count(t: &Words) -> usize {
-    minus(cell(t, plus(plate_side(t, 0), 1), 0), FIGURES)
+    minus(cell(t, plus(word(t, PLATE, 0), 1), 0), FIGURES)
 }

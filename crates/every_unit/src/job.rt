@@ -9,6 +9,8 @@ use test_tools::word;
 // Plate length, plate width, number of kinds, kerf.
 pub const PLATE: usize = 9000;
 
+pub const KINDS: usize = 9002;
+
 pub const KERF: usize = 9003;
 
 // 1 where pieces may be turned, and 0 where they may not.
@@ -78,33 +80,19 @@ pub const MARKS: usize = 14000;
 // The figures of every length, width and share, up to the block's bytes.
 pub const FIGURES: usize = 16000;
 
-// A side of the plate: 0 the length, 1 the width.
-pub fn plate_side(t: &Words, side: usize) -> usize {
-    word(t, PLATE, side)
-}
-
-pub fn kind_count(t: &Words) -> usize {
-    word(t, PLATE, 2)
-}
-
 // A side of a kind: 0 the length, 1 the width.
 pub fn kind_side(t: &Words, side: usize, i: usize) -> usize {
     word(t, plus(KIND_LENGTH, times(70, side)), i)
 }
 
-// What the blade takes of a side at a cut.
-pub fn kerf(t: &Words) -> usize {
-    word(t, KERF, 0)
-}
-
 // A side of the plate and one kerf: the pieces along it take their own side and a kerf each.
 pub fn plate_room(t: &Words, side: usize) -> usize {
-    plus(plate_side(t, side), kerf(t))
+    plus(word(t, PLATE, side), word(t, KERF, 0))
 }
 
 // A side of a kind and one kerf.
 pub fn kind_room(t: &Words, side: usize, i: usize) -> usize {
-    plus(kind_side(t, side, i), kerf(t))
+    plus(kind_side(t, side, i), word(t, KERF, 0))
 }
 
 pub fn may_turn(t: &Words) -> bool {
@@ -124,7 +112,7 @@ pub fn fits(t: &Words, i: usize, l: usize, w: usize) -> bool {
 
 // How many widths there are, counted from 0.
 pub fn widths(t: &Words) -> usize {
-    plus(plate_side(t, 1), 1)
+    plus(word(t, PLATE, 1), 1)
 }
 
 // How often a kind's sides go into the plate's, a kerf added to each.
@@ -144,10 +132,10 @@ fn by_area(t: &Words, i: usize) -> usize {
 
 // Whether a kind that is ordered lies on the plate upright or turned.
 fn fits_plate(t: &Words, i: usize) -> bool {
-    if fits(t, i, plate_side(t, 0), plate_side(t, 1)) {
+    if fits(t, i, word(t, PLATE, 0), word(t, PLATE, 1)) {
         return true;
     }
-    fits(t, i, plate_side(t, 1), plate_side(t, 0))
+    fits(t, i, word(t, PLATE, 1), word(t, PLATE, 0))
 }
 
 // The copies of a kind that can lie on the plate.
@@ -174,7 +162,7 @@ fn counted(t: &Words, i: usize) -> usize {
 // The capacity of the weights at a place: the sum over the kinds of counted copies times weight.
 fn capacity(t: &Words, weights: usize) -> usize {
     let mut sum: usize = 0;
-    for i in 0..kind_count(t) {
+    for i in 0..word(t, KINDS, 0) {
         sum = plus(sum, times(counted(t, i), word(t, weights, i)));
     }
     sum

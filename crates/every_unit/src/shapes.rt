@@ -3,6 +3,7 @@
 // form of the sizes: 0 free, 1 with a first kind of 1 by 1, 2 all as the first kind's.
 use crate::job::DEMAND;
 use crate::job::KIND_LENGTH;
+use crate::job::KINDS;
 use crate::job::LEFT;
 use crate::job::PLATE;
 use crate::job::PRICE;
@@ -11,11 +12,11 @@ use crate::job::SECOND_WEIGHTS;
 use crate::job::STATE;
 use crate::job::TWO;
 use crate::job::WEIGHT;
-use crate::job::kind_count;
 use crate::job::kind_side;
 use test_tools::ROW;
 use test_tools::Words;
 use test_tools::clear;
+use test_tools::copy;
 use test_tools::minus;
 use test_tools::plus;
 use test_tools::put;
@@ -78,64 +79,63 @@ fn lowered(weight: usize, demand: usize, left: usize) -> usize {
     }
 }
 
-// Draws demand and weight, and takes their product from what is left of the capacity.
-fn draw_terms(t: &mut Words, i: usize) {
-    let demand = draw(t, 15);
+// Draws a weight of a kind, and takes its product with the demand from what is left of the capacity.
+fn draw_weight(t: &mut Words, weights: usize, i: usize) {
     let drawn = draw(t, 17);
+    let demand = word(t, DEMAND, i);
     let left = word(t, LEFT, 0);
     let weight = lowered(drawn, demand, left);
-    put(t, DEMAND, i, demand);
-    put(t, WEIGHT, i, weight);
+    put(t, weights, i, weight);
     put(t, LEFT, 0, minus(left, times(demand, weight)));
 }
 
-// Draws the second weight of a kind, likewise.
-fn draw_second(t: &mut Words, i: usize) {
-    let demand = word(t, DEMAND, i);
-    let drawn = draw(t, 17);
-    let left = word(t, LEFT, 0);
-    let weight = lowered(drawn, demand, left);
-    put(t, SECOND_WEIGHT, i, weight);
-    put(t, LEFT, 0, minus(left, times(demand, weight)));
+fn draw_demand(t: &mut Words, i: usize) {
+    let demand = draw(t, 15);
+    put(t, DEMAND, i, demand);
 }
 
 fn draw_kind(t: &mut Words, i: usize) {
     draw_side(t, 0, i);
     draw_side(t, 1, i);
     draw_price(t, i);
-    draw_terms(t, i);
+    draw_demand(t, i);
+    draw_weight(t, WEIGHT, i);
 }
 
 fn draw_kinds(t: &mut Words) {
-    for i in 0..kind_count(t) {
+    copy(t, LEFT, plus(ROW, 19), 1);
+    for i in 0..word(t, KINDS, 0) {
         draw_kind(t, i);
     }
 }
 
 fn draw_seconds(t: &mut Words) {
-    put(t, LEFT, 0, word(t, ROW, 19));
-    for i in 0..kind_count(t) {
-        draw_second(t, i);
+    copy(t, LEFT, plus(ROW, 19), 1);
+    for i in 0..word(t, KINDS, 0) {
+        draw_weight(t, SECOND_WEIGHT, i);
     }
 }
 
-// Draws one of the header's numbers: plate length, plate width, number of kinds, kerf.
-fn draw_header(t: &mut Words, which: usize) {
-    let x = draw(t, times(2, which));
-    put(t, PLATE, which, x);
+// Draws the header's numbers: plate length, plate width, number of kinds, kerf.
+fn draw_header(t: &mut Words) {
+    for i in 0..4 {
+        let x = draw(t, times(2, i));
+        put(t, PLATE, i, x);
+    }
 }
 
-// Draws a job of the shape in the row, with one weight a kind, or two that are drawn alike.
-pub fn draw_job(t: &mut Words) {
-    draw_header(t, 0);
-    draw_header(t, 1);
-    draw_header(t, 2);
-    draw_header(t, 3);
-    put(t, LEFT, 0, word(t, ROW, 19));
-    draw_kinds(t);
-    put(t, SECOND_WEIGHTS, 0, kind_count(t));
+// The second weights: one a kind, 0 where a kind has one weight.
+fn draw_second_weights(t: &mut Words) {
+    copy(t, SECOND_WEIGHTS, KINDS, 1);
     clear(t, SECOND_WEIGHT, 70);
     if word(t, TWO, 0) == 1 {
         draw_seconds(t);
     }
+}
+
+// Draws a job of the shape in the row, with one weight a kind, or two that are drawn alike.
+pub fn draw_job(t: &mut Words) {
+    draw_header(t);
+    draw_kinds(t);
+    draw_second_weights(t);
 }

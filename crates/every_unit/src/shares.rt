@@ -3,11 +3,11 @@
 use crate::job::CAPACITY;
 use crate::job::DEMAND;
 use crate::job::EXACT;
+use crate::job::KINDS;
 use crate::job::SECOND_CAPACITY;
 use crate::job::SECOND_WEIGHT;
 use crate::job::STRIDE;
 use crate::job::WEIGHT;
-use crate::job::kind_count;
 use crate::job::note_weights;
 use crate::job::second_shares;
 use test_tools::Words;
@@ -26,7 +26,7 @@ fn is_exact(t: &Words) -> bool {
 // Notes the number of states of the kinds below each, and answers that of all kinds.
 fn note_strides(t: &mut Words) -> usize {
     let mut states: usize = 1;
-    for i in 0..kind_count(t) {
+    for i in 0..word(t, KINDS, 0) {
         put(t, STRIDE, i, states);
         states = times(states, plus(word(t, DEMAND, i), 1));
     }
@@ -74,7 +74,7 @@ pub fn admits(t: &Words, i: usize, c: usize) -> bool {
 
 // Whether no kind has more copies in state s than in state c.
 fn no_more_copies(t: &Words, s: usize, c: usize) -> bool {
-    for i in 0..kind_count(t) {
+    for i in 0..word(t, KINDS, 0) {
         if copies(t, i, c) < copies(t, i, s) {
             return false;
         }

@@ -14,10 +14,6 @@ use test_tools::plus;
 use test_tools::times;
 use test_tools::word;
 
-pub fn is_limited(t: &Words) -> bool {
-    word(t, LIMIT, 0) != 0
-}
-
 // How many blocks there are: one where there is no limit.
 pub fn block_count(t: &Words) -> usize {
     plus(times(2, word(t, LIMIT, 0)), 1)

@@ -5,20 +5,20 @@ use crate::figures::figure_count;
 use crate::job::BOUND;
 use crate::job::FIGURES;
 use crate::job::FULL_DEMAND;
+use crate::job::KERF;
 use crate::job::LENGTH_COUNT;
+use crate::job::LIMIT;
 use crate::job::NORMAL_LENGTHS;
 use crate::job::NORMAL_WIDTHS;
+use crate::job::PLATE;
 use crate::job::TURNING;
 use crate::job::WIDTH_COUNT;
 use crate::job::WORD_COUNT;
-use crate::job::kerf;
-use crate::job::plate_side;
 use crate::job::shares;
 use crate::job::widths;
 use crate::shares::note_capacities;
 use crate::stages::block_count;
 use crate::stages::block_start;
-use crate::stages::is_limited;
 use crate::stages::staged_figure;
 use crate::units::list_positions;
 use test_tools::Words;
@@ -37,7 +37,7 @@ fn figure_at(t: &Words, block: usize, k: usize) -> usize {
     let l = quotient(cell, widths(t));
     let w = rest(cell, widths(t));
     let c = rest(k, shares(t));
-    if is_limited(t) {
+    if word(t, LIMIT, 0) != 0 {
         return staged_figure(t, block, l, w, c);
     }
     figure(t, l, w, c)
@@ -55,7 +55,7 @@ fn fill_figures(t: &mut Words) {
 // The figure of the plate and the whole capacities in a block.
 fn plate_figure(t: &Words, block: usize) -> usize {
     let c = minus(shares(t), 1);
-    let plate = cell(t, plate_side(t, 0), plate_side(t, 1));
+    let plate = cell(t, word(t, PLATE, 0), word(t, PLATE, 1));
     word(t, plus(block_start(t, block), plate), c)
 }
 
@@ -68,7 +68,7 @@ fn note_bound(t: &mut Words) {
 
 // The side that a normal position stands for: the kerf less, and 0 for position 0.
 fn normal_side(t: &Words, positions: usize, i: usize) -> usize {
-    minus(word(t, positions, i), kerf(t))
+    minus(word(t, positions, i), word(t, KERF, 0))
 }
 
 // Where the figures of the n-th normal length and width begin, the widths running fastest.
@@ -95,6 +95,12 @@ fn normal_figure(t: &Words, block: usize, k: usize) -> usize {
     word(t, at, rest(k, shares(t)))
 }
 
+// Notes how many words the planner's table has.
+fn note_words(t: &mut Words) {
+    let words = times(block_count(t), block_words(t));
+    put(t, WORD_COUNT, 0, words);
+}
+
 // Moves the figures of the planner's table to the front, in its order. No figure is overwritten before it is moved, because the side that
 // an entry of a list stands for is not less than the entry's number.
 fn keep_normal(t: &mut Words) {
@@ -114,7 +120,6 @@ pub fn compute(t: &mut Words, turning: bool, full_demand: bool) {
     list_positions(t, 1);
     fill_figures(t);
     note_bound(t);
-    let words = times(block_count(t), block_words(t));
-    put(t, WORD_COUNT, 0, words);
+    note_words(t);
     keep_normal(t);
 }

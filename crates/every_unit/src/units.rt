@@ -1,14 +1,14 @@
 // Normal positions by reachability: 0 is normal, and so is what a kind leads to from a normal position. An upright kind leads by its own
 // side and a kerf, a turned one by its other side and a kerf, and each only where it fits the plate as it lies.
+use crate::job::KINDS;
 use crate::job::LENGTH_COUNT;
 use crate::job::MARKS;
 use crate::job::NORMAL_LENGTHS;
+use crate::job::PLATE;
 use crate::job::fits;
-use crate::job::kind_count;
 use crate::job::kind_room;
 use crate::job::may_turn;
 use crate::job::plate_room;
-use crate::job::plate_side;
 use test_tools::Words;
 use test_tools::minus;
 use test_tools::plus;
@@ -25,14 +25,14 @@ fn leads_by(t: &Words, size: usize, x: usize) -> bool {
 }
 
 fn leads_upright(t: &Words, side: usize, i: usize, x: usize) -> bool {
-    if fits(t, i, plate_side(t, 0), plate_side(t, 1)) {
+    if fits(t, i, word(t, PLATE, 0), word(t, PLATE, 1)) {
         return leads_by(t, kind_room(t, side, i), x);
     }
     false
 }
 
 fn leads_turned(t: &Words, side: usize, i: usize, x: usize) -> bool {
-    if fits(t, i, plate_side(t, 1), plate_side(t, 0)) {
+    if fits(t, i, word(t, PLATE, 1), word(t, PLATE, 0)) {
         return leads_by(t, kind_room(t, minus(1, side), i), x);
     }
     false
@@ -51,7 +51,7 @@ fn leads_to(t: &Words, side: usize, i: usize, x: usize) -> bool {
 
 // Whether a position is normal, where all before it are marked.
 fn is_normal(t: &Words, side: usize, x: usize) -> bool {
-    for i in 0..kind_count(t) {
+    for i in 0..word(t, KINDS, 0) {
         if leads_to(t, side, i, x) {
             return true;
         }

@@ -2,6 +2,8 @@
 // answer and what it left there go into words.
 use bound::BoundAnswer;
 use bound::BoundReport;
+use bound::bound;
+use bound::bound_full_demand;
 use every_unit::BLOCK;
 use every_unit::EXACT;
 use every_unit::FIGURES;
@@ -56,250 +58,252 @@ pub const OTHER_WIDTHS: usize = 60021;
 
 pub const OTHER_WORDS: usize = 60022;
 
+// What a call answered: the values as they stand at ANSWER, those that it does not answer 0.
+struct Answer {
+    refusal: usize,
+    bound: usize,
+    capacity: usize,
+    lengths: usize,
+    widths: usize,
+    second: usize,
+    nodes: usize,
+}
+
+// The answer, and how many entries of the lengths, of the widths, and words of the table are not as expected.
+struct Seen {
+    answer: Answer,
+    lengths: usize,
+    widths: usize,
+    words: usize,
+}
+
 fn widen(x: u16) -> usize {
     x as usize
 }
 
-fn note_refusal(t: &mut Words, r: Refusal) {
-    put(t, ANSWER, 0, widen(refusal::number(r)));
-    put(t, ANSWER, 1, refusal::place(r) as usize);
-}
-
-fn note_report(t: &mut Words, r: BoundReport) {
-    put(t, ANSWER, 0, 0);
-    put(t, ANSWER, 1, r.bound as usize);
-    put(t, ANSWER, 2, widen(r.capacity));
-    put(t, ANSWER, 3, widen(r.length_count));
-    put(t, ANSWER, 4, widen(r.columns));
-    put(t, ANSWER, 5, 0);
-}
-
-fn note_two_report(t: &mut Words, r: TwoReport) {
-    put(t, ANSWER, 0, 0);
-    put(t, ANSWER, 1, r.bound as usize);
-    put(t, ANSWER, 2, widen(r.first_capacity));
-    put(t, ANSWER, 3, widen(r.length_count));
-    put(t, ANSWER, 4, widen(r.columns));
-    put(t, ANSWER, 5, widen(r.second_capacity));
-}
-
-fn note_exact_report(t: &mut Words, r: ExactReport) {
-    put(t, ANSWER, 0, 0);
-    put(t, ANSWER, 1, r.optimum as usize);
-    put(t, ANSWER, 2, minus(r.states as usize, 1));
-    put(t, ANSWER, 3, widen(r.length_count));
-    put(t, ANSWER, 4, widen(r.columns));
-    put(t, ANSWER, 5, 0);
-    put(t, ANSWER, 6, r.nodes as usize);
-}
-
-fn note_exact(t: &mut Words, answer: ExactAnswer) {
-    match answer {
-        ExactAnswer::Answered(r) => note_exact_report(t, r),
-        ExactAnswer::Refused(r) => note_refusal(t, r),
+fn refused(r: Refusal) -> Answer {
+    Answer {
+        refusal: widen(refusal::number(r)),
+        bound: refusal::place(r) as usize,
+        capacity: 0,
+        lengths: 0,
+        widths: 0,
+        second: 0,
+        nodes: 0,
     }
 }
 
-fn note_two(t: &mut Words, answer: TwoAnswer) {
-    match answer {
-        TwoAnswer::Answered(r) => note_two_report(t, r),
-        TwoAnswer::Refused(r) => note_refusal(t, r),
+// An answer that is no refusal.
+fn answered(bound: u64, capacity: usize, p: u16, r: u16, second: u16, nodes: u64) -> Answer {
+    Answer {
+        refusal: 0,
+        bound: bound as usize,
+        capacity: capacity,
+        lengths: widen(p),
+        widths: widen(r),
+        second: widen(second),
+        nodes: nodes as usize,
     }
 }
 
-fn note_answer(t: &mut Words, answer: BoundAnswer) {
+fn exact_report(r: ExactReport) -> Answer {
+    let last = minus(r.states as usize, 1);
+    answered(r.optimum, last, r.length_count, r.columns, 0, r.nodes)
+}
+
+fn exact_answer(answer: ExactAnswer) -> Answer {
     match answer {
-        BoundAnswer::Answered(r) => note_report(t, r),
-        BoundAnswer::Refused(r) => note_refusal(t, r),
+        ExactAnswer::Answered(r) => exact_report(r),
+        ExactAnswer::Refused(r) => refused(r),
     }
 }
 
-fn note_list(t: &mut Words, at: usize, list: &[u16], from: usize, count: usize) {
-    let n = different_entries(list, t, from, word(t, count, 0));
-    put(t, at, 0, n);
+fn two_report(r: TwoReport) -> Answer {
+    let first = widen(r.first_capacity);
+    answered(
+        r.bound,
+        first,
+        r.length_count,
+        r.columns,
+        r.second_capacity,
+        0,
+    )
 }
 
-fn note_table(t: &mut Words, table: &[u64]) {
-    let n = different_words(table, t, FIGURES, word(t, WORD_COUNT, 0));
-    put(t, OTHER_WORDS, 0, n);
+fn two_answer(answer: TwoAnswer) -> Answer {
+    match answer {
+        TwoAnswer::Answered(r) => two_report(r),
+        TwoAnswer::Refused(r) => refused(r),
+    }
 }
 
-fn note_left(t: &mut Words, lengths: &[u16; 1028], widths: &[u16; 1028], table: &[u64; 36872]) {
-    note_list(t, OTHER_LENGTHS, lengths, NORMAL_LENGTHS, LENGTH_COUNT);
-    note_list(t, OTHER_WIDTHS, widths, NORMAL_WIDTHS, WIDTH_COUNT);
-    note_table(t, table);
+fn bound_report(r: BoundReport) -> Answer {
+    answered(r.bound, widen(r.capacity), r.length_count, r.columns, 0, 0)
+}
+
+fn bound_answer(answer: BoundAnswer) -> Answer {
+    match answer {
+        BoundAnswer::Answered(r) => bound_report(r),
+        BoundAnswer::Refused(r) => refused(r),
+    }
+}
+
+fn note_answer(t: &mut Words, a: Answer) {
+    put(t, ANSWER, 0, a.refusal);
+    put(t, ANSWER, 1, a.bound);
+    put(t, ANSWER, 2, a.capacity);
+    put(t, ANSWER, 3, a.lengths);
+    put(t, ANSWER, 4, a.widths);
+    put(t, ANSWER, 5, a.second);
+    put(t, ANSWER, 6, a.nodes);
 }
 
 // The choices for a call whose name says full demand: of it they say nothing.
-fn other_choices(way: Choices) -> Choices {
+fn other_choices(c: Choices) -> Choices {
     Choices {
-        turning: way.turning,
+        turning: c.turning,
         full_demand: false,
-        old_block: way.old_block,
+        old_block: c.old_block,
     }
 }
 
-// The bound call, and where the full demands are asked for the one of that name.
-fn choose_call(
-    block: &[u8],
-    way: Choices,
-    weights: &[u8],
-    lengths: &mut [u16],
-    widths: &mut [u16],
-    table: &mut [u64],
-) -> BoundAnswer {
-    if way.full_demand {
-        return bound::bound_full_demand(block, other_choices(way), weights, lengths, widths, table);
-    }
-    bound::bound(block, way, weights, lengths, widths, table)
+// The limit of stages that is set, and 0 for none.
+fn limit(t: &Words) -> u32 {
+    (word(t, LIMIT, 0) % 4294967296) as u32
 }
 
-// The call without a limit, or the one within the limit that is set.
-fn call_within(
-    t: &Words,
-    way: Choices,
+// The bound call within the limit, the one of the full demands, or the one without either.
+fn call_bound(
+    limit: u32,
+    c: Choices,
     block: &[u8],
     weights: &[u8],
     lengths: &mut [u16],
     widths: &mut [u16],
     table: &mut [u64],
 ) -> BoundAnswer {
-    let limit = (word(t, LIMIT, 0) % 4294967296) as u32;
-    if limit == 0 {
-        return choose_call(block, way, weights, lengths, widths, table);
+    if limit != 0 {
+        return bound_staged(block, c, weights, limit, lengths, widths, table);
     }
-    bound_staged(block, way, weights, limit, lengths, widths, table)
+    if c.full_demand {
+        return bound_full_demand(block, other_choices(c), weights, lengths, widths, table);
+    }
+    bound(block, c, weights, lengths, widths, table)
 }
 
 // The bound call of two weights, and where the full demands are asked for the one of that name.
-fn choose_two(
+fn call_two(
+    c: Choices,
     block: &[u8],
-    way: Choices,
     first: &[u8],
     second: &[u8],
     lengths: &mut [u16],
     widths: &mut [u16],
     table: &mut [u64],
 ) -> TwoAnswer {
-    if way.full_demand {
-        return bound_two_full_demand(
-            block,
-            other_choices(way),
-            first,
-            second,
-            lengths,
-            widths,
-            table,
-        );
+    let other = other_choices(c);
+    if c.full_demand {
+        return bound_two_full_demand(block, other, first, second, lengths, widths, table);
     }
-    bound_two(block, way, first, second, lengths, widths, table)
+    bound_two(block, other, first, second, lengths, widths, table)
 }
 
-// The call on the job's block and both weights of its kinds.
-fn call_two(
-    t: &Words,
-    way: Choices,
-    lengths: &mut [u16],
-    widths: &mut [u16],
-    table: &mut [u64],
-) -> TwoAnswer {
-    let block = bytes(t, BLOCK);
-    let first = bytes(t, WEIGHTS);
-    let second = bytes(t, SECOND_WEIGHTS);
-    choose_two(
-        first_bytes(&block, word(t, BLOCK, 0)),
-        way,
-        first_bytes(&first, word(t, WEIGHTS, 0)),
-        first_bytes(&second, word(t, SECOND_WEIGHTS, 0)),
-        lengths,
-        widths,
-        table,
-    )
-}
-
-// The exact call on the job's block, with plan arrays of 4,095 entries.
+// The exact call, with plan arrays of 4,095 entries.
 fn call_exact(
-    t: &Words,
-    way: Choices,
+    c: Choices,
+    block: &[u8],
     lengths: &mut [u16],
     widths: &mut [u16],
     table: &mut [u64],
 ) -> ExactAnswer {
-    let block = bytes(t, BLOCK);
     let mut kinds = [0u8; 4095];
     let mut operands = [0u16; 4095];
-    exact(
-        first_bytes(&block, word(t, BLOCK, 0)),
-        way,
-        lengths,
-        widths,
-        table,
-        &mut kinds,
-        &mut operands,
-    )
+    exact(block, c, lengths, widths, table, &mut kinds, &mut operands)
 }
 
-// The call on the job's block and weights.
-fn call_bound(
+// The exact call, or that of two weights, or of one, by what is set.
+fn call_set(
     t: &Words,
-    way: Choices,
+    c: Choices,
+    block: &[u8],
+    first: &[u8],
+    second: &[u8],
     lengths: &mut [u16],
     widths: &mut [u16],
     table: &mut [u64],
-) -> BoundAnswer {
-    let block = bytes(t, BLOCK);
-    let weights = bytes(t, WEIGHTS);
-    call_within(
-        t,
-        way,
-        first_bytes(&block, word(t, BLOCK, 0)),
-        first_bytes(&weights, word(t, WEIGHTS, 0)),
-        lengths,
-        widths,
-        table,
-    )
+) -> Answer {
+    if word(t, EXACT, 0) == 1 {
+        return exact_answer(call_exact(c, block, lengths, widths, table));
+    }
+    if word(t, TWO, 0) == 1 {
+        return two_answer(call_two(c, block, first, second, lengths, widths, table));
+    }
+    let m = limit(t);
+    bound_answer(call_bound(m, c, block, first, lengths, widths, table))
 }
 
-// The exact call, or that of two weights, or of one; its answer is noted.
-fn note_call(
-    t: &mut Words,
-    way: Choices,
-    lengths: &mut [u16],
-    widths: &mut [u16],
-    table: &mut [u64],
-) {
-    if word(t, EXACT, 0) == 1 {
-        let answer = call_exact(t, way, lengths, widths, table);
-        note_exact(t, answer);
-    } else if word(t, TWO, 0) == 1 {
-        let answer = call_two(t, way, lengths, widths, table);
-        note_two(t, answer);
-    } else {
-        let answer = call_bound(t, way, lengths, widths, table);
-        note_answer(t, answer);
+// What was left in the lists and the table.
+fn left(
+    t: &Words,
+    answer: Answer,
+    lengths: &[u16; 1028],
+    widths: &[u16; 1028],
+    table: &[u64; 36872],
+) -> Seen {
+    let p = word(t, LENGTH_COUNT, 0);
+    let r = word(t, WIDTH_COUNT, 0);
+    let k = word(t, WORD_COUNT, 0);
+    Seen {
+        answer: answer,
+        lengths: different_entries(lengths, t, NORMAL_LENGTHS, p),
+        widths: different_entries(widths, t, NORMAL_WIDTHS, r),
+        words: different_words(table, t, FIGURES, k),
     }
 }
 
-// Makes the call with the parts of lists and table that are lent, and notes its answer and what it left.
-fn call_lent(t: &mut Words, way: Choices) {
+// The call with the parts of marked lists and a marked table that are lent.
+fn call_lent(t: &Words, c: Choices, block: &[u8], first: &[u8], second: &[u8]) -> Seen {
     let mut lengths = marked_list();
     let mut widths = marked_list();
     let mut table = marked_table();
-    let p = word(t, LENT_LENGTHS, 0);
-    let r = word(t, LENT_WIDTHS, 0);
-    let k = word(t, LENT_WORDS, 0);
-    note_call(
+    let answer = call_set(
         t,
-        way,
-        lend_numbers(&mut lengths, p),
-        lend_numbers(&mut widths, r),
-        lend_words(&mut table, k),
+        c,
+        block,
+        first,
+        second,
+        lend_numbers(t, LENT_LENGTHS, &mut lengths),
+        lend_numbers(t, LENT_WIDTHS, &mut widths),
+        lend_words(t, LENT_WORDS, &mut table),
     );
-    note_left(t, &lengths, &widths, &table);
+    left(t, answer, &lengths, &widths, &table)
 }
 
-// Writes the block, old or new, and makes the call.
-pub fn try_bound(t: &mut Words, old: bool, way: Choices) {
+// The call on the job's block and both weights of its kinds.
+fn call_job(t: &Words, c: Choices) -> Seen {
+    let block = bytes(t, BLOCK);
+    let first = bytes(t, WEIGHTS);
+    let second = bytes(t, SECOND_WEIGHTS);
+    call_lent(
+        t,
+        c,
+        first_bytes(t, BLOCK, &block),
+        first_bytes(t, WEIGHTS, &first),
+        first_bytes(t, SECOND_WEIGHTS, &second),
+    )
+}
+
+fn note(t: &mut Words, seen: Seen) {
+    let answer = seen.answer;
+    note_answer(t, answer);
+    put(t, OTHER_LENGTHS, 0, seen.lengths);
+    put(t, OTHER_WIDTHS, 0, seen.widths);
+    put(t, OTHER_WORDS, 0, seen.words);
+}
+
+// Writes the block, old or new, makes the call, and notes its answer and what it left.
+pub fn try_bound(t: &mut Words, old: bool, c: Choices) {
     write_block(t, old);
-    call_lent(t, way);
+    let seen = call_job(t, c);
+    note(t, seen);
 }

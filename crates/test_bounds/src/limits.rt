@@ -90,17 +90,22 @@ fn print_answer(t: &Words) {
     }
 }
 
+// The choices that the row says.
+fn row_choices(t: &Words) -> Choices {
+    Choices {
+        turning: word(t, ROW, 13) == 1,
+        full_demand: word(t, ROW, 14) == 1,
+        old_block: word(t, ROW, 16) == 1,
+    }
+}
+
 // Runs the case. No length, no width and no word is expected, so that every change differs.
 pub fn run_limit(t: &mut Words) {
     make_job(t);
     clear(t, LENGTH_COUNT, 4);
-    let way = Choices {
-        turning: word(t, ROW, 13) == 1,
-        full_demand: word(t, ROW, 14) == 1,
-        old_block: word(t, ROW, 16) == 1,
-    };
     let old = word(t, ROW, 15) == 1;
-    try_bound(t, old, way);
+    let c = row_choices(t);
+    try_bound(t, old, c);
     print_answer(t);
     print_words(b"; changed # # #", t, OTHER_LENGTHS);
 }

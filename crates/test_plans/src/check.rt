@@ -1,12 +1,8 @@
 // The check of plans, without a limit of stages and within one.
-use crate::lent::JOB;
-use crate::lent::KINDS;
-use crate::lent::OPERANDS;
 use crate::lent::PLAN;
 use crate::lent::choices;
-use crate::lent::count;
 use crate::lent::limit;
-use crate::lent::print_refusal;
+use crate::lent::print_fault;
 use crate::lent::widen;
 use plan::PlanAnswer;
 use plan::Report;
@@ -18,11 +14,9 @@ use staged_plan::check_plan_staged;
 use test_tools::Words;
 use test_tools::bytes;
 use test_tools::first_bytes;
-use test_tools::first_numbers;
-use test_tools::numbers;
-use test_tools::plus;
 use test_tools::print_numbers;
-use test_tools::put;
+use test_tools::print_value;
+use test_tools::text;
 
 pub fn print_copies(copies: [u16; 64]) {
     print_numbers(
@@ -32,7 +26,7 @@ pub fn print_copies(copies: [u16; 64]) {
 }
 
 fn print_figures(r: Report) {
-    print_numbers(b" profit #", &[r.profit]);
+    print_value(b" profit #", r.profit);
     let copies = r.copies;
     print_copies(copies);
     print_numbers(b" areas # # # #", &[r.pieces, r.waste, r.trim, r.sawdust]);
@@ -40,12 +34,12 @@ fn print_figures(r: Report) {
 
 fn print_report(r: Report) {
     print_figures(r);
-    print_numbers(b";", &[]);
+    text(b";");
 }
 
 fn print_staged(r: Report, stages: u8) {
     print_figures(r);
-    print_numbers(b" stages #;", &[stages as u64]);
+    print_value(b" stages #;", stages as u64);
 }
 
 fn print_answer(a: PlanAnswer) {
@@ -53,7 +47,7 @@ fn print_answer(a: PlanAnswer) {
     let report = a.report;
     match verdict {
         Checked::Passed => print_report(report),
-        Checked::Refused(r) => print_refusal(b" # at #;", r),
+        Checked::Refused(r) => print_fault(r),
     }
 }
 
@@ -62,59 +56,23 @@ fn print_staged_answer(a: StagedAnswer) {
     let report = a.report;
     match verdict {
         Checked::Passed => print_staged(report, a.stages),
-        Checked::Refused(r) => print_refusal(b" # at #;", r),
+        Checked::Refused(r) => print_fault(r),
     }
+}
+
+// The check of the two arrays.
+pub fn run_arrays(t: &Words, block: &[u8], kinds: &[u8], operands: &[u16]) {
+    print_answer(check_plan(block, choices(t), kinds, operands));
 }
 
 // The check of the two arrays within the limit.
-pub fn run_staged(t: &Words) {
-    let block = bytes(t, JOB);
-    let kinds = bytes(t, KINDS);
-    let operands = numbers(t, OPERANDS);
-    print_staged_answer(check_plan_staged(
-        first_bytes(&block, count(t, JOB)),
-        choices(t),
-        limit(t),
-        first_bytes(&kinds, count(t, KINDS)),
-        first_numbers(&operands, count(t, OPERANDS)),
-    ));
+pub fn run_staged(t: &Words, block: &[u8], kinds: &[u8], operands: &[u16]) {
+    let m = limit(t);
+    print_staged_answer(check_plan_staged(block, choices(t), m, kinds, operands));
 }
 
-pub fn run_arrays(t: &Words) {
-    let block = bytes(t, JOB);
-    let kinds = bytes(t, KINDS);
-    let operands = numbers(t, OPERANDS);
-    print_answer(check_plan(
-        first_bytes(&block, count(t, JOB)),
-        choices(t),
-        first_bytes(&kinds, count(t, KINDS)),
-        first_numbers(&operands, count(t, OPERANDS)),
-    ));
-}
-
-pub fn run_block(t: &Words) {
-    let block = bytes(t, JOB);
+// The check of the plan block.
+pub fn run_block(t: &Words, block: &[u8]) {
     let plan = bytes(t, PLAN);
-    print_answer(check_plan_block(
-        first_bytes(&block, count(t, JOB)),
-        choices(t),
-        first_bytes(&plan, count(t, PLAN)),
-    ));
-}
-
-// The check that reads the bytes at a place: of the plan block, or of the two arrays.
-fn run_check(t: &Words, at: usize) {
-    if at == PLAN {
-        run_block(t);
-    } else {
-        run_arrays(t);
-    }
-}
-
-// Every truncation of the job block or of the plan block, and the whole of it.
-pub fn run_truncations(t: &mut Words, at: usize) {
-    for n in 0..plus(count(t, at), 1) {
-        put(t, at, 0, n);
-        run_check(t, at);
-    }
+    print_answer(check_plan_block(block, choices(t), first_bytes(t, PLAN, &plan)));
 }

@@ -3,6 +3,7 @@ use job::Choices;
 use refusal::Refusal;
 use test_tools::Words;
 use test_tools::print_numbers;
+use test_tools::print_value;
 use test_tools::word;
 
 pub const JOB: usize = 9000;
@@ -52,6 +53,9 @@ pub const KINDS: usize = 20000;
 
 pub const OPERANDS: usize = 30000;
 
+// What the bound printer is given.
+pub const INPUT: usize = 40000;
+
 pub fn count(t: &Words, from: usize) -> usize {
     word(t, from, 0)
 }
@@ -82,6 +86,20 @@ pub fn widen(n: u16) -> u64 {
     n as u64
 }
 
-pub fn print_refusal(form: &[u8], r: Refusal) {
+pub fn print_byte(n: u8) {
+    print_value(b" #", n as u64);
+}
+
+fn print_refusal(form: &[u8], r: Refusal) {
     print_numbers(form, &[widen(refusal::number(r)), refusal::place(r)]);
+}
+
+// The refusal of a call that bounds, writes or certifies.
+pub fn print_refused(r: Refusal) {
+    print_refusal(b" refused # at #", r);
+}
+
+// The refusal of a check.
+pub fn print_fault(r: Refusal) {
+    print_refusal(b" # at #;", r);
 }

@@ -1,5 +1,5 @@
 // Runs the calls on plans by a script (its standard input): the check of plans, the writing of plans, neat plans, certificates, both
-// within a limit of stages too, the saw, the weight rounds, racks of plates.
+// within a limit of stages too, the saw, the weight rounds, racks of plates; and the bound printer.
 // `job`, `weights`, `kinds`, `operands` and `plan` set the bytes of the job block, the weights, the plan's two arrays and the plan block;
 // `lend` sets how many entries of the two lists and words of the table a certificate is lent, `neat` how many entries of the two output
 // arrays a neat plan, or a round's plan, is lent, `most` the limit of stages, `x` and `y` the lengths and widths of a rack's plates;
@@ -12,24 +12,25 @@
 // checks the two arrays as the saw does, and `Entries` prints the part of them that belongs to the node which `entry` sets; `Find` finds
 // weights with the arrays as the lent plan, and prints what `Certify` and `Neat` print of memory; `Rack` checks the plans in the arrays as
 // those of the rack, and prints three profits; `Old` reads the job block by the call for old ones. An answer is printed as its values, a
-// refusal as number and place.
+// refusal as number and place. `Give` and the bytes of an input, job block and weights, run the bound printer on them; the last command,
+// `Input`, runs it on what follows the script in standard input, read as the bound printer reads it: more than 711 bytes, of which only the
+// first 711 count.
+mod call;
 mod certify;
 mod check;
 mod find;
 mod lent;
 mod old_job;
+mod printed;
 mod racks;
 mod saw_calls;
 mod tidy;
 mod write;
 
-use certify::run_certify;
-use check::run_arrays;
-use check::run_block;
-use check::run_staged;
-use check::run_truncations;
-use find::run_find;
+use call::run_call;
+use call::run_truncations;
 use lent::FULL_DEMAND;
+use lent::INPUT;
 use lent::JOB;
 use lent::KINDS;
 use lent::LENT;
@@ -44,15 +45,11 @@ use lent::PLATE_WIDTHS;
 use lent::REMARK;
 use lent::TURNING;
 use lent::WEIGHTS;
-use old_job::run_old_job;
-use racks::run_rack;
-use saw_calls::run_entries;
-use saw_calls::run_saw;
+use printed::print_bytes;
+use printed::print_input;
 use test_tools::Words;
 use test_tools::next_command;
 use test_tools::row_to;
-use tidy::run_neat;
-use write::run_write;
 
 const COMMANDS: usize = 1000;
 
@@ -77,22 +74,20 @@ fn place(letter: u8) -> usize {
     }
 }
 
+// Sets the bytes of a command, and runs the printer on them.
+fn print_row(t: &mut Words) {
+    row_to(t, INPUT);
+    print_bytes(t);
+}
+
+// Runs the command of a letter: a capital one is a call, a small one sets numbers.
 fn run(t: &mut Words, letter: u8) {
     match letter {
-        b'A' => run_arrays(t),
-        b'B' => run_block(t),
-        b'J' => run_truncations(t, JOB),
-        b'P' => run_truncations(t, PLAN),
-        b'W' => run_write(t),
-        b'N' => run_neat(t),
-        b'C' => run_certify(t, false),
-        b'D' => run_staged(t),
-        b'L' => run_certify(t, true),
-        b'F' => run_find(t),
-        b'R' => run_rack(t),
-        b'S' => run_saw(t),
-        b'E' => run_entries(t),
-        b'O' => run_old_job(t),
+        b'J' => run_truncations(t, JOB, b'A'),
+        b'P' => run_truncations(t, PLAN, b'B'),
+        b'G' => print_row(t),
+        b'I' => print_input(),
+        b'A'..=b'Z' => run_call(t, letter),
         _ => row_to(t, place(letter)),
     }
 }

@@ -1,15 +1,10 @@
 // The old job block by its own call, whatever the choices say of it.
-use crate::lent::JOB;
-use crate::lent::count;
-use crate::lent::print_refusal;
+use crate::lent::print_fault;
 use crate::lent::widen;
 use job::Choices;
 use job::JobRecord;
 use job::read_old_job;
 use refusal::Checked;
-use test_tools::Words;
-use test_tools::bytes;
-use test_tools::first_bytes;
 use test_tools::print_numbers;
 
 fn print_job(job: JobRecord) {
@@ -24,18 +19,18 @@ fn print_job(job: JobRecord) {
     );
 }
 
-pub fn run_old_job(t: &Words) {
-    let block = bytes(t, JOB);
+// The job of the block, or the refusal.
+pub fn run_old_job(block: &[u8]) {
     let none = Choices {
         turning: false,
         full_demand: false,
         old_block: false,
     };
-    let read = read_old_job(first_bytes(&block, count(t, JOB)), none);
+    let read = read_old_job(block, none);
     let verdict = read.verdict;
     let job = read.job;
     match verdict {
         Checked::Passed => print_job(job),
-        Checked::Refused(r) => print_refusal(b" # at #;", r),
+        Checked::Refused(r) => print_fault(r),
     }
 }

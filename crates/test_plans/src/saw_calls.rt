@@ -1,12 +1,9 @@
 // The saw: its check of plans, and the part of the arrays that belongs to a node.
 use crate::check::print_copies;
-use crate::lent::JOB;
-use crate::lent::KINDS;
 use crate::lent::NODE;
-use crate::lent::OPERANDS;
 use crate::lent::choices;
-use crate::lent::count;
-use crate::lent::print_refusal;
+use crate::lent::print_byte;
+use crate::lent::print_fault;
 use crate::lent::widen;
 use refusal::Checked;
 use saw::SawAnswer;
@@ -15,11 +12,9 @@ use saw::node_kinds;
 use saw::node_operands;
 use saw::saw_check;
 use test_tools::Words;
-use test_tools::bytes;
-use test_tools::first_bytes;
-use test_tools::first_numbers;
-use test_tools::numbers;
 use test_tools::print_numbers;
+use test_tools::print_value;
+use test_tools::text;
 use test_tools::word;
 
 fn print_report(r: SawReport) {
@@ -33,34 +28,23 @@ fn print_answer(a: SawAnswer) {
     let report = a.report;
     match verdict {
         Checked::Passed => print_report(report),
-        Checked::Refused(r) => print_refusal(b" # at #;", r),
+        Checked::Refused(r) => print_fault(r),
     }
 }
 
-pub fn run_saw(t: &Words) {
-    let block = bytes(t, JOB);
-    let kinds = bytes(t, KINDS);
-    let operands = numbers(t, OPERANDS);
-    print_answer(saw_check(
-        first_bytes(&block, count(t, JOB)),
-        choices(t),
-        first_bytes(&kinds, count(t, KINDS)),
-        first_numbers(&operands, count(t, OPERANDS)),
-    ));
-}
-
-fn print_kind(kind: u8) {
-    print_numbers(b" #", &[kind as u64]);
+// The saw's check of the two arrays.
+pub fn run_saw(t: &Words, block: &[u8], kinds: &[u8], operands: &[u16]) {
+    print_answer(saw_check(block, choices(t), kinds, operands));
 }
 
 fn print_kinds(part: &[u8]) {
     for i in 0..part.len() {
-        print_kind(part[i]);
+        print_byte(part[i]);
     }
 }
 
 fn print_operand(operand: u16) {
-    print_numbers(b" #", &[widen(operand)]);
+    print_value(b" #", widen(operand));
 }
 
 fn print_operands(part: &[u16]) {
@@ -70,16 +54,12 @@ fn print_operands(part: &[u16]) {
 }
 
 // The part of both arrays that belongs to the node that is set.
-pub fn run_entries(t: &Words) {
-    let block = bytes(t, JOB);
-    let kinds = bytes(t, KINDS);
-    let operands = numbers(t, OPERANDS);
-    let s = first_bytes(&block, count(t, JOB));
-    let ks = first_bytes(&kinds, count(t, KINDS));
-    let os = first_numbers(&operands, count(t, OPERANDS));
-    print_numbers(b" kinds", &[]);
-    print_kinds(node_kinds(s, choices(t), ks, os, word(t, NODE, 1)));
-    print_numbers(b" operands", &[]);
-    print_operands(node_operands(s, choices(t), ks, os, word(t, NODE, 1)));
-    print_numbers(b";", &[]);
+pub fn run_entries(t: &Words, block: &[u8], kinds: &[u8], operands: &[u16]) {
+    let c = choices(t);
+    let node = word(t, NODE, 1);
+    text(b" kinds");
+    print_kinds(node_kinds(block, c, kinds, operands, node));
+    text(b" operands");
+    print_operands(node_operands(block, c, kinds, operands, node));
+    text(b";");
 }

@@ -46,26 +46,26 @@ pub fn numbers(t: &Words, from: usize) -> [u16; 5000]
     a
 }
 
-// The first n bytes, or all where there are fewer.
-pub fn first_bytes(bytes: &[u8], n: usize) -> &[u8] {
-    let k = smaller(n, bytes.len());
+// The first bytes, as many as a word says, or all where there are fewer.
+pub fn first_bytes<'a>(t: &Words, at: usize, bytes: &'a [u8]) -> &'a [u8] {
+    let k = smaller(word(t, at, 0), bytes.len());
     &bytes[..k]
 }
 
-// The first n numbers, or all where there are fewer.
-pub fn first_numbers(numbers: &[u16], n: usize) -> &[u16] {
-    let k = smaller(n, numbers.len());
+// The first numbers, likewise.
+pub fn first_numbers<'a>(t: &Words, at: usize, numbers: &'a [u16]) -> &'a [u16] {
+    let k = smaller(word(t, at, 0), numbers.len());
     &numbers[..k]
 }
 
-// The first n bytes for a call to change, or all where there are fewer.
-pub fn lend_bytes(bytes: &mut [u8], n: usize) -> &mut [u8] {
-    let k = smaller(n, bytes.len());
+// The first bytes for a call to change, likewise.
+pub fn lend_bytes<'a>(t: &Words, at: usize, bytes: &'a mut [u8]) -> &'a mut [u8] {
+    let k = smaller(word(t, at, 0), bytes.len());
     &mut bytes[..k]
 }
 
-// The first n numbers for a call to change, or all where there are fewer.
-pub fn lend_numbers(numbers: &mut [u16], n: usize) -> &mut [u16] {
-    let k = smaller(n, numbers.len());
+// The first numbers for a call to change, likewise.
+pub fn lend_numbers<'a>(t: &Words, at: usize, numbers: &'a mut [u16]) -> &'a mut [u16] {
+    let k = smaller(word(t, at, 0), numbers.len());
     &mut numbers[..k]
 }

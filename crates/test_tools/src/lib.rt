@@ -19,6 +19,7 @@ pub use memory::lend_words;
 pub use memory::marked_list;
 pub use memory::marked_table;
 pub use print::print_numbers;
+pub use print::print_value;
 pub use print::print_words;
 pub use print::text;
 pub use script::ROW;

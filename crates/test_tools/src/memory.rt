@@ -51,9 +51,9 @@ pub fn marked_table() -> [u64; 36872]
     table
 }
 
-// The first n words of a table for a call to change, or all where there are fewer.
-pub fn lend_words(table: &mut [u64], n: usize) -> &mut [u64] {
-    let k = smaller(n, table.len());
+// The first words of a table for a call to change, as many as a word says, or all where there are fewer.
+pub fn lend_words<'a>(t: &Words, at: usize, table: &'a mut [u64]) -> &'a mut [u64] {
+    let k = smaller(word(t, at, 0), table.len());
     &mut table[..k]
 }
 
@@ -70,9 +70,9 @@ fn expected_entry(t: &Words, from: usize, n: usize, i: usize) -> usize {
 }
 
 // How many entries of a list differ from n words, and after these from what the list held before: with n = 0, how many have changed.
-pub fn different_entries(list: &[u16], t: &Words, from: usize, n: usize) -> usize {
+pub fn different_entries(list: &[u16; 1028], t: &Words, from: usize, n: usize) -> usize {
     let mut sum: usize = 0;
-    for i in 0..list.len() {
+    for i in 0..1028 {
         sum = plus(
             sum,
             (widen(list[i]) != expected_entry(t, from, n, i)) as usize,
@@ -90,9 +90,9 @@ fn expected_word(t: &Words, from: usize, n: usize, i: usize) -> u64 {
 }
 
 // The same of a table.
-pub fn different_words(table: &[u64], t: &Words, from: usize, n: usize) -> usize {
+pub fn different_words(table: &[u64; 36872], t: &Words, from: usize, n: usize) -> usize {
     let mut sum: usize = 0;
-    for i in 0..table.len() {
+    for i in 0..36872 {
         sum = plus(sum, (table[i] != expected_word(t, from, n, i)) as usize);
     }
     sum

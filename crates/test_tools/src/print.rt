@@ -39,6 +39,11 @@ pub fn print_numbers(form: &[u8], numbers: &[u64]) {
     }
 }
 
+// Prints a form with one number in the place of #.
+pub fn print_value(form: &[u8], x: u64) {
+    print_numbers(form, &[x]);
+}
+
 fn print_word_part(b: u8, t: &Words, k: usize) -> usize {
     if b == b'#' {
         print_number(word(t, k, 0) as u64);

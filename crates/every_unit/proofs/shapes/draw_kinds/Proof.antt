@@ -8,5 +8,5 @@ pub draw-kinds-spec : {M : Type 1} → statement M
 draw-kinds-spec =
     tie.close
     (tie.spec
-    (λ t₀ i₀ i-end t i. i ≤ i-end) (λ t₀ i₀ i-end t i. i-end - i) (search needs) (search needs) (search needs) (search needs) (search needs)
-    (search needs) (search needs))
+    (λ t₀ i₀ i-end t i. i ≤ i-end) (λ t₀ i₀ i-end t i. i-end - i)
+    (search needs) (search needs) (search needs) (search needs) (search needs) (search needs) (search needs) (search needs) (search needs))

@@ -8,4 +8,5 @@ pub draw-seconds-spec : {M : Type 1} → statement M
 draw-seconds-spec =
     tie.close
     (tie.spec
-    (λ t₀ i₀ i-end t i. i ≤ i-end) (λ t₀ i₀ i-end t i. i-end - i) (search needs) (search needs) (search needs) (search needs) (search needs) (search needs) (search needs) (search needs) (search needs))
+    (λ t₀ i₀ i-end t i. i ≤ i-end) (λ t₀ i₀ i-end t i. i-end - i)
+    (search needs) (search needs) (search needs) (search needs) (search needs) (search needs) (search needs) (search needs) (search needs))

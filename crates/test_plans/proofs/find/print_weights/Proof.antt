@@ -8,5 +8,5 @@ pub print-weights-spec : {M : Type 1} → statement M
 print-weights-spec =
     tie.close
     (tie.spec
-    (λ weights i₀ i. i ≤ 5) (λ weights i₀ i. 5 - i) (search needs) (search needs) (search needs) (search needs) (search needs)
-    (search needs) (search needs) (search needs))
+    (λ weights i₀ i. i ≤ 5) (λ weights i₀ i. 5 - i)
+    (search needs) (search needs) (search needs) (search needs) (search needs) (search needs) (search needs))

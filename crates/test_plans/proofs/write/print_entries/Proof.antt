@@ -8,5 +8,5 @@ pub print-entries-spec : {M : Type 1} → statement M
 print-entries-spec =
     tie.close
     (tie.spec
-    (λ kinds operands i₀ i. i ≤ 7) (λ kinds operands i₀ i. 7 - i) (search needs) (search needs) (search needs) (search needs) (search needs)
-    (search needs) (search needs) (search needs))
+    (λ kinds operands i₀ i. i ≤ 7) (λ kinds operands i₀ i. 7 - i)
+    (search needs) (search needs) (search needs) (search needs) (search needs) (search needs) (search needs) (search needs) (search needs) (search needs) (search needs))

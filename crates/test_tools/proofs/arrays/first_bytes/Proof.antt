@@ -9,4 +9,4 @@ slice-aggregate-result : tie.Need-slice-aggregate-result
 slice-aggregate-result c = simp length-take (omega arith)
 
 pub first-bytes-spec : {M : Type 1} → statement M
-first-bytes-spec = tie.close (tie.spec (search needs) slice-aggregate-result (search needs))
+first-bytes-spec = tie.close (tie.spec (search needs) (search needs) slice-aggregate-result (search needs))

@@ -9,4 +9,4 @@ slice-aggregate-result : tie.Need-slice-aggregate-result
 slice-aggregate-result c = simp length-take (omega arith)
 
 pub first-numbers-spec : {M : Type 1} → statement M
-first-numbers-spec = tie.close (tie.spec (search needs) slice-aggregate-result (search needs))
+first-numbers-spec = tie.close (tie.spec (search needs) (search needs) slice-aggregate-result (search needs))

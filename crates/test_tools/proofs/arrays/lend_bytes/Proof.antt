@@ -9,4 +9,4 @@ slice-aggregate-result : tie.Need-slice-aggregate-result
 slice-aggregate-result c = simp length-take (omega arith)
 
 pub lend-bytes-spec : {M : Type 1} → statement M
-lend-bytes-spec = tie.close (tie.spec (search needs) slice-aggregate-result (search needs))
+lend-bytes-spec = tie.close (tie.spec (search needs) (search needs) slice-aggregate-result (search needs))

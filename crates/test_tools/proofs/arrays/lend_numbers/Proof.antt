@@ -9,4 +9,4 @@ slice-aggregate-result : tie.Need-slice-aggregate-result
 slice-aggregate-result c = simp length-take (omega arith)
 
 pub lend-numbers-spec : {M : Type 1} → statement M
-lend-numbers-spec = tie.close (tie.spec (search needs) slice-aggregate-result (search needs))
+lend-numbers-spec = tie.close (tie.spec (search needs) (search needs) slice-aggregate-result (search needs))

