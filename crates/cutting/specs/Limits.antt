@@ -1,5 +1,5 @@
 -- The limits of the scope, each under its name.
-use Prim.Native.Nat.{ℕ}
+use Prim.Native.Nat.{ℕ, _+_, _*_}
 
 -- the greatest side of a plate or a piece
 abbrev pub most-side : ℕ
@@ -11,7 +11,7 @@ most-kerf = 20
 
 -- the greatest side with the kerf added
 abbrev pub most-wide-side : ℕ
-most-wide-side = 1020
+most-wide-side = most-side + most-kerf
 
 -- the most kinds of a job
 abbrev pub most-kinds : ℕ
@@ -19,7 +19,7 @@ most-kinds = 64
 
 -- the most pieces that may lie, each kind in two ways
 abbrev pub most-pieces : ℕ
-most-pieces = 128
+most-pieces = 2 * most-kinds
 
 -- the greatest price
 abbrev pub most-price : ℕ
@@ -47,8 +47,8 @@ most-limit = 8
 
 -- no figure is greater: the greatest plate times the greatest price
 abbrev pub most-figure : ℕ
-most-figure = 1000000000000
+most-figure = most-side * most-side * most-price
 
 -- the greatest plate with the kerf added times the greatest price: what the table's ranges alone show of its figures
 abbrev pub most-wide-figure : ℕ
-most-wide-figure = 1040400000000
+most-wide-figure = most-wide-side * most-wide-side * most-price
