@@ -12,7 +12,7 @@ use Rattle.refusal.specs.Refusals.{Check, next, first-refusal, outcome-by}
 use Rattle.refusal.specs.declared.Checked.{Checked}
 use Rattle.refusal.specs.declared.Checked.the-variants.{Passed, Refused}
 use Rattle.refusal.specs.declared.Refusal.{Refusal}
-use Rattle.job.specs.Block.{plate-length-at, plate-width-at, count-at, kerf-at, sizes-end, length-at, width-at, price-at, demand-at, outside, sides-outside, count-checks, header-checks, plateless-checks, size-check, pair-checks, each-kind, checks-by, job-checks, record-of, empty-record, read-by, read-of, job-values, job-outcome, job-from, job-of}
+use Rattle.job.specs.Block.{plate-length-at, plate-width-at, count-at, kerf-at, sizes-end, length-at, width-at, price-at, demand-at, outside, sides-outside, count-checks, header-checks, plateless-checks, header-by, size-check, pair-checks, each-kind, checks-by, job-checks, record-of, empty-record, read-by, read-of, job-values, job-outcome, job-from, job-of}
 use Rattle.job.specs.Contracts.{HoldsKinds}
 use Rattle.job.specs.declared.Choices.{Choices}
 use Rattle.job.specs.declared.JobAnswer.{JobAnswer}
@@ -59,9 +59,14 @@ module _ (old : Bool) (s : List ℕ) where
   pub header-passed : first-refusal (header-checks old s) ≡ Passed → (((1 ≤ plate-length-at s) × (plate-length-at s ≤ 1000)) × ((1 ≤ plate-width-at s) × (plate-width-at s ≤ 1000))) × Counts
   header-passed p = let a = cons-passed _ _ _ (cons-passed _ _ _ p .1) in (both-inside (plate-length-at s) (plate-width-at s) (a .0), counts-passed (a .1))
 
-  -- and where they passed without the plate's
+  -- and without the plate
   pub plateless-passed : first-refusal (plateless-checks old s) ≡ Passed → Counts
   plateless-passed p = counts-passed (cons-passed _ _ _ p .1)
+
+  -- and where they passed with the plate or without
+  pub front-passed : (plate : Bool) → first-refusal (header-by plate old s) ≡ Passed → Counts
+  front-passed true p = header-passed p .1
+  front-passed false p = plateless-passed p
 
   -- such a block has all the bytes of its kinds
   pub counts-hold : (n : ℕ) → n ≡ count-at s → Counts → HoldsKinds (sizes-end old) s n

@@ -17,7 +17,7 @@ ghost use Rattle.cutting.specs.Areas as measured;
 ghost use Rattle.cutting.specs.Pieces.{fits-either};
 ghost use Rattle.cutting.specs.Sides.{rect-of};
 ghost use Rattle.cutting.specs.Job.{InRange, capacity, copies-on, counted-of};
-ghost use Rattle.job.specs.Block.{with-full-demand, with-old-block, u16-at, u32-at, count-at, kerf-at, sizes-end, price-at, outside, sides-outside, short-check, count-checks, header-checks, plateless-checks, size-check, demand-check, pair-checks, each-kind, array-checks, job-checks, entries, record-of, unpriced, empty-record, read-of, job-outcome, job-said, job-of};
+ghost use Rattle.job.specs.Block.{with-full-demand, with-old-block, u16-at, u32-at, count-at, kerf-at, sizes-end, price-at, outside, sides-outside, short-check, count-checks, header-checks, plateless-checks, size-check, demand-check, pair-checks, header-by, pairs-by, each-kind, array-checks, checks-by, job-checks, entries, record-of, unpriced, empty-record, read-of, job-outcome, job-said, job-of};
 ghost use Rattle.job.specs.Weights.{weight-in, weights-answer, weights-outcome, weights-said, acceptance-of, acceptance-outcome, acceptance-said};
 ghost use Rattle.job.specs.Contracts.{HoldsKinds};
 
@@ -193,7 +193,7 @@ fn check_counts(block: &[u8], old: bool) -> Checked
 }
 
 // The header: refusals 1, 2, then 3, 27 and 4.
-pub fn check_header(block: &[u8], old: bool) -> Checked
+fn check_header(block: &[u8], old: bool) -> Checked
     ensures { λ r. ⌜ r ≡ first-refusal (header-checks old (now (block .entry))) ⌝ }
 {
     let short = check_short(block, old);
@@ -208,7 +208,7 @@ pub fn check_header(block: &[u8], old: bool) -> Checked
 }
 
 // A header whose plate is not read: refusals 1, then 3, 27 and 4.
-pub fn check_plateless(block: &[u8], old: bool) -> Checked
+fn check_plateless(block: &[u8], old: bool) -> Checked
     ensures { λ r. ⌜ r ≡ first-refusal (plateless-checks old (now (block .entry))) ⌝ }
 {
     let short = check_short(block, old);
@@ -216,6 +216,17 @@ pub fn check_plateless(block: &[u8], old: bool) -> Checked
         return short;
     };
     check_counts(block, old)
+}
+
+// A header whose plate is read or not.
+fn check_front(block: &[u8], old: bool, plate: bool) -> Checked
+    ensures { λ r. ⌜ r ≡ first-refusal (header-by plate old (now (block .entry))) ⌝ }
+{
+    if plate {
+        check_header(block, old)
+    } else {
+        check_plateless(block, old)
+    }
 }
 
 // Refusal 5, of one kind, where the sizes of the block end at byte h.
@@ -230,7 +241,7 @@ fn check_size(block: &[u8], h: usize, i: u16) -> Checked
 }
 
 // The first array: the sizes in the order of the kinds.
-pub fn check_sizes(block: &[u8], h: usize, n: u16) -> Checked
+fn check_sizes(block: &[u8], h: usize, n: u16) -> Checked
     requires { ⌜ HoldsKinds h (now block) n ⌝ }
     ensures { λ r. ⌜ r ≡ first-refusal (each-kind (λ i. size-check h (now (block .entry)) i ∷ []) 0 n) ⌝ }
 {
@@ -244,7 +255,7 @@ pub fn check_sizes(block: &[u8], h: usize, n: u16) -> Checked
 }
 
 // Refusal 7, of one kind.
-pub fn check_demand(block: &[u8], h: usize, n: u16, i: u16) -> Checked
+fn check_demand(block: &[u8], h: usize, n: u16, i: u16) -> Checked
     requires { ⌜ HoldsKinds h (now block) n × (i < n) ⌝ }
     ensures { λ r. ⌜ r ≡ first-refusal (demand-check h (now (block .entry)) i ∷ []) ⌝ }
 {
@@ -267,13 +278,25 @@ fn check_pair(block: &[u8], h: usize, n: u16, i: u16) -> Checked
     check_demand(block, h, n, i)
 }
 
-// The second array: the pairs of price and demand in the order of the kinds.
-fn check_pairs(block: &[u8], h: usize, n: u16) -> Checked
+// Refusals 6 and 7 of one kind, or 7 alone where no price is read.
+fn check_kind(block: &[u8], h: usize, n: u16, i: u16, priced: bool) -> Checked
+    requires { ⌜ HoldsKinds h (now block) n × (i < n) ⌝ }
+    ensures { λ r. ⌜ r ≡ first-refusal (pairs-by priced h (now (block .entry)) i) ⌝ }
+{
+    if priced {
+        check_pair(block, h, n, i)
+    } else {
+        check_demand(block, h, n, i)
+    }
+}
+
+// The second array: the pairs of price and demand in the order of the kinds; the price is read or not.
+fn check_pairs(block: &[u8], h: usize, n: u16, priced: bool) -> Checked
     requires { ⌜ HoldsKinds h (now block) n ⌝ }
-    ensures { λ r. ⌜ r ≡ first-refusal (each-kind (pair-checks h (now (block .entry))) 0 n) ⌝ }
+    ensures { λ r. ⌜ r ≡ first-refusal (each-kind (pairs-by priced h (now (block .entry))) 0 n) ⌝ }
 {
     for i in 0..n {
-        let pair = check_pair(block, h, n, i);
+        let pair = check_kind(block, h, n, i, priced);
         let Checked::Passed = pair else {
             return pair;
         };
@@ -282,27 +305,34 @@ fn check_pairs(block: &[u8], h: usize, n: u16) -> Checked
 }
 
 // Refusals 5 to 7: the two arrays of n kinds.
-pub fn check_arrays(block: &[u8], h: usize, n: u16) -> Checked
+fn check_arrays(block: &[u8], h: usize, n: u16, priced: bool) -> Checked
     requires { ⌜ HoldsKinds h (now block) n ⌝ }
-    ensures { λ r. ⌜ r ≡ first-refusal (array-checks (pair-checks h (now (block .entry))) h (now (block .entry))) ⌝ }
+    ensures { λ r. ⌜ r ≡ first-refusal (array-checks (pairs-by priced h (now (block .entry))) h (now (block .entry))) ⌝ }
 {
     let sizes = check_sizes(block, h, n);
     let Checked::Passed = sizes else {
         return sizes;
     };
-    check_pairs(block, h, n)
+    check_pairs(block, h, n, priced)
 }
 
-// Refusals 1 to 7 and 27, in the table's order.
-fn check_job(block: &[u8], choices: Choices) -> Checked
-    ensures { λ r. ⌜ r ≡ first-refusal (job-checks (now (block .entry)) choices) ⌝ }
+// Refusals 1 to 7 and 27, in the table's order; the plate is read or not, and the prices are or not.
+pub fn check_block(block: &[u8], choices: Choices, plate: bool, priced: bool) -> Checked
+    ensures { λ r. ⌜ r ≡ first-refusal (checks-by (header-by plate) (pairs-by priced) (now (block .entry)) choices) ⌝ }
 {
-    let header = check_header(block, choices.old_block);
+    let header = check_front(block, choices.old_block, plate);
     let Checked::Passed = header else {
         return header;
     };
     let h = sizes_end(choices.old_block);
-    check_arrays(block, h, read_u16(block, 4))
+    check_arrays(block, h, read_u16(block, 4), priced)
+}
+
+// A job block: its plate and its prices are read.
+fn check_job(block: &[u8], choices: Choices) -> Checked
+    ensures { λ r. ⌜ r ≡ first-refusal (job-checks (now (block .entry)) choices) ⌝ }
+{
+    check_block(block, choices, true, true)
 }
 
 // An array of fields of two bytes, the first at `from` and each `step` bytes after the one before.

@@ -3,12 +3,9 @@
 use idle::idle_cut;
 use job::Choices;
 use job::JobRecord;
-use job::check_arrays;
-use job::check_plateless;
+use job::check_block;
 use job::read_record;
-use job::read_u16;
 use job::sides_outside;
-use job::sizes_end;
 use plan::TreeAnswer;
 use plan::check_left;
 use plan::check_whole;
@@ -26,7 +23,7 @@ ghost use Rattle.cutting.specs.Limits.{most-kinds};
 ghost use Rattle.refusal.specs.Refusals.{first-refusal};
 ghost use Rattle.job.specs.Block.{job-of};
 ghost use Rattle.plan.specs.Walk.{Walkable};
-ghost use Rattle.rack.specs.Check.{most-plates, plate-at, rack-size-check, order-checks, plate-checks, rack-checks, own-answer, rack-stopped, plans-answer};
+ghost use Rattle.rack.specs.Check.{most-plates, plate-at, rack-size-check, plate-checks, rack-checks, own-answer, rack-stopped, plans-answer};
 ghost use Rattle.rack.specs.Promises.{PlatesPromises};
 ghost use Rattle.rack.specs.Plates.{on-plate, OneEach, TotalsAfter};
 ghost use Rattle.rack.specs.Records.{paid, paid-count, RackPromises};
@@ -85,18 +82,6 @@ fn check_size(lengths: &[u16], widths: &[u16]) -> Checked
     refuse_if(16 < n, Refusal::RackSize)
 }
 
-// The job beside its plate: refusals 1, 3, 27 and 4 to 7.
-fn check_order(block: &[u8], choices: Choices) -> Checked
-    ensures { λ r. ⌜ r ≡ first-refusal (order-checks (now (block .entry)) choices) ⌝ }
-{
-    let header = check_plateless(block, choices.old_block);
-    let Checked::Passed = header else {
-        return header;
-    };
-    let h = sizes_end(choices.old_block);
-    check_arrays(block, h, read_u16(block, 4))
-}
-
 // Refusal 2, of each plate in the rack's order.
 fn check_sides(lengths: &[u16], widths: &[u16]) -> Checked
     requires { ⌜ OneEach (now lengths) (now widths) ⌝ }
@@ -127,7 +112,7 @@ fn check_before(
     let Checked::Passed = size else {
         return size;
     };
-    let order = check_order(block, choices);
+    let order = check_block(block, choices, false, true);
     let Checked::Passed = order else {
         return order;
     };

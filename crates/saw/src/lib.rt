@@ -3,13 +3,9 @@
 use cutting::Node;
 use job::Choices;
 use job::JobAnswer;
-use job::check_demand;
-use job::check_header;
-use job::check_sizes;
+use job::check_block;
 use job::empty_record;
-use job::read_u16;
 use job::read_unpriced;
-use job::sizes_end;
 use node::decode;
 use plan::PlanAnswer;
 use plan::check_nodes;
@@ -18,11 +14,9 @@ ghost use mathlib.Core.Path.{_≡_};
 ghost use Prim.Native.Nat.{_+_, _≤_, _<_, _^_};
 ghost use lib.ListN.{length};
 ghost use Rattle.cutting.specs.Preorder.{kinds-of, operands-of};
-ghost use Rattle.refusal.specs.Refusals.{first-refusal};
-ghost use Rattle.job.specs.Block.{each-kind, job-outcome};
-ghost use Rattle.job.specs.Contracts.{HoldsKinds};
+ghost use Rattle.job.specs.Block.{job-outcome};
 ghost use Rattle.plan.specs.Plan.{empty-report};
-ghost use Rattle.saw.specs.Saw.{demand-checks, saw-checks, saw-read, saw-read-said, saw-of, without-profit, saw-answer, saw-outcome, saw-said, SawChecks};
+ghost use Rattle.saw.specs.Saw.{saw-read, saw-read-said, saw-of, without-profit, saw-answer, saw-outcome, saw-said, SawChecks};
 ghost use Rattle.saw.specs.Prices.{AtAnyPrices, BesideOffice};
 ghost use Rattle.saw.specs.Parts.{left-after, end-of, part-by, HandsBack};
 
@@ -47,44 +41,13 @@ pub struct Part {
     pub past: usize,
 }
 
-// The demands in the order of the kinds.
-fn check_demands(block: &[u8], h: usize, n: u16) -> Checked
-    requires { ⌜ HoldsKinds h (now block) n ⌝ }
-    ensures { λ r. ⌜ r ≡ first-refusal (each-kind (demand-checks h (now (block .entry))) 0 n) ⌝ }
-{
-    for i in 0..n {
-        let demand = check_demand(block, h, n, i);
-        let Checked::Passed = demand else {
-            return demand;
-        };
-    }
-    Checked::Passed
-}
-
-// Refusals 1 to 5, 7 and 27, in the table's order; no price is read.
-fn check_block(block: &[u8], choices: Choices) -> Checked
-    ensures { λ r. ⌜ r ≡ first-refusal (saw-checks (now (block .entry)) choices) ⌝ }
-{
-    let header = check_header(block, choices.old_block);
-    let Checked::Passed = header else {
-        return header;
-    };
-    let h = sizes_end(choices.old_block);
-    let n = read_u16(block, 4);
-    let sizes = check_sizes(block, h, n);
-    let Checked::Passed = sizes else {
-        return sizes;
-    };
-    check_demands(block, h, n)
-}
-
-// A job block as the saw reads it, or refused: in the record every price is 0.
+// A job block as the saw reads it, or refused with 1 to 5, 7 or 27: no price is read, and in the record every price is 0.
 pub fn read_saw_job(block: &[u8], choices: Choices) -> JobAnswer
     ensures answers { λ r. ⌜ r ≡ saw-read (now (block .entry)) choices ⌝ }
     ensures outcome { λ r. ⌜ job-outcome r ≡ saw-read-said (now (block .entry)) choices ⌝ }
     ensures blind { λ r. ⌜ AtAnyPrices choices (now (block .entry)) (λ z. r ≡ saw-read z choices) ⌝ }
 {
-    let verdict = check_block(block, choices);
+    let verdict = check_block(block, choices, true, false);
     let Checked::Passed = verdict else {
         return JobAnswer {
             verdict: verdict,

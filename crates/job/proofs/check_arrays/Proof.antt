@@ -4,7 +4,7 @@ use mathlib.Core.List.{[], _∷_}
 use borrow.Author.Needs.{needs}
 use denote.Ref.{now}
 use Rattle.refusal.specs.Refusals.{first-refusal}
-use Rattle.job.specs.Block.{size-check, pair-checks, each-kind}
+use Rattle.job.specs.Block.{size-check, pairs-by, each-kind}
 use Rattle.job.proofs.Checks.{next-stops, next-passes, first-append}
 use Rattle.job.proofs.check_arrays.Statement.{statement}
 use Rattle.job.proofs.check_arrays.Tie as tie
@@ -21,7 +21,7 @@ returns-2 c =
     let e = c .before .before .before .before .before in
     let s = now (e .args .block) in
     let a = c .before .before .before .check-sizes .ensures ∙ ap (λ n. first-refusal (each-kind (λ i. size-check (e .args .h) s i ∷ []) 0 n)) (e .pre .0) in
-    let b = c .check-pairs .ensures ∙ ap (λ n. first-refusal (each-kind (pair-checks (e .args .h) s) 0 n)) (e .pre .0) in
+    let b = c .check-pairs .ensures ∙ ap (λ n. first-refusal (each-kind (pairs-by (e .args .priced) (e .args .h) s) 0 n)) (e .pre .0) in
     b ∙ next-passes _ (sym a ∙ c .before .enum-told .given .1) ∙ sym (first-append (each-kind (λ i. size-check (e .args .h) s i ∷ []) 0 _) _)
 
 pub check-arrays-spec : {M : Type 1} → statement M

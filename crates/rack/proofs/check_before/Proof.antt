@@ -3,6 +3,7 @@ use mathlib.Core.Path.{_∙_, sym}
 use denote.Ref.{now}
 use borrow.Author.Needs.{needs}
 use Rattle.job.proofs.Checks.{next-stops, next-passes}
+use Rattle.rack.specs.Check.{order-checks}
 use Rattle.rack.proofs.Before.{before-parts, size-passed}
 use Rattle.rack.proofs.check_before.Statement.{statement}
 use Rattle.rack.proofs.check_before.Tie as tie
@@ -14,9 +15,10 @@ returns c =
     s ∙ next-stops _ (sym s ∙ c .enum-told2 .given .1) ∙ sym (before-parts (now (a .block)) (a .choices) (now (a .lengths)) (now (a .widths)) (now (a .kinds)) (now (a .operands)))
 
 returns-2 : tie.Need-returns-2
+unfolding order-checks
 returns-2 c =
     let a = c .before .before .before .before .before .before .before .before .before .before .before .args in
-    let o = c .before .before .check-order .ensures in
+    let o = c .before .before .check-block .ensures in
     o ∙ next-stops _ (sym o ∙ c .enum-told4 .given .1)
     ∙ next-passes _ (sym (c .before .before .before .before .before .check-size .ensures) ∙ c .before .before .before .enum-told .given .1) ∙ sym (before-parts (now (a .block)) (a .choices) (now (a .lengths)) (now (a .widths)) (now (a .kinds)) (now (a .operands)))
 
@@ -27,16 +29,18 @@ check-sides-requires c κs =
     (p .0, p .2)
 
 returns-3 : tie.Need-returns-3
+unfolding order-checks
 returns-3 c =
     let a = c .before .before .before .before .before .before .before .before .before .before .before .before .before .before .args in
     let s = c .before .before .check-sides .ensures in
-    s ∙ next-stops _ (sym s ∙ c .enum-told6 .given .1) ∙ next-passes _ (sym (c .before .before .before .before .before .check-order .ensures) ∙ c .before .before .before .enum-told3 .given .1)
+    s ∙ next-stops _ (sym s ∙ c .enum-told6 .given .1) ∙ next-passes _ (sym (c .before .before .before .before .before .check-block .ensures) ∙ c .before .before .before .enum-told3 .given .1)
     ∙ next-passes _ (sym (c .before .before .before .before .before .before .before .before .check-size .ensures) ∙ c .before .before .before .before .before .before .enum-told .given .1) ∙ sym (before-parts (now (a .block)) (a .choices) (now (a .lengths)) (now (a .widths)) (now (a .kinds)) (now (a .operands)))
 
 returns-4 : tie.Need-returns-4
+unfolding order-checks
 returns-4 c =
     let a = c .before .before .before .before .before .before .before .before .before .before .before .before .before .before .before .args in
-    c .check-whole .ensures ∙ next-passes _ (sym (c .before .before .before .check-sides .ensures) ∙ c .before .enum-told5 .given .1) ∙ next-passes _ (sym (c .before .before .before .before .before .before .check-order .ensures) ∙ c .before .before .before .before .enum-told3 .given .1)
+    c .check-whole .ensures ∙ next-passes _ (sym (c .before .before .before .check-sides .ensures) ∙ c .before .enum-told5 .given .1) ∙ next-passes _ (sym (c .before .before .before .before .before .before .check-block .ensures) ∙ c .before .before .before .before .enum-told3 .given .1)
     ∙ next-passes _ (sym (c .before .before .before .before .before .before .before .before .before .check-size .ensures) ∙ c .before .before .before .before .before .before .before .enum-told .given .1) ∙ sym (before-parts (now (a .block)) (a .choices) (now (a .lengths)) (now (a .widths)) (now (a .kinds)) (now (a .operands)))
 
 pub check-before-spec : {M : Type 1} → statement M
