@@ -3,6 +3,7 @@
 use crate::shape::Shape;
 use state_joins::Line;
 use state_joins::cut;
+use states::Cell;
 use states::figure;
 use states::note;
 use states::past;
@@ -14,7 +15,7 @@ ghost use mathlib.Core.Path.{_≡_};
 ghost use mathlib.Core.Logic.{_⊎_};
 ghost use mathlib.Core.Bool.{false};
 ghost use Prim.Native.Nat.{_+_, _-_, _≤_, _<_, max};
-ghost use lib.ListN.{length};
+ghost use lib.ListN.{length, drop};
 ghost use Rattle.cutting.specs.Limits.{most-pieces};
 ghost use Rattle.cutting.specs.Listed.{heavy-in};
 ghost use Rattle.table.specs.Words.{Outside, Run};
@@ -76,19 +77,23 @@ pub fn inherit(
 fn place_piece(
     table: &mut [u64],
     blocks: &[u32],
-    d: usize,
-    words: usize,
+    shape: Shape,
     at: usize,
     state: u32,
     price: u32,
     top: usize,
 ) -> usize
-    requires { ⌜ Growing (now blocks) d words at (now table) × Summed (now blocks) d words at (now table) ⌝ }
-    ensures { λ r. ⌜ Taken (under (now (blocks .entry)) d) at words state 0 price (now (table .entry)) (now (table .exit)) × Topped at words top r (now (table .entry)) (now (table .exit)) ⌝ }
+    requires { ⌜ Growing (now blocks) (shape .d) (shape .words) at (now table) × Summed (now blocks) (shape .d) (shape .words) at (now table) ⌝ }
+    ensures { λ r. ⌜ Taken (under (now (blocks .entry)) (shape .d)) at (shape .words) state 0 price (now (table .entry)) (now (table .exit)) × Topped at (shape .words) top r (now (table .entry)) (now (table .exit)) ⌝ }
 {
+    let cell = Cell {
+        d: shape.d,
+        words: shape.words,
+        at: at,
+    };
     let t = state as usize;
-    if t < words {
-        return take(table, blocks, d, words, at, t, 0, price as u64, top);
+    if t < cell.words {
+        return take(table, blocks, cell, t, 0, price as u64, top);
     }
     top
 }
@@ -115,7 +120,7 @@ pub fn place_pieces(
             if pieces[piece + 1] == w {
                 let price = pieces[piece + 2];
                 let state = pieces[piece + 3];
-                high = place_piece(table, blocks, shape.d, shape.words, at, state, price, high);
+                high = place_piece(table, blocks, shape, at, state, price, high);
             }
         }
     }
@@ -240,23 +245,23 @@ fn width_line(shape: Shape, place: Place) -> Line
 }
 
 // A cell of the table from the cells before it in length and width, those that its cuts read among them. The state from which on the
-// figures of this one too are the same is handed on.
+// figures of this one too are the same is handed on. The floors are those of the lengths from entry 0 on, and those of the widths from entry
+// 1021 on.
 pub fn make_cell(
     table: &mut [u64],
     pieces: &[u32; 640],
-    normal_lengths: &[u16],
-    length_floors: &[u16],
-    normal_widths: &[u16],
-    width_floors: &[u16],
+    lengths: &[u16],
+    widths: &[u16],
+    floors: &[u16],
     blocks: &[u32],
     shape: Shape,
     place: Place,
 ) -> usize
-    requires { ⌜ Spot (job-in shape (now pieces)) (heavy-in (now pieces)) (now «normal_lengths») (now «length_floors») (now «normal_widths») (now «width_floors») (now blocks) (shape .d) (shape .words) (shape .stride)
+    requires { ⌜ Spot (job-in shape (now pieces)) (heavy-in (now pieces)) (now lengths) (now floors) (now widths) (drop 1021 (now floors)) (now blocks) (shape .d) (shape .words) (shape .stride)
         (place .a) (place .b) (place .«length_half_end») (place .«width_half_end») (place .at) (place .column) (place .flat) (now table) ⌝ }
-    ensures { λ r. ⌜ Made (job-in shape (now (pieces .entry))) (under (now (blocks .entry)) (shape .d)) (heavy-in (now (pieces .entry))) (now («normal_lengths» .entry)) (now («normal_widths» .entry)) (shape .words) (place .a) (place .b) (now (table .exit))
+    ensures { λ r. ⌜ Made (job-in shape (now (pieces .entry))) (under (now (blocks .entry)) (shape .d)) (heavy-in (now (pieces .entry))) (now (lengths .entry)) (now (widths .entry)) (shape .words) (place .a) (place .b) (now (table .exit))
         × Outside (place .at) (place .at + shape .words) (now (table .entry)) (now (table .exit))
-        × Levelled (shape .words) (place .flat) r (tabled (job-in shape (now (pieces .entry))) (under (now (blocks .entry)) (shape .d)) (heavy-in (now (pieces .entry))) (now («normal_lengths» .entry)) (now («normal_widths» .entry)) (place .a) (place .b)) ⌝ }
+        × Levelled (shape .words) (place .flat) r (tabled (job-in shape (now (pieces .entry))) (under (now (blocks .entry)) (shape .d)) (heavy-in (now (pieces .entry))) (now (lengths .entry)) (now (widths .entry)) (place .a) (place .b)) ⌝ }
 {
     let at = place.at;
     let words = shape.words;
@@ -267,31 +272,14 @@ pub fn make_cell(
     begin(table, at, shorter, narrower, words, place.flat);
     let mut top = inherit(table, at, narrower, shorter, words, 0);
     top = inherit(table, at, shorter, narrower, words, top);
-    let l = widen(normal_lengths[a]);
-    let w = widen(normal_widths[b]);
+    let l = widen(lengths[a]);
+    let w = widen(widths[b]);
     top = place_pieces(table, pieces, blocks, shape, at, l, w, top);
-    let by_length = length_line(shape, place);
-    top = cut(
-        table,
-        normal_lengths,
-        length_floors,
-        blocks,
-        shape.d,
-        words,
-        by_length,
-        top,
-    );
-    let by_width = width_line(shape, place);
-    top = cut(
-        table,
-        normal_widths,
-        width_floors,
-        blocks,
-        shape.d,
-        words,
-        by_width,
-        top,
-    );
+    let along = length_line(shape, place);
+    top = cut(table, lengths, floors, blocks, shape.d, words, along, top);
+    let rest = &floors[1021..];
+    let across = width_line(shape, place);
+    top = cut(table, widths, rest, blocks, shape.d, words, across, top);
     finish(table, shape.d, at, shorter, narrower, words, top);
     flat_after(shape.d, words, place.flat, top)
 }

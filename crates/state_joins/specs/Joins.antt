@@ -7,7 +7,9 @@ use lib.Dec.{T}
 use lib.ListN.{getD}
 use Rattle.cutting.specs.Limits.{most-wide-figure}
 use Rattle.table.specs.Words.{remainder, Cuts}
+use Rattle.states.specs.declared.words.Cell.{Cell}
 use Rattle.states.specs.States.{held, note, mark, Summed, Rises, Growing, Low, Grown}
+use Rattle.state_joins.specs.declared.joins.Parts.{Parts}
 
 -- state t is on the list of the cell from x on
 abbrev pub Listed : List ℕ → ℕ → ℕ → ℕ → Type 0
@@ -52,6 +54,10 @@ pub record JoinedWith (le : ℕ → ℕ → Bool) (at words t v second : ℕ) (s
   pub grown : Grown le at words old new
   pub sums : (u : ℕ) → some u → t + u < words → T (le t (t + u)) → v + held old second u ≤ held new at (t + u)
   pub low : (f : ℕ → ℕ) → Rises le words f → ((u : ℕ) → u < words → t + u < words → T (le t (t + u)) → v + held old second u ≤ f (t + u)) → Low f at words old → Low f at words new
+
+-- what is needed to take the sums of two parts: both can be read
+abbrev pub PartsReady : List ℕ → Cell → Parts → List ℕ → Type 0
+PartsReady blocks cell parts xs = Growing blocks (cell .d) (cell .words) (cell .at) xs × Ready xs (parts .first) (cell .words) (cell .at) × Ready xs (parts .second) (cell .words) (cell .at) × Summed blocks (cell .d) (cell .words) (cell .at) xs
 
 -- the cell has taken the sums of some states of the cell from `first` on and some of the cell from `second` on
 pub record Joined (le : ℕ → ℕ → Bool) (at words first second : ℕ) (some more : ℕ → Type 0) (old new : List ℕ) : Type 0 where

@@ -1,5 +1,7 @@
 // The cuts of one side: at each entry of its first half the two parts' cells are joined into the one that is made.
+use crate::joins::Parts;
 use crate::joins::join;
+use states::Cell;
 use table::entry;
 ghost use Prim.Native.Nat.{_+_};
 ghost use Rattle.states.specs.States.{under, Topped};
@@ -37,17 +39,17 @@ fn cut_at(
     if entry(positions, rest) == left {
         let first = line.base + i * line.stride;
         let second = line.base + rest * line.stride;
-        return join(
-            table,
-            blocks,
-            d,
-            words,
-            line.at,
-            first,
-            second,
-            line.skip,
-            top,
-        );
+        let cell = Cell {
+            d: d,
+            words: words,
+            at: line.at,
+        };
+        let parts = Parts {
+            first: first,
+            second: second,
+            skip: line.skip,
+        };
+        return join(table, blocks, cell, parts, top);
     }
     top
 }

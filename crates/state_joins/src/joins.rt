@@ -1,36 +1,55 @@
 // Joining two finished cells into one that is being made: each state that the first one lists with each that the second one lists. Where
 // states have three digits or more, only those are read at which the cells can rise in the cut's direction.
+use states::Cell;
 use states::figure;
 use states::mark;
 use states::note;
 use states::take;
 ghost use mathlib.Core.Path.{_≡_};
-ghost use Prim.Native.Nat.{_+_, _≤_};
+ghost use mathlib.Core.Bool.{true};
+ghost use Prim.Native.Nat.{_+_, _-_, _≤_, _<_};
 ghost use lib.ListN.{length};
-ghost use Rattle.states.specs.States.{under, Summed, Growing, Topped};
-ghost use Rattle.state_joins.specs.Joins.{Listed, Marked, Served, Ready, Joinable, JoinedWith, Joined, Numbers, Among, Gathered};
+ghost use Rattle.states.specs.States.{held, under, Topped};
+ghost use Rattle.state_joins.specs.Joins.{Listed, Marked, Served, Ready, Joinable, PartsReady, JoinedWith, Joined, Numbers, Among, Gathered};
 
-// The cell takes v at state t together with the figure of each state that the cell from `second` on lists. Nothing is to be taken where
-// even the greatest figure of that cell, at its last state, gives no more than state t has. Listed states do not fall: the first that is
-// past all states together with t is the end.
-fn join_with(
-    table: &mut [u64],
-    blocks: &[u32],
-    d: usize,
-    words: usize,
-    at: usize,
-    second: usize,
+// The parts of a cut: the words where their cells begin, and the mark of the entries that need not be read.
+pub struct Parts {
+    pub first: usize,
+    pub second: usize,
+    pub skip: usize,
+}
+
+// A state of the first part and its figure, and the word where the second part's cell begins.
+struct Addend {
     t: usize,
     v: u64,
-    top: usize,
-) -> usize
-    requires { ⌜ Joinable (now blocks) d words at second t v (now table) ⌝ }
-    ensures { λ r. ⌜ JoinedWith (under (now (blocks .entry)) d) at words t v second (Listed (now (table .entry)) second words) (now (table .entry)) (now (table .exit)) × Topped at words top r (now (table .entry)) (now (table .exit)) ⌝ }
+    second: usize,
+}
+
+// Whether nothing is to be taken with an addend: even the greatest figure of the second part, at its last state, gives no more than state t
+// has.
+fn settled(table: &[u64], cell: Cell, addend: Addend) -> bool
+    requires { ⌜ (cell .at + cell .words ≤ length (now table)) × (addend .second + cell .words ≤ cell .at) × (addend .t < cell .words) × (addend .v < 2199023255552) ⌝ }
+    ensures { λ r. ⌜ (r ≡ true → addend .v + held (now (table .entry)) (addend .second) (cell .words - 1) ≤ held (now (table .entry)) (cell .at) (addend .t)) ⌝ }
 {
-    let most = v + figure(table[second + (words - 1)]);
-    if most <= figure(table[at + t]) {
+    let last = addend.second + (cell.words - 1);
+    addend.v + figure(table[last]) <= figure(table[cell.at + addend.t])
+}
+
+// The cell takes v at state t together with the figure of each state that the cell from `second` on lists. Listed states do not fall: the
+// first that is past all states together with t is the end.
+fn join_with(table: &mut [u64], blocks: &[u32], cell: Cell, addend: Addend, top: usize) -> usize
+    requires { ⌜ Joinable (now blocks) (cell .d) (cell .words) (cell .at) (addend .second) (addend .t) (addend .v) (now table) ⌝ }
+    ensures { λ r. ⌜ JoinedWith (under (now (blocks .entry)) (cell .d)) (cell .at) (cell .words) (addend .t) (addend .v) (addend .second) (Listed (now (table .entry)) (addend .second) (cell .words)) (now (table .entry)) (now (table .exit))
+        × Topped (cell .at) (cell .words) top r (now (table .entry)) (now (table .exit)) ⌝ }
+{
+    if settled(&table[..], cell, addend) {
         return top;
     }
+    let words = cell.words;
+    let t = addend.t;
+    let v = addend.v;
+    let second = addend.second;
     let mut high = top;
     for k in 0..words {
         let listed = note(table[second + k]);
@@ -42,25 +61,20 @@ fn join_with(
             return high;
         }
         let sum = v + figure(table[second + u]);
-        high = take(table, blocks, d, words, at, t, u, sum, high);
+        high = take(table, blocks, cell, t, u, sum, high);
     }
     high
 }
 
-// The cell takes the sums of the states that the cells from `first` and `second` on list.
-fn join_all(
-    table: &mut [u64],
-    blocks: &[u32],
-    d: usize,
-    words: usize,
-    at: usize,
-    first: usize,
-    second: usize,
-    top: usize,
-) -> usize
-    requires { ⌜ Growing (now blocks) d words at (now table) × Ready (now table) first words at × Ready (now table) second words at × Summed (now blocks) d words at (now table) ⌝ }
-    ensures { λ r. ⌜ Joined (under (now (blocks .entry)) d) at words first second (Listed (now (table .entry)) first words) (Listed (now (table .entry)) second words) (now (table .entry)) (now (table .exit)) × Topped at words top r (now (table .entry)) (now (table .exit)) ⌝ }
+// The cell takes the sums of the states that the two parts list.
+fn join_all(table: &mut [u64], blocks: &[u32], cell: Cell, parts: Parts, top: usize) -> usize
+    requires { ⌜ PartsReady (now blocks) cell parts (now table) ⌝ }
+    ensures { λ r. ⌜ Joined (under (now (blocks .entry)) (cell .d)) (cell .at) (cell .words) (parts .first) (parts .second) (Listed (now (table .entry)) (parts .first) (cell .words)) (Listed (now (table .entry)) (parts .second) (cell .words)) (now (table .entry)) (now (table .exit))
+        × Topped (cell .at) (cell .words) top r (now (table .entry)) (now (table .exit)) ⌝ }
 {
+    let words = cell.words;
+    let first = parts.first;
+    let second = parts.second;
     let mut high = top;
     for k in 0..words {
         let listed = note(table[first + k]);
@@ -68,8 +82,12 @@ fn join_all(
             return high;
         }
         let t = listed - 1;
-        let v = figure(table[first + t]);
-        high = join_with(table, blocks, d, words, at, second, t, v, high);
+        let addend = Addend {
+            t: t,
+            v: figure(table[first + t]),
+            second: second,
+        };
+        high = join_with(table, blocks, cell, addend, high);
     }
     high
 }
@@ -98,37 +116,27 @@ fn gather(table: &[u64], list: &mut [u32], second: usize, words: usize, skip: us
     n
 }
 
-// A state of a first part and its figure, the word of the second part's cell, and how many of its states are gathered.
-struct Addend {
-    t: usize,
-    v: u64,
-    second: usize,
-    count: usize,
-}
-
 // The cell takes what `join_with` takes, of the gathered states alone.
 fn join_list(
     table: &mut [u64],
     blocks: &[u32],
     list: &[u32],
-    d: usize,
-    words: usize,
-    at: usize,
+    count: usize,
+    cell: Cell,
     addend: Addend,
     top: usize,
 ) -> usize
-    requires { ⌜ Joinable (now blocks) d words at (addend .second) (addend .t) (addend .v) (now table) × Numbers words (addend .count) (now list) × (length (now list) ≡ 512) ⌝ }
-    ensures { λ r. ⌜ JoinedWith (under (now (blocks .entry)) d) at words (addend .t) (addend .v) (addend .second) (Among (addend .count) (now (list .entry))) (now (table .entry)) (now (table .exit))
-        × Topped at words top r (now (table .entry)) (now (table .exit)) ⌝ }
+    requires { ⌜ Joinable (now blocks) (cell .d) (cell .words) (cell .at) (addend .second) (addend .t) (addend .v) (now table) × Numbers (cell .words) count (now list) × (length (now list) ≡ 512) ⌝ }
+    ensures { λ r. ⌜ JoinedWith (under (now (blocks .entry)) (cell .d)) (cell .at) (cell .words) (addend .t) (addend .v) (addend .second) (Among count (now (list .entry))) (now (table .entry)) (now (table .exit))
+        × Topped (cell .at) (cell .words) top r (now (table .entry)) (now (table .exit)) ⌝ }
 {
+    if settled(&table[..], cell, addend) {
+        return top;
+    }
+    let words = cell.words;
     let t = addend.t;
     let v = addend.v;
     let second = addend.second;
-    let count = addend.count;
-    let most = v + figure(table[second + (words - 1)]);
-    if most <= figure(table[at + t]) {
-        return top;
-    }
     let mut high = top;
     for k in 0..count {
         let u = list[k] as usize;
@@ -136,32 +144,26 @@ fn join_list(
             return high;
         }
         let sum = v + figure(table[second + u]);
-        high = take(table, blocks, d, words, at, t, u, sum, high);
+        high = take(table, blocks, cell, t, u, sum, high);
     }
     high
 }
 
-// The cell takes the sums of the states that the cells from `first` and `second` on list with another mark than `skip`; of all that they
-// list where these are too many to gather.
-fn join_marked(
-    table: &mut [u64],
-    blocks: &[u32],
-    d: usize,
-    words: usize,
-    at: usize,
-    first: usize,
-    second: usize,
-    skip: usize,
-    top: usize,
-) -> usize
-    requires { ⌜ Growing (now blocks) d words at (now table) × Ready (now table) first words at × Ready (now table) second words at × Summed (now blocks) d words at (now table) ⌝ }
-    ensures { λ r. ⌜ Joined (under (now (blocks .entry)) d) at words first second (Marked skip (now (table .entry)) first words) (Marked skip (now (table .entry)) second words) (now (table .entry)) (now (table .exit))
-        × Topped at words top r (now (table .entry)) (now (table .exit)) ⌝ }
+// The cell takes the sums of the states that the two parts list with another mark than `skip`; of all that they list where those of the
+// second part are too many to gather.
+fn join_marked(table: &mut [u64], blocks: &[u32], cell: Cell, parts: Parts, top: usize) -> usize
+    requires { ⌜ PartsReady (now blocks) cell parts (now table) ⌝ }
+    ensures { λ r. ⌜ Joined (under (now (blocks .entry)) (cell .d)) (cell .at) (cell .words) (parts .first) (parts .second) (Marked (parts .skip) (now (table .entry)) (parts .first) (cell .words)) (Marked (parts .skip) (now (table .entry)) (parts .second) (cell .words)) (now (table .entry)) (now (table .exit))
+        × Topped (cell .at) (cell .words) top r (now (table .entry)) (now (table .exit)) ⌝ }
 {
+    let words = cell.words;
+    let first = parts.first;
+    let second = parts.second;
+    let skip = parts.skip;
     let mut list = [0u32; 512];
     let count = gather(&table[..], &mut list, second, words, skip);
     if 512 < count {
-        return join_all(table, blocks, d, words, at, first, second, top);
+        return join_all(table, blocks, cell, parts, top);
     }
     let mut high = top;
     for k in 0..words {
@@ -172,37 +174,25 @@ fn join_marked(
         }
         if mark(word) != skip {
             let t = listed - 1;
-            let v = figure(table[first + t]);
             let addend = Addend {
                 t: t,
-                v: v,
+                v: figure(table[first + t]),
                 second: second,
-                count: count,
             };
-            high = join_list(table, blocks, &list, d, words, at, addend, high);
+            high = join_list(table, blocks, &list, count, cell, addend, high);
         }
     }
     high
 }
 
-// The cell takes the sums of the states of the cells from `first` and `second` on that a cut reads.
-pub fn join(
-    table: &mut [u64],
-    blocks: &[u32],
-    d: usize,
-    words: usize,
-    at: usize,
-    first: usize,
-    second: usize,
-    skip: usize,
-    top: usize,
-) -> usize
-    requires { ⌜ Growing (now blocks) d words at (now table) × Ready (now table) first words at × Ready (now table) second words at × Summed (now blocks) d words at (now table) ⌝ }
-    ensures { λ r. ⌜ Joined (under (now (blocks .entry)) d) at words first second (Served d skip (now (table .entry)) first words) (Served d skip (now (table .entry)) second words) (now (table .entry)) (now (table .exit))
-        × Topped at words top r (now (table .entry)) (now (table .exit)) ⌝ }
+// The cell takes the sums of the states of the two parts that a cut reads.
+pub fn join(table: &mut [u64], blocks: &[u32], cell: Cell, parts: Parts, top: usize) -> usize
+    requires { ⌜ PartsReady (now blocks) cell parts (now table) ⌝ }
+    ensures { λ r. ⌜ Joined (under (now (blocks .entry)) (cell .d)) (cell .at) (cell .words) (parts .first) (parts .second) (Served (cell .d) (parts .skip) (now (table .entry)) (parts .first) (cell .words)) (Served (cell .d) (parts .skip) (now (table .entry)) (parts .second) (cell .words)) (now (table .entry)) (now (table .exit))
+        × Topped (cell .at) (cell .words) top r (now (table .entry)) (now (table .exit)) ⌝ }
 {
-    if 1 < d {
-        return join_marked(table, blocks, d, words, at, first, second, skip, top);
+    if 1 < cell.d {
+        return join_marked(table, blocks, cell, parts, top);
     }
-    join_all(table, blocks, d, words, at, first, second, top)
+    join_all(table, blocks, cell, parts, top)
 }

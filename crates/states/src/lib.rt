@@ -8,6 +8,7 @@ pub use raise::below;
 pub use raise::past;
 pub use raise::take;
 pub use sums::first_row;
+pub use words::Cell;
 pub use words::figure;
 pub use words::mark;
 pub use words::note;

@@ -1,5 +1,6 @@
 // The order of states, and raising a cell at a state and at all states above.
 use crate::sums::apart;
+use crate::words::Cell;
 use crate::words::figure;
 ghost use mathlib.Core.Path.{_≡_};
 ghost use Prim.Native.Nat.{_+_, _≤_, _<_, max};
@@ -73,12 +74,12 @@ fn up(table: &mut [u64], blocks: &[u32], d: usize, at: usize, t: usize, v: u64)
 }
 
 // State t is raised to v, which is more than it has, with all states above; it is flagged.
-fn raise(table: &mut [u64], blocks: &[u32], d: usize, words: usize, at: usize, t: usize, v: u64)
-    requires { ⌜ Growing (now blocks) d words at (now table) × (t < words) × (v < 2199023255552) ⌝ }
-    ensures { λ _. ⌜ Raised (under (now (blocks .entry)) d) at words t v (now (table .entry)) (now (table .exit)) ⌝ }
+fn raise(table: &mut [u64], blocks: &[u32], cell: Cell, t: usize, v: u64)
+    requires { ⌜ Growing (now blocks) (cell .d) (cell .words) (cell .at) (now table) × (t < cell .words) × (v < 2199023255552) ⌝ }
+    ensures { λ _. ⌜ Raised (under (now (blocks .entry)) (cell .d)) (cell .at) (cell .words) t v (now (table .entry)) (now (table .exit)) ⌝ }
 {
-    up(table, blocks, d, at, t, v);
-    table[at + t] = v + 2199023255552;
+    up(table, blocks, cell.d, cell.at, t, v);
+    table[cell.at + t] = v + 2199023255552;
 }
 
 // The number past state t, or `top` where that is more.
@@ -94,22 +95,20 @@ pub fn past(top: usize, t: usize) -> usize
 pub fn take(
     table: &mut [u64],
     blocks: &[u32],
-    d: usize,
-    words: usize,
-    at: usize,
+    cell: Cell,
     t: usize,
     u: usize,
     v: u64,
     top: usize,
 ) -> usize
-    requires { ⌜ Growing (now blocks) d words at (now table) × (t + u < 131072) × (v < 2199023255552) × Summed (now blocks) d words at (now table) ⌝ }
-    ensures { λ r. ⌜ Taken (under (now (blocks .entry)) d) at words t u v (now (table .entry)) (now (table .exit)) × Topped at words top r (now (table .entry)) (now (table .exit)) ⌝ }
+    requires { ⌜ Growing (now blocks) (cell .d) (cell .words) (cell .at) (now table) × (t + u < 131072) × (v < 2199023255552) × Summed (now blocks) (cell .d) (cell .words) (cell .at) (now table) ⌝ }
+    ensures { λ r. ⌜ Taken (under (now (blocks .entry)) (cell .d)) (cell .at) (cell .words) t u v (now (table .entry)) (now (table .exit)) × Topped (cell .at) (cell .words) top r (now (table .entry)) (now (table .exit)) ⌝ }
 {
     let s = t + u;
-    if s < words {
-        if apart(&table[..], blocks, d, t, u) {
-            if figure(table[at + s]) < v {
-                raise(table, blocks, d, words, at, s, v);
+    if s < cell.words {
+        if apart(&table[..], blocks, cell.d, t, u) {
+            if figure(table[cell.at + s]) < v {
+                raise(table, blocks, cell, s, v);
                 return past(top, s);
             }
         }

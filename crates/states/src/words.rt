@@ -3,6 +3,13 @@ ghost use mathlib.Core.Path.{_≡_};
 ghost use Prim.Native.Nat.{_<_};
 ghost use Rattle.states.specs.States.{figure-in, note-in, mark-in};
 
+// A cell that is made: the last digit of its states, its number of words, one for each state, and the word where it begins.
+pub struct Cell {
+    pub d: usize,
+    pub words: usize,
+    pub at: usize,
+}
+
 // The figure of a word.
 pub fn figure(w: u64) -> u64
     ensures { λ r. ⌜ (r ≡ figure-in w) × (r < 2199023255552) ⌝ }

@@ -16,11 +16,11 @@ no-width : {A : Type 0} → Width ≡ Length → A
 no-width e = absurd (let z : _≡_ {A = ℕ} 0 1 = cc in let w : ⊥ = omega arith in w)
 
 abbrev Inv-loop : tie.InvT-loop
-Inv-loop table₀ pieces normal-lengths normal-widths floors shape limit flat₀ below₀ table flat below =
-    (below ≤ limit) × (length table ≡ length table₀) × BlockMade (job-in shape pieces) (heavy-in pieces) normal-lengths normal-widths shape ((2 * below + 1) * (shape .«length_count» * shape .columns)) flat table₀ table
+Inv-loop table₀ pieces lengths widths floors shape limit flat₀ below₀ table flat below =
+    (below ≤ limit) × (length table ≡ length table₀) × BlockMade (job-in shape pieces) (heavy-in pieces) lengths widths shape ((2 * below + 1) * (shape .«length_count» * shape .columns)) flat table₀ table
 
 abbrev μ-loop : tie.MeasureT-loop
-μ-loop table₀ pieces normal-lengths normal-widths floors shape limit flat₀ below₀ table flat below = limit - below
+μ-loop table₀ pieces lengths widths floors shape limit flat₀ below₀ table flat below = limit - below
 
 fill-block-requires : tie.Need-fill-block-requires Inv-loop μ-loop
 fill-block-requires c κs =
@@ -33,8 +33,8 @@ loop-holds c =
     let cells = s .args .shape .«length_count» * s .args .shape .columns in
     (omega arith, refl, record { cells = rw (width-next 0 cells) at (c .before .before .fill-block .ensures .cells); rest = λ j h. refl })
 
-add-fill-stage : tie.Need-add-fill-stage Inv-loop μ-loop
-add-fill-stage c = omega (arith, c .before .loop-test .taken, c .before .before .before .before .before .before .before .before .before .before .before .pre .most)
+add-stage : tie.Need-add-stage Inv-loop μ-loop
+add-stage c = omega (arith, c .loop-test .taken, c .before .before .before .before .before .before .before .before .before .before .pre .most)
 
 fill-stage-requires : tie.Need-fill-stage-requires Inv-loop μ-loop
 fill-stage-requires c κs =
@@ -75,4 +75,4 @@ returns c =
     more k cells = omega arith
 
 pub fill-blocks-spec : {M : Type 1} → statement M
-fill-blocks-spec = tie.close (tie.spec Inv-loop μ-loop fill-block-requires loop-holds add-fill-stage fill-stage-requires add-below loop-less loop-again same-length returns)
+fill-blocks-spec = tie.close (tie.spec Inv-loop μ-loop fill-block-requires loop-holds add-stage fill-stage-requires add-below loop-less loop-again same-length returns)

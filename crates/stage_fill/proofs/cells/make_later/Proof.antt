@@ -75,7 +75,6 @@ returns c =
     let second = c .before .before .before .before .before .before .before .before .before .before .before .before .before .before .before .before .inherit2 in
     let third = c .before .before .before .before .before .before .before .before .before .before .before .before .inherit3 in
     let taken = c .before .before .before .before .before .before .before .cut in
-    let done = c .before .before .before .finish in
     record {
       top = taken .result;
       t1 = _;
@@ -89,7 +88,7 @@ returns c =
       third = third .ensures .0;
       taken = rw (one-order (c .before .before .before .before .before .before .before .before .before .before .before .before .before .before .before .before .before .before .before .before .before .before .before .before .before .before .before .before .before .before .args .words ∷ [])) at (taken .ensures .0);
       topped = topped-then _ _ _ _ _ _ _ _ (first .ensures .1) (topped-then _ _ _ _ _ _ _ _ (second .ensures .1) (topped-then _ _ _ _ _ _ _ _ (third .ensures .1) (taken .ensures .1)));
-      done = done .ensures;
+      done = c .before .before .before .finish .ensures;
       flat-is = c .further .ensures;
     }
 

@@ -51,12 +51,10 @@ finish-requires c κs =
 
 returns : tie.Need-returns
 returns c =
-    let p = c .before .before .before .before .before .before .before .before .before .before .before .before .before .before .before .before .before .before .before .before .before .before .before .before .pre in
     let started = c .before .before .before .before .before .before .before .before .before .before .before .before .before .before .before .before .before .before .before .before .begin in
     let first = c .before .before .before .before .before .before .before .before .before .before .before .before .before .before .before .before .inherit in
     let second = c .before .before .before .before .before .before .before .before .before .before .before .before .inherit2 in
     let placed = c .before .before .before .before .before .before .before .place-pieces in
-    let done = c .before .before .before .finish in
     record {
       top = placed .result;
       t1 = _;
@@ -66,9 +64,9 @@ returns c =
       started = started .ensures;
       first = first .ensures .0;
       second = second .ensures .0;
-      placed = rw (p .one-digit, one-order (c .before .before .before .before .before .before .before .before .before .before .before .before .before .before .before .before .before .before .before .before .before .before .before .before .args .shape .words ∷ [])) at (placed .ensures .0);
+      placed = rw (c .before .before .before .before .before .before .before .before .before .before .before .before .before .before .before .before .before .before .before .before .before .before .before .before .pre .one-digit, one-order (c .before .before .before .before .before .before .before .before .before .before .before .before .before .before .before .before .before .before .before .before .before .before .before .before .args .shape .words ∷ [])) at (placed .ensures .0);
       topped = topped-then _ _ _ _ _ _ _ _ (first .ensures .1) (topped-then _ _ _ _ _ _ _ _ (second .ensures .1) (placed .ensures .1));
-      done = done .ensures;
+      done = c .before .before .before .finish .ensures;
       flat-is = c .further .ensures;
     }
 

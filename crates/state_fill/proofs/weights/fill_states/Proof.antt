@@ -4,35 +4,23 @@ use native.Mathlib.Omega.{arith}
 use mathlib.Core.Path.{refl}
 use native.Mathlib.Nat.{mul-le-mul}
 use Prim.Native.Nat.{_≤_}
-use denote.Ref.{now}
-use Rattle.table.proofs.Words.{second-floors}
 use Rattle.state_fill.proofs.Filling.{lent-of}
 use Rattle.state_fill.proofs.weights.fill_states.Statement.{statement}
 use Rattle.state_fill.proofs.weights.fill_states.Tie as tie
 
-mul-t15 : tie.Need-mul-t15
-mul-t15 c =
+mul-t14 : tie.Need-mul-t14
+mul-t14 c =
     let start = c .before .before .before .before .before .before .before .before in
     let columns : start .args .size .columns ≤ 65535 = omega arith in
     omega (arith, mul-le-mul columns (start .pre .1 .most))
 
-sub-width-floors : tie.Need-sub-width-floors
-sub-width-floors c = omega (arith, c .before .before .before .before .before .before .before .before .pre .0 .floors-there)
-
-part-width-floors-start : tie.Need-part-width-floors-start
-part-width-floors-start c = omega (arith, c .before .before .before .before .before .before .before .before .pre .0 .floors-there)
-
-part-width-floors-end : tie.Need-part-width-floors-end
-part-width-floors-end c = omega (arith, c .before .before .before .before .before .before .before .before .pre .0 .floors-there)
-
 fill-requires : tie.Need-fill-requires
 fill-requires c κs =
-    let start = c .before .before .before .before .before .before .before .before .before .before in
+    let start = c .before .before .before .before .before .before .before .before .before in
     let given = start .pre .0 in
-    lent-of (given .in-range) (start .pre .1) (given .lengths) (rw (second-floors (now (start .args .floors))) (given .widths)) (start .pre .2) refl
+    lent-of (given .in-range) (start .pre .1) (given .lengths) (given .widths) (start .pre .2) refl
 
 pub fill-states-spec : {M : Type 1} → statement M
 fill-states-spec =
     tie.close
-    (tie.spec (λ c. search needs) (λ c. search needs) (λ c. search needs) mul-t15 sub-width-floors part-width-floors-start part-width-floors-end
-    fill-requires (λ c. search needs) (λ c. search needs))
+    (tie.spec (λ c. search needs) (λ c. search needs) (λ c. search needs) mul-t14 fill-requires (λ c. search needs) (λ c. search needs))

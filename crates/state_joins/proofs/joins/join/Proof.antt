@@ -5,7 +5,7 @@ use Rattle.state_joins.proofs.joins.join.Statement.{statement}
 use Rattle.state_joins.proofs.joins.join.Tie as tie
 
 join-marked-requires : tie.Need-join-marked-requires
-join-marked-requires c κs = c .before .before .before .before .pre
+join-marked-requires c κs = c .before .before .before .before .before .pre
 
 same-length : tie.Need-same-length
 same-length c = c .before .before .join-marked .kept .0
@@ -14,7 +14,7 @@ returns : tie.Need-returns
 returns c = (joined-several _ _ _ _ _ _ _ _ _ (omega (arith, c .before .before .before .before .if1 .taken)) (c .before .before .join-marked .ensures .0), c .before .before .join-marked .ensures .1)
 
 join-all-requires : tie.Need-join-all-requires
-join-all-requires c κs = c .before .before .before .before .pre
+join-all-requires c κs = c .before .before .before .before .before .pre
 
 same-length-2 : tie.Need-same-length-2
 same-length-2 c = c .before .before .join-all .kept .0

@@ -14,10 +14,10 @@ use Rattle.state_joins.proofs.joins.join_all.Statement.{statement}
 use Rattle.state_joins.proofs.joins.join_all.Tie as tie
 
 abbrev Inv-loop : tie.InvT-loop
-Inv-loop table₀ blocks d words at first second top high₀ k₀ table high k = (k ≤ words) × (length table ≡ length table₀) × Join (under blocks d) at words (At table₀ first) (Listed table₀ second words) first second k table₀ table × Topped at words top high table₀ table
+Inv-loop table₀ blocks cell top words first second high₀ k₀ table high k = (k ≤ words) × (length table ≡ length table₀) × Join (under blocks (cell .d)) (cell .at) words (At table₀ first) (Listed table₀ second words) first second k table₀ table × Topped (cell .at) words top high table₀ table
 
 abbrev μ-loop : tie.MeasureT-loop
-μ-loop table₀ blocks d words at first second top high₀ k₀ table high k = words - k
+μ-loop table₀ blocks cell top words first second high₀ k₀ table high k = words - k
 
 loop-holds : tie.Need-loop-holds Inv-loop μ-loop
 loop-holds c = (omega arith, refl, join-none _ _ _ _ _ _ _ _, topped-none _ _ _ _)
@@ -32,7 +32,7 @@ returns : tie.Need-returns Inv-loop μ-loop
 returns c =
     let given = c .before .before .before .before .before .before .before .pre in
     let loop = c .before .before .before .before .loop in
-    (join-listed-end _ _ _ _ _ _ _ _ (λ i u h e. past-end _ _ _ _ _ _ _ (given .1) h (sym (note-kept _ _ _ _ (loop .inv .2 .grown .rest) (c .before .before .before .before .before .before .before .args .first) (loop .k) (omega (arith, given .1 .before))) ∙ (sym (c .before .note .ensures .0) ∙ c .if1 .taken)) e) (loop .inv .2), loop .inv .3)
+    (join-listed-end _ _ _ _ _ _ _ _ (λ i u h e. past-end _ _ _ _ _ _ _ (given .1) h (sym (note-kept _ _ _ _ (loop .inv .2 .grown .rest) (c .before .before .before .before .before .before .before .args .parts .first) (loop .k) (omega (arith, given .1 .before))) ∙ (sym (c .before .note .ensures .0) ∙ c .if1 .taken)) e) (loop .inv .2), loop .inv .3)
 
 add-figure : tie.Need-add-figure Inv-loop μ-loop
 add-figure c =

@@ -16,11 +16,11 @@ use Rattle.state_joins.proofs.joins.join_marked.Statement.{statement}
 use Rattle.state_joins.proofs.joins.join_marked.Tie as tie
 
 abbrev Inv-loop : tie.InvT-loop
-Inv-loop table₀ blocks d words at first second skip top list count high₀ k₀ table high k =
-    (k ≤ words) × (length table ≡ length table₀) × Join (under blocks d) at words (Entry skip table₀ first) (Marked skip table₀ second words) first second k table₀ table × Topped at words top high table₀ table × Gathered skip second words count table₀ list × (length list ≡ 512)
+Inv-loop table₀ blocks cell top words first second skip list count high₀ k₀ table high k =
+    (k ≤ words) × (length table ≡ length table₀) × Join (under blocks (cell .d)) (cell .at) words (Entry skip table₀ first) (Marked skip table₀ second words) first second k table₀ table × Topped (cell .at) words top high table₀ table × Gathered skip second words count table₀ list × (length list ≡ 512)
 
 abbrev μ-loop : tie.MeasureT-loop
-μ-loop table₀ blocks d words at first second skip top list count high₀ k₀ table high k = words - k
+μ-loop table₀ blocks cell top words first second skip list count high₀ k₀ table high k = words - k
 
 slice-aggregate-gather : tie.Need-slice-aggregate-gather Inv-loop μ-loop
 slice-aggregate-gather c = refl
@@ -50,7 +50,7 @@ returns-2 : tie.Need-returns-2 Inv-loop μ-loop
 returns-2 c =
     let given = c .before .before .before .before .before .before .before .before .before .before .before .before .pre in
     let loop = c .before .before .before .before .loop in
-    (join-marked-end _ _ _ _ _ _ _ _ _ (λ i u h e. past-end _ _ _ _ _ _ _ (given .1) h (sym (note-kept _ _ _ _ (loop .inv .2 .grown .rest) (c .before .before .before .before .before .before .before .before .before .before .before .before .args .first) (loop .k) (omega (arith, given .1 .before))) ∙ (sym (c .before .note .ensures .0) ∙ c .if2 .taken)) e) (loop .inv .2), loop .inv .3)
+    (join-marked-end _ _ _ _ _ _ _ _ _ (λ i u h e. past-end _ _ _ _ _ _ _ (given .1) h (sym (note-kept _ _ _ _ (loop .inv .2 .grown .rest) (c .before .before .before .before .before .before .before .before .before .before .before .before .args .parts .first) (loop .k) (omega (arith, given .1 .before))) ∙ (sym (c .before .note .ensures .0) ∙ c .if2 .taken)) e) (loop .inv .2), loop .inv .3)
 
 add-figure : tie.Need-add-figure Inv-loop μ-loop
 add-figure c =

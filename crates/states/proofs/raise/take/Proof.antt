@@ -8,19 +8,19 @@ use Rattle.states.proofs.raise.take.Tie as tie
 
 apart-requires : tie.Need-apart-requires
 apart-requires c κs =
-    let given = c .before .before .before .before .pre in
+    let given = c .before .before .before .before .before .pre in
     (given .0 .digits .digits, omega (arith, given .0 .room), λ h s l. given .3 .sums h s (omega arith))
 
 raise-requires : tie.Need-raise-requires
-raise-requires c κs = (c .before .before .before .before .before .before .before .before .before .before .pre .0, omega arith, c .before .before .before .before .before .before .before .before .before .before .pre .2)
+raise-requires c κs = (c .before .before .before .before .before .before .before .before .before .before .before .before .pre .0, omega arith, c .before .before .before .before .before .before .before .before .before .before .before .before .pre .2)
 
 past-requires : tie.Need-past-requires
-past-requires c κs = omega (arith, c .before .before .before .before .before .before .before .before .before .before .before .before .before .pre .0 .digits .most)
+past-requires c κs = omega (arith, c .before .before .before .before .before .before .before .before .before .before .before .before .before .before .before .pre .0 .digits .most)
 
 returns : tie.Need-returns
 returns c =
-    let given = c .before .before .before .before .before .before .before .before .before .before .before .before .before .before .pre in
-    (taken-raised _ _ _ _ _ _ _ _ (order-of _ _ _ (given .0 .digits)) (omega arith) (given .2) (omega (arith, c .before .before .before .before .before .before .figure .ensures .0)) (test-true _ _ (c .before .before .before .before .before .before .before .before .before .apart .ensures) (c .before .before .before .before .before .before .before .before .if2 .taken)) (c .before .before .before .raise .ensures), topped-raised _ _ _ _ _ _ _ _ _ (c .past .ensures) (omega arith) (given .2) (c .before .before .before .raise .ensures))
+    let given = c .before .before .before .before .before .before .before .before .before .before .before .before .before .before .before .before .pre in
+    (taken-raised _ _ _ _ _ _ _ _ (order-of _ _ _ (given .0 .digits)) (omega arith) (given .2) (omega (arith, c .before .before .before .before .before .before .figure .ensures .0)) (test-true _ _ (c .before .before .before .before .before .before .before .before .before .before .apart .ensures) (c .before .before .before .before .before .before .before .before .before .if2 .taken)) (c .before .before .before .raise .ensures), topped-raised _ _ _ _ _ _ _ _ _ (c .past .ensures) (omega arith) (given .2) (c .before .before .before .raise .ensures))
 
 returns-2 : tie.Need-returns-2
 returns-2 c = (taken-none _ _ _ _ _ _ _ (λ h b. omega (arith, c .before .figure .ensures .0)), topped-none _ _ _ _)
