@@ -1,4 +1,5 @@
 -- What it is to hand an outcome over in answer words, and when a certificate's sum fits into one.
+-- docs/SCOPE.md: The C interface.
 use mathlib.Core.Path.{_≡_}
 use mathlib.Core.List.{List}
 use Prim.Native.Nat.{ℕ, _+_, _≤_}

@@ -7,7 +7,7 @@ use native.Mathlib.Omega.{arith}
 use Rattle.cutting.specs.declared.Sides.{Sides}
 use Rattle.cutting.specs.Sides.{rect-of, sides-of}
 use Rattle.cutting.specs.Job.{Job, InRange, widened}
-use Rattle.cutting.specs.Listed.{heavy-in, pieces-job, PieceArray}
+use Rattle.cutting.specs.Listed.{listed-weight, pieces-job, PieceArray}
 use Rattle.cutting.proofs.Promises.{recursion, figures-most, normal-listed, floor-figures}
 use Rattle.refusal.specs.Refusals.{next, first-refusal, by-check, outcome-by}
 use Rattle.refusal.specs.declared.Refusal.{Refusal}
@@ -54,9 +54,9 @@ module _ (s : List ℕ) (choices : Choices) (ws : List ℕ) {j : JobRecord} {q :
 
   -- and what the bound of the pieces says of the job's block
   pub job-bounded : {plate : Sides} {n : ℕ} {pieces floors : List ℕ} {old new : Memory} {r : BoundAnswer} → plate ≡ sides-of (widened (job-of j) .plate) → PieceArray (widened (job-of j)) (weight-in ws) n pieces
-      → Bounded (pieces-job (rect-of plate) n pieces) (heavy-in pieces) q old new floors r → Bounded (wide-job s choices) (weight-in ws) (block-capacity s choices ws) old new floors r
+      → Bounded (pieces-job (rect-of plate) n pieces) (listed-weight pieces) q old new floors r → Bounded (wide-job s choices) (weight-in ws) (block-capacity s choices ws) old new floors r
   job-bounded {plate} {n} {pieces} {floors} {old} {new} {r} e a b =
-      let c = pieces-bounded (widened (job-of j)) (weight-in ws) n pieces a q old new floors r (subst (λ p. Bounded (pieces-job (rect-of p) n pieces) (heavy-in pieces) q old new floors r) e b) in
+      let c = pieces-bounded (widened (job-of j)) (weight-in ws) n pieces a q old new floors r (subst (λ p. Bounded (pieces-job (rect-of p) n pieces) (listed-weight pieces) q old new floors r) e b) in
       let d : Bounded (widened (job-of j)) (weight-in ws) (block-capacity s choices ws) old new floors r = subst (λ q. Bounded (widened (job-of j)) (weight-in ws) q old new floors r) (t .capacity-is) c in
       subst (λ j. Bounded (widened (job-of j)) (weight-in ws) (block-capacity s choices ws) old new floors r) (t .record-is) d
 

@@ -1,5 +1,6 @@
 -- The bound call: its checks in the table's order, its answer with number and values, what it leaves in lists and table, and what the
 -- answered bound is.
+-- docs/SCOPE.md: The bound; Lent memory.
 use mathlib.Core.Path.{_≡_}
 use mathlib.Core.List.{List, [], _∷_, _++_}
 use Prim.Native.Nat.{ℕ, _≤_}

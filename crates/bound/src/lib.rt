@@ -10,7 +10,7 @@ use storage::Layout;
 use storage::lay_out;
 use table::TableSize;
 ghost use Rattle.cutting.specs.Sides.{rect-of};
-ghost use Rattle.cutting.specs.Listed.{heavy-in, pieces-job};
+ghost use Rattle.cutting.specs.Listed.{listed-weight, pieces-job};
 ghost use Rattle.job.specs.Block.{with-full-demand};
 ghost use Rattle.bound.specs.Bound.{lent, BoundPromises};
 ghost use Rattle.table.specs.Contracts.{size-job, Fillable, FilledBy};
@@ -40,7 +40,7 @@ pub fn fill_table(
     table: &mut [u64],
 )
     requires { ⌜ Fillable size (now pieces) (now «normal_lengths») (now «normal_widths») (now floors) (now table) ⌝ }
-    ensures { λ _. ⌜ FilledBy (size-job size (now (pieces .entry))) (heavy-in (now (pieces .entry))) (size .capacity) (now (table .entry)) (now (table .exit)) ⌝ }
+    ensures { λ _. ⌜ FilledBy (size-job size (now (pieces .entry))) (listed-weight (now (pieces .entry))) (size .capacity) (now (table .entry)) (now (table .exit)) ⌝ }
 {
     if size.capacity == 0 {
         row_fill::fill(size, pieces, normal_lengths, normal_widths, floors, table);
@@ -62,7 +62,7 @@ pub fn bound_of_pieces(
     table: &mut [u64],
 ) -> BoundAnswer
     requires { ⌜ Boundable (pieces-job (rect-of plate) count (now pieces)) q (now floors) ⌝ }
-    ensures { λ r. ⌜ Bounded (pieces-job (rect-of plate) count (now (pieces .entry))) (heavy-in (now (pieces .entry))) q
+    ensures { λ r. ⌜ Bounded (pieces-job (rect-of plate) count (now (pieces .entry))) (listed-weight (now (pieces .entry))) q
         (lent (now (lengths .entry)) (now (widths .entry)) (now (table .entry)))
         (lent (now (lengths .exit)) (now (widths .exit)) (now (table .exit))) (now (floors .exit)) r ⌝ }
 {

@@ -1,5 +1,6 @@
 -- The certificate: its checks in the table's order, what it answers, and the answer's number and values. Lists and table are left as
 -- the bound call leaves them.
+-- docs/SCOPE.md: The certificate.
 use mathlib.Core.Bool.{Bool, true, false}
 use mathlib.Core.List.{List, [], _∷_}
 use Prim.Native.Nat.{ℕ, _+_, _-_}

@@ -11,7 +11,7 @@ use Rattle.cutting.specs.Limits.{most-capacity}
 use Rattle.cutting.specs.Pieces as laid
 use Rattle.cutting.specs.Choice.{Choice, as-waste, as-piece, as-cut}
 use Rattle.cutting.specs.Job.{Job, plan-choice}
-use Rattle.cutting.specs.Listed.{InTableRange, heavy-in, node-in, array-shares}
+use Rattle.cutting.specs.Listed.{InTableRange, listed-weight, node-in, array-shares}
 use Rattle.table.specs.declared.TableSize.{TableSize}
 use Rattle.table.specs.Table.{position-count, words-needed}
 use Rattle.table.specs.States.{Order}
@@ -40,7 +40,7 @@ pub record ChoiceInput (size : TableSize) (blocks : List ℕ) (d : ℕ) (pieces 
   pub numbered : Numbered (size .count) pieces
   pub ordered : Ordered blocks d
   pub floors-there : length floors ≡ 2042
-  pub tabled : Tabled (size-job size pieces) (under blocks d) (heavy-in pieces) (size .columns) (size .capacity) normal-lengths normal-widths floors (drop 1021 floors) table
+  pub tabled : Tabled (size-job size pieces) (under blocks d) (listed-weight pieces) (size .columns) (size .capacity) normal-lengths normal-widths floors (drop 1021 floors) table
 
 -- a cell whose rectangle lies on the plate, no side 0, with a share up to the capacity, which is the last state
 pub record Inside (J : Job) (size : TableSize) (cell : Cell) : Type 0 where

@@ -13,7 +13,7 @@ use Rattle.cutting.specs.Limits.{most-pieces, most-capacity, most-wide-figure}
 use Rattle.cutting.specs.Lists.{range, first, pairs}
 use Rattle.cutting.specs.Pieces.{fits-in}
 use Rattle.cutting.specs.Sides.{rect-of}
-use Rattle.cutting.specs.Listed.{size-in, price-in, heavy-in, node-in}
+use Rattle.cutting.specs.Listed.{size-in, price-in, listed-weight, node-in}
 use Rattle.table.specs.States.{Blocks}
 use Rattle.table.specs.declared.TableSize.{TableSize}
 use Rattle.choice.specs.declared.Cell.{Cell}
@@ -40,7 +40,7 @@ Ordered blocks d = Blocks (λ i. getD blocks i 0) d × (d < length blocks)
 
 -- whether piece j fits the cell, has a state within its share and the value as its price
 abbrev pub piece-test : (ℕ → ℕ → Bool) → List ℕ → Cell → ℕ → ℕ → Bool
-piece-test le pieces cell value j = (fits-in (size-in pieces j) (rect-of (cell .sides)) && le (heavy-in pieces j) (cell .share)) && eqb (price-in pieces j) value
+piece-test le pieces cell value j = (fits-in (size-in pieces j) (rect-of (cell .sides)) && le (listed-weight pieces j) (cell .share)) && eqb (price-in pieces j) value
 
 -- the node of the piece that a search found
 abbrev pub piece-found : List ℕ → Option ℕ → PieceFound

@@ -15,7 +15,7 @@ use Rattle.cutting.specs.Shares.{by-weight, by-state}
 use Rattle.cutting.specs.Pieces.{Piece, upright, turned, kind, _⊑_}
 use Rattle.cutting.specs.Choice.{Choice, as-waste, as-piece, as-cut, cut-remains, or-first, sawn}
 use Rattle.cutting.specs.Job.{Job, widened, lossless-plan, plan-of, plan-choice, SolidKinds}
-use Rattle.cutting.specs.Listed.{size-in, price-in, heavy-in, node-in, node-number, member-at, pieces-job, PieceArray, numbered-piece, laid-tree, array-shares, array-plan}
+use Rattle.cutting.specs.Listed.{size-in, price-in, listed-weight, node-in, node-number, member-at, pieces-job, PieceArray, numbered-piece, laid-tree, array-shares, array-plan}
 use Rattle.cutting.proofs.Lists.{mem-range, filter-all}
 use Rattle.cutting.proofs.Enlarge.{part-within}
 use Rattle.cutting.proofs.Members.{member-kind, widened-solid}
@@ -85,10 +85,10 @@ module _ (le : ℕ → ℕ → Bool) (mono : (own : Piece → ℕ) → Monotone 
   by-half : (m : ℕ) (r : Rect) (c : ℕ) → half-perimeter r < m → r ⊑ J .plate → Same r c
   by-half zero r c k on = absurd (omega arith)
   by-half (suc m) r c k on =
-      ap (laid-tree pieces) (lossless-recursion N (array-shares le pieces) (mono _) (listed-above J own n (size-in pieces) (price-in pieces) (heavy-in pieces) (array .listing) 0 solid) r c on)
+      ap (laid-tree pieces) (lossless-recursion N (array-shares le pieces) (mono _) (listed-above J own n (size-in pieces) (price-in pieces) (listed-weight pieces) (array .listing) 0 solid) r c on)
       ∙ after-same r c (λ q e less a. by-half m q e (omega arith) (omega arith)) (plan-choice N (array-shares le pieces) (r .0) (r .1) c) (choice-sound N (array-shares le pieces) (r .0) (r .1) c)
       ∙ sym (lossless-recursion J kinds (mono _) solid r c on
-      ∙ ap (lossless-after J kinds r) (state-choice J own n (size-in pieces) (price-in pieces) (heavy-in pieces) (array .listing) le (r .0) (r .1) c))
+      ∙ ap (lossless-after J kinds r) (state-choice J own n (size-in pieces) (price-in pieces) (listed-weight pieces) (array .listing) le (r .0) (r .1) c))
 
   -- on the plate
   lossless-same : (r : Rect) (c : ℕ) → r ⊑ J .plate → Same r c

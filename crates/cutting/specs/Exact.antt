@@ -1,5 +1,6 @@
 -- The exact answer for short orders: the remaining copies of every kind as a state, numbered in mixed radix, kind 0 lowest; the figure of a
 -- rectangle and a state, the optimum, and the plan that earns it by the order of choice.
+-- docs/SCOPE.md: The exact answer for short orders.
 use mathlib.Core.Path.{_≡_}
 use mathlib.Core.Bool.{Bool, _&&_}
 use mathlib.Core.List.{List}

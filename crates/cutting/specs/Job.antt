@@ -1,5 +1,7 @@
 -- The scope as definitions: a job, its guillotine trees and what they earn, the figure and the bound, the normal positions and the plan
 -- behind the bound. The general definitions stand in the other modules; proofs/Job, Table, Bound and Plan have what is proved of these.
+-- docs/SCOPE.md: Guillotine trees; Weights and capacity; The bound; Normal positions; The written plan; Pieces that may be turned; Zero
+-- ordered means zero; What the plate can hold; The blade's width; Cuts between the marks.
 use mathlib.Core.Bool.{Bool, true, false, _&&_}
 use mathlib.Core.Option.{Option}
 use mathlib.Core.List.{List}

@@ -1,4 +1,5 @@
 -- The limits of the scope, each under its name.
+-- docs/SCOPE.md: The table of refusals.
 use Prim.Native.Nat.{ℕ, _+_, _*_}
 
 -- the greatest side of a plate or a piece

@@ -48,8 +48,8 @@ abbrev pub price-in : List ℕ → ℕ → ℕ
 price-in pieces j = getD pieces (5 * j + 2) 0
 
 -- the weight of piece j
-abbrev pub heavy-in : List ℕ → ℕ → ℕ
-heavy-in pieces j = getD pieces (5 * j + 3) 0
+abbrev pub listed-weight : List ℕ → ℕ → ℕ
+listed-weight pieces j = getD pieces (5 * j + 3) 0
 
 -- the number of the node of piece j
 abbrev pub node-in : List ℕ → ℕ → ℕ
@@ -81,7 +81,7 @@ pieces-job r n pieces = plain r n (size-in pieces) (price-in pieces)
 
 -- the shares of an order of states, where the pieces' entries for their weights are their states
 abbrev pub array-shares : (ℕ → ℕ → Bool) → List ℕ → Shares Piece ℕ
-array-shares le pieces = by-state le (λ p. heavy-in pieces (kind p))
+array-shares le pieces = by-state le (λ p. listed-weight pieces (kind p))
 
 -- the plan of an array of n pieces on a plate, from a rectangle and a state downward: as a saw k wide cuts it, with the pieces that the
 -- numbers stand for
@@ -91,5 +91,5 @@ array-plan le k plate n pieces r s = sawn k r (laid-tree pieces (lossless-plan (
 -- an array that holds the pieces of a job with their weights
 pub record PieceArray (J : Job) (weight : ℕ → ℕ) (n : ℕ) (pieces : List ℕ) : Type 0 where
   pub entries : length pieces ≡ 5 * most-pieces
-  pub listing : Listing J weight n (size-in pieces) (price-in pieces) (heavy-in pieces)
+  pub listing : Listing J weight n (size-in pieces) (price-in pieces) (listed-weight pieces)
   pub nodes : (j : ℕ) → j < n → node-in pieces j ≡ node-number (member-at J j)

@@ -1,5 +1,6 @@
 -- Used sizes and neat plans: a cut with a pieceless part is replaced by its other part, and the others stand where the used size of the
 -- first part ends.
+-- docs/SCOPE.md: Neat plans.
 use Prim.Native.Nat.{ℕ, zero, suc, _+_, max}
 use Rattle.cutting.specs.declared.Direction.{Direction}
 use Rattle.cutting.specs.declared.Direction.the-variants.{Length, Width}

@@ -1,4 +1,5 @@
 -- A piece of a plan, and pieces with a size: when one fits a rectangle.
+-- docs/SCOPE.md: Pieces that may be turned.
 use mathlib.Core.Bool.{Bool, true, false, _&&_, _||_}
 use mathlib.Core.List.{List, [], _∷_, List·Memᴰ}
 use Prim.Native.Nat.{ℕ, _+_, _*_, _≤_, _<_}

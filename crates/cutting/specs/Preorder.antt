@@ -1,4 +1,5 @@
 -- A plan's arrays: a tree in preorder (node, first part, second part), each node as a kind and an operand.
+-- docs/SCOPE.md: Plans.
 use mathlib.Core.List.{List, [], _∷_, _++_, map}
 use Prim.Native.Nat.{ℕ}
 use lib.ListN.{length}

@@ -1,5 +1,6 @@
 -- The sentences of the scope about a job, its weights and its trees, as statements: those of trees and plans are cited of the job itself,
 -- those of figures and normal positions of the widened job. The contracts of the public calls cite them; proofs/Promises proves them.
+-- docs/SCOPE.md: The bound; Normal positions; The written plan; What the plate can hold; Cuts between the marks.
 use mathlib.Core.Path.{_≡_}
 use mathlib.Core.Bool.{_&&_}
 use mathlib.Core.Logic.{_↔_}

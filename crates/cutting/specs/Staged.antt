@@ -1,5 +1,6 @@
 -- A limit on the stages of a plan: the stages of a tree as the most of a path, the figure block by block, and the bound within a limit.
 -- The stages of a tree are `stages` of Shares; proofs/Staged has what is proved of these.
+-- docs/SCOPE.md: No more than so many stages; Cuts between the marks.
 use mathlib.Core.Path.{_≡_}
 use mathlib.Core.Bool.{_&&_}
 use mathlib.Core.List.{List, [], _∷_, _++_, map}

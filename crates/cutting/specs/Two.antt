@@ -1,5 +1,6 @@
 -- Two weights a kind: the figure of a rectangle and a pair of shares, of which each cut shares out both, and the bound under two
 -- capacities. The words `first` and `second` name the weights; proofs/Two has what is proved of these.
+-- docs/SCOPE.md: Two weights a kind.
 use mathlib.Core.Path.{_≡_}
 use mathlib.Core.Bool.{_&&_}
 use Prim.Native.Nat.{ℕ, suc, _+_, _-_, _≤_, max}

@@ -17,7 +17,7 @@ use Rattle.cutting.specs.declared.Sides.{Sides}
 use Rattle.cutting.specs.Sides.{rect-of, sides-of}
 use Rattle.cutting.specs.Job.{Job, widened, figure-under, normal-positions, plan-of}
 use Rattle.cutting.specs.Exact.{one-copy, no-more, exact-figure}
-use Rattle.cutting.specs.Listed.{InTableRange, size-in, price-in, heavy-in, pieces-job, PieceArray}
+use Rattle.cutting.specs.Listed.{InTableRange, size-in, price-in, listed-weight, pieces-job, PieceArray}
 use Rattle.cutting.proofs.Members.{range-solid, widened-above}
 use Rattle.cutting.proofs.Listed.{listed-above, state-figure}
 use Rattle.cutting.proofs.Laid.{laid-plan}
@@ -88,7 +88,7 @@ module _ {J : Job} {q : ℕ} {blocks : List ℕ} (given : Short J blocks q) {pla
 
   -- the figures of the pieces
   abbrev F : ℕ → ℕ → ℕ → ℕ
-  F = figure-at N le (heavy-in pieces)
+  F = figure-at N le (listed-weight pieces)
 
   module _ {old new : bound.Memory} {floors : List ℕ} {b : BoundAnswer} (left : Filled N F q old new floors b) where
     -- the plain job on the widened plate
@@ -96,16 +96,16 @@ module _ {J : Job} {q : ℕ} {blocks : List ℕ} (given : Short J blocks q) {pla
     W = pieces-job (widened J .plate) n pieces
 
     abbrev G : ℕ → ℕ → ℕ → ℕ
-    G = figure-at W le (heavy-in pieces)
+    G = figure-at W le (listed-weight pieces)
 
     moved : Filled W G q old new floors b
-    moved = subst (λ p. Filled (pieces-job (rect-of p) n pieces) (figure-at (pieces-job (rect-of p) n pieces) le (heavy-in pieces)) q old new floors b) on left
+    moved = subst (λ p. Filled (pieces-job (rect-of p) n pieces) (figure-at (pieces-job (rect-of p) n pieces) le (listed-weight pieces)) q old new floors b) on left
 
     -- they are the job's
     same-figure : (l w s : ℕ) → G l w s ≡ exact-figure (widened J) l w s
     unfolding figure-at exact-figure
-    same-figure l w s = ap (λ o. figure-under W (by-state o (λ p. heavy-in pieces (kind p))) l w s) (order-same J (given .in-range .kinds .0) blocks (given .listed))
-        ∙ state-figure (widened J) (one-copy J) n (size-in pieces) (price-in pieces) (heavy-in pieces) (array .listing) (no-more J) l w s
+    same-figure l w s = ap (λ o. figure-under W (by-state o (λ p. listed-weight pieces (kind p))) l w s) (order-same J (given .in-range .kinds .0) blocks (given .listed))
+        ∙ state-figure (widened J) (one-copy J) n (size-in pieces) (price-in pieces) (listed-weight pieces) (array .listing) (no-more J) l w s
 
     same-figures : (xs : List ℕ) → StateFigures W G q xs → StateFigures (widened J) (exact-figure (widened J)) q xs
     same-figures xs f a b c ha hb hc =
@@ -190,7 +190,7 @@ module _ {J : Job} {q : ℕ} {blocks : List ℕ} (given : Short J blocks q) {pla
 
       -- every side of the pieces is above the kerf
       pub plan-thick : Thick (J .kerf) (table-of plate n report) pieces
-      plan-thick = listed-above (widened J) (one-copy J) n (size-in pieces) (price-in pieces) (heavy-in pieces) (array .listing) (J .kerf) (widened-above J (range-solid J (given .in-range)))
+      plan-thick = listed-above (widened J) (one-copy J) n (size-in pieces) (price-in pieces) (listed-weight pieces) (array .listing) (J .kerf) (widened-above J (range-solid J (given .in-range)))
 
       -- the plan of the pieces is the job's
       same-plan : whole-plan le (J .kerf) (table-of plate n report) pieces ≡ T

@@ -25,7 +25,7 @@ use Rattle.job.proofs.Checks.{passed-both, first-append, append-passed, cons-pa
 use Rattle.job.proofs.Read.{read-in-range, answered}
 use Rattle.plan.proofs.Calls.{read-range}
 use Rattle.bound.specs.Bound as bound
-use Rattle.writer.specs.Write.{nodes-verdict, plan-check}
+use Rattle.writer.specs.Write.{nodes-verdict, nodes-check}
 use Rattle.writer.proofs.Write.{none-long}
 use Rattle.exact.specs.declared.ExactReport.{ExactReport}
 use Rattle.exact.specs.declared.ExactAnswer.{ExactAnswer}
@@ -94,7 +94,7 @@ module _ (s : List ℕ) (choices : Choices) where
 
         written : OptimumWritten J P kinds operands new-kinds new-operands b
         written =
-            let check = plan-check P (length kinds) (length operands) in
+            let check = nodes-check P (length kinds) (length operands) in
             let few = none-long (node-count P) (length kinds) (length operands) (cons-passed (check .0) (check .1) [] (passed .1) .0) in
             let earned = optimum-earned J in-range in
             record {

@@ -11,7 +11,7 @@ use lib.Seq.{getD-set-same, getD-set-other}
 use Rattle.cutting.specs.Pieces.{Piece, upright, turned, kind}
 use Rattle.cutting.specs.Job.{Job, members}
 use Rattle.cutting.specs.Exact.{states, one-copy, no-more}
-use Rattle.cutting.specs.Listed.{heavy-in, node-in, node-number, member-at, PieceArray}
+use Rattle.cutting.specs.Listed.{listed-weight, node-in, node-number, member-at, PieceArray}
 use Rattle.cutting.proofs.Members.{member-kind, members-count}
 use Rattle.cutting.proofs.Positions.{getD-mem}
 use Rattle.table.specs.States.{below}
@@ -31,7 +31,7 @@ module _ (own : ℕ → ℕ) (old : List ℕ) where
     others = λ k h. getD-set-other now (5 * i + 3) k v 0 (h i) ∙ s .others k h;
   }
     where
-      go : (j : ℕ) → j < i + 1 → Dec (j ≡ i) → heavy-in (set now (5 * i + 3) v) j ≡ own (node-in old j / 2)
+      go : (j : ℕ) → j < i + 1 → Dec (j ≡ i) → listed-weight (set now (5 * i + 3) v) j ≡ own (node-in old j / 2)
       go j h (yes d) = rw d (getD-set-same now (5 * i + 3) v 0 room ∙ e ∙ ap (λ n. own (n / 2)) (s .others (5 * i + 4) (λ j g. omega arith)))
       go j h (no d) = getD-set-other now (5 * i + 3) (5 * j + 3) v 0 (λ g. omega arith) ∙ s .states-are j (omega arith)
 

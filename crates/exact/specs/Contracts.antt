@@ -11,7 +11,7 @@ use Rattle.cutting.specs.Pieces.{Piece}
 use Rattle.cutting.specs.Preorder.{kinds-of, operands-of, node-count}
 use Rattle.cutting.specs.Job.{Job, InRange, widened, plan-of}
 use Rattle.cutting.specs.Exact.{states, state-count, by-copies, exact-figure}
-use Rattle.cutting.specs.Listed.{InTableRange, heavy-in, node-in}
+use Rattle.cutting.specs.Listed.{InTableRange, listed-weight, node-in}
 use Rattle.refusal.specs.Refusals.{next, first-refusal}
 use Rattle.refusal.specs.declared.Checked.{Checked}
 use Rattle.refusal.specs.declared.Checked.the-variants.{Passed}
@@ -54,7 +54,7 @@ pub record Statable (pieces : List ℕ) (n : ℕ) (blocks : List ℕ) : Type 0 w
 -- the first n pieces have the states of one copy of their kinds for their weights, and all else is as it was
 pub record Stated (n : ℕ) (own : ℕ → ℕ) (old new : List ℕ) : Type 0 where
   pub entries : length new ≡ length old
-  pub states-are : (j : ℕ) → j < n → heavy-in new j ≡ own (node-in old j / 2)
+  pub states-are : (j : ℕ) → j < n → listed-weight new j ≡ own (node-in old j / 2)
   pub others : (k : ℕ) → ((j : ℕ) → k ≡ 5 * j + 3 → ⊥) → getD new k 0 ≡ getD old k 0
 
 -- what the figures of pieces ask: a plain job in range, the digits of the states up to q, and room for the floors of both sides

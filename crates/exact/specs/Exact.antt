@@ -1,5 +1,6 @@
 -- The exact call: its checks in the table's order, its answer with number and values, what it leaves in lists, table and plan arrays, and
 -- what the answered optimum is. Where it says what the bound call or the writing call says, it cites their definitions.
+-- docs/SCOPE.md: The exact answer for short orders.
 use mathlib.Core.Path.{_≡_}
 use mathlib.Core.List.{List, [], _∷_, _++_}
 use Prim.Native.Nat.{ℕ, _+_, _≤_, _<_}

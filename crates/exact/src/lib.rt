@@ -22,7 +22,7 @@ ghost use lib.ListN.{length};
 ghost use Rattle.cutting.specs.Job.{InRange, widened};
 ghost use Rattle.cutting.specs.Sides.{rect-of};
 ghost use Rattle.cutting.specs.Exact.{exact-figure};
-ghost use Rattle.cutting.specs.Listed.{heavy-in, pieces-job};
+ghost use Rattle.cutting.specs.Listed.{listed-weight, pieces-job};
 ghost use Rattle.refusal.specs.declared.Checked.the-variants.{Passed};
 ghost use Rattle.job.specs.Block.{job-of};
 ghost use Rattle.table.specs.States.{figure-at};
@@ -107,7 +107,7 @@ fn states_of_pieces(
     table: &mut [u64],
 ) -> BoundAnswer
     requires { ⌜ Countable (pieces-job (rect-of plate) count (now pieces)) (now blocks) (last .digit) (last .state) (now floors) ⌝ }
-    ensures { λ r. ⌜ Filled (pieces-job (rect-of plate) count (now (pieces .entry))) (figure-at (pieces-job (rect-of plate) count (now (pieces .entry))) (under (now (blocks .entry)) (last .digit)) (heavy-in (now (pieces .entry)))) (last .state)
+    ensures { λ r. ⌜ Filled (pieces-job (rect-of plate) count (now (pieces .entry))) (figure-at (pieces-job (rect-of plate) count (now (pieces .entry))) (under (now (blocks .entry)) (last .digit)) (listed-weight (now (pieces .entry)))) (last .state)
         (lent (now (lengths .entry)) (now (widths .entry)) (now (table .entry)))
         (lent (now (lengths .exit)) (now (widths .exit)) (now (table .exit))) (now (floors .exit)) r ⌝ }
 {

@@ -1,4 +1,5 @@
 -- Check 26: an idle cut, neither of whose parts holds a piece, over the kinds of a plan and over the nodes of a tree.
+-- docs/SCOPE.md: No idle cuts.
 use mathlib.Core.Bool.{Bool, false}
 use mathlib.Core.List.{List, [], _∷_, _++_}
 use Prim.Native.Nat.{ℕ, _+_, _-_}

@@ -1,5 +1,6 @@
 -- The job block: where each field stands, when a block is refused, the record that a good one gives with its job, and the number and
 -- values of what reading it answers.
+-- docs/SCOPE.md: Job block; The table of refusals.
 use mathlib.Core.Bool.{Bool, true, false, _||_, not}
 use mathlib.Core.List.{List, [], _∷_, _++_, map}
 use Prim.Native.Nat.{ℕ, zero, suc, _+_, _*_}

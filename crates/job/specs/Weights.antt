@@ -1,5 +1,6 @@
 -- The weights of a job: when they are refused, the capacity, the number and values of what they answer, and which jobs and weights
 -- are accepted.
+-- docs/SCOPE.md: Weights and capacity; The table of refusals.
 use mathlib.Core.Path.{_≡_}
 use mathlib.Core.Bool.{not}
 use mathlib.Core.List.{List, [], _∷_, _++_}

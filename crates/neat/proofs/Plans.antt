@@ -32,7 +32,7 @@ use Rattle.plan.proofs.Plans.{plans-checked}
 use Rattle.plan.proofs.Drawn.{nodes-are, trees-are, drawn-is, plan-is}
 use Rattle.neat.specs.declared.NeatAnswer.{NeatAnswer}
 use Rattle.neat.specs.declared.NeatAnswer.the-variants as answer
-use Rattle.neat.specs.Neat.{neat-tree, room-check, neat-checked, neat-verdict, block-neat, neat-answer-by, neat-outcome, NeatPlan, NeatJudged, NeatPromises}
+use Rattle.neat.specs.Neat.{neat-tree, output-check, neat-checked, neat-verdict, block-neat, neat-answer-by, neat-outcome, NeatPlan, NeatJudged, NeatPromises}
 use Rattle.neat.specs.Scan.{unless-none, neat-nodes as nodes-written, pieces-in, nodes-for, AllFit, Scannable, Neatened}
 use Rattle.neat.proofs.Trees.{pieces-tree, tree-fits}
 
@@ -166,11 +166,11 @@ module _ (J : Job) (range : InRange J) (kinds operands : List ℕ) where
     says {w} {new-kinds} {new-operands} {r} e h = subst (λ x. Neatened x (neat-tree J kinds operands) old-kinds old-operands new-kinds new-operands r) (sym e) h
 
     pub is-refused : {x : Refusal} → plan-answer J kinds operands .verdict ≡ Refused x → Says old-kinds old-operands (answer.Refused x)
-    is-refused {x} e = says {w = Refused x} (ap (λ y. next y (first-refusal (room-check (neat-tree J kinds operands) (length old-kinds) (length old-operands) ∷ []))) e) (record { answers = refl; memory = record { kinds = refl; operands = refl } })
+    is-refused {x} e = says {w = Refused x} (ap (λ y. next y (first-refusal (output-check (neat-tree J kinds operands) (length old-kinds) (length old-operands) ∷ []))) e) (record { answers = refl; memory = record { kinds = refl; operands = refl } })
 
     module _ (p : plan-answer J kinds operands .verdict ≡ Passed) where
-      on-to : v ≡ first-refusal (room-check (neat-tree J kinds operands) (length old-kinds) (length old-operands) ∷ [])
-      on-to = ap (λ y. next y (first-refusal (room-check (neat-tree J kinds operands) (length old-kinds) (length old-operands) ∷ []))) p
+      on-to : v ≡ first-refusal (output-check (neat-tree J kinds operands) (length old-kinds) (length old-operands) ∷ [])
+      on-to = ap (λ y. next y (first-refusal (output-check (neat-tree J kinds operands) (length old-kinds) (length old-operands) ∷ []))) p
 
       short : {n : ℕ} → n ≡ node-count (neat-tree J kinds operands) → v ≡ Refused (PlanLong (node-count (neat-tree J kinds operands))) → Says old-kinds old-operands (answer.Refused (PlanLong n))
       short e h = says h (record { answers = ap (λ i. answer.Refused (PlanLong i)) e; memory = record { kinds = refl; operands = refl } })

@@ -1,5 +1,6 @@
 -- The neat call: check 21 over the output arrays, the answer with its number and values, what is left in the output arrays, and what the
 -- call promises of the neat plan.
+-- docs/SCOPE.md: Neat plans.
 use mathlib.Core.Path.{_≡_}
 use mathlib.Core.Bool.{_||_}
 use mathlib.Core.List.{List, [], _∷_}
@@ -31,13 +32,13 @@ abbrev pub neat-tree : Job → List ℕ → List ℕ → Tree laid.Piece
 neat-tree J kinds operands = neat-of J (tree-in kinds operands)
 
 -- check 21: the plan needs more nodes than an array of m or of n entries holds, with the nodes needed
-abbrev pub room-check : Tree laid.Piece → ℕ → ℕ → Check
-room-check t m n = (ltb m (node-count t) || ltb n (node-count t), PlanLong (node-count t))
+abbrev pub output-check : Tree laid.Piece → ℕ → ℕ → Check
+output-check t m n = (ltb m (node-count t) || ltb n (node-count t), PlanLong (node-count t))
 
 -- the verdict for a job that was read: the plan check's, then 21
 abbrev pub neat-checked : Job → (kinds operands old-kinds old-operands : List ℕ) → Checked
 neat-checked J kinds operands old-kinds old-operands =
-    next (plan-answer J kinds operands .verdict) (first-refusal (room-check (neat-tree J kinds operands) (length old-kinds) (length old-operands) ∷ []))
+    next (plan-answer J kinds operands .verdict) (first-refusal (output-check (neat-tree J kinds operands) (length old-kinds) (length old-operands) ∷ []))
 
 -- the verdict of the call: the job's checks come first
 abbrev pub neat-verdict : List ℕ → Choices → (kinds operands old-kinds old-operands : List ℕ) → Checked

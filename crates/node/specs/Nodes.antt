@@ -1,5 +1,6 @@
 -- One node of a plan in the scope's words: the node of a kind and an operand, the checks 12 to 16 on the rectangle that it fills, the
 -- parts that it leaves to be filled, and what it adds to the sums and to the copies.
+-- docs/SCOPE.md: Plans; The table of refusals.
 use mathlib.Core.Bool.{Bool, true, false, not}
 use mathlib.Core.List.{List, [], _∷_}
 use Prim.Native.Nat.{ℕ, _+_, _-_, _*_}

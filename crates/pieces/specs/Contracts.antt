@@ -7,7 +7,7 @@ use lib.ListN.{length, getD, set}
 use Rattle.cutting.specs.Sides.{sides-of}
 use Rattle.cutting.specs.Pieces as way
 use Rattle.cutting.specs.Job.{Job, laid}
-use Rattle.cutting.specs.Listed.{size-in, price-in, heavy-in, node-in, node-number}
+use Rattle.cutting.specs.Listed.{size-in, price-in, listed-weight, node-in, node-number}
 use Rattle.pieces.specs.declared.Piece.{Piece}
 
 -- a piece of a job: its size as it lies, its kind's price and weight, and its node
@@ -28,7 +28,7 @@ pub record At (pieces : List ℕ) (j : ℕ) (e : Piece) : Type 0 where
   pub long : size-in pieces j .0 ≡ e .size .length
   pub wide : size-in pieces j .1 ≡ e .size .width
   pub price : price-in pieces j ≡ e .price
-  pub weight : heavy-in pieces j ≡ e .weight
+  pub weight : listed-weight pieces j ≡ e .weight
   pub node : node-in pieces j ≡ e .node
 
 -- the array begins with n pieces of a job

@@ -1,5 +1,6 @@
 -- The public calls: a plan's arrays, or a plan block, for a job block. The job's own checks come first. Each answer has a number and
 -- values too.
+-- docs/SCOPE.md: Plans; The table of refusals.
 use mathlib.Core.Path.{_≡_}
 use mathlib.Core.Bool.{_||_, not}
 use mathlib.Core.List.{List, [], _∷_, _++_, map}

@@ -1,4 +1,5 @@
 -- A plan's check in the scope's words: the walk over the nodes in preorder, then the idle cuts, and what the whole plan answers.
+-- docs/SCOPE.md: Plans; The report.
 use mathlib.Core.Bool.{not}
 use mathlib.Core.List.{List, [], _∷_, _++_}
 use Prim.Native.Nat.{ℕ, _+_}

@@ -1,4 +1,5 @@
 -- The tree that a plan's arrays draw, and what a passed plan is: the preorder of a guillotine tree, which the report describes.
+-- docs/SCOPE.md: Plans; The report.
 use mathlib.Core.Path.{_≡_}
 use mathlib.Core.List.{List, [], _∷_}
 use Prim.Native.Nat.{ℕ, _+_, _*_, _≤_}

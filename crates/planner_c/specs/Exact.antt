@@ -1,4 +1,5 @@
 -- The words of the exact call in C: what they say of trees, and what is left in lent memory and in the plan arrays.
+-- docs/SCOPE.md: The C interface; The exact answer for short orders.
 use mathlib.Core.Path.{_≡_}
 use mathlib.Core.List.{List}
 use Prim.Native.Nat.{ℕ}

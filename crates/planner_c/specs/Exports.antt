@@ -1,4 +1,5 @@
 -- The C interface: a call's number is returned, its values or its place stand in the answer words, and the rest of them is as it was.
+-- docs/SCOPE.md: The C interface.
 use mathlib.Core.Path.{_≡_}
 use mathlib.Core.Bool.{Bool, true, false, _||_}
 use mathlib.Core.List.{List, [], _∷_}

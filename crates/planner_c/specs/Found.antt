@@ -1,4 +1,5 @@
 -- The words of the call that finds weights in C: what they say of the rounds and of trees.
+-- docs/SCOPE.md: The C interface; Weights found.
 use mathlib.Core.List.{List}
 use Prim.Native.Nat.{ℕ, _≤_}
 use lib.ListN.{take, drop}

@@ -1,4 +1,5 @@
 -- The check of a rack in C, over three slices: the profits stand in one of them, a pass has no answer word.
+-- docs/SCOPE.md: The C interface; A rack of plates.
 use mathlib.Core.Path.{_≡_}
 use mathlib.Core.Bool.{false, not}
 use mathlib.Core.List.{List, [], _∷_}

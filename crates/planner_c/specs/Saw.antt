@@ -1,4 +1,5 @@
 -- The saw's words in C: what they say of trees and of a node's part, and that no price is in them.
+-- docs/SCOPE.md: The C interface; Saw and office.
 use mathlib.Core.Path.{_≡_}
 use mathlib.Core.Bool.{false}
 use mathlib.Core.List.{List, [], _∷_}

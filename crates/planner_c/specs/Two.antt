@@ -1,5 +1,6 @@
 -- The words of the bound of two weights a kind in C: what they say of trees within both capacities, and what they are where the second
 -- weights are all 0.
+-- docs/SCOPE.md: The C interface; Two weights a kind.
 use mathlib.Core.Path.{_≡_}
 use mathlib.Core.List.{List}
 use Prim.Native.Nat.{ℕ}

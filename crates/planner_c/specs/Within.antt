@@ -1,4 +1,5 @@
 -- The words of the staged calls in C: what they say of trees within a limit on stages.
+-- docs/SCOPE.md: The C interface; No more than so many stages.
 use mathlib.Core.Path.{_≡_}
 use mathlib.Core.Bool.{false}
 use mathlib.Core.List.{List, [], _∷_}
@@ -15,7 +16,7 @@ use Rattle.refusal.specs.declared.Refusal.the-variants.{ManyStages}
 use Rattle.refusal.specs.declared.Checked.the-variants.{Refused}
 use Rattle.job.specs.declared.Choices.{Choices}
 use Rattle.job.specs.Weights.{weight-in}
-use Rattle.stages.specs.Stages.{limit-checks}
+use Rattle.stages.specs.Stages.{path-checks}
 use Rattle.plan.specs.Trees.{PlanOf, tree-report, Reports}
 use Rattle.bound.specs.Bound.{Memory, wide-job, block-capacity}
 use Rattle.staged_plan.specs.Check.{LimitPasses, staged-values, StagedPlanOf}
@@ -32,7 +33,7 @@ pub record StagedChecked (s : List ℕ) (choices limit : ℕ) (kinds operands ol
   pub paths-most : (t : Tree Piece) → stages t ≡ greatest path-stages (paths t)
   pub passes : 70 ≤ length old → unknown choices ≡ false → LimitPasses s (choices-of choices) limit → (t : Tree Piece) → StagedPlanOf (job-with s choices) limit t kinds operands → n ≡ 0
   pub past : 70 ≤ length old → unknown choices ≡ false → LimitPasses s (choices-of choices) limit → (t : Tree Piece) → PlanOf (job-with s choices) t kinds operands
-      → (k : ℕ) → first-refusal (limit-checks limit t) ≡ Refused (ManyStages k) → (n ≡ 23) × (new ≡ over (k ∷ []) old)
+      → (k : ℕ) → first-refusal (path-checks limit t) ≡ Refused (ManyStages k) → (n ≡ 23) × (new ≡ over (k ∷ []) old)
 
 -- what the staged bound call leaves in lent memory
 abbrev pub StagedBoundLeaves : List ℕ → Choices → List ℕ → ℕ → Memory → Memory → Type 0

@@ -1,5 +1,6 @@
 -- The check of a rack: 28, the job's checks beside its plate's, 2 of each plate, 10 and 11 over all nodes, then plan after plan by its own
 -- checks and 29, and 18 after the last.
+-- docs/SCOPE.md: A rack of plates.
 use mathlib.Core.Bool.{_||_, not}
 use mathlib.Core.List.{List, [], _∷_, _++_}
 use Prim.Native.Nat.{ℕ, zero, suc, _+_, _-_}

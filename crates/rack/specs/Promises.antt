@@ -1,4 +1,5 @@
 -- What the check of a rack promises: the trees of a rack that passes, and what no set of plans can earn.
+-- docs/SCOPE.md: A rack of plates.
 use mathlib.Core.Path.{_≡_}
 use mathlib.Core.Logic.{_↔_}
 use mathlib.Core.List.{List, _++_}

@@ -1,5 +1,6 @@
 -- A rack of plates for one order, in plain words: plates and their plans are numbered from 0, and the plans share the demands. The
 -- theorems are in proofs/Racks.
+-- docs/SCOPE.md: A rack of plates.
 use mathlib.Core.List.{List, [], _++_}
 use Prim.Native.Nat.{ℕ, zero, suc, _≤_, _<_}
 use Rattle.cutting.specs.Lists.{sum}

@@ -1,4 +1,5 @@
 -- The records of a rack: their plates' sides, their profits after a check, and what is promised of the check and the records together.
+-- docs/SCOPE.md: A rack of plates.
 use mathlib.Core.Path.{_≡_}
 use mathlib.Core.List.{List, [], map}
 use Prim.Native.Nat.{ℕ, zero, suc, _<_}

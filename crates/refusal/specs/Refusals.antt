@@ -1,5 +1,6 @@
 -- The table of refusals: the number and the place of each case, the rule that the first condition that holds decides, and what then
 -- follows from a check. Every call's answer, values and memory go by cases on its verdict through `by-check`.
+-- docs/SCOPE.md: The table of refusals.
 use mathlib.Core.Bool.{Bool, true, false}
 use mathlib.Core.List.{List, [], _∷_}
 use Prim.Native.Nat.{ℕ}

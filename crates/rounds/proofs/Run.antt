@@ -26,12 +26,12 @@ use Rattle.bound.specs.Bound.{Leaves, memory-checks, storage-checks, bound-repo
 use Rattle.writer.specs.declared.WriteReport.{WriteReport}
 use Rattle.writer.specs.declared.WriteAnswer.{WriteAnswer}
 use Rattle.writer.specs.declared.WriteAnswer.the-variants as write
-use Rattle.writer.specs.Write.{plan-check, nodes-verdict, reported, write-answer-by, block-plan, write-verdict, write-answer, array-after}
+use Rattle.writer.specs.Write.{nodes-check, nodes-verdict, reported, write-answer-by, block-plan, write-verdict, write-answer, array-after}
 use Rattle.writer.proofs.Call.{written-fits}
 use Rattle.rounds.specs.declared.WeightsFound.{WeightsFound}
 use Rattle.weight_steps.specs.Step.{pick-number}
 use Rattle.rounds.specs.Rounds.{plan-copies, next-weight, weight-at, within, stops-after, Lent, round-verdict, refuses, last-here, last-from, last-round, rounds-by, rounds-run, bound-at, best-round, answer-of, found, find-answer-by, run-answer, RoundLeaves, RoundsLeave, RunLeaves}
-use Rattle.rounds.specs.Contracts.{pieces-in, Made, Turned, better, ended}
+use Rattle.rounds.specs.Contracts.{pieces-in, Made, RoundEnded, better, ended}
 use Rattle.rounds.proofs.Count.{pieces-tree}
 use Rattle.rounds.proofs.Turns.{listed, listed-all, next-past}
 
@@ -65,7 +65,7 @@ verdict-same J weight a b h = ap₂ next
     (ap (λ n. first-refusal (storage-checks (widened J) (capacity J weight) n (length (b .memory .widths)) (length (b .memory .table)))) (h .lengths)
     ∙ ap (λ n. first-refusal (storage-checks (widened J) (capacity J weight) (length (a .memory .lengths)) n (length (b .memory .table)))) (h .widths)
     ∙ ap (λ n. first-refusal (storage-checks (widened J) (capacity J weight) (length (a .memory .lengths)) (length (a .memory .widths)) n)) (h .table))
-    (ap₂ (λ m n. first-refusal (plan-check (bound-plan J weight) m n ∷ [])) (h .kinds) (h .operands))
+    (ap₂ (λ m n. first-refusal (nodes-check (bound-plan J weight) m n ∷ [])) (h .kinds) (h .operands))
 
 -- weights that are as many as the kinds, of a capacity that is small enough
 pub weights-good : (J : Job) (ws : List ℕ) → length ws ≡ J .count → capacity J (weight-in ws) ≤ 4095 → first-refusal (weight-checks J ws) ≡ Passed
@@ -280,9 +280,9 @@ module _ (s : List ℕ) (choices : Choices) (good : first-refusal (job-checks s 
               ))
 
           module _ {job : JobRecord} (j : job ≡ record-of s choices) {b : WeightsFound} (g : b ≡ better (eqb k 0 || ltb (report .bound) (a .bound)) (report .bound) weights (k + 1) a)
-              {over : Bool} {following : List ℕ} (t : Turned (job-of job) lower k (weight-in weights) over following) where
-            turned : Turned (block-job s choices) lower k (weight-at (block-job s choices) lower k) over following
-            turned = subst (λ w. Turned (block-job s choices) lower k w over following) weights-all (subst (λ x. Turned (job-of x) lower k (weight-in weights) over following) j t)
+              {over : Bool} {following : List ℕ} (t : RoundEnded (job-of job) lower k (weight-in weights) over following) where
+            turned : RoundEnded (block-job s choices) lower k (weight-at (block-job s choices) lower k) over following
+            turned = subst (λ w. RoundEnded (block-job s choices) lower k w over following) weights-all (subst (λ x. RoundEnded (job-of x) lower k (weight-in weights) over following) j t)
 
             found-then : b ≡ found (block-job s choices) lower (k + 1)
             found-then = found-next (block-job s choices) lower k (st .found-is) (ap (λ (x : WriteReport). x .bound) (written-here f .1)) (st .weights-are) g

@@ -22,7 +22,7 @@ use Rattle.job.proofs.Weights.{answer-passed, capacity-answered, weights-passed
 use Rattle.bound.proofs.Holds.{bound-held}
 use Rattle.weight_steps.specs.Step.{factor, distance, adjusted, summed}
 use Rattle.rounds.specs.Rounds.{plan-copies, squares, gap, next-weight, within}
-use Rattle.rounds.specs.Contracts.{pieces-in, Made, Turned}
+use Rattle.rounds.specs.Contracts.{pieces-in, Made, RoundEnded}
 use Rattle.weight_steps.proofs.Sums.{any-same, sum-same}
 
 -- arrays whose first n entries agree
@@ -100,7 +100,7 @@ module _ (job : JobRecord) (lower round bound nodes : ℕ) (weights kinds operan
 
   module _ {r : Bool} (e : r ≡ not (any (λ i. ltb (getD (job .demands) i 0) (getD copies i 0)) (range 0 (job .count)))) where
     -- the plan keeps all demands
-    pub turned-kept : {none : List ℕ} → r ≡ true → Turned (job-of job) lower round (weight-in weights) true none
+    pub turned-kept : {none : List ℕ} → r ≡ true → RoundEnded (job-of job) lower round (weight-in weights) true none
     turned-kept p = record {
       stops = sym (ap (λ b. b || (eqb round 17 || ltb 4095 (capacity (job-of job) (next-weight (job-of job) lower round (weight-in weights))))) (within-is e ∙ p));
       goes-on = λ z. differ z;
@@ -108,7 +108,7 @@ module _ (job : JobRecord) (lower round bound nodes : ℕ) (weights kinds operan
 
     module _ (p : r ≡ false) where
       -- it is the last round
-      pub turned-last : {none : List ℕ} → round ≡ 17 → Turned (job-of job) lower round (weight-in weights) true none
+      pub turned-last : {none : List ℕ} → round ≡ 17 → RoundEnded (job-of job) lower round (weight-in weights) true none
       turned-last q = record {
         stops = sym (ap₂ (λ b c. b || (c || ltb 4095 (capacity (job-of job) (next-weight (job-of job) lower round (weight-in weights))))) (within-is e ∙ p) (eq-eqb round 17 q));
         goes-on = λ z. differ z;
@@ -124,7 +124,7 @@ module _ (job : JobRecord) (lower round bound nodes : ℕ) (weights kinds operan
         next-weights-are = ap (λ x. weight-in (take (job .count) x)) (next-are f) ∙ listed _ (job .count) (made .in-range .kinds .1) (next-past (job-of job) lower round (weight-in weights))
 
         -- the next capacity is within 4,095
-        pub turned-on : {c : ℕ} → a ≡ weighed.Capacity c → Turned (job-of job) lower round (weight-in weights) false next
+        pub turned-on : {c : ℕ} → a ≡ weighed.Capacity c → RoundEnded (job-of job) lower round (weight-in weights) false next
         turned-on {c} h =
             let m = weights-passed (job-of job) (take (job .count) next) (capacity-answered (job-of job) (take (job .count) next) c (sym g ∙ h) .0) .1 in
             record {
@@ -133,7 +133,7 @@ module _ (job : JobRecord) (lower round bound nodes : ℕ) (weights kinds operan
             }
 
         -- it passes 4,095
-        pub turned-full : {x : Refusal} {none : List ℕ} → a ≡ weighed.Refused x → Turned (job-of job) lower round (weight-in weights) true none
+        pub turned-full : {x : Refusal} {none : List ℕ} → a ≡ weighed.Refused x → RoundEnded (job-of job) lower round (weight-in weights) true none
         turned-full {x} h = record {
           stops = tested (by-test _ (λ t. t) (λ m. (let k = answer-passed (job-of job) (take (job .count) next) (next-room f) (ap (capacity (job-of job)) (sym next-weights-are)) m in absurd (let z : _≡_ {A = ℕ} 0 1 = cc in omega arith))));
           goes-on = λ z. differ z;

@@ -39,7 +39,7 @@ pub record Made (J : Job) (lower round bound nodes : ℕ) (weight : ℕ → ℕ)
   pub copies : (k : ℕ) → k < most-kinds → pieces-in kinds operands nodes k ≡ plan-copies J weight k
 
 -- what it says of the next round: whether the run stops before it, and else its weights
-pub record Turned (J : Job) (lower round : ℕ) (weight : ℕ → ℕ) (over : Bool) (weights : List ℕ) : Type 0 where
+pub record RoundEnded (J : Job) (lower round : ℕ) (weight : ℕ → ℕ) (over : Bool) (weights : List ℕ) : Type 0 where
   pub stops : over ≡ (within J (plan-copies J weight) || (eqb round final-round || ltb most-capacity (capacity J (next-weight J lower round weight))))
   pub goes-on : over ≡ false → weights ≡ entries (next-weight J lower round weight) (J .count)
 

@@ -1,5 +1,6 @@
 -- The weight rounds: the weights of each round, when the run stops, what the call answers, and what it leaves in lent memory. Round k is a
 -- function of the job, the lower figure and k; lent memory decides only whether a round is refused.
+-- docs/SCOPE.md: Weights found.
 use mathlib.Core.Path.{_≡_}
 use mathlib.Core.Bool.{Bool, true, false, _||_, not}
 use mathlib.Core.List.{List, _∷_}

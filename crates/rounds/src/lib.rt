@@ -18,7 +18,7 @@ ghost use Rattle.refusal.specs.Refusals.{first-refusal};
 ghost use Rattle.job.specs.Block.{with-full-demand, job-checks, record-of, job-of};
 ghost use Rattle.job.specs.Weights.{block-job, weight-in};
 ghost use Rattle.rounds.specs.Rounds.{lent-all, answer-of, refused-answer, run-answer, RunLeaves, FindPromises};
-ghost use Rattle.rounds.specs.Contracts.{Made, Turned, better, ended};
+ghost use Rattle.rounds.specs.Contracts.{Made, RoundEnded, better, ended};
 
 // What the weight rounds answer: the least bound met, the rounds run, and the weights that first gave the bound, 0 past the job's kinds.
 // Where a check refuses, all are 0.
@@ -30,7 +30,7 @@ pub struct WeightsFound {
 }
 
 // Whether the run stops after a round, and else the weights of the next one.
-struct Turn {
+struct RoundEnd {
     pub over: bool,
     pub weights: [u8; 64],
 }
@@ -98,21 +98,21 @@ fn next_round(
     kinds: &[u8],
     operands: &[u16],
     nodes: usize,
-) -> Turn
+) -> RoundEnd
     requires { ⌜ Made (job-of job) lower round bound nodes (weight-in (now weights)) (now kinds) (now operands) ⌝ }
-    ensures { λ r. ⌜ Turned (job-of job) lower round (weight-in (now (weights .entry))) (r .over) (r .weights) ⌝ }
+    ensures { λ r. ⌜ RoundEnded (job-of job) lower round (weight-in (now (weights .entry))) (r .over) (r .weights) ⌝ }
 {
     let none = [0u8; 64];
     let demands = job.demands;
     let copies = copies::count_copies(kinds, operands, nodes);
     if copies::keep_demands(&copies, &demands, job.count) {
-        return Turn {
+        return RoundEnd {
             over: true,
             weights: none,
         };
     }
     if round == 17 {
-        return Turn {
+        return RoundEnd {
             over: true,
             weights: none,
         };
@@ -121,11 +121,11 @@ fn next_round(
     let n = job.count as usize;
     let checked = job::check_weights(job, &next[..n]);
     match checked {
-        WeightsAnswer::Capacity(_) => Turn {
+        WeightsAnswer::Capacity(_) => RoundEnd {
             over: false,
             weights: next,
         },
-        WeightsAnswer::Refused(_) => Turn {
+        WeightsAnswer::Refused(_) => RoundEnd {
             over: true,
             weights: none,
         },

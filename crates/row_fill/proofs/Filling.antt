@@ -10,7 +10,7 @@ use lib.ListN.{length, getD, drop, replicate, length-replicate, getD-replicate, 
 use Rattle.cutting.specs.declared.Direction.the-variants.{Length, Width}
 use Rattle.cutting.specs.Pieces.{upright}
 use Rattle.cutting.specs.Job.{Job, figure-of}
-use Rattle.cutting.specs.Listed.{InTableRange, heavy-in}
+use Rattle.cutting.specs.Listed.{InTableRange, listed-weight}
 use Rattle.cutting.proofs.Members.{table-lies}
 use Rattle.cutting.proofs.Table.{positions-some, positions-length}
 use Rattle.table.specs.declared.TableSize.{TableSize}
@@ -61,7 +61,7 @@ module _ {size : TableSize} {pieces normal-lengths normal-widths floors lent : L
   fit = given .in-range
 
   abbrev weight : ℕ → ℕ
-  weight = heavy-in pieces
+  weight = listed-weight pieces
 
   -- the floors of the normal widths, which the code does not read
   abbrev width-floors : List ℕ

@@ -11,7 +11,7 @@ use lib.ListN.{length, getD, set}
 use lib.Seq.{getD-set-same, getD-set-other}
 use Rattle.table.specs.Words.{remainder, Run}
 use Rattle.table.proofs.Words.{cell-before, run-none, run-more}
-use Rattle.cutting.specs.Listed.{size-in, price-in, heavy-in}
+use Rattle.cutting.specs.Listed.{size-in, price-in, listed-weight}
 use Rattle.row_fill.specs.Raised.{Raised, Single, Sums, LengthCuts, Alone, Pieces, Pushed, CellPush}
 use Rattle.row_fill.specs.Rows.{Entries, Spread, LengthsTaken}
 use Rattle.row_fill.specs.Ready.{ceiling, SumsReady, LengthsReady}
@@ -145,12 +145,12 @@ pub pieces-none : {l w : ℕ} {pieces xs : List ℕ} → Raised (Pieces l w piec
 pieces-none = raised-none (λ i v s. omega (arith, s .inside))
 
 pub pieces-next : {l w j : ℕ} {pieces old mid new : List ℕ} → Raised (Pieces l w pieces j) old mid
-    → Raised (Alone l w (size-in pieces j .0) (size-in pieces j .1) (heavy-in pieces j) (price-in pieces j)) mid new → Raised (Pieces l w pieces (j + 1)) old new
+    → Raised (Alone l w (size-in pieces j .0) (size-in pieces j .1) (listed-weight pieces j) (price-in pieces j)) mid new → Raised (Pieces l w pieces (j + 1)) old new
 pieces-next {l} {w} {j} {pieces} p q = raised-more
     (λ i v s. record { index = s .index; inside = omega (arith, s .inside); alone = s .alone }) (λ i v s. record { index = j; inside = omega arith; alone = s }) (λ i v s. last i v s (ℕ-discrete (s .index) j)) p q
   where
     last : (i v : ℕ) (s : Pieces l w pieces (j + 1) i v) → Dec (s .index ≡ j)
-        → Pieces l w pieces j i v ⊎ Alone l w (size-in pieces j .0) (size-in pieces j .1) (heavy-in pieces j) (price-in pieces j) i v
+        → Pieces l w pieces j i v ⊎ Alone l w (size-in pieces j .0) (size-in pieces j .1) (listed-weight pieces j) (price-in pieces j) i v
     last i v s (yes e) = inr (rw e at (s .alone))
     last i v s (no e) = inl (record { index = s .index; inside = omega (arith, s .inside); alone = s .alone })
 

@@ -5,7 +5,7 @@ use mathlib.Core.List.{List}
 use mathlib.Core.Logic.{_⊎_}
 use Prim.Native.Nat.{ℕ, _+_, _-_, _*_, _≤_, _<_, min}
 use lib.ListN.{getD}
-use Rattle.cutting.specs.Listed.{size-in, price-in, heavy-in}
+use Rattle.cutting.specs.Listed.{size-in, price-in, listed-weight}
 use Rattle.table.specs.Words.{remainder}
 
 -- each word has become the greatest of what it was and the values offered to it
@@ -45,7 +45,7 @@ pub record Alone (l w piece-length piece-width weight price i v : ℕ) : Type 0 
 pub record Pieces (l w : ℕ) (pieces : List ℕ) (count i v : ℕ) : Type 0 where
   pub index : ℕ
   pub inside : index < count
-  pub alone : Alone l w (size-in pieces index .0) (size-in pieces index .1) (heavy-in pieces index) (price-in pieces index) i v
+  pub alone : Alone l w (size-in pieces index .0) (size-in pieces index .1) (listed-weight pieces index) (price-in pieces index) i v
 
 -- the units past x are offered v together with what the units from `least` to `end` less 1 have
 pub record Pushed (xs : List ℕ) (x least end v i u : ℕ) : Type 0 where

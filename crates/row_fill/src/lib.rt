@@ -12,7 +12,7 @@ use table::widen;
 ghost use mathlib.Core.Path.{_≡_};
 ghost use Prim.Native.Nat.{_+_, _-_, _≤_, _<_, min};
 ghost use lib.ListN.{length};
-ghost use Rattle.cutting.specs.Listed.{heavy-in};
+ghost use Rattle.cutting.specs.Listed.{listed-weight};
 ghost use Rattle.table.specs.Contracts.{size-job, Fillable, FilledBy};
 ghost use Rattle.table.specs.Words.{Run};
 ghost use Rattle.row_fill.specs.Raised.{Raised, Sums, Alone, Pieces, Pushed, CellPush};
@@ -228,7 +228,7 @@ pub fn fill(
     table: &mut [u64],
 )
     requires { ⌜ Fillable size (now pieces) (now «normal_lengths») (now «normal_widths») (now floors) (now table) × (size .capacity ≡ 0) ⌝ }
-    ensures { λ _. ⌜ FilledBy (size-job size (now (pieces .entry))) (heavy-in (now (pieces .entry))) (size .capacity) (now (table .entry)) (now (table .exit)) ⌝ }
+    ensures { λ _. ⌜ FilledBy (size-job size (now (pieces .entry))) (listed-weight (now (pieces .entry))) (size .capacity) (now (table .entry)) (now (table .exit)) ⌝ }
 {
     let columns = size.columns as usize;
     let rows = size.rows as usize;

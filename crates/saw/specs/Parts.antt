@@ -1,4 +1,5 @@
 -- The part of a plan's arrays that belongs to a node and all below it: its entries, and where they lie.
+-- docs/SCOPE.md: Saw and office.
 use mathlib.Core.Path.{_≡_}
 use mathlib.Core.Bool.{Bool, true, false}
 use mathlib.Core.List.{List, [], _∷_, _++_}

@@ -1,5 +1,6 @@
 -- Prices and the saw: which bytes of a block are prices, and what it means that the saw's answer reads none of them and that it is the
 -- office's without the profit.
+-- docs/SCOPE.md: Saw and office.
 use mathlib.Core.Path.{_≡_}
 use mathlib.Core.List.{List}
 use Prim.Native.Nat.{ℕ, _+_, _*_, _≤_, _<_}

@@ -1,5 +1,6 @@
 -- What the saw answers for a job block and a plan: the block read without its prices, the plan's check, and of its report the copies and
 -- the areas. Each answer has a number and values too.
+-- docs/SCOPE.md: Saw and office.
 use mathlib.Core.Path.{_≡_}
 use mathlib.Core.List.{List, [], _∷_, _++_}
 use Prim.Native.Nat.{ℕ, _+_, _*_}

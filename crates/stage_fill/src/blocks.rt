@@ -8,7 +8,7 @@ use table::set_run;
 use table::widen;
 ghost use mathlib.Core.Path.{_≡_};
 ghost use Prim.Native.Nat.{_+_, _-_, _*_, _≤_, _<_};
-ghost use Rattle.cutting.specs.Listed.{heavy-in};
+ghost use Rattle.cutting.specs.Listed.{listed-weight};
 ghost use Rattle.cutting.specs.Shares.{other};
 ghost use Rattle.table.specs.Staged.{block-number};
 ghost use Rattle.table.specs.Words.{HalfReady};
@@ -78,8 +78,8 @@ fn fill_cell(
     flat: usize,
 ) -> usize
     requires { ⌜ BlockLent (job-in shape (now pieces)) (now lengths) (now widths) (now floors) shape block (now table) × (i < shape .«length_count» * shape .columns)
-        × Below (job-in shape (now pieces)) (heavy-in (now pieces)) (now lengths) (now widths) (shape .words) (block-start shape block + i) flat (now table) ⌝ }
-    ensures { λ r. ⌜ BlockMade (job-in shape (now (pieces .entry))) (heavy-in (now (pieces .entry))) (now (lengths .entry)) (now (widths .entry)) shape (block-start shape block + i + 1) r (now (table .entry)) (now (table .exit)) ⌝ }
+        × Below (job-in shape (now pieces)) (listed-weight (now pieces)) (now lengths) (now widths) (shape .words) (block-start shape block + i) flat (now table) ⌝ }
+    ensures { λ r. ⌜ BlockMade (job-in shape (now (pieces .entry))) (listed-weight (now (pieces .entry))) (now (lengths .entry)) (now (widths .entry)) shape (block-start shape block + i + 1) r (now (table .entry)) (now (table .exit)) ⌝ }
 {
     let words = shape.words;
     let a = i / shape.columns;
@@ -132,8 +132,8 @@ pub fn fill_block(
     flat: usize,
 ) -> usize
     requires { ⌜ BlockLent (job-in shape (now pieces)) (now lengths) (now widths) (now floors) shape block (now table)
-        × Below (job-in shape (now pieces)) (heavy-in (now pieces)) (now lengths) (now widths) (shape .words) (block-start shape block) flat (now table) ⌝ }
-    ensures { λ r. ⌜ BlockMade (job-in shape (now (pieces .entry))) (heavy-in (now (pieces .entry))) (now (lengths .entry)) (now (widths .entry)) shape (block-start shape block + shape .«length_count» * shape .columns) r (now (table .entry)) (now (table .exit)) ⌝ }
+        × Below (job-in shape (now pieces)) (listed-weight (now pieces)) (now lengths) (now widths) (shape .words) (block-start shape block) flat (now table) ⌝ }
+    ensures { λ r. ⌜ BlockMade (job-in shape (now (pieces .entry))) (listed-weight (now (pieces .entry))) (now (lengths .entry)) (now (widths .entry)) shape (block-start shape block + shape .«length_count» * shape .columns) r (now (table .entry)) (now (table .exit)) ⌝ }
 {
     let cells = shape.length_count * shape.columns;
     let mut high = flat;
@@ -164,8 +164,8 @@ fn fill_stage(
     stage: usize,
     flat: usize,
 ) -> usize
-    requires { ⌜ StageLent (job-in shape (now pieces)) (heavy-in (now pieces)) (now lengths) (now widths) (now floors) shape stage flat (now table) × (1 ≤ stage) ⌝ }
-    ensures { λ r. ⌜ BlockMade (job-in shape (now (pieces .entry))) (heavy-in (now (pieces .entry))) (now (lengths .entry)) (now (widths .entry)) shape ((2 * stage + 1) * (shape .«length_count» * shape .columns)) r (now (table .entry)) (now (table .exit)) ⌝ }
+    requires { ⌜ StageLent (job-in shape (now pieces)) (listed-weight (now pieces)) (now lengths) (now widths) (now floors) shape stage flat (now table) × (1 ≤ stage) ⌝ }
+    ensures { λ r. ⌜ BlockMade (job-in shape (now (pieces .entry))) (listed-weight (now (pieces .entry))) (now (lengths .entry)) (now (widths .entry)) shape ((2 * stage + 1) * (shape .«length_count» * shape .columns)) r (now (table .entry)) (now (table .exit)) ⌝ }
 {
     let along = Block {
         stage: stage,
@@ -190,7 +190,7 @@ pub fn fill_blocks(
     limit: usize,
 )
     requires { ⌜ StagesLent (job-in shape (now pieces)) (now lengths) (now widths) (now floors) shape limit (now table) ⌝ }
-    ensures { λ _. ⌜ StagesMade (job-in shape (now (pieces .entry))) (heavy-in (now (pieces .entry))) (now (lengths .entry)) (now (widths .entry)) shape limit (now (table .entry)) (now (table .exit)) ⌝ }
+    ensures { λ _. ⌜ StagesMade (job-in shape (now (pieces .entry))) (listed-weight (now (pieces .entry))) (now (lengths .entry)) (now (widths .entry)) shape limit (now (table .entry)) (now (table .exit)) ⌝ }
 {
     let uncut = Block {
         stage: 0,

@@ -9,7 +9,7 @@ use state_joins::Line;
 use state_joins::cut;
 ghost use mathlib.Core.Path.{_≡_};
 ghost use Prim.Native.Nat.{max};
-ghost use Rattle.cutting.specs.Listed.{heavy-in};
+ghost use Rattle.cutting.specs.Listed.{listed-weight};
 ghost use Rattle.state_cells.specs.Places.{job-in};
 ghost use Rattle.stage_fill.specs.Cells.{UncutReady, UncutSteps, LaterReady, LaterSteps};
 
@@ -31,7 +31,7 @@ pub fn make_uncut(
     flat: usize,
 ) -> usize
     requires { ⌜ UncutReady shape at flat (now table) ⌝ }
-    ensures { λ r. ⌜ UncutSteps (job-in shape (now (pieces .entry))) (heavy-in (now (pieces .entry))) (shape .count) (shape .words) (shape .stride) at l w flat r (now (table .entry)) (now (table .exit)) ⌝ }
+    ensures { λ r. ⌜ UncutSteps (job-in shape (now (pieces .entry))) (listed-weight (now (pieces .entry))) (shape .count) (shape .words) (shape .stride) at l w flat r (now (table .entry)) (now (table .exit)) ⌝ }
 {
     let words = shape.words;
     let blocks = [words as u32; 1];

@@ -8,7 +8,7 @@ use blocks::fill_blocks;
 use state_cells::Shape;
 use state_fill::strip_all;
 use table::TableSize;
-ghost use Rattle.cutting.specs.Listed.{heavy-in};
+ghost use Rattle.cutting.specs.Listed.{listed-weight};
 ghost use Rattle.table.specs.Contracts.{size-job, StagedFillable, StagedBy};
 
 // The staged table of pieces, their weights, a capacity and a limit: its words are the blocks' figures, and the rest is as it was.
@@ -22,7 +22,7 @@ pub fn fill(
     table: &mut [u64],
 )
     requires { ⌜ StagedFillable size limit (now pieces) (now lengths) (now widths) (now floors) (now table) ⌝ }
-    ensures { λ _. ⌜ StagedBy (size-job size (now (pieces .entry))) (heavy-in (now (pieces .entry))) limit (size .capacity) (now (table .entry)) (now (table .exit)) ⌝ }
+    ensures { λ _. ⌜ StagedBy (size-job size (now (pieces .entry))) (listed-weight (now (pieces .entry))) limit (size .capacity) (now (table .entry)) (now (table .exit)) ⌝ }
 {
     let rows = size.rows as usize;
     let columns = size.columns as usize;

@@ -11,7 +11,7 @@ use Rattle.cutting.specs.declared.Direction.{Direction}
 use Rattle.cutting.specs.declared.Direction.the-variants.{Length, Width}
 use Rattle.cutting.specs.Job.{Job}
 use Rattle.cutting.specs.Staged.{block}
-use Rattle.cutting.specs.Listed.{InTableRange, heavy-in}
+use Rattle.cutting.specs.Listed.{InTableRange, listed-weight}
 use Rattle.table.specs.declared.TableSize.{TableSize}
 use Rattle.table.specs.Staged.{block-number, staged-words, staged-word, StagedFigures}
 use Rattle.table.specs.Contracts.{size-job, Fillable, StagedFillable, StagedBy}
@@ -31,7 +31,7 @@ use Rattle.stage_rows.proofs.Widths.{widths-hold}
 -- the blocks numbered below n hold their figures
 abbrev pub Held : TableSize → List ℕ → List ℕ → List ℕ → ℕ → List ℕ → Type 0
 Held size pieces normal-lengths normal-widths n xs = (k : ℕ) (d : Direction) → block-number k d < n
-    → Rows (λ l w. block-at (size-job size pieces) leb (heavy-in pieces) k d l w 0) normal-lengths normal-widths (block-number k d * (size .rows * size .columns)) (size .columns) (size .rows) xs
+    → Rows (λ l w. block-at (size-job size pieces) leb (listed-weight pieces) k d l w 0) normal-lengths normal-widths (block-number k d * (size .rows * size .columns)) (size .columns) (size .rows) xs
 
 -- the fill after so many stages: their blocks hold their figures, and the words past them are as they were
 pub record Staging (size : TableSize) (limit : ℕ) (pieces normal-lengths normal-widths : List ℕ) (below : ℕ) (old new : List ℕ) : Type 0 where
@@ -45,7 +45,7 @@ module _ {size : TableSize} {limit : ℕ} {pieces normal-lengths normal-widths f
   J = size-job size pieces
 
   abbrev weight : ℕ → ℕ
-  weight = heavy-in pieces
+  weight = listed-weight pieces
 
   abbrev columns : ℕ
   columns = size .columns

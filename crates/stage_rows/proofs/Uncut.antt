@@ -12,7 +12,7 @@ use Rattle.cutting.specs.declared.Direction.{Direction}
 use Rattle.cutting.specs.declared.Direction.the-variants.{Length, Width}
 use Rattle.cutting.specs.Pieces.{upright}
 use Rattle.cutting.specs.Job.{Job}
-use Rattle.cutting.specs.Listed.{InTableRange, heavy-in}
+use Rattle.cutting.specs.Listed.{InTableRange, listed-weight}
 use Rattle.cutting.proofs.Members.{table-lies}
 use Rattle.table.specs.declared.TableSize.{TableSize}
 use Rattle.table.specs.Contracts.{size-job, Positions}
@@ -198,7 +198,7 @@ module _ (size : TableSize) {pieces normal-lengths length-floors normal-widths w
   J = size-job size pieces
 
   abbrev weight : ℕ → ℕ
-  weight = heavy-in pieces
+  weight = listed-weight pieces
 
   -- the figure of entry i of the lengths and entry b of the widths
   abbrev cell : ℕ → ℕ → ℕ

@@ -18,7 +18,7 @@ ghost use Prim.Native.Nat.{_+_, _*_, _≤_, max};
 ghost use lib.ListN.{getD};
 ghost use Rattle.cutting.specs.declared.Direction.the-variants.{Length};
 ghost use Rattle.cutting.specs.Limits.{most-limit};
-ghost use Rattle.cutting.specs.Listed.{heavy-in};
+ghost use Rattle.cutting.specs.Listed.{listed-weight};
 ghost use Rattle.table.specs.Contracts.{size-job, StagedFillable, StagedBy};
 ghost use Rattle.table.specs.Staged.{block-number};
 ghost use Rattle.table.specs.Words.{Outside, Run};
@@ -211,7 +211,7 @@ pub fn fill(
     table: &mut [u64],
 )
     requires { ⌜ StagedFillable size limit (now pieces) (now «normal_lengths») (now «normal_widths») (now floors) (now table) × (size .capacity ≡ 0) ⌝ }
-    ensures { λ _. ⌜ StagedBy (size-job size (now (pieces .entry))) (heavy-in (now (pieces .entry))) limit (size .capacity) (now (table .entry)) (now (table .exit)) ⌝ }
+    ensures { λ _. ⌜ StagedBy (size-job size (now (pieces .entry))) (listed-weight (now (pieces .entry))) limit (size .capacity) (now (table .entry)) (now (table .exit)) ⌝ }
 {
     let cells = (size.rows as usize) * (size.columns as usize);
     fill_uncut(table, pieces, normal_lengths, normal_widths, size);

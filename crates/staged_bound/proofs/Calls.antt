@@ -11,7 +11,7 @@ use Rattle.cutting.specs.Sides.{rect-of, sides-of}
 use Rattle.cutting.specs.Limits.{most-limit}
 use Rattle.cutting.specs.Job.{Job, SolidKinds, InRange, widened, capacity, at-full-demand, ordered, members, pieces}
 use Rattle.cutting.specs.Staged.{block, staged-bound}
-use Rattle.cutting.specs.Listed.{heavy-in, pieces-job, PieceArray}
+use Rattle.cutting.specs.Listed.{listed-weight, pieces-job, PieceArray}
 use Rattle.cutting.proofs.Members.{range-solid, widened-solid}
 use Rattle.cutting.proofs.Finer.{staged-finer}
 use Rattle.cutting.proofs.Bound.{capacity-less}
@@ -129,8 +129,8 @@ module _ (s : List ℕ) (choices : Choices) (ws : List ℕ) {j : JobRecord} {q :
       subst (λ p. Stageable (pieces-job (rect-of p) count pieces) q n) (sym e) b
 
   pub job-staged : {plate : Sides} {count : ℕ} {pieces : List ℕ} {old new : Memory} {r : BoundAnswer} → plate ≡ sides-of (widened (job-of j) .plate) → PieceArray (widened (job-of j)) (weight-in ws) count pieces
-      → Staged (pieces-job (rect-of plate) count pieces) (heavy-in pieces) n q old new r → Staged (wide-job s choices) (weight-in ws) n (block-capacity s choices ws) old new r
+      → Staged (pieces-job (rect-of plate) count pieces) (listed-weight pieces) n q old new r → Staged (wide-job s choices) (weight-in ws) n (block-capacity s choices ws) old new r
   job-staged {plate} {count} {pieces} {old} {new} {r} e a b =
-      let c = pieces-staged (widened (job-of j)) (weight-in ws) count pieces a n q old new r (subst (λ p. Staged (pieces-job (rect-of p) count pieces) (heavy-in pieces) n q old new r) e b) in
+      let c = pieces-staged (widened (job-of j)) (weight-in ws) count pieces a n q old new r (subst (λ p. Staged (pieces-job (rect-of p) count pieces) (listed-weight pieces) n q old new r) e b) in
       let d : Staged (widened (job-of j)) (weight-in ws) n (block-capacity s choices ws) old new r = subst (λ q. Staged (widened (job-of j)) (weight-in ws) n q old new r) (t .capacity-is) c in
       subst (λ j. Staged (widened (job-of j)) (weight-in ws) n (block-capacity s choices ws) old new r) (t .record-is) d

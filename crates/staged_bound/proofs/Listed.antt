@@ -12,7 +12,7 @@ use Rattle.cutting.specs.declared.Direction.the-variants.{Length, Width}
 use Rattle.cutting.specs.Limits.{most-wide-figure}
 use Rattle.cutting.specs.Job.{Job}
 use Rattle.cutting.specs.Staged.{block}
-use Rattle.cutting.specs.Listed.{InTableRange, size-in, price-in, heavy-in, pieces-job, PieceArray}
+use Rattle.cutting.specs.Listed.{InTableRange, size-in, price-in, listed-weight, pieces-job, PieceArray}
 use Rattle.cutting.proofs.Members.{table-solid}
 use Rattle.cutting.proofs.Table.{positions-some}
 use Rattle.cutting.proofs.Staged.{block-floor, listed-block}
@@ -66,14 +66,14 @@ module _ (J : Job) (weight : ℕ → ℕ) (n : ℕ) (pieces : List ℕ) (array :
   abbrev N : Job
   N = pieces-job (J .plate) n pieces
 
-  same-block : (k : ℕ) (d : Direction) (l w c : ℕ) → block N (heavy-in pieces) k d l w c ≡ block J weight k d l w c
-  same-block k d l w c = listed-block J weight n (size-in pieces) (price-in pieces) (heavy-in pieces) (array .listing) k d l w c
+  same-block : (k : ℕ) (d : Direction) (l w c : ℕ) → block N (listed-weight pieces) k d l w c ≡ block J weight k d l w c
+  same-block k d l w c = listed-block J weight n (size-in pieces) (price-in pieces) (listed-weight pieces) (array .listing) k d l w c
 
   module _ (limit q : ℕ) (old new : Memory) where
     all-same : staged-words N q limit ≡ staged-words J q limit
     all-same = ap (λ w. (2 * limit + 1) * w) (same-words J weight n pieces array q)
 
-    same-figures : (xs : List ℕ) → StagedFigures N (heavy-in pieces) limit q xs → StagedFigures J weight limit q xs
+    same-figures : (xs : List ℕ) → StagedFigures N (listed-weight pieces) limit q xs → StagedFigures J weight limit q xs
     same-figures xs f k d a b c hk ha hb hc =
         let p = same-count J weight n pieces array Length in
         let r = same-count J weight n pieces array Width in
@@ -86,20 +86,20 @@ module _ (J : Job) (weight : ℕ → ℕ) (n : ℕ) (pieces : List ℕ) (array :
     abbrev lists : Checked
     lists = first-refusal (list-check J (length (old .lengths)) (length (old .widths)) ∷ [])
 
-    same-table : (v : Checked) → StagedAfter v N (heavy-in pieces) limit q (old .table) (new .table) → StagedAfter v J weight limit q (old .table) (new .table)
+    same-table : (v : Checked) → StagedAfter v N (listed-weight pieces) limit q (old .table) (new .table) → StagedAfter v J weight limit q (old .table) (new .table)
     same-table Passed t = (same-figures (new .table) (t .0), subst (λ k. Kept k (old .table) (new .table)) all-same (t .1))
     same-table (Refused r) t = t
 
-    same-report : staged-report N (heavy-in pieces) limit q ≡ staged-report J weight limit q
+    same-report : staged-report N (listed-weight pieces) limit q ≡ staged-report J weight limit q
     same-report = report-is (ap₂ max (same-block limit Length (J .plate .0) (J .plate .1) q) (same-block limit Width (J .plate .0) (J .plate .1) q)) refl (same-count J weight n pieces array Length) (same-count J weight n pieces array Width)
 
     -- the whole answer is the job's
-    pub pieces-staged : (r : BoundAnswer) → Staged N (heavy-in pieces) limit q old new r → Staged J weight limit q old new r
+    pub pieces-staged : (r : BoundAnswer) → Staged N (listed-weight pieces) limit q old new r → Staged J weight limit q old new r
     pieces-staged r b = record {
       answer = b .answer ∙ ap₂ answer-by same-checks same-report;
       memory = record {
         lengths = b .memory .lengths ∙ ap (λ xs. list-after lists xs (old .lengths)) (same-positions J weight n pieces array Length);
         widths = b .memory .widths ∙ ap (λ xs. list-after lists xs (old .widths)) (same-positions J weight n pieces array Width);
-        table = same-table (first-refusal (staged-checks J limit q old)) (subst (λ v. StagedAfter v N (heavy-in pieces) limit q (old .table) (new .table)) same-checks (b .memory .table));
+        table = same-table (first-refusal (staged-checks J limit q old)) (subst (λ v. StagedAfter v N (listed-weight pieces) limit q (old .table) (new .table)) same-checks (b .memory .table));
       };
     }

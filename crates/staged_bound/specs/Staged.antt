@@ -1,5 +1,6 @@
 -- The staged bound call: its checks in the table's order, its answer with number and values, what it leaves in lists and table, and what
 -- the answered bound is. Where it says what the bound call says, it cites that call's definitions.
+-- docs/SCOPE.md: No more than so many stages.
 use mathlib.Core.Path.{_≡_}
 use mathlib.Core.List.{List, [], _∷_}
 use Prim.Native.Nat.{ℕ, _≤_, max}
@@ -22,12 +23,12 @@ use Rattle.bound.specs.declared.BoundAnswer.the-variants as answer
 use Rattle.bound.specs.Bound.{Memory, list-check, room-check, list-after, answer-by, wide-job, block-capacity, accept-verdict, report-values, bound-outcome}
 
 -- check 20: a table shorter than (2n + 1) · p · r · (Q + 1), with the words needed
-abbrev pub staged-check : Job → ℕ → ℕ → ℕ → Check
-staged-check J n q k = room-check (staged-words J q n) k
+abbrev pub blocks-room-check : Job → ℕ → ℕ → ℕ → Check
+blocks-room-check J n q k = room-check (staged-words J q n) k
 
 -- the storage checks of lent memory
 abbrev pub staged-checks : Job → ℕ → ℕ → Memory → List Check
-staged-checks J n q m = list-check J (length (m .lengths)) (length (m .widths)) ∷ staged-check J n q (length (m .table)) ∷ []
+staged-checks J n q m = list-check J (length (m .lengths)) (length (m .widths)) ∷ blocks-room-check J n q (length (m .table)) ∷ []
 
 -- what the call reports of a job, weights, a limit and a capacity: the greater of length first and width first at the limit, Q, p and r
 abbrev pub staged-report : Job → (ℕ → ℕ) → ℕ → ℕ → BoundReport

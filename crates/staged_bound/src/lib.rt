@@ -17,7 +17,7 @@ use table::greater;
 ghost use mathlib.Core.Path.{_≡_};
 ghost use lib.ListN.{length};
 ghost use Rattle.cutting.specs.Sides.{rect-of};
-ghost use Rattle.cutting.specs.Listed.{heavy-in, pieces-job};
+ghost use Rattle.cutting.specs.Listed.{listed-weight, pieces-job};
 ghost use Rattle.table.specs.Contracts.{size-job, StagedFillable, StagedBy};
 ghost use Rattle.bound.specs.Bound.{lent};
 ghost use Rattle.staged_bound.specs.Staged.{StagedPromises};
@@ -34,7 +34,7 @@ fn fill_table(
     table: &mut [u64],
 )
     requires { ⌜ StagedFillable size limit (now pieces) (now lengths) (now widths) (now floors) (now table) ⌝ }
-    ensures { λ _. ⌜ StagedBy (size-job size (now (pieces .entry))) (heavy-in (now (pieces .entry))) limit (size .capacity) (now (table .entry)) (now (table .exit)) ⌝ }
+    ensures { λ _. ⌜ StagedBy (size-job size (now (pieces .entry))) (listed-weight (now (pieces .entry))) limit (size .capacity) (now (table .entry)) (now (table .exit)) ⌝ }
 {
     if size.capacity == 0 {
         stage_rows::fill(size, limit, pieces, lengths, widths, floors, table);
@@ -57,7 +57,7 @@ pub fn bound_of_pieces(
     table: &mut [u64],
 ) -> BoundAnswer
     requires { ⌜ Stageable (pieces-job (rect-of plate) count (now pieces)) q limit × (length (now floors) ≡ 2042) ⌝ }
-    ensures { λ r. ⌜ Staged (pieces-job (rect-of plate) count (now (pieces .entry))) (heavy-in (now (pieces .entry))) limit q
+    ensures { λ r. ⌜ Staged (pieces-job (rect-of plate) count (now (pieces .entry))) (listed-weight (now (pieces .entry))) limit q
         (lent (now (lengths .entry)) (now (widths .entry)) (now (table .entry)))
         (lent (now (lengths .exit)) (now (widths .exit)) (now (table .exit))) r ⌝ }
 {

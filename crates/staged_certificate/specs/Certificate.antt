@@ -1,5 +1,6 @@
 -- The staged certificate: its checks in the table's order, its answer with number and values, and what it promises: "best" is said among
 -- the guillotine trees within the limit. Lists and table are left as the staged bound call leaves them.
+-- docs/SCOPE.md: No more than so many stages.
 use mathlib.Core.Path.{_≡_}
 use mathlib.Core.List.{List}
 use Prim.Native.Nat.{ℕ}

@@ -17,7 +17,7 @@ use Rattle.refusal.specs.Refusals.{next, first-refusal}
 use Rattle.job.proofs.Checks.{passed-both}
 use Rattle.stages.specs.declared.Staged.{Staged}
 use Rattle.stages.specs.declared.Staged.the-variants as found
-use Rattle.stages.specs.Stages.{limit-checks}
+use Rattle.stages.specs.Stages.{path-checks}
 use Rattle.stages.specs.Walks.{staged-as, StagesOf}
 use Rattle.stages.proofs.Limit.{passed-within, within-passed, staged-within, staged-past}
 use Rattle.plan.specs.declared.Report.{Report}
@@ -77,8 +77,8 @@ module _ (J : Job) (few : J .count ≤ 64) (n : ℕ) (kinds operands : List ℕ)
         is-past h = sym (decided (staged-past n tree (sym h ∙ found-as)))
 
   -- what the check says of trees: for a plan check 23 decides, and a pass is a tree's
-  judged : (t : Tree Piece) → PlanOf J t kinds operands → within-verdict J n kinds operands ≡ first-refusal (limit-checks n t)
-  judged t h = ap₂ next (plans-checked J few kinds operands .passes tt t h) (ap (λ u. first-refusal (limit-checks n u)) (sym (drawn-is J kinds operands t (h .drawn))))
+  judged : (t : Tree Piece) → PlanOf J t kinds operands → within-verdict J n kinds operands ≡ first-refusal (path-checks n t)
+  judged t h = ap₂ next (plans-checked J few kinds operands .passes tt t h) (ap (λ u. first-refusal (path-checks n u)) (sym (drawn-is J kinds operands t (h .drawn))))
 
   pub staged-tree : within-verdict J n kinds operands ≡ Passed → (t : Tree Piece) × StagedPlanOf J n t kinds operands × Reports J t (checked .report) × (stages tree ≡ stages t)
   staged-tree p =

@@ -1,5 +1,6 @@
 -- The staged check: 22 before the plan's checks and 23 after them, its answer with number and values, and what it says of trees: a plan
 -- passes exactly when it is that of a tree within the limit.
+-- docs/SCOPE.md: No more than so many stages.
 use mathlib.Core.Path.{_≡_}
 use mathlib.Core.List.{List, [], _∷_, _++_}
 use Prim.Native.Nat.{ℕ, _≤_}
@@ -16,7 +17,7 @@ use Rattle.refusal.specs.Refusals.{Outcome, next, first-refusal, by-check, outc
 use Rattle.job.specs.declared.Choices.{Choices}
 use Rattle.job.specs.Block.{job-checks}
 use Rattle.job.specs.Weights.{block-job}
-use Rattle.stages.specs.Stages.{limit-check, limit-checks}
+use Rattle.stages.specs.Stages.{limit-check, path-checks}
 use Rattle.plan.specs.declared.Report.{Report}
 use Rattle.plan.specs.Plan.{empty-report, plan-answer}
 use Rattle.plan.specs.Trees.{tree-in, PlanOf, Reports}
@@ -25,7 +26,7 @@ use Rattle.staged_plan.specs.declared.StagedAnswer.{StagedAnswer}
 
 -- check 23 of a plan's arrays, over the tree that they draw
 abbrev pub stage-verdict : ℕ → List ℕ → List ℕ → Checked
-stage-verdict n kinds operands = first-refusal (limit-checks n (tree-in kinds operands))
+stage-verdict n kinds operands = first-refusal (path-checks n (tree-in kinds operands))
 
 -- the verdict of a plan's arrays within a limit: 10 to 18 and 26, then 23
 abbrev pub within-verdict : Job → ℕ → List ℕ → List ℕ → Checked
@@ -88,5 +89,5 @@ pub record ChecksStaged (Before : Type 0) (J : Job) (n : ℕ) (kinds operands : 
   pub tree : a .verdict ≡ Passed → (t : Tree Piece) × StagedPlanOf J n t kinds operands × Reports J t (a .report) × (a .stages ≡ stages t)
   pub paths-most : (t : Tree Piece) → stages t ≡ greatest path-stages (paths t)
   pub zeros : (r : Refusal) → a .verdict ≡ Refused r → (a .report ≡ empty-report) × (a .stages ≡ 0)
-  pub past : Before → (t : Tree Piece) → PlanOf J t kinds operands → a .verdict ≡ first-refusal (limit-checks n t)
+  pub past : Before → (t : Tree Piece) → PlanOf J t kinds operands → a .verdict ≡ first-refusal (path-checks n t)
   pub refused : Before → (r : Refusal) → plan-answer J kinds operands .verdict ≡ Refused r → a .verdict ≡ Refused r

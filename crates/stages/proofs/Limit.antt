@@ -22,7 +22,7 @@ use Rattle.refusal.specs.Refusals.{next, refuse-when, by-check, place-of, first
 use Rattle.job.specs.Block.{outside}
 use Rattle.job.proofs.Checks.{cons-passed, append-passed, passed-append}
 use Rattle.stages.specs.declared.Staged.the-variants as answer
-use Rattle.stages.specs.Stages.{limit-check, node-paths, above-checks, limit-checks}
+use Rattle.stages.specs.Stages.{limit-check, node-paths, above-checks, path-checks}
 use Rattle.stages.specs.Walks.{staged-as, stage-checks}
 use Rattle.stages.proofs.Place.{by-paths}
 
@@ -58,11 +58,11 @@ below-passed (cut e x a b) d k n h =
     (below-passed a e (k - change d e) (n + 1) (omega arith)) (below-passed b e (k - change d e) (n + 1 + node-count a) (omega arith)))
 
 -- where check 23 passes, the plan's stages are within the limit
-pub passed-within : (t : Tree laid.Piece) (k : ℕ) → first-refusal (limit-checks k t) ≡ Passed → stages t ≤ k
+pub passed-within : (t : Tree laid.Piece) (k : ℕ) → first-refusal (path-checks k t) ≡ Passed → stages t ≤ k
 passed-within t k h = omega (arith, passed-below t (root t) k 0 (by-paths k t ∙ h), root-stages t)
 
 -- and the other way
-pub within-passed : (t : Tree laid.Piece) (k : ℕ) → stages t ≤ k → first-refusal (limit-checks k t) ≡ Passed
+pub within-passed : (t : Tree laid.Piece) (k : ℕ) → stages t ≤ k → first-refusal (path-checks k t) ≡ Passed
 within-passed t k h = sym (by-paths k t) ∙ below-passed t (root t) k 0 (omega (arith, root-stages t))
 
 -- a check whose refusals name a cut
@@ -85,16 +85,16 @@ named-above k i (s ∷ ss) = named-next (refuse-when (ltb k s) (ManyStages i)) _
 
 -- what the answer for a tree decides: its stages are within the limit, or check 23 names the cut
 module _ (k : ℕ) (t : Tree laid.Piece) where
-  pub staged-within : {s : ℕ} → answer.Within s ≡ staged-as k t → (first-refusal (limit-checks k t) ≡ Passed) × (s ≡ stages t)
-  staged-within {s} e = go (first-refusal (limit-checks k t)) refl e
+  pub staged-within : {s : ℕ} → answer.Within s ≡ staged-as k t → (first-refusal (path-checks k t) ≡ Passed) × (s ≡ stages t)
+  staged-within {s} e = go (first-refusal (path-checks k t)) refl e
     where
-      go : (v : Checked) → first-refusal (limit-checks k t) ≡ v → answer.Within s ≡ by-check v (answer.Within (stages t)) (λ r. answer.Past (place-of r)) → (first-refusal (limit-checks k t) ≡ Passed) × (s ≡ stages t)
+      go : (v : Checked) → first-refusal (path-checks k t) ≡ v → answer.Within s ≡ by-check v (answer.Within (stages t)) (λ r. answer.Past (place-of r)) → (first-refusal (path-checks k t) ≡ Passed) × (s ≡ stages t)
       go Passed h e = (h, cc)
       go (Refused r) h e = (cc, cc)
 
-  pub staged-past : {p : ℕ} → answer.Past p ≡ staged-as k t → first-refusal (limit-checks k t) ≡ Refused (ManyStages p)
-  staged-past {p} e = go (first-refusal (limit-checks k t)) refl e
+  pub staged-past : {p : ℕ} → answer.Past p ≡ staged-as k t → first-refusal (path-checks k t) ≡ Refused (ManyStages p)
+  staged-past {p} e = go (first-refusal (path-checks k t)) refl e
     where
-      go : (v : Checked) → first-refusal (limit-checks k t) ≡ v → answer.Past p ≡ by-check v (answer.Within (stages t)) (λ r. answer.Past (place-of r)) → first-refusal (limit-checks k t) ≡ Refused (ManyStages p)
+      go : (v : Checked) → first-refusal (path-checks k t) ≡ v → answer.Past p ≡ by-check v (answer.Within (stages t)) (λ r. answer.Past (place-of r)) → first-refusal (path-checks k t) ≡ Refused (ManyStages p)
       go Passed h e = cc
       go (Refused r) h e = let i : place-of r ≡ p = cc in h ∙ ap Refused (named-above k 0 (map path-stages (node-paths t)) r h ∙ ap ManyStages i)

@@ -18,7 +18,7 @@ use Rattle.cutting.proofs.Stages.{change-same}
 use Rattle.refusal.specs.declared.Refusal.the-variants.{ManyStages}
 use Rattle.refusal.specs.Refusals.{next, first-refusal}
 use Rattle.job.proofs.Checks.{first-append}
-use Rattle.stages.specs.Stages.{node-paths, above-checks, limit-checks}
+use Rattle.stages.specs.Stages.{node-paths, above-checks, path-checks}
 use Rattle.stages.specs.Walks.{stage-checks, walk-checks}
 
 -- a node has one path
@@ -81,7 +81,7 @@ module _ (k : ℕ) where
   placed (cut g x a b) d left c i f h e l = placed-cut g x a b (placed a) (placed b) d left c i f (λ p. omega (arith, h (g ∷ p))) e
 
   -- so the walks name the first node whose path passes the limit
-  pub by-paths : (t : Tree laid.Piece) → first-refusal (walk-checks k t) ≡ first-refusal (limit-checks k t)
+  pub by-paths : (t : Tree laid.Piece) → first-refusal (walk-checks k t) ≡ first-refusal (path-checks k t)
   unfolding stage-checks node-paths above-checks first-refusal root
   by-paths waste = let z : ltb k 0 ≡ false = le-ltb k 0 (omega arith) in rw z refl
   by-paths (piece p) = let z : ltb k 0 ≡ false = le-ltb k 0 (omega arith) in rw z refl

@@ -27,7 +27,7 @@ use Rattle.cutting.proofs.Preorder.{kinds-cut, count-cut}
 use Rattle.stages.specs.declared.Walk.{Walk}
 use Rattle.stages.specs.declared.Walk.the-variants.{Next, Past}
 use Rattle.stages.specs.declared.Staged.the-variants as answer
-use Rattle.stages.specs.Stages.{limit-checks}
+use Rattle.stages.specs.Stages.{path-checks}
 use Rattle.stages.proofs.Place.{by-paths}
 use Rattle.stages.specs.Walks.{staged-as, stage-checks, StagesOf, kinds-all, count-all, most-below, checks-all, ended-as, Walked, answer-of, cut-kind, Waiting, Walking}
 
@@ -336,7 +336,7 @@ module _ (ks : List ℕ) (limit kind : ℕ) (some : 1 ≤ length ks) (read : kin
     ended-answer Passed n s = refl
     ended-answer (Refused q) n s = refl
 
-    first-checks : (x : ℕ) (a b : Tree laid.Piece) → first-refusal (limit-checks limit (cut d x a b)) ≡ first-refusal (checks-all d limit 1 (a ∷ b ∷ []))
+    first-checks : (x : ℕ) (a b : Tree laid.Piece) → first-refusal (path-checks limit (cut d x a b)) ≡ first-refusal (checks-all d limit 1 (a ∷ b ∷ []))
     unfolding root checks-all first-refusal
     first-checks x a b = sym (by-paths limit (cut d x a b)) ∙ ap first-refusal (sym (append-nil (stage-checks d limit 0 (cut d x a b)))) ∙ checks-cut d d limit limit 0 x a b [] (omega (arith, change-same d)) (omega (arith, change-same d)) ∙ sym (next-passed _)
 

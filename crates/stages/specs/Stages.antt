@@ -1,4 +1,5 @@
 -- Check 22, of the limit on the stages of a plan; and check 23, a cut whose own path passes it, over the nodes of a tree.
+-- docs/SCOPE.md: No more than so many stages.
 use mathlib.Core.List.{List, [], _∷_, _++_, map}
 use Prim.Native.Nat.{ℕ, _+_}
 use lib.Dec.{ltb}
@@ -28,5 +29,5 @@ above-checks k i (s ∷ ss) = (ltb k s, ManyStages i) ∷ above-checks k (i + 1)
 
 -- check 23: a cut whose path, from the plate down through it, has more stages than the limit. A waste or piece below it has the same path
 -- and comes later, so the first of all nodes is the first cut
-abbrev pub limit-checks : ℕ → Tree laid.Piece → List Check
-limit-checks k t = above-checks k 0 (map path-stages (node-paths t))
+abbrev pub path-checks : ℕ → Tree laid.Piece → List Check
+path-checks k t = above-checks k 0 (map path-stages (node-paths t))

@@ -14,7 +14,7 @@ use Rattle.cutting.specs.Preorder.{node-count, kinds-of}
 use Rattle.refusal.specs.declared.Refusal.the-variants.{ManyStages}
 use Rattle.refusal.specs.declared.Checked.{Checked}
 use Rattle.refusal.specs.Refusals.{Check, by-check, place-of, first-refusal}
-use Rattle.stages.specs.Stages.{limit-checks}
+use Rattle.stages.specs.Stages.{path-checks}
 use Rattle.stages.specs.declared.Walk.{Walk}
 use Rattle.stages.specs.declared.Walk.the-variants.{Next, Past}
 use Rattle.stages.specs.declared.Reach.{Reach}
@@ -25,7 +25,7 @@ use Rattle.stages.specs.declared.Staged.the-variants as answer
 
 -- the answer for a tree: its stages, or the first cut that passes the limit
 abbrev pub staged-as : ℕ → Tree laid.Piece → Staged
-staged-as k t = by-check (first-refusal (limit-checks k t)) (answer.Within (stages t)) (λ r. answer.Past (place-of r))
+staged-as k t = by-check (first-refusal (path-checks k t)) (answer.Within (stages t)) (λ r. answer.Past (place-of r))
 
 -- the answer for the kinds of a tree
 abbrev pub StagesOf : List ℕ → ℕ → Staged → Type 0

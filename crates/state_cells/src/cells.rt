@@ -17,7 +17,7 @@ ghost use mathlib.Core.Bool.{false};
 ghost use Prim.Native.Nat.{_+_, _-_, _≤_, _<_, max};
 ghost use lib.ListN.{length, drop};
 ghost use Rattle.cutting.specs.Limits.{most-pieces};
-ghost use Rattle.cutting.specs.Listed.{heavy-in};
+ghost use Rattle.cutting.specs.Listed.{listed-weight};
 ghost use Rattle.table.specs.Words.{Outside, Run};
 ghost use Rattle.states.specs.States.{held, note, under, Summed, Growing, Taken, Topped};
 ghost use Rattle.state_joins.specs.Joins.{Ready};
@@ -110,7 +110,7 @@ pub fn place_pieces(
     top: usize,
 ) -> usize
     requires { ⌜ Growing (now blocks) (shape .d) (shape .words) at (now table) × (shape .count ≤ most-pieces) × Summed (now blocks) (shape .d) (shape .words) at (now table) ⌝ }
-    ensures { λ r. ⌜ Placed (under (now (blocks .entry)) (shape .d)) (job-in shape (now (pieces .entry))) (heavy-in (now (pieces .entry))) (shape .count) l w at (shape .words) (now (table .entry)) (now (table .exit))
+    ensures { λ r. ⌜ Placed (under (now (blocks .entry)) (shape .d)) (job-in shape (now (pieces .entry))) (listed-weight (now (pieces .entry))) (shape .count) l w at (shape .words) (now (table .entry)) (now (table .exit))
         × Topped at (shape .words) top r (now (table .entry)) (now (table .exit)) ⌝ }
 {
     let mut high = top;
@@ -257,11 +257,11 @@ pub fn make_cell(
     shape: Shape,
     place: Place,
 ) -> usize
-    requires { ⌜ Spot (job-in shape (now pieces)) (heavy-in (now pieces)) (now lengths) (now floors) (now widths) (drop 1021 (now floors)) (now blocks) (shape .d) (shape .words) (shape .stride)
+    requires { ⌜ Spot (job-in shape (now pieces)) (listed-weight (now pieces)) (now lengths) (now floors) (now widths) (drop 1021 (now floors)) (now blocks) (shape .d) (shape .words) (shape .stride)
         (place .a) (place .b) (place .«length_half_end») (place .«width_half_end») (place .at) (place .column) (place .flat) (now table) ⌝ }
-    ensures { λ r. ⌜ Made (job-in shape (now (pieces .entry))) (under (now (blocks .entry)) (shape .d)) (heavy-in (now (pieces .entry))) (now (lengths .entry)) (now (widths .entry)) (shape .words) (place .a) (place .b) (now (table .exit))
+    ensures { λ r. ⌜ Made (job-in shape (now (pieces .entry))) (under (now (blocks .entry)) (shape .d)) (listed-weight (now (pieces .entry))) (now (lengths .entry)) (now (widths .entry)) (shape .words) (place .a) (place .b) (now (table .exit))
         × Outside (place .at) (place .at + shape .words) (now (table .entry)) (now (table .exit))
-        × Levelled (shape .words) (place .flat) r (tabled (job-in shape (now (pieces .entry))) (under (now (blocks .entry)) (shape .d)) (heavy-in (now (pieces .entry))) (now (lengths .entry)) (now (widths .entry)) (place .a) (place .b)) ⌝ }
+        × Levelled (shape .words) (place .flat) r (tabled (job-in shape (now (pieces .entry))) (under (now (blocks .entry)) (shape .d)) (listed-weight (now (pieces .entry))) (now (lengths .entry)) (now (widths .entry)) (place .a) (place .b)) ⌝ }
 {
     let at = place.at;
     let words = shape.words;

@@ -10,7 +10,7 @@ use table::set_run;
 ghost use mathlib.Core.Path.{_≡_};
 ghost use Prim.Native.Nat.{ℕ, _+_, _*_, _≤_, _<_};
 ghost use lib.ListN.{length, drop};
-ghost use Rattle.cutting.specs.Listed.{heavy-in};
+ghost use Rattle.cutting.specs.Listed.{listed-weight};
 ghost use Rattle.cutting.specs.declared.Direction.the-variants.{Length, Width};
 ghost use Rattle.table.specs.Table.{position-count, Kept};
 ghost use Rattle.table.specs.Words.{Outside, Run};
@@ -38,11 +38,11 @@ fn fill_row(
     shape: Shape,
     row: Row,
 ) -> usize
-    requires { ⌜ RowSpot (job-in shape (now pieces)) (heavy-in (now pieces)) (now lengths) (now floors) (now widths) (drop 1021 (now floors)) (now blocks) (shape .d) (shape .words)
+    requires { ⌜ RowSpot (job-in shape (now pieces)) (listed-weight (now pieces)) (now lengths) (now floors) (now widths) (drop 1021 (now floors)) (now blocks) (shape .d) (shape .words)
         (shape .«length_count») (shape .columns) (shape .stride) (row .a) (row .«half_end») (row .at) (row .flat) (now table) ⌝ }
-    ensures { λ r. ⌜ Rows (job-in shape (now (pieces .entry))) (under (now (blocks .entry)) (shape .d)) (heavy-in (now (pieces .entry))) (now (lengths .entry)) (now (widths .entry)) (shape .words) (row .a + 1) (now (table .exit))
+    ensures { λ r. ⌜ Rows (job-in shape (now (pieces .entry))) (under (now (blocks .entry)) (shape .d)) (listed-weight (now (pieces .entry))) (now (lengths .entry)) (now (widths .entry)) (shape .words) (row .a + 1) (now (table .exit))
         × Outside (row .at) (row .at + shape .stride) (now (table .entry)) (now (table .exit)) × (r ≤ shape .words)
-        × LevelRows (job-in shape (now (pieces .entry))) (under (now (blocks .entry)) (shape .d)) (heavy-in (now (pieces .entry))) (now (lengths .entry)) (now (widths .entry)) (shape .words) r (row .a + 1) ⌝ }
+        × LevelRows (job-in shape (now (pieces .entry))) (under (now (blocks .entry)) (shape .d)) (listed-weight (now (pieces .entry))) (now (lengths .entry)) (now (widths .entry)) (shape .words) r (row .a + 1) ⌝ }
 {
     set_run(table, row.at, shape.words, 0);
     let mut half_end: usize = 1;
@@ -102,7 +102,7 @@ pub fn fill(
 )
     requires { ⌜ CellsLent (job-in shape (now pieces)) (now lengths) (now floors) (now widths) (drop 1021 (now floors)) (now blocks) (shape .d) (shape .words) (now table)
         × Counted (job-in shape (now pieces)) (shape .words) (shape .«length_count») (shape .columns) (shape .stride) ⌝ }
-    ensures { λ _. ⌜ Figures (job-in shape (now (pieces .entry))) (under (now (blocks .entry)) (shape .d)) (heavy-in (now (pieces .entry))) (shape .words) (now (table .exit))
+    ensures { λ _. ⌜ Figures (job-in shape (now (pieces .entry))) (under (now (blocks .entry)) (shape .d)) (listed-weight (now (pieces .entry))) (shape .words) (now (table .exit))
         × Kept (position-count (job-in shape (now (pieces .entry))) Length * position-count (job-in shape (now (pieces .entry))) Width * shape .words) (now (table .entry)) (now (table .exit)) ⌝ }
 {
     first_row(table, blocks, shape.d, shape.words, shape.stride);

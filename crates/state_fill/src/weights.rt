@@ -5,7 +5,7 @@ use state_cells::Shape;
 use table::TableSize;
 ghost use Prim.Native.Nat.{_*_, _≤_};
 ghost use lib.ListN.{length};
-ghost use Rattle.cutting.specs.Listed.{heavy-in};
+ghost use Rattle.cutting.specs.Listed.{listed-weight};
 ghost use Rattle.cutting.specs.declared.Direction.the-variants.{Length, Width};
 ghost use Rattle.table.specs.Table.{position-count, Kept};
 ghost use Rattle.table.specs.States.{figure-pair};
@@ -26,7 +26,7 @@ pub fn fill_states(
 )
     requires { ⌜ Fillable size (now pieces) (now lengths) (now widths) (now floors) (now table) × Digits (now blocks) d words
         × (position-count (size-job size (now pieces)) Length * position-count (size-job size (now pieces)) Width * words ≤ length (now table)) ⌝ }
-    ensures { λ _. ⌜ Figures (size-job size (now (pieces .entry))) (under (now (blocks .entry)) d) (heavy-in (now (pieces .entry))) words (now (table .exit))
+    ensures { λ _. ⌜ Figures (size-job size (now (pieces .entry))) (under (now (blocks .entry)) d) (listed-weight (now (pieces .entry))) words (now (table .exit))
         × Kept (position-count (size-job size (now (pieces .entry))) Length * position-count (size-job size (now (pieces .entry))) Width * words) (now (table .entry)) (now (table .exit)) ⌝ }
 {
     let columns = size.columns as usize;
@@ -53,7 +53,7 @@ pub fn fill_weighed(
     table: &mut [u64],
 )
     requires { ⌜ Fillable size (now pieces) (now lengths) (now widths) (now floors) (now table) ⌝ }
-    ensures { λ _. ⌜ FilledBy (size-job size (now (pieces .entry))) (heavy-in (now (pieces .entry))) (size .capacity) (now (table .entry)) (now (table .exit)) ⌝ }
+    ensures { λ _. ⌜ FilledBy (size-job size (now (pieces .entry))) (listed-weight (now (pieces .entry))) (size .capacity) (now (table .entry)) (now (table .exit)) ⌝ }
 {
     let words = (size.capacity as usize) + 1;
     let blocks = [words as u32; 1];
@@ -81,7 +81,7 @@ pub fn fill_two(
     table: &mut [u64],
 )
     requires { ⌜ TwoFillable size second (now pieces) (now lengths) (now widths) (now floors) (now table) ⌝ }
-    ensures { λ _. ⌜ TwoBy (size-job size (now (pieces .entry))) (figure-pair (size-job size (now (pieces .entry))) (size .capacity) second (heavy-in (now (pieces .entry)))) (size .capacity) second (now (table .entry)) (now (table .exit)) ⌝ }
+    ensures { λ _. ⌜ TwoBy (size-job size (now (pieces .entry))) (figure-pair (size-job size (now (pieces .entry))) (size .capacity) second (listed-weight (now (pieces .entry)))) (size .capacity) second (now (table .entry)) (now (table .exit)) ⌝ }
 {
     let fast = (second as usize) + 1;
     let words = ((size.capacity as usize) + 1) * fast;

@@ -1,5 +1,6 @@
 -- Checks 19 and 20 of the storage that a call is lent, and what a check leaves in a list. J is the job with the kerf added to every side, cut
 -- without loss.
+-- docs/SCOPE.md: Lent memory; The table of refusals.
 use mathlib.Core.Bool.{_||_}
 use mathlib.Core.List.{List}
 use Prim.Native.Nat.{ℕ, _+_}

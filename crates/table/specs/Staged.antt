@@ -1,5 +1,6 @@
 -- The staged table of a job, its weights, a capacity and a limit of stages: blocks of the table's layout one after another, one for no
 -- cut, then for each stage length first and width first. What public contracts say of it.
+-- docs/SCOPE.md: No more than so many stages.
 use mathlib.Core.Path.{_≡_}
 use mathlib.Core.List.{List}
 use Prim.Native.Nat.{ℕ, _+_, _-_, _*_, _≤_, _<_}

@@ -1,5 +1,6 @@
 -- The table of a job, its weights and a capacity: one word for each normal length, normal width and share. What public contracts say of it;
 -- what the steps of a fill ask stands in Contracts.
+-- docs/SCOPE.md: Lent memory.
 use mathlib.Core.Path.{_≡_}
 use mathlib.Core.List.{List}
 use Prim.Native.Nat.{ℕ, _+_, _*_, _<_}

@@ -1,5 +1,6 @@
 -- The table of two weights: the words of the table's layout, each for every second share, which runs fastest. What public contracts say
 -- of it.
+-- docs/SCOPE.md: Two weights a kind.
 use mathlib.Core.Path.{_≡_}
 use mathlib.Core.List.{List}
 use Prim.Native.Nat.{ℕ, _+_, _*_, _<_}

@@ -8,7 +8,7 @@ use Rattle.cutting.specs.declared.Sides.{Sides}
 use Rattle.cutting.specs.Sides.{rect-of, sides-of}
 use Rattle.cutting.specs.Job.{Job, SolidKinds, InRange, widened, capacity, at-full-demand, ordered, members, pieces}
 use Rattle.cutting.specs.Two.{figure-two, two-bound, TwoFiguresMost}
-use Rattle.cutting.specs.Listed.{heavy-in, pieces-job, PieceArray}
+use Rattle.cutting.specs.Listed.{listed-weight, pieces-job, PieceArray}
 use Rattle.cutting.proofs.Members.{range-solid, widened-solid}
 use Rattle.cutting.proofs.Finer.{none-finer}
 use Rattle.cutting.proofs.Bound.{capacity-less}
@@ -186,13 +186,13 @@ module _ (s : List ℕ) (choices : Choices) (first second : List ℕ) {j : JobRe
           subst (λ p. Pairable (pieces-job (rect-of p) count new) q q′ floors) (sym e) b
 
       pub job-paired : {plate : Sides} {m m′ : Memory} {r : TwoAnswer} → plate ≡ sides-of (widened (job-of j) .plate)
-          → Paired (pieces-job (rect-of plate) count new) (figure-pair (pieces-job (rect-of plate) count new) q q′ (heavy-in new)) q q′ m m′ r
+          → Paired (pieces-job (rect-of plate) count new) (figure-pair (pieces-job (rect-of plate) count new) q q′ (listed-weight new)) q q′ m m′ r
           → Paired (wide-job s choices) (block-figure s choices first second) (block-capacity s choices first) (block-capacity s choices second) m m′ r
       job-paired {plate} {m} {m′} {r} e b =
           let W = widened (job-of j) in
           let F = figure-two W (weight-in first) (weight-in second) in
           let c = pieces-paired W (weight-in first) (weight-in second) q q′ count new numbered m m′ r
-          (subst (λ p. Paired (pieces-job (rect-of p) count new) (figure-pair (pieces-job (rect-of p) count new) q q′ (heavy-in new)) q q′ m m′ r) e b) in
+          (subst (λ p. Paired (pieces-job (rect-of p) count new) (figure-pair (pieces-job (rect-of p) count new) q q′ (listed-weight new)) q q′ m m′ r) e b) in
           let d : Paired W F (capacity (job-of j) (weight-in first)) q′ m m′ r = subst (λ q. Paired W F q q′ m m′ r) (t .first-is) c in
           let f : Paired W F (capacity (job-of j) (weight-in first)) (capacity (job-of j) (weight-in second)) m m′ r = subst (λ q′. Paired W F (capacity (job-of j) (weight-in first)) q′ m m′ r) (t .second-is) d in
           subst (λ j. Paired (widened (job-of j)) (figure-two (widened (job-of j)) (weight-in first) (weight-in second)) (capacity (job-of j) (weight-in first)) (capacity (job-of j) (weight-in second)) m m′ r) (t .record-is) f

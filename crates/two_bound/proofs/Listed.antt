@@ -14,7 +14,7 @@ use Rattle.cutting.specs.Saws.{saw}
 use Rattle.cutting.specs.Pieces.{kind, sized}
 use Rattle.cutting.specs.Job.{Job, laid, members, pieces, normal-side, normal-floor}
 use Rattle.cutting.specs.Two.{figure-two}
-use Rattle.cutting.specs.Listed.{InTableRange, size-in, price-in, heavy-in, plain, Listing, pieces-job, PieceArray}
+use Rattle.cutting.specs.Listed.{InTableRange, size-in, price-in, listed-weight, plain, Listing, pieces-job, PieceArray}
 use Rattle.cutting.proofs.Recursion.{figure-same}
 use Rattle.cutting.proofs.Reduction.{floor-figure}
 use Rattle.cutting.proofs.Members.{members-solid, table-solid}
@@ -80,13 +80,13 @@ module _ (J : Job) (first second : ℕ → ℕ) (q q′ n : ℕ) (pieces : List 
   N = pieces-job (J .plate) n pieces
 
   abbrev F : ℕ → ℕ → ℕ → ℕ → ℕ
-  F = figure-pair N q q′ (heavy-in pieces)
+  F = figure-pair N q q′ (listed-weight pieces)
 
   abbrev G : ℕ → ℕ → ℕ → ℕ → ℕ
   G = figure-two J first second
 
   same-figure : (l w c c′ : ℕ) → c < q + 1 → c′ < q′ + 1 → F l w c c′ ≡ G l w c c′
-  same-figure l w c c′ h h′ = listed-state J own n (size-in pieces) (price-in pieces) (heavy-in pieces) (array .listing) (below (pair-blocks q q′) 1) l w (c * (q′ + 1) + c′) ∙ figure-numbered J q q′ first second l w c c′ h h′
+  same-figure l w c c′ h h′ = listed-state J own n (size-in pieces) (price-in pieces) (listed-weight pieces) (array .listing) (below (pair-blocks q q′) 1) l w (c * (q′ + 1) + c′) ∙ figure-numbered J q q′ first second l w c c′ h h′
 
   all-same : two-words N q q′ ≡ two-words J q q′
   all-same = ap (λ w. w * (q′ + 1)) (same-words J own n pieces array q)

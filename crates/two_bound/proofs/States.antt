@@ -11,7 +11,7 @@ use lib.ListN.{length, set, length-set}
 use lib.Seq.{getD-set-same, getD-set-other}
 use Rattle.cutting.specs.Pieces.{Piece, upright, turned, kind}
 use Rattle.cutting.specs.Job.{Job, members}
-use Rattle.cutting.specs.Listed.{heavy-in, node-in, node-number, member-at, PieceArray}
+use Rattle.cutting.specs.Listed.{listed-weight, node-in, node-number, member-at, PieceArray}
 use Rattle.cutting.proofs.Members.{member-kind}
 use Rattle.cutting.proofs.Positions.{getD-mem}
 use Rattle.table.specs.Two.{pair-count}
@@ -48,7 +48,7 @@ module _ (first second : ℕ → ℕ) (q q′ : ℕ) (old : List ℕ) where
     others = λ k h. getD-set-other now (5 * i + 3) k v 0 (h i) ∙ s .others k h;
   }
     where
-      go : (j : ℕ) → j < i + 1 → Dec (j ≡ i) → heavy-in (set now (5 * i + 3) v) j ≡ pair-state q q′ first second (node-in old j / 2)
+      go : (j : ℕ) → j < i + 1 → Dec (j ≡ i) → listed-weight (set now (5 * i + 3) v) j ≡ pair-state q q′ first second (node-in old j / 2)
       go j h (yes d) = rw d (getD-set-same now (5 * i + 3) v 0 room ∙ e ∙ ap (λ n. pair-state q q′ first second (n / 2)) (s .others (5 * i + 4) (λ j g. omega arith)))
       go j h (no d) = getD-set-other now (5 * i + 3) (5 * j + 3) v 0 (λ g. omega arith) ∙ s .states j (omega arith)
 

@@ -6,7 +6,7 @@ use Prim.Native.Nat.{ℕ, _+_, _*_, _/_, _≤_, _<_}
 use lib.ListN.{length, getD}
 use Rattle.cutting.specs.Limits.{most-capacity, most-pairs, most-pieces}
 use Rattle.cutting.specs.Job.{Job}
-use Rattle.cutting.specs.Listed.{InTableRange, heavy-in, node-in}
+use Rattle.cutting.specs.Listed.{InTableRange, listed-weight, node-in}
 use Rattle.refusal.specs.Refusals.{first-refusal}
 use Rattle.refusal.specs.declared.Checked.the-variants.{Passed}
 use Rattle.table.specs.Two.{pair-count}
@@ -25,7 +25,7 @@ pub record Statable (pieces : List ℕ) (n : ℕ) (first second : List ℕ) (q q
 -- the first n pieces have the numbers of their states for their weights, and all else is as it was
 pub record Stated (n : ℕ) (first second : ℕ → ℕ) (q q′ : ℕ) (old new : List ℕ) : Type 0 where
   pub entries : length new ≡ length old
-  pub states : (j : ℕ) → j < n → heavy-in new j ≡ pair-state q q′ first second (node-in old j / 2)
+  pub states : (j : ℕ) → j < n → listed-weight new j ≡ pair-state q q′ first second (node-in old j / 2)
   pub others : (k : ℕ) → ((j : ℕ) → k ≡ 5 * j + 3 → ⊥) → getD new k 0 ≡ getD old k 0
 
 -- what the bound of pieces asks: a plain job in range, capacities of not too many pairs, and room for the floors of both sides

@@ -1,5 +1,6 @@
 -- The bound call of two weights a kind: its checks in the table's order, its answer with number and values, what it leaves in lists and
 -- table, and what the answered bound is. Where it says what the bound call says, it cites that call's definitions.
+-- docs/SCOPE.md: Two weights a kind.
 use mathlib.Core.Path.{_≡_}
 use mathlib.Core.Bool.{not, _||_}
 use mathlib.Core.List.{List, [], _∷_, _++_}
@@ -35,12 +36,12 @@ two-checks J first second = (not (eqb (length first) (J .count)), WeightCount) �
 
 -- In the definitions up to `TwoLeaves`, J is the job with the kerf added to every side, and F gives its figures.
 -- check 20: a table shorter than p · r · (Q + 1) · (Q′ + 1), with the words needed
-abbrev pub two-check : Job → ℕ → ℕ → ℕ → Check
-two-check J q q′ k = room-check (two-words J q q′) k
+abbrev pub pairs-room-check : Job → ℕ → ℕ → ℕ → Check
+pairs-room-check J q q′ k = room-check (two-words J q q′) k
 
 -- the storage checks of lent memory
 abbrev pub two-storage-checks : Job → ℕ → ℕ → Memory → List Check
-two-storage-checks J q q′ m = list-check J (length (m .lengths)) (length (m .widths)) ∷ two-check J q q′ (length (m .table)) ∷ []
+two-storage-checks J q q′ m = list-check J (length (m .lengths)) (length (m .widths)) ∷ pairs-room-check J q q′ (length (m .table)) ∷ []
 
 -- what the call reports: the figure of the plate at both capacities, the capacities, p and r
 abbrev pub two-report : Job → (ℕ → ℕ → ℕ → ℕ → ℕ) → ℕ → ℕ → TwoReport

@@ -19,7 +19,7 @@ ghost use Prim.Native.Nat.{_≤_};
 ghost use Rattle.cutting.specs.Limits.{most-pairs};
 ghost use Rattle.cutting.specs.Job.{InRange, capacity};
 ghost use Rattle.cutting.specs.Sides.{rect-of};
-ghost use Rattle.cutting.specs.Listed.{heavy-in, pieces-job};
+ghost use Rattle.cutting.specs.Listed.{listed-weight, pieces-job};
 ghost use Rattle.refusal.specs.Refusals.{first-refusal};
 ghost use Rattle.refusal.specs.declared.Checked.the-variants.{Passed, Refused};
 ghost use Rattle.job.specs.Block.{job-of, with-full-demand};
@@ -136,7 +136,7 @@ fn fill_pairs(
     table: &mut [u64],
 )
     requires { ⌜ TwoFillable size second (now pieces) (now lengths) (now widths) (now floors) (now table) ⌝ }
-    ensures { λ _. ⌜ TwoBy (size-job size (now (pieces .entry))) (figure-pair (size-job size (now (pieces .entry))) (size .capacity) second (heavy-in (now (pieces .entry)))) (size .capacity) second (now (table .entry)) (now (table .exit)) ⌝ }
+    ensures { λ _. ⌜ TwoBy (size-job size (now (pieces .entry))) (figure-pair (size-job size (now (pieces .entry))) (size .capacity) second (listed-weight (now (pieces .entry)))) (size .capacity) second (now (table .entry)) (now (table .exit)) ⌝ }
 {
     if second == 0 {
         fill_table(size, pieces, lengths, widths, floors, table);
@@ -158,7 +158,7 @@ fn two_of_pieces(
     table: &mut [u64],
 ) -> TwoAnswer
     requires { ⌜ Pairable (pieces-job (rect-of plate) count (now pieces)) (most .first) (most .second) (now floors) ⌝ }
-    ensures { λ r. ⌜ Paired (pieces-job (rect-of plate) count (now (pieces .entry))) (figure-pair (pieces-job (rect-of plate) count (now (pieces .entry))) (most .first) (most .second) (heavy-in (now (pieces .entry)))) (most .first) (most .second)
+    ensures { λ r. ⌜ Paired (pieces-job (rect-of plate) count (now (pieces .entry))) (figure-pair (pieces-job (rect-of plate) count (now (pieces .entry))) (most .first) (most .second) (listed-weight (now (pieces .entry)))) (most .first) (most .second)
         (lent (now (lengths .entry)) (now (widths .entry)) (now (table .entry)))
         (lent (now (lengths .exit)) (now (widths .exit)) (now (table .exit))) r ⌝ }
 {

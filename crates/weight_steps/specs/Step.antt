@@ -1,4 +1,5 @@
 -- The numbers of formulas 12 and 13 of Morabito and Pureza, exact: the factor of a round, and the step as the whole part of a square root.
+-- docs/SCOPE.md: Weights found; The factor from a table.
 use mathlib.Core.Path.{_≡_}
 use mathlib.Core.Bool.{Bool, true, false}
 use mathlib.Core.List.{List, [], _∷_}

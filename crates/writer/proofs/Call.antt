@@ -27,7 +27,7 @@ use Rattle.bound.proofs.Calls.{range-taken, listable}
 use Rattle.writer.specs.declared.WriteReport.{WriteReport}
 use Rattle.writer.specs.declared.WriteAnswer.{WriteAnswer}
 use Rattle.writer.specs.declared.WriteAnswer.the-variants as answer
-use Rattle.writer.specs.Write.{plan-check, write-report, write-answer-by, write-values, write-outcome, nodes-verdict, block-plan, write-verdict, write-answer, PlanChosen, PlanWritten, BoundWritten, WritePromises}
+use Rattle.writer.specs.Write.{nodes-check, write-report, write-answer-by, write-values, write-outcome, nodes-verdict, block-plan, write-verdict, write-answer, PlanChosen, PlanWritten, BoundWritten, WritePromises}
 use Rattle.writer.specs.Contracts.{Weighed, room-verdict, Planned}
 use Rattle.writer.proofs.Write.{none-long, untouched}
 
@@ -114,5 +114,5 @@ pub written-fits : (s : List ℕ) (choices : Choices) (ws : List ℕ) (m : bound
 written-fits s choices ws m kinds operands e f =
     let w = written-by (write-verdict s choices ws m kinds operands) (write-report s choices ws) (sym f ∙ e) in
     let v = passed-both (bound.bound-verdict s choices ws m) (nodes-verdict (block-plan s choices ws) kinds operands) (w .0) in
-    let check = plan-check (block-plan s choices ws) (length kinds) (length operands) in
+    let check = nodes-check (block-plan s choices ws) (length kinds) (length operands) in
     rw (w .1) (none-long (node-count (block-plan s choices ws)) (length kinds) (length operands) (cons-passed (check .0) (check .1) [] (v .1) .0))

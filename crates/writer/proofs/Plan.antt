@@ -19,7 +19,7 @@ use Rattle.cutting.specs.Sides.{rect-of, sides-of}
 use Rattle.cutting.specs.Preorder.{preorder, node-count}
 use Rattle.cutting.specs.Choice.{Choice, as-waste, as-piece, as-cut, cut-remains, or-first}
 use Rattle.cutting.specs.Job.{Job, lossless-plan, normal-side, plan-choice, KindsAbove}
-use Rattle.cutting.specs.Listed.{InTableRange, heavy-in, node-in, piece-way, numbered-piece, laid-tree, array-shares, array-plan}
+use Rattle.cutting.specs.Listed.{InTableRange, listed-weight, node-in, piece-way, numbered-piece, laid-tree, array-shares, array-plan}
 use Rattle.cutting.proofs.Members.{table-solid}
 use Rattle.cutting.proofs.Sound.{Sound, choice-sound, state-division}
 use Rattle.cutting.proofs.Plan.{lossless-tree}
@@ -96,7 +96,7 @@ module _ (le : ℕ → ℕ → Bool) (kerf : ℕ) (size : TableSize) (pieces : L
   cut-after (as-cut f y q) d x s e =
       let a : f ≡ d = cc in
       let b : y ≡ x = cc in
-      let k = state-division le (λ p. heavy-in pieces (kind p)) f c q (s .2) in
+      let k = state-division le (λ p. listed-weight pieces (kind p)) f c q (s .2) in
       rw (sym a, sym b) (s .0, s .1, k .0, s .3, ap (λ k. or-first (cut-remains kerf (side f r - y)) f (y - kerf) (plan-in (part f y r) (q .0)) (plan-in (part f (side f r - y) r) k)) (k .1))
 
 -- the cells of a cut's two parts

@@ -20,7 +20,7 @@ use Rattle.cutting.specs.Pieces.{Piece, kind}
 use Rattle.cutting.specs.Sides.{rect-of, sides-of}
 use Rattle.cutting.specs.Shares.{by-weight}
 use Rattle.cutting.specs.Job.{Job, widened, normal-positions, plan-of, plan-under}
-use Rattle.cutting.specs.Listed.{InTableRange, size-in, price-in, heavy-in, pieces-job, PieceArray}
+use Rattle.cutting.specs.Listed.{InTableRange, size-in, price-in, listed-weight, pieces-job, PieceArray}
 use Rattle.cutting.proofs.Members.{range-solid, widened-above}
 use Rattle.cutting.proofs.Listed.{listed-above}
 use Rattle.cutting.proofs.Laid.{laid-plan, plain-states}
@@ -93,12 +93,12 @@ one-shares m weight = plain-states weight
 
 -- what the choice reads, from what the bound of the pieces leaves
 module _ (plate : Sides) (n : ℕ) (pieces : List ℕ) (q : ℕ) (range : InTableRange (pieces-job (rect-of plate) n pieces)) (most : q ≤ most-capacity) (numbered : Numbered n pieces)
-    (old new : bound.Memory) (floors : List ℕ) {b : BoundAnswer} (left : Bounded (pieces-job (rect-of plate) n pieces) (heavy-in pieces) q old new floors b) (report : BoundReport) (e : b ≡ bounded.Answered report) where
+    (old new : bound.Memory) (floors : List ℕ) {b : BoundAnswer} (left : Bounded (pieces-job (rect-of plate) n pieces) (listed-weight pieces) q old new floors b) (report : BoundReport) (e : b ≡ bounded.Answered report) where
   abbrev N : Job
   N = pieces-job (rect-of plate) n pieces
 
-  behind : (first-refusal (bound.memory-checks N q old) ≡ Passed) × (report ≡ bound.bound-report N (heavy-in pieces) q)
-  behind = answered-behind (first-refusal (bound.memory-checks N q old)) (bound.bound-report N (heavy-in pieces) q) (sym e ∙ left .answer)
+  behind : (first-refusal (bound.memory-checks N q old) ≡ Passed) × (report ≡ bound.bound-report N (listed-weight pieces) q)
+  behind = answered-behind (first-refusal (bound.memory-checks N q old)) (bound.bound-report N (listed-weight pieces) q) (sym e ∙ left .answer)
 
   pub choice-input : ChoiceInput (table-of plate n report) ((q + 1) ∷ []) 0 pieces (new .lengths) (new .widths) floors (new .table)
   choice-input =
@@ -109,7 +109,7 @@ module _ (plate : Sides) (n : ℕ) (pieces : List ℕ) (q : ℕ) (range : InTabl
       let v : first-refusal (lists ∷ []) ≡ Passed = one-passed (lists .0) (lists .1) (long .0) in
       let l : new .lengths ≡ over (normal-positions N Length) (old .lengths) = left .memory .lengths ∙ ap (λ u. bound.list-after u (normal-positions N Length) (old .lengths)) v in
       let w : new .widths ≡ over (normal-positions N Width) (old .widths) = left .memory .widths ∙ ap (λ u. bound.list-after u (normal-positions N Width) (old .widths)) v in
-      let f = subst (λ u. bound.TableAfter u N (heavy-in pieces) q (old .table) (new .table)) (behind .0) (left .memory .table) in
+      let f = subst (λ u. bound.TableAfter u N (listed-weight pieces) q (old .table) (new .table)) (behind .0) (left .memory .table) in
       let m = left .mapped report e in
       record {
         numbered = numbered;
@@ -125,7 +125,7 @@ module _ (plate : Sides) (n : ℕ) (pieces : List ℕ) (q : ℕ) (range : InTabl
           lengths-floored = m .lengths;
           widths-floored = m .widths;
           words-there = rw (behind .1) (omega (arith, ltb-false (length (old .table)) (words-needed N q) (room .0), f .1 .0));
-          figures = rw (behind .1) (figures-states N (heavy-in pieces) q (new .table) (f .0));
+          figures = rw (behind .1) (figures-states N (listed-weight pieces) q (new .table) (f .0));
         };
       }
 
@@ -137,10 +137,10 @@ boundable {J} {ws} {q} given {plate} {n} {pieces} {floors} on array h =
 
 -- the plan of a job by the answer of its pieces' bound
 module _ {J : Job} {ws : List ℕ} {q : ℕ} (given : Weighed J ws q) {plate : Sides} {n : ℕ} {pieces : List ℕ} (on : plate ≡ sides-of (widened J .plate)) (array : PieceArray (widened J) (weight-in ws) n pieces)
-    {old new : bound.Memory} {floors : List ℕ} {b : BoundAnswer} (left : Bounded (pieces-job (rect-of plate) n pieces) (heavy-in pieces) q old new floors b) where
+    {old new : bound.Memory} {floors : List ℕ} {b : BoundAnswer} (left : Bounded (pieces-job (rect-of plate) n pieces) (listed-weight pieces) q old new floors b) where
   -- the same of the job, the kerf added to every side
   whole : Bounded (widened J) (weight-in ws) q old new floors b
-  whole = pieces-bounded (widened J) (weight-in ws) n pieces array q old new floors b (subst (λ p. Bounded (pieces-job (rect-of p) n pieces) (heavy-in pieces) q old new floors b) on left)
+  whole = pieces-bounded (widened J) (weight-in ws) n pieces array q old new floors b (subst (λ p. Bounded (pieces-job (rect-of p) n pieces) (listed-weight pieces) q old new floors b) on left)
 
   pub memory-left : bound.Leaves Passed (widened J) (weight-in ws) q old new
   memory-left = whole .memory
@@ -172,7 +172,7 @@ module _ {J : Job} {ws : List ℕ} {q : ℕ} (given : Weighed J ws q) {plate : S
 
     -- every side of the pieces is above the kerf
     pub plan-thick : Thick (J .kerf) (table-of plate n report) pieces
-    plan-thick = listed-above (widened J) (weight-in ws) n (size-in pieces) (price-in pieces) (heavy-in pieces) (array .listing) (J .kerf) (widened-above J (range-solid J (given .in-range)))
+    plan-thick = listed-above (widened J) (weight-in ws) n (size-in pieces) (price-in pieces) (listed-weight pieces) (array .listing) (J .kerf) (widened-above J (range-solid J (given .in-range)))
 
     -- the plan of the pieces is the job's
     same-plan : whole-plan (under ((q + 1) ∷ []) 0) (J .kerf) (table-of plate n report) pieces ≡ T

@@ -1,5 +1,6 @@
 -- The writing call: check 21, its answer with the number and values, what it leaves in the plan arrays, and what it promises of the plan
 -- and of the answered bound.
+-- docs/SCOPE.md: The written plan; Lent memory.
 use mathlib.Core.Path.{_≡_}
 use mathlib.Core.Bool.{_||_}
 use mathlib.Core.List.{List, [], _∷_}
@@ -25,12 +26,12 @@ use Rattle.writer.specs.declared.WriteAnswer.{WriteAnswer}
 use Rattle.writer.specs.declared.WriteAnswer.the-variants as answer
 
 -- check 21: the plan needs above 4,095 nodes, or more than an array of m or of n entries holds, with the nodes needed
-abbrev pub plan-check : Tree Piece → ℕ → ℕ → Check
-plan-check t m n = ((ltb most-nodes (node-count t) || ltb m (node-count t)) || ltb n (node-count t), PlanLong (node-count t))
+abbrev pub nodes-check : Tree Piece → ℕ → ℕ → Check
+nodes-check t m n = ((ltb most-nodes (node-count t) || ltb m (node-count t)) || ltb n (node-count t), PlanLong (node-count t))
 
 -- the verdict of check 21 over the two plan arrays
 abbrev pub nodes-verdict : Tree Piece → List ℕ → List ℕ → Checked
-nodes-verdict t kinds operands = first-refusal (plan-check t (length kinds) (length operands) ∷ [])
+nodes-verdict t kinds operands = first-refusal (nodes-check t (length kinds) (length operands) ∷ [])
 
 -- a bound's report with the number of the plan's nodes
 abbrev pub reported : BoundReport → ℕ → WriteReport

@@ -6,7 +6,7 @@ use lib.ListN.{length, getD}
 use denote.Ref.{now}
 use Rattle.cutting.specs.Sides.{rect-of}
 use Rattle.cutting.specs.Job.{Job}
-use Rattle.cutting.specs.Listed.{heavy-in, pieces-job}
+use Rattle.cutting.specs.Listed.{listed-weight, pieces-job}
 use Rattle.table.specs.Contracts.{size-job, FilledBy}
 use Rattle.storage.specs.declared.Layout.the-variants.{Ready}
 use Rattle.storage.specs.Contracts.{LaidOut}
@@ -54,9 +54,9 @@ returns-2 c =
     let e = start k .args in
     let is = ready-laid (laid k) in
     let table = c .before .before .before .fill-table .last .1 .1 .1 .1 .1 .0 in
-    let f = subst (λ s. FilledBy (size-job s (now (e .pieces))) (heavy-in (now (e .pieces))) (s .capacity) (now (e .table)) table) (is .size-is) (c .before .before .before .fill-table .ensures) in
+    let f = subst (λ s. FilledBy (size-job s (now (e .pieces))) (listed-weight (now (e .pieces))) (s .capacity) (now (e .table)) table) (is .size-is) (c .before .before .before .fill-table .ensures) in
     reported _ _ _ (laid k)
-    (report-is (ap (λ n. getD table (n - 1) 0) (is .words-are) ∙ bound-last (J k) (heavy-in (now (e .pieces))) (start k .pre .in-range) (e .q) table (f .0)) refl (ap (λ s. s .rows) (is .size-is)) (ap (λ s. s .columns) (is .size-is))) f
+    (report-is (ap (λ n. getD table (n - 1) 0) (is .words-are) ∙ bound-last (J k) (listed-weight (now (e .pieces))) (start k .pre .in-range) (e .q) table (f .0)) refl (ap (λ s. s .rows) (is .size-is)) (ap (λ s. s .columns) (is .size-is))) f
 
 pub bound-of-pieces-spec : {M : Type 1} → statement M
 bound-of-pieces-spec =

@@ -7,7 +7,7 @@ use denote.Ref.{now}
 use Rattle.cutting.specs.declared.Direction.the-variants.{Length, Width}
 use Rattle.cutting.specs.Sides.{rect-of}
 use Rattle.cutting.specs.Job.{Job}
-use Rattle.cutting.specs.Listed.{heavy-in, pieces-job}
+use Rattle.cutting.specs.Listed.{listed-weight, pieces-job}
 use Rattle.table.specs.Table.{position-count, Kept}
 use Rattle.table.specs.Contracts.{size-job}
 use Rattle.states.specs.States.{under, Figures}
@@ -62,11 +62,11 @@ returns-2 c =
     let e = start k .args in
     let is = ready-laid (laid k) in
     let table = c .before .before .before .fill-states .last .1 .1 .1 .1 .1 .1 .1 .1 .0 in
-    let f = subst (λ z. Figures (size-job z (now (e .pieces))) (under (now (e .blocks)) (e .last .digit)) (heavy-in (now (e .pieces))) (e .last .state + 1) table
+    let f = subst (λ z. Figures (size-job z (now (e .pieces))) (under (now (e .blocks)) (e .last .digit)) (listed-weight (now (e .pieces))) (e .last .state + 1) table
     × Kept (position-count (size-job z (now (e .pieces))) Length * position-count (size-job z (now (e .pieces))) Width * (e .last .state + 1)) (now (e .table)) table) (is .size-is) (c .before .before .before .fill-states .ensures) in
     let order = digits-order (λ i. getD (now (e .blocks)) i 0) (e .last .digit) (start k .pre .digits .digits) in
     reported _ _ _ (laid k)
-    (report-is (ap (λ n. getD table (n - 1) 0) (is .words-are) ∙ states-last (J k) (under (now (e .blocks)) (e .last .digit)) order (heavy-in (now (e .pieces))) (start k .pre .in-range) (e .last .state) table (f .0)) refl (ap (λ z. z .rows) (is .size-is)) (ap (λ z. z .columns) (is .size-is))) f
+    (report-is (ap (λ n. getD table (n - 1) 0) (is .words-are) ∙ states-last (J k) (under (now (e .blocks)) (e .last .digit)) order (listed-weight (now (e .pieces))) (start k .pre .in-range) (e .last .state) table (f .0)) refl (ap (λ z. z .rows) (is .size-is)) (ap (λ z. z .columns) (is .size-is))) f
 
 pub states-of-pieces-spec : {M : Type 1} → statement M
 states-of-pieces-spec =

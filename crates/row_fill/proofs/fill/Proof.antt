@@ -3,7 +3,7 @@ use borrow.Author.Needs.{needs}
 use native.Mathlib.Omega.{arith}
 use mathlib.Core.Path.{_∙_, refl, sym}
 use Prim.Native.Nat.{_-_}
-use Rattle.cutting.specs.Listed.{heavy-in}
+use Rattle.cutting.specs.Listed.{listed-weight}
 use Rattle.table.specs.Contracts.{size-job}
 use Rattle.row_fill.proofs.Filling.{Filling, zeros-capped, first-row, all-room, few-rows, fill-none, filled, row-above, row-end, end-few, row-half, lengths-ready, row-ready, fill-more}
 use Rattle.row_fill.proofs.fill.Statement.{statement}
@@ -11,7 +11,7 @@ use Rattle.row_fill.proofs.fill.Tie as tie
 
 abbrev Inv-loop : tie.InvT-loop
 Inv-loop size pieces normal-lengths normal-widths floors table₀ columns rows unit₀ start₀ half-end₀ a₀ table unit start half-end a =
-    Filling (size-job size pieces) (heavy-in pieces) (size .rows) normal-lengths (size .columns) normal-widths a start half-end unit table₀ table
+    Filling (size-job size pieces) (listed-weight pieces) (size .rows) normal-lengths (size .columns) normal-widths a start half-end unit table₀ table
 
 abbrev μ-loop : tie.MeasureT-loop
 μ-loop size pieces normal-lengths normal-widths floors table₀ columns rows unit₀ start₀ half-end₀ a₀ table unit start half-end a = size .rows - a

@@ -10,7 +10,7 @@ use Rattle.cutting.specs.declared.Direction.the-variants.{Length, Width}
 use Rattle.cutting.specs.Sides.{rect-of}
 use Rattle.cutting.specs.Job.{Job}
 use Rattle.cutting.specs.Staged.{block}
-use Rattle.cutting.specs.Listed.{heavy-in, pieces-job}
+use Rattle.cutting.specs.Listed.{listed-weight, pieces-job}
 use Rattle.table.specs.Table.{words-needed}
 use Rattle.table.specs.Staged.{staged-words}
 use Rattle.table.specs.Contracts.{size-job, StagedBy}
@@ -50,29 +50,29 @@ one w =
     w .words .ensures ∙ ap (λ z. z .rows * z .columns * (start k .args .q + 1)) (ready-laid (laid k) .size-is)
 
 -- the figures of every block, and the two that the bound is the greater of
-filled : (w : tie.After-words) → StagedBy (J (w .before .before .before .before .before .before .before .before)) (heavy-in (now (start (w .before .before .before .before .before .before .before .before) .args .pieces))) (start (w .before .before .before .before .before .before .before .before) .args .limit) (start (w .before .before .before .before .before .before .before .before) .args .q) (now (start (w .before .before .before .before .before .before .before .before) .args .table)) (w .before .before .before .fill-table .last .1 .1 .1 .1 .1 .1 .0)
+filled : (w : tie.After-words) → StagedBy (J (w .before .before .before .before .before .before .before .before)) (listed-weight (now (start (w .before .before .before .before .before .before .before .before) .args .pieces))) (start (w .before .before .before .before .before .before .before .before) .args .limit) (start (w .before .before .before .before .before .before .before .before) .args .q) (now (start (w .before .before .before .before .before .before .before .before) .args .table)) (w .before .before .before .fill-table .last .1 .1 .1 .1 .1 .1 .0)
 filled w =
     let k = w .before .before .before .before .before .before .before .before in
     let e = start k .args in
-    subst (λ z. StagedBy (size-job z (now (e .pieces))) (heavy-in (now (e .pieces))) (e .limit) (z .capacity) (now (e .table)) (w .before .before .before .fill-table .last .1 .1 .1 .1 .1 .1 .0)) (ready-laid (laid k) .size-is) (w .before .before .before .fill-table .ensures)
+    subst (λ z. StagedBy (size-job z (now (e .pieces))) (listed-weight (now (e .pieces))) (e .limit) (z .capacity) (now (e .table)) (w .before .before .before .fill-table .last .1 .1 .1 .1 .1 .1 .0)) (ready-laid (laid k) .size-is) (w .before .before .before .fill-table .ensures)
 
 width-first : (w : tie.After-words) → getD (w .before .before .before .fill-table .last .1 .1 .1 .1 .1 .1 .0) (w .before .before .before .before .before .before .before .before .before .layout2 .given .0 .1 .0 - 1) 0
-    ≡ block (J (w .before .before .before .before .before .before .before .before)) (heavy-in (now (start (w .before .before .before .before .before .before .before .before) .args .pieces))) (start (w .before .before .before .before .before .before .before .before) .args .limit) Width (start (w .before .before .before .before .before .before .before .before) .args .plate .length) (start (w .before .before .before .before .before .before .before .before) .args .plate .width) (start (w .before .before .before .before .before .before .before .before) .args .q)
+    ≡ block (J (w .before .before .before .before .before .before .before .before)) (listed-weight (now (start (w .before .before .before .before .before .before .before .before) .args .pieces))) (start (w .before .before .before .before .before .before .before .before) .args .limit) Width (start (w .before .before .before .before .before .before .before .before) .args .plate .length) (start (w .before .before .before .before .before .before .before .before) .args .plate .width) (start (w .before .before .before .before .before .before .before .before) .args .q)
 width-first w =
     let k = w .before .before .before .before .before .before .before .before in
     let e = start k in
     let table = w .before .before .before .fill-table .last .1 .1 .1 .1 .1 .1 .0 in
     ap (λ n. getD table (n - 1) 0) (counted k) ∙ ap (λ i. getD table i 0) (last-word (J k) (e .args .limit) (e .args .q) (e .pre .0 .limit .0))
-    ∙ block-last (J k) (heavy-in (now (e .args .pieces))) (e .pre .0 .in-range) (e .args .limit) (e .args .q) table (filled w .0) Width
+    ∙ block-last (J k) (listed-weight (now (e .args .pieces))) (e .pre .0 .in-range) (e .args .limit) (e .args .q) table (filled w .0) Width
 
 length-first : (w : tie.After-words) → getD (w .before .before .before .fill-table .last .1 .1 .1 .1 .1 .1 .0) (w .before .before .before .before .before .before .before .before .before .layout2 .given .0 .1 .0 - 1 - w .words .result) 0
-    ≡ block (J (w .before .before .before .before .before .before .before .before)) (heavy-in (now (start (w .before .before .before .before .before .before .before .before) .args .pieces))) (start (w .before .before .before .before .before .before .before .before) .args .limit) Length (start (w .before .before .before .before .before .before .before .before) .args .plate .length) (start (w .before .before .before .before .before .before .before .before) .args .plate .width) (start (w .before .before .before .before .before .before .before .before) .args .q)
+    ≡ block (J (w .before .before .before .before .before .before .before .before)) (listed-weight (now (start (w .before .before .before .before .before .before .before .before) .args .pieces))) (start (w .before .before .before .before .before .before .before .before) .args .limit) Length (start (w .before .before .before .before .before .before .before .before) .args .plate .length) (start (w .before .before .before .before .before .before .before .before) .args .plate .width) (start (w .before .before .before .before .before .before .before .before) .args .q)
 length-first w =
     let k = w .before .before .before .before .before .before .before .before in
     let e = start k in
     let table = w .before .before .before .fill-table .last .1 .1 .1 .1 .1 .1 .0 in
     ap₂ (λ n m. getD table (n - 1 - m) 0) (counted k) (one w) ∙ ap (λ i. getD table i 0) (before-word (J k) (e .args .limit) (e .args .q) (e .pre .0 .limit .0))
-    ∙ block-last (J k) (heavy-in (now (e .args .pieces))) (e .pre .0 .in-range) (e .args .limit) (e .args .q) table (filled w .0) Length
+    ∙ block-last (J k) (listed-weight (now (e .args .pieces))) (e .pre .0 .in-range) (e .args .limit) (e .args .q) table (filled w .0) Length
 
 mul-cell-2 : tie.Need-mul-cell-2
 mul-cell-2 c =
@@ -120,7 +120,7 @@ greater-requires c κs =
     let w = c .before .before in
     let k = w .before .before .before .before .before .before .before .before in
     let e = start k in
-    let small = block-small (J k) (heavy-in (now (e .args .pieces))) (e .pre .0 .in-range) (e .args .limit) in
+    let small = block-small (J k) (listed-weight (now (e .args .pieces))) (e .pre .0 .in-range) (e .args .limit) in
     (omega (arith, length-first w, width-first w, small Length (e .args .q), small Width (e .args .q)), omega (arith, width-first w, small Width (e .args .q)))
 
 returns : tie.Need-returns

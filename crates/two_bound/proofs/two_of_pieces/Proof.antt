@@ -6,7 +6,7 @@ use lib.ListN.{length, getD}
 use denote.Ref.{now}
 use Rattle.cutting.specs.Sides.{rect-of}
 use Rattle.cutting.specs.Job.{Job}
-use Rattle.cutting.specs.Listed.{heavy-in, pieces-job}
+use Rattle.cutting.specs.Listed.{listed-weight, pieces-job}
 use Rattle.table.specs.Two.{pair-count}
 use Rattle.table.specs.States.{figure-pair}
 use Rattle.table.specs.Contracts.{size-job, TwoBy}
@@ -64,9 +64,9 @@ returns-2 c =
     let e = start k .args in
     let is = ready-laid (laid k) in
     let table = c .before .before .before .fill-pairs .last .1 .1 .1 .1 .1 .1 .0 in
-    let f = subst (λ z. TwoBy (size-job z (now (e .pieces))) (figure-pair (size-job z (now (e .pieces))) (z .capacity) (e .most .second) (heavy-in (now (e .pieces)))) (z .capacity) (e .most .second) (now (e .table)) table) (is .size-is) (c .before .before .before .fill-pairs .ensures) in
+    let f = subst (λ z. TwoBy (size-job z (now (e .pieces))) (figure-pair (size-job z (now (e .pieces))) (z .capacity) (e .most .second) (listed-weight (now (e .pieces)))) (z .capacity) (e .most .second) (now (e .table)) table) (is .size-is) (c .before .before .before .fill-pairs .ensures) in
     reported _ _ _ _ (laid k)
-    (report-is (ap (λ n. getD table (n - 1) 0) (is .words-are ∙ pair-words (J k) (e .most .first) (e .most .second)) ∙ pair-last (J k) (start k .pre .in-range) (heavy-in (now (e .pieces))) (e .most .first) (e .most .second) table (f .0)) refl refl (ap (λ z. z .rows) (is .size-is)) (ap (λ z. z .columns) (is .size-is))) f
+    (report-is (ap (λ n. getD table (n - 1) 0) (is .words-are ∙ pair-words (J k) (e .most .first) (e .most .second)) ∙ pair-last (J k) (start k .pre .in-range) (listed-weight (now (e .pieces))) (e .most .first) (e .most .second) table (f .0)) refl refl (ap (λ z. z .rows) (is .size-is)) (ap (λ z. z .columns) (is .size-is))) f
 
 pub two-of-pieces-spec : {M : Type 1} → statement M
 two-of-pieces-spec =

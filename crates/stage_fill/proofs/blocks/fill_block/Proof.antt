@@ -1,7 +1,7 @@
 -- `stage_fill::blocks::fill_block` meets its contract. The loop's invariant: the cells passed are made.
 use native.Mathlib.Omega.{arith}
 use Prim.Native.Nat.{_*_, _-_}
-use Rattle.cutting.specs.Listed.{heavy-in}
+use Rattle.cutting.specs.Listed.{listed-weight}
 use Rattle.state_cells.specs.Places.{job-in}
 use Rattle.stage_fill.proofs.Numbers.{few-cells}
 use Rattle.stage_fill.proofs.Filling.{block-kept, InBlock, block-begins, block-more, block-ends}
@@ -10,7 +10,7 @@ use Rattle.stage_fill.proofs.blocks.fill_block.Tie as tie
 
 abbrev Inv-loop : tie.InvT-loop
 Inv-loop table₀ pieces lengths widths floors shape block flat cells high₀ i₀ table high i =
-    InBlock (job-in shape pieces) (heavy-in pieces) lengths widths shape block i high table₀ table
+    InBlock (job-in shape pieces) (listed-weight pieces) lengths widths shape block i high table₀ table
 
 abbrev μ-loop : tie.MeasureT-loop
 μ-loop table₀ pieces lengths widths floors shape block flat cells high₀ i₀ table high i = shape .«length_count» * shape .columns - i

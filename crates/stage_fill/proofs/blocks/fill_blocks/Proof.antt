@@ -4,7 +4,7 @@ use mathlib.Core.Path.{_≡_, refl, _∙_}
 use Prim.Native.Nat.{ℕ, _+_, _*_, _-_, _≤_}
 use lib.ListN.{length}
 use Rattle.cutting.specs.declared.Direction.the-variants.{Length, Width}
-use Rattle.cutting.specs.Listed.{heavy-in}
+use Rattle.cutting.specs.Listed.{listed-weight}
 use Rattle.state_cells.specs.Places.{job-in}
 use Rattle.stage_fill.specs.Blocks.{BlockMade}
 use Rattle.stage_fill.proofs.Numbers.{below-none}
@@ -17,7 +17,7 @@ no-width e = absurd (let z : _≡_ {A = ℕ} 0 1 = cc in let w : ⊥ = omega ari
 
 abbrev Inv-loop : tie.InvT-loop
 Inv-loop table₀ pieces lengths widths floors shape limit flat₀ below₀ table flat below =
-    (below ≤ limit) × (length table ≡ length table₀) × BlockMade (job-in shape pieces) (heavy-in pieces) lengths widths shape ((2 * below + 1) * (shape .«length_count» * shape .columns)) flat table₀ table
+    (below ≤ limit) × (length table ≡ length table₀) × BlockMade (job-in shape pieces) (listed-weight pieces) lengths widths shape ((2 * below + 1) * (shape .«length_count» * shape .columns)) flat table₀ table
 
 abbrev μ-loop : tie.MeasureT-loop
 μ-loop table₀ pieces lengths widths floors shape limit flat₀ below₀ table flat below = limit - below

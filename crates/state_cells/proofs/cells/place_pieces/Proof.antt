@@ -6,7 +6,7 @@ use mathlib.Core.Logic.{⊎-elim}
 use Prim.Native.Nat.{_-_, _≤_}
 use lib.ListN.{length}
 use denote.Ref.{now}
-use Rattle.cutting.specs.Listed.{heavy-in}
+use Rattle.cutting.specs.Listed.{listed-weight}
 use Rattle.states.specs.States.{under, Topped}
 use Rattle.state_cells.specs.Cells.{Placed}
 use Rattle.state_cells.specs.Places.{job-in}
@@ -18,7 +18,7 @@ use Rattle.state_cells.proofs.cells.place_pieces.Statement.{statement}
 use Rattle.state_cells.proofs.cells.place_pieces.Tie as tie
 
 abbrev Inv-loop : tie.InvT-loop
-Inv-loop table₀ pieces blocks shape at l w top high₀ i₀ i-end table high i = (i ≤ i-end) × (i-end ≡ shape .count) × (length table ≡ length table₀) × Placed (under blocks (shape .d)) (job-in shape pieces) (heavy-in pieces) i l w at (shape .words) table₀ table × Topped at (shape .words) top high table₀ table
+Inv-loop table₀ pieces blocks shape at l w top high₀ i₀ i-end table high i = (i ≤ i-end) × (i-end ≡ shape .count) × (length table ≡ length table₀) × Placed (under blocks (shape .d)) (job-in shape pieces) (listed-weight pieces) i l w at (shape .words) table₀ table × Topped at (shape .words) top high table₀ table
 
 abbrev μ-loop : tie.MeasureT-loop
 μ-loop table₀ pieces blocks shape at l w top high₀ i₀ i-end table high i = i-end - i
@@ -37,7 +37,7 @@ loop-again c =
     let start = c .before .before .before .before .before .before in
     let inv = c .before .before .before .loop .inv in
     let job = job-in (start .args .shape) (now (start .args .pieces)) in
-    let own = heavy-in (now (start .args .pieces)) in
+    let own = listed-weight (now (start .args .pieces)) in
     ⊎-elim
     (λ w. rw (w .9, w .10) (omega arith, refl, w .6 .kept .0 ∙ inv .2, placed-more _ _ _ job own _ _ (c .before .before .before .loop .i) _ _ _ _ _ (order-of _ _ _ (start .pre .0 .digits) .same) (w .0 .taken) (w .2 .taken) refl refl (inv .3) (w .6 .ensures .0), topped-then _ _ _ _ _ _ _ _ (inv .4) (w .6 .ensures .1)))
     (⊎-elim

@@ -5,7 +5,7 @@ use mathlib.Core.Path.{_≡_, refl, _∙_}
 use Prim.Native.Nat.{_-_, _<_}
 use lib.ListN.{length}
 use denote.Ref.{now}
-use Rattle.cutting.specs.Listed.{heavy-in}
+use Rattle.cutting.specs.Listed.{listed-weight}
 use Rattle.state_cells.specs.Places.{job-in}
 use Rattle.state_fill.proofs.Filling.{InTable, table-cells, table-first, table-start, table-half, table-spot, table-fits, table-more, table-clear, table-bare, table-end}
 use Rattle.state_fill.proofs.rows.fill.Statement.{statement}
@@ -13,7 +13,7 @@ use Rattle.state_fill.proofs.rows.fill.Tie as tie
 
 abbrev Inv-loop : tie.InvT-loop
 Inv-loop table₀ pieces lengths widths floors blocks shape at₀ half-end₀ flat₀ a₀ a-end table at half-end flat a = (a-end ≡ shape .«length_count»)
-    × InTable (job-in shape pieces) (heavy-in pieces) lengths widths blocks (shape .d) (shape .words) (shape .«length_count») (shape .stride) at half-end flat a table₀ table
+    × InTable (job-in shape pieces) (listed-weight pieces) lengths widths blocks (shape .d) (shape .words) (shape .«length_count») (shape .stride) at half-end flat a table₀ table
 
 abbrev μ-loop : tie.MeasureT-loop
 μ-loop table₀ pieces lengths widths floors blocks shape at₀ half-end₀ flat₀ a₀ a-end table at half-end flat a = a-end - a

@@ -6,7 +6,7 @@ use mathlib.Core.Path.{_≡_, refl, _∙_}
 use Prim.Native.Nat.{_-_, _<_}
 use lib.ListN.{length}
 use denote.Ref.{now}
-use Rattle.cutting.specs.Listed.{heavy-in}
+use Rattle.cutting.specs.Listed.{listed-weight}
 use Rattle.state_cells.specs.Places.{job-in}
 use Rattle.state_fill.proofs.Filling.{InRow, row-first, row-start, row-half, row-spot, row-fits, row-more, row-end}
 use Rattle.state_fill.proofs.rows.fill_row.Statement.{statement}
@@ -14,7 +14,7 @@ use Rattle.state_fill.proofs.rows.fill_row.Tie as tie
 
 abbrev Inv-loop : tie.InvT-loop
 Inv-loop table₀ pieces lengths widths floors blocks shape row half-end₀ column₀ flat₀ b₀ b-end table half-end column flat b = (b-end ≡ shape .columns)
-    × InRow (job-in shape pieces) (heavy-in pieces) lengths widths blocks (shape .d) (shape .words) (shape .columns) (shape .stride) (row .a) (row .at) half-end column flat b table₀ table
+    × InRow (job-in shape pieces) (listed-weight pieces) lengths widths blocks (shape .d) (shape .words) (shape .columns) (shape .stride) (row .a) (row .at) half-end column flat b table₀ table
 
 abbrev μ-loop : tie.MeasureT-loop
 μ-loop table₀ pieces lengths widths floors blocks shape row half-end₀ column₀ flat₀ b₀ b-end table half-end column flat b = b-end - b

@@ -2,7 +2,7 @@
 use borrow.Author.Needs.{needs}
 use native.Mathlib.Omega.{arith}
 use denote.Ref.{now}
-use Rattle.cutting.specs.Listed.{heavy-in}
+use Rattle.cutting.specs.Listed.{listed-weight}
 use Rattle.table.specs.Contracts.{size-job}
 use Rattle.states.proofs.Ties.{two-digit, figures-two}
 use Rattle.state_fill.proofs.weights.fill_two.Statement.{statement}
@@ -23,7 +23,7 @@ returns : tie.Need-returns
 returns c =
     let start = c .before .before .before .before .before .before .before .before .before .before .args in
     let filled = c .before .before .fill-states in
-    figures-two (size-job (start .size) (now (start .pieces))) (start .size .capacity) (start .second) (heavy-in (now (start .pieces))) (now (start .table)) (filled .last .1 .1 .1 .1 .1 .1 .1 .1 .0) (filled .ensures)
+    figures-two (size-job (start .size) (now (start .pieces))) (start .size .capacity) (start .second) (listed-weight (now (start .pieces))) (now (start .table)) (filled .last .1 .1 .1 .1 .1 .1 .1 .1 .0) (filled .ensures)
 
 pub fill-two-spec : {M : Type 1} → statement M
 fill-two-spec =

@@ -2,7 +2,7 @@
 use borrow.Author.Needs.{needs}
 use native.Mathlib.Omega.{arith}
 use denote.Ref.{now}
-use Rattle.cutting.specs.Listed.{heavy-in}
+use Rattle.cutting.specs.Listed.{listed-weight}
 use Rattle.table.specs.Contracts.{size-job}
 use Rattle.states.proofs.Ties.{one-digit, figures-one}
 use Rattle.state_fill.proofs.weights.fill_weighed.Statement.{statement}
@@ -17,7 +17,7 @@ returns : tie.Need-returns
 returns c =
     let start = c .before .before .before .before .before .before .before .before .before .before .args in
     let filled = c .before .before .fill-states in
-    figures-one (size-job (start .size) (now (start .pieces))) (heavy-in (now (start .pieces))) (now (start .table)) (filled .last .1 .1 .1 .1 .1 .1 .1 .1 .0) (start .size .capacity) (filled .ensures)
+    figures-one (size-job (start .size) (now (start .pieces))) (listed-weight (now (start .pieces))) (now (start .table)) (filled .last .1 .1 .1 .1 .1 .1 .1 .1 .0) (start .size .capacity) (filled .ensures)
 
 pub fill-weighed-spec : {M : Type 1} → statement M
 fill-weighed-spec =
