@@ -72,17 +72,11 @@ fn put_four(a: u64, b: u64, c: u64, d: u64, answer: &mut [u64])
 }
 
 // A bound and three counts, into the first four words.
-fn put_bounds(bound: u64, capacity: u16, length_count: u16, columns: u16, answer: &mut [u64])
+fn put_bounds(bound: u64, first: u16, second: u16, third: u16, answer: &mut [u64])
     requires { ⌜ 4 ≤ length (now answer) ⌝ }
-    ensures { λ _. ⌜ now (answer .exit) ≡ sets (now (answer .entry)) 0 (bound ∷ capacity ∷ «length_count» ∷ columns ∷ []) ⌝ }
+    ensures { λ _. ⌜ now (answer .exit) ≡ sets (now (answer .entry)) 0 (bound ∷ first ∷ second ∷ third ∷ []) ⌝ }
 {
-    put_four(
-        bound,
-        capacity as u64,
-        length_count as u64,
-        columns as u64,
-        answer,
-    );
+    put_four(bound, first as u64, second as u64, third as u64, answer);
 }
 
 // What the bound call answers: the bound, the capacity and the numbers of normal lengths and widths.

@@ -3,7 +3,6 @@
 use bound::BoundAnswer;
 use job::Choices;
 use job::WeightsAnswer;
-use job::with_full_demand;
 use pieces::list_pieces;
 use pieces::plate_of;
 use refusal::Checked;
@@ -96,7 +95,6 @@ pub fn certify(
     let Checked::Passed = walked else {
         return conclude(walked, 0, 0);
     };
-    let report = drawn.report;
     let listing = list_pieces(record, weights);
     let pieces = listing.pieces;
     let mut floors = [0u16; 2042];
@@ -113,13 +111,14 @@ pub fn certify(
     let BoundAnswer::Answered(b) = found else {
         return conclude(storage_verdict(found), 0, 0);
     };
+    let report = drawn.report;
     conclude(Checked::Passed, report.profit, b.bound)
 }
 
 // The same with the capacity of the full demands, whatever the choices say of it: for certificates that were filed with it.
 pub fn certify_full_demand(
     block: &[u8],
-    choices: Choices,
+    mut choices: Choices,
     weights: &[u8],
     kinds: &[u8],
     operands: &[u16],
@@ -130,14 +129,7 @@ pub fn certify_full_demand(
     ensures { λ r. ⌜ CertifyPromises (now (block .entry)) (with-full-demand choices) (now (weights .entry)) (now (kinds .entry)) (now (operands .entry)) (lent (now (lengths .entry)) (now (widths .entry)) (now (table .entry)))
         (lent (now (lengths .exit)) (now (widths .exit)) (now (table .exit))) r ⌝ }
 {
-    certify(
-        block,
-        with_full_demand(choices),
-        weights,
-        kinds,
-        operands,
-        lengths,
-        widths,
-        table,
-    )
+    choices.full_demand = true;
+    let c = choices;
+    certify(block, c, weights, kinds, operands, lengths, widths, table)
 }

@@ -29,17 +29,6 @@ pub struct Choices {
     pub old_block: bool,
 }
 
-// The same choices, and the capacity of the full demands.
-pub fn with_full_demand(choices: Choices) -> Choices
-    ensures { λ r. ⌜ r ≡ with-full-demand choices ⌝ }
-{
-    Choices {
-        turning: choices.turning,
-        full_demand: true,
-        old_block: choices.old_block,
-    }
-}
-
 // The same choices, and the old block.
 fn with_old_block(choices: Choices) -> Choices
     ensures { λ r. ⌜ r ≡ with-old-block choices ⌝ }

@@ -1,4 +1,5 @@
-// The weights found for a job.
+// The call that finds weights for a job: the least bound met, the rounds run and 64 weights, and each round's plan in the two written
+// arrays. Thin over `rounds::find_weights`.
 use crate::choices;
 ghost use mathlib.Core.Path.{_≡_};
 ghost use Rattle.rounds.specs.Rounds.{lent-all, lower-figure, find-said, FindLeaves};

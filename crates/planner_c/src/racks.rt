@@ -1,4 +1,5 @@
-// The check of a rack of plates.
+// The check of a rack of plates over three slices of one length: plate lengths, plate widths and the profits, which a pass writes. Thin over
+// `rack::check_plates`.
 use crate::choices;
 use refusal::Refusal;
 ghost use mathlib.Core.Path.{_≡_};

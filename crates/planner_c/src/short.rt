@@ -1,4 +1,5 @@
-// The exact answer for short orders.
+// The exact answer for short orders: optimum, states, the numbers of normal positions and the node count, and the plan in the two arrays.
+// Thin over `exact::exact`.
 use crate::choices;
 ghost use mathlib.Core.Path.{_≡_};
 ghost use Rattle.cutting.specs.Exact.{ExactFiguresMost};

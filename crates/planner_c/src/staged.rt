@@ -1,4 +1,5 @@
-// The calls within a limit on the stages of a plan.
+// The calls within a limit on the stages of a plan: check, bound and certificate. Thin over `staged_plan`, `staged_bound` and
+// `staged_certificate`.
 use crate::choices;
 ghost use mathlib.Core.Path.{_≡_};
 ghost use Rattle.cutting.specs.Staged.{StagedFiguresMost};

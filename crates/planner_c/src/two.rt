@@ -1,4 +1,4 @@
-// The bound of two weights a kind.
+// The bound of two weights a kind: the bound, both capacities and the numbers of normal positions. Thin over `two_bound::bound_two`.
 use crate::choices;
 ghost use mathlib.Core.Path.{_≡_};
 ghost use Rattle.cutting.specs.Two.{TwoFiguresMost};

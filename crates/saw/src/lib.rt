@@ -35,12 +35,6 @@ pub struct SawAnswer {
     pub report: SawReport,
 }
 
-// The part of an array that belongs to a node: its first entry, and one past its last.
-pub struct Part {
-    pub first: usize,
-    pub past: usize,
-}
-
 // A job block as the saw reads it, or refused with 1 to 5, 7 or 27: no price is read, and in the record every price is 0.
 pub fn read_saw_job(block: &[u8], choices: Choices) -> JobAnswer
     ensures answers { λ r. ⌜ r ≡ saw-read (now (block .entry)) choices ⌝ }
@@ -141,6 +135,12 @@ fn tree_end(kinds: &[u8], node: usize) -> usize
         i += 1;
     }
     i
+}
+
+// The part of an array that belongs to a node: its first entry, and one past its last.
+pub struct Part {
+    pub first: usize,
+    pub past: usize,
 }
 
 // For the two calls below and for C: the part of a node in one of the two arrays, which has `count` entries: empty, at the array's end,

@@ -4,9 +4,7 @@ use Rattle.certificate.proofs.certify_full_demand.Statement.{statement}
 use Rattle.certificate.proofs.certify_full_demand.Tie as tie
 
 returns : tie.Need-returns
-returns c =
-    let called = c .before .before .before .before .before .before in
-    rw (called .before .before .before .before .with-full-demand .ensures) at (called .certify .ensures)
+returns c = c .before .before .before .before .before .before .certify .ensures
 
 pub certify-full-demand-spec : {M : Type 1} → statement M
-certify-full-demand-spec = tie.close (tie.spec (search needs) (search needs) (search needs) (search needs) (search needs) returns)
+certify-full-demand-spec = tie.close (tie.spec (search needs) (search needs) (search needs) (search needs) returns)
