@@ -14,8 +14,8 @@ use Rattle.stages.specs.declared.Walk.{Walk}
 use Rattle.stages.specs.declared.Walk.the-variants.{Next, Past}
 use Rattle.stages.specs.declared.Reach.{Reach}
 use Rattle.stages.specs.declared.Step.{Step}
-use Rattle.stages.specs.declared.Step.the-variants.{Turn, End}
-use Rattle.stages.specs.Walks.{Walked, cut-kind, passed, Reached, Turning, Stands, walk-at, nodes-left, Along, Resumed}
+use Rattle.stages.specs.declared.Step.the-variants.{Change, End}
+use Rattle.stages.specs.Walks.{Walked, cut-kind, passed, Reached, Changing, Stands, walk-at, nodes-left, Along, Resumed}
 use Rattle.stages.proofs.Walks.{ends, lacks, leaf, keeps, past, stops, goes-on}
 
 -- the two kinds of cuts
@@ -83,8 +83,8 @@ module _ (d : Direction) {ks : List ℕ} {left own : ℕ} {s₀ s : Reach} (g : 
     pub along-past : left ≤ 1 → Along d ks left s₀ (End (Past (s .next)))
     along-past l = ended (Past (s .next)) (λ at w. past w wait kind inside read (is-turned d o turns) l)
 
-    pub along-turns : 2 ≤ left → Along d ks left s₀ (Turn s)
-    along-turns l = record {
+    pub along-changes : 2 ≤ left → Along d ks left s₀ (Change s)
+    along-changes l = record {
       stands = λ at w. (g .reached d o at w, record { some = wait; few = g .few; inside = inside; turned = sym read ∙ is-turned d o turns; room = l });
       fewer = omega (arith, g .later);
     }
@@ -101,8 +101,8 @@ module _ (d : Direction) {ks : List ℕ} {left : ℕ} (s : Reach) {parts : Walk}
 pub at-end : (d : Direction) (ks : List ℕ) (left at : ℕ) (step : Step) {r : Walk} → Stands d ks left at step → step ≡ End r → Walked d ks at left (walk-at step)
 at-end d ks left at step w e = rw e (rw e at w)
 
-pub at-turn : (d : Direction) (ks : List ℕ) (left at : ℕ) (step : Step) {s : Reach} → Stands d ks left at step → step ≡ Turn s → Reached d ks left at s × Turning d ks left s
-at-turn d ks left at step w e = rw e at w
+pub at-change : (d : Direction) (ks : List ℕ) (left at : ℕ) (step : Step) {s : Reach} → Stands d ks left at step → step ≡ Change s → Reached d ks left at s × Changing d ks left s
+at-change d ks left at step w e = rw e at w
 
-pub turn-left : (ks : List ℕ) (step : Step) {s : Reach} → step ≡ Turn s → nodes-left ks step ≡ length ks - s .next
-turn-left ks step e = ap (nodes-left ks) e
+pub change-left : (ks : List ℕ) (step : Step) {s : Reach} → step ≡ Change s → nodes-left ks step ≡ length ks - s .next
+change-left ks step e = ap (nodes-left ks) e

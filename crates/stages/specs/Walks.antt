@@ -19,7 +19,7 @@ use Rattle.stages.specs.declared.Walk.{Walk}
 use Rattle.stages.specs.declared.Walk.the-variants.{Next, Past}
 use Rattle.stages.specs.declared.Reach.{Reach}
 use Rattle.stages.specs.declared.Step.{Step}
-use Rattle.stages.specs.declared.Step.the-variants.{Turn, End}
+use Rattle.stages.specs.declared.Step.the-variants.{Change, End}
 use Rattle.stages.specs.declared.Staged.{Staged}
 use Rattle.stages.specs.declared.Staged.the-variants as answer
 
@@ -104,7 +104,7 @@ abbrev pub Reached : Direction → List ℕ → ℕ → ℕ → Reach → Type 0
 Reached d ks left at s = Walking d ks left at (s .next) (s .waiting) (s .most)
 
 -- it stands before a cut that changes the direction, and a stage is left for that
-pub record Turning (d : Direction) (ks : List ℕ) (left : ℕ) (s : Reach) : Type 0 where
+pub record Changing (d : Direction) (ks : List ℕ) (left : ℕ) (s : Reach) : Type 0 where
   pub some : 0 < s .waiting
   pub few : s .waiting ≤ s .next + 2
   pub inside : s .next < length ks
@@ -113,17 +113,17 @@ pub record Turning (d : Direction) (ks : List ℕ) (left : ℕ) (s : Reach) : Ty
 
 -- where a walk of the trees from node `at` on stands
 abbrev pub Stands : Direction → List ℕ → ℕ → ℕ → Step → Type 0
-Stands d ks left at (Turn s) = Reached d ks left at s × Turning d ks left s
+Stands d ks left at (Change s) = Reached d ks left at s × Changing d ks left s
 Stands d ks left at (End r) = Walked d ks at left r
 
 -- how it ended, or how far it has come
 abbrev pub walk-at : Step → Walk
-walk-at (Turn s) = Next (s .next) (s .most)
+walk-at (Change s) = Next (s .next) (s .most)
 walk-at (End r) = r
 
 -- the nodes that it has yet to read, none at its end
 abbrev pub nodes-left : List ℕ → Step → ℕ
-nodes-left ks (Turn s) = length ks - s .next
+nodes-left ks (Change s) = length ks - s .next
 nodes-left ks (End r) = 0
 
 -- a walk went on
@@ -133,7 +133,7 @@ pub record Along (d : Direction) (ks : List ℕ) (left : ℕ) (s : Reach) (r : S
 
 -- a walk went on past a cut that changed the direction
 pub record Resumed (d : Direction) (ks : List ℕ) (left : ℕ) (s : Reach) (r : Step) : Type 0 where
-  pub stands : (at : ℕ) → Reached d ks left at s → Turning d ks left s → Stands d ks left at r
+  pub stands : (at : ℕ) → Reached d ks left at s → Changing d ks left s → Stands d ks left at r
   pub fewer : nodes-left ks r < length ks - s .next
 
 -- what the walk of the first cut's parts says of the plan: the cut itself begins the first stage

@@ -25,7 +25,7 @@ struct Reach {
 
 // Where a walk stands: at a cut that changes the direction, whose parts are walked next; or at its end.
 enum Step {
-    Turn(Reach),
+    Change(Reach),
     End(Walk),
 }
 
@@ -98,7 +98,7 @@ fn along(kinds: &[u8], d: Direction, left: u8, from: Reach) -> Step
             if left < 2 {
                 return Step::End(Walk::Past(s.next));
             }
-            return Step::Turn(s);
+            return Step::Change(s);
         }
         s = pass(kind == own, s);
     }
@@ -139,7 +139,7 @@ fn walk_of(step: Step) -> Walk
     ensures { λ r. ⌜ r ≡ walk-at step ⌝ }
 {
     match step {
-        Step::Turn(s) => Walk::Next(s.next, s.most),
+        Step::Change(s) => Walk::Next(s.next, s.most),
         Step::End(walk) => walk,
     }
 }
@@ -151,7 +151,7 @@ fn length_stage(kinds: &[u8], at: u16, left: u8) -> Walk
 {
     let mut step = begin(kinds, Direction::Length, left, at);
     loop {
-        let Step::Turn(s) = step else {
+        let Step::Change(s) = step else {
             return walk_of(step);
         };
         let parts = width_stage(kinds, s.next + 1, left - 1);
@@ -166,7 +166,7 @@ fn width_stage(kinds: &[u8], at: u16, left: u8) -> Walk
 {
     let mut step = begin(kinds, Direction::Width, left, at);
     loop {
-        let Step::Turn(s) = step else {
+        let Step::Change(s) = step else {
             return walk_of(step);
         };
         let parts = length_stage(kinds, s.next + 1, left - 1);

@@ -8,7 +8,7 @@ use borrow.Fn.PlainCycle.{Measures, is, falls, and}
 use lib.ListN.{length}
 use Rattle.cutting.specs.declared.Direction.the-variants.{Length, Width}
 use Rattle.stages.specs.Walks.{Stands, nodes-left}
-use Rattle.stages.proofs.Steps.{at-end, at-turn, turn-left}
+use Rattle.stages.proofs.Steps.{at-end, at-change, change-left}
 use Rattle.stages.proofs.length_stage.Reads as length-stage
 use Rattle.stages.proofs.length_stage.Kinds.{ps}
 use Rattle.stages.proofs.+length_stage+width_stage.Lts-length_stage as length-lts
@@ -47,16 +47,16 @@ pub +length-stage+width-stage-spec : {M : Type 1} → statement M
     (λ t. length-lts.spec (begin.Asked, begin.Learnt, walk-of.Asked, walk-of.Learnt, below width-stage.Pre t, width-stage.Post, resume.Asked, resume.Learnt) (at length-stage.Pre t) length-stage.Post length-stands length-left
     (λ c κs. search needs) (λ c. c .begin .ensures) (λ c. search needs) (λ c. search needs) (λ c κs. search needs)
     (λ c. rw (c .walk-of .ensures) (at-end Length _ _ _ _ (c .before .before .before .loop .inv) (c .before .enum-told .given .1)))
-    (λ c. (let w = at-turn Length _ _ _ _ (c .before .before .before .before .loop .inv) (c .before .before .step .given .1) in omega (arith, w .1 .inside, c .before .before .before .before .before .before .before .pre .1 .1))) (λ c. search needs)
-    (λ c κs. (let w = at-turn Length _ _ _ _ (c .before .before .before .before .loop .inv) (c .before .before .step .given .1) in (omega (arith, w .0 .from, w .1 .inside, c .before .before .before .before .before .before .before .pre .0), (omega (arith, w .1 .inside), c .before .before .before .before .before .before .before .pre .1 .1, omega (arith, w .1 .room), omega (arith, c .before .before .before .before .before .before .before .pre .1 .3)))))
-    (λ c κs. (let w = at-turn Length _ _ _ _ (c .before .before .before .before .before .loop .inv) (c .before .before .before .step .given .1) in (w .1 .inside, w .1 .some, w .1 .few, c .before .before .before .before .before .before .before .before .pre .1 .1, c .before .before .before .before .before .before .before .before .pre .1 .2, c .before .before .before .before .before .before .before .before .pre .1 .3, c .width-stage .ensures)))
-    (λ c. rw (turn-left _ _ (c .before .before .before .before .step .given .1)) (c .resume .ensures .fewer))
-    (λ c. (let w = at-turn Length _ _ _ _ (c .before .before .before .before .before .before .loop .inv) (c .before .before .before .before .step .given .1) in c .resume .ensures .stands _ (w .0) (w .1))))
+    (λ c. (let w = at-change Length _ _ _ _ (c .before .before .before .before .loop .inv) (c .before .before .step .given .1) in omega (arith, w .1 .inside, c .before .before .before .before .before .before .before .pre .1 .1))) (λ c. search needs)
+    (λ c κs. (let w = at-change Length _ _ _ _ (c .before .before .before .before .loop .inv) (c .before .before .step .given .1) in (omega (arith, w .0 .from, w .1 .inside, c .before .before .before .before .before .before .before .pre .0), (omega (arith, w .1 .inside), c .before .before .before .before .before .before .before .pre .1 .1, omega (arith, w .1 .room), omega (arith, c .before .before .before .before .before .before .before .pre .1 .3)))))
+    (λ c κs. (let w = at-change Length _ _ _ _ (c .before .before .before .before .before .loop .inv) (c .before .before .before .step .given .1) in (w .1 .inside, w .1 .some, w .1 .few, c .before .before .before .before .before .before .before .before .pre .1 .1, c .before .before .before .before .before .before .before .before .pre .1 .2, c .before .before .before .before .before .before .before .before .pre .1 .3, c .width-stage .ensures)))
+    (λ c. rw (change-left _ _ (c .before .before .before .before .step .given .1)) (c .resume .ensures .fewer))
+    (λ c. (let w = at-change Length _ _ _ _ (c .before .before .before .before .before .before .loop .inv) (c .before .before .before .before .step .given .1) in c .resume .ensures .stands _ (w .0) (w .1))))
     (λ t. width-lts.spec (begin.Asked, begin.Learnt, walk-of.Asked, walk-of.Learnt, below length-stage.Pre t, length-stage.Post, resume.Asked, resume.Learnt) (at width-stage.Pre t) width-stage.Post width-stands width-left
     (λ c κs. search needs) (λ c. c .begin .ensures) (λ c. search needs) (λ c. search needs) (λ c κs. search needs)
     (λ c. rw (c .walk-of .ensures) (at-end Width _ _ _ _ (c .before .before .before .loop .inv) (c .before .enum-told .given .1)))
-    (λ c. (let w = at-turn Width _ _ _ _ (c .before .before .before .before .loop .inv) (c .before .before .step .given .1) in omega (arith, w .1 .inside, c .before .before .before .before .before .before .before .pre .1 .1))) (λ c. search needs)
-    (λ c κs. (let w = at-turn Width _ _ _ _ (c .before .before .before .before .loop .inv) (c .before .before .step .given .1) in (omega (arith, w .0 .from, w .1 .inside, c .before .before .before .before .before .before .before .pre .0), (omega (arith, w .1 .inside), c .before .before .before .before .before .before .before .pre .1 .1, omega (arith, w .1 .room), omega (arith, c .before .before .before .before .before .before .before .pre .1 .3)))))
-    (λ c κs. (let w = at-turn Width _ _ _ _ (c .before .before .before .before .before .loop .inv) (c .before .before .before .step .given .1) in (w .1 .inside, w .1 .some, w .1 .few, c .before .before .before .before .before .before .before .before .pre .1 .1, c .before .before .before .before .before .before .before .before .pre .1 .2, c .before .before .before .before .before .before .before .before .pre .1 .3, c .length-stage .ensures)))
-    (λ c. rw (turn-left _ _ (c .before .before .before .before .step .given .1)) (c .resume .ensures .fewer))
-    (λ c. (let w = at-turn Width _ _ _ _ (c .before .before .before .before .before .before .loop .inv) (c .before .before .before .before .step .given .1) in c .resume .ensures .stands _ (w .0) (w .1))))
+    (λ c. (let w = at-change Width _ _ _ _ (c .before .before .before .before .loop .inv) (c .before .before .step .given .1) in omega (arith, w .1 .inside, c .before .before .before .before .before .before .before .pre .1 .1))) (λ c. search needs)
+    (λ c κs. (let w = at-change Width _ _ _ _ (c .before .before .before .before .loop .inv) (c .before .before .step .given .1) in (omega (arith, w .0 .from, w .1 .inside, c .before .before .before .before .before .before .before .pre .0), (omega (arith, w .1 .inside), c .before .before .before .before .before .before .before .pre .1 .1, omega (arith, w .1 .room), omega (arith, c .before .before .before .before .before .before .before .pre .1 .3)))))
+    (λ c κs. (let w = at-change Width _ _ _ _ (c .before .before .before .before .before .loop .inv) (c .before .before .before .step .given .1) in (w .1 .inside, w .1 .some, w .1 .few, c .before .before .before .before .before .before .before .before .pre .1 .1, c .before .before .before .before .before .before .before .before .pre .1 .2, c .before .before .before .before .before .before .before .before .pre .1 .3, c .length-stage .ensures)))
+    (λ c. rw (change-left _ _ (c .before .before .before .before .step .given .1)) (c .resume .ensures .fewer))
+    (λ c. (let w = at-change Width _ _ _ _ (c .before .before .before .before .before .before .loop .inv) (c .before .before .before .before .step .given .1) in c .resume .ensures .stands _ (w .0) (w .1))))

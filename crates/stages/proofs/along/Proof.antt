@@ -4,7 +4,7 @@ use Prim.Native.Nat.{_-_}
 use native.Mathlib.Omega.{arith}
 use borrow.Author.Needs.{needs}
 use lib.ListN.{length}
-use Rattle.stages.proofs.Steps.{own-small, Going, sets-out, passed-next, passes, along-ends, along-lacks, along-past, along-turns}
+use Rattle.stages.proofs.Steps.{own-small, Going, sets-out, passed-next, passes, along-ends, along-lacks, along-past, along-changes}
 use Rattle.stages.proofs.along.Statement.{statement}
 use Rattle.stages.proofs.along.Tie as tie
 use Rattle.stages.proofs.along.Reads as reads
@@ -33,7 +33,7 @@ returns-2 c =
 returns-3 : tie.Need-returns-3 Inv-loop μ-loop
 returns-3 c =
     let l = c .before .before .before .before .before .before .before in
-    along-turns _ (l .loop .inv) (l .before .cut-kind .ensures) (c .before .before .before .before .before .if1 .taken) _ (c .before .before .before .if2 .left) refl (c .before .if3 .taken) (c .if4 .left)
+    along-changes _ (l .loop .inv) (l .before .cut-kind .ensures) (c .before .before .before .before .before .if1 .taken) _ (c .before .before .before .if2 .left) refl (c .before .if3 .taken) (c .if4 .left)
 
 pass-requires : tie.Need-pass-requires Inv-loop μ-loop
 pass-requires c κs = let l = c .before .before .before .before .before .before in (c .before .before .before .before .if1 .taken, l .loop .inv .few, omega arith)
