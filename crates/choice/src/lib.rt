@@ -191,48 +191,64 @@ fn find_cut(
     found
 }
 
-// The first length cut that earns a cell's figure, or failing all the first width cut, or waste. A row of the table has the words of one
-// normal length, the a-th; those of one normal width in it, the b-th, stand together.
+// The search for a length cut of a cell. A row of the table has the words of one normal length, the a-th; those of one normal width in it,
+// the b-th, stand together.
+fn length_search(size: TableSize, cell: Cell, place: Place) -> CutSearch
+    requires { ⌜ place .b * (size .capacity + 1) < 18446744073709551616 ⌝ }
+    ensures { λ r. ⌜ r ≡ length-search size cell place ⌝ }
+{
+    let shares = size.capacity as usize + 1;
+    CutSearch {
+        side: cell.sides.length as usize,
+        last: place.a,
+        stride: size.columns as usize * shares,
+        base: place.b * shares,
+        share: cell.share as usize,
+        value: place.value,
+    }
+}
+
+// The search for a width cut of a cell.
+fn width_search(size: TableSize, cell: Cell, place: Place) -> CutSearch
+    requires { ⌜ place .a * (size .columns * (size .capacity + 1)) < 18446744073709551616 ⌝ }
+    ensures { λ r. ⌜ r ≡ width-search size cell place ⌝ }
+{
+    let shares = size.capacity as usize + 1;
+    let row = size.columns as usize * shares;
+    CutSearch {
+        side: cell.sides.width as usize,
+        last: place.b,
+        stride: shares,
+        base: place.a * row,
+        share: cell.share as usize,
+        value: place.value,
+    }
+}
+
+// The first length cut that earns a cell's figure, or failing all the first width cut, or waste.
 fn choose_cut(
     cell: Cell,
     place: Place,
     size: TableSize,
-    normal_lengths: &[u16],
-    normal_widths: &[u16],
+    lengths: &[u16],
+    widths: &[u16],
     floors: &[u16],
     table: &[u64],
     blocks: &[u32],
     d: usize,
 ) -> Chosen
-    requires { ⌜ Searchable (now «normal_lengths») (now floors) (now table) (length-search size cell place)
-        × Searchable (now «normal_widths») (drop 1021 (now floors)) (now table) (width-search size cell place) × Ordered (now blocks) d ⌝ }
-    ensures { λ r. ⌜ r ≡ cut-chosen (under (now (blocks .entry)) d) (now («normal_lengths» .entry)) (now («normal_widths» .entry)) (now (floors .entry)) (now (table .entry)) size cell place ⌝ }
+    requires { ⌜ Searchable (now lengths) (now floors) (now table) (length-search size cell place)
+        × Searchable (now widths) (drop 1021 (now floors)) (now table) (width-search size cell place) × Ordered (now blocks) d ⌝ }
+    ensures { λ r. ⌜ r ≡ cut-chosen (under (now (blocks .entry)) d) (now (lengths .entry)) (now (widths .entry)) (now (floors .entry)) (now (table .entry)) size cell place ⌝ }
 {
-    let share = cell.share as usize;
-    let shares = size.capacity as usize + 1;
-    let row = size.columns as usize * shares;
-    let along = CutSearch {
-        side: cell.sides.length as usize,
-        last: place.a,
-        stride: row,
-        base: place.b * shares,
-        share: share,
-        value: place.value,
-    };
-    let length_cut = find_cut(normal_lengths, floors, table, blocks, d, along);
+    let along = length_search(size, cell, place);
+    let length_cut = find_cut(lengths, floors, table, blocks, d, along);
     if let CutFound::At(x, k) = length_cut {
         return choice_of(Node::Cut(Direction::Length, x), k);
     }
-    let width_floors = &floors[1021..];
-    let across = CutSearch {
-        side: cell.sides.width as usize,
-        last: place.b,
-        stride: shares,
-        base: place.a * row,
-        share: share,
-        value: place.value,
-    };
-    let width_cut = find_cut(normal_widths, width_floors, table, blocks, d, across);
+    let rest = &floors[1021..];
+    let across = width_search(size, cell, place);
+    let width_cut = find_cut(widths, rest, table, blocks, d, across);
     if let CutFound::At(x, k) = width_cut {
         return choice_of(Node::Cut(Direction::Width, x), k);
     }
@@ -245,14 +261,14 @@ pub fn choose(
     cell: Cell,
     size: TableSize,
     pieces: &[u32; 640],
-    normal_lengths: &[u16],
-    normal_widths: &[u16],
+    lengths: &[u16],
+    widths: &[u16],
     floors: &[u16],
     table: &[u64],
     blocks: &[u32],
     d: usize,
 ) -> Chosen
-    requires { ⌜ ChoiceInput size (now blocks) d (now pieces) (now «normal_lengths») (now «normal_widths») (now floors) (now table) × Inside (size-job size (now pieces)) size cell ⌝ }
+    requires { ⌜ ChoiceInput size (now blocks) d (now pieces) (now lengths) (now widths) (now floors) (now table) × Inside (size-job size (now pieces)) size cell ⌝ }
     ensures { λ r. ⌜ r ≡ chosen-at (under (now (blocks .entry)) d) size (now (pieces .entry)) cell ⌝ }
 {
     let a = floors[cell.sides.length as usize] as usize;
@@ -272,15 +288,5 @@ pub fn choose(
         b: b,
         value: value,
     };
-    choose_cut(
-        cell,
-        place,
-        size,
-        normal_lengths,
-        normal_widths,
-        floors,
-        table,
-        blocks,
-        d,
-    )
+    choose_cut(cell, place, size, lengths, widths, floors, table, blocks, d)
 }
