@@ -207,11 +207,11 @@ fn place_waste(at: u16, operand: u16, room: Sides, t: Tally) -> NodeAnswer
 
 // A piece node: its copy is counted.
 fn place_piece(
+    copies: &mut [u16; 64],
     kind_lengths: &[u16; 64],
     kind_widths: &[u16; 64],
     prices: &[u32; 64],
     demands: &[u16; 64],
-    copies: &mut [u16; 64],
     count: u16,
     node: PieceEntry,
     room: Sides,
@@ -282,22 +282,22 @@ pub fn check_node(
     match decoded {
         Node::Waste => place_waste(at, operand, room, t),
         Node::Piece(i) => place_piece(
+            copies,
             kind_lengths,
             kind_widths,
             prices,
             demands,
-            copies,
             rules.count,
             piece_entry(at, i, false),
             room,
             t,
         ),
         Node::Turned(i) => place_piece(
+            copies,
             kind_lengths,
             kind_widths,
             prices,
             demands,
-            copies,
             rules.count,
             piece_entry(at, i, true),
             room,
