@@ -204,3 +204,10 @@ pub fn print_plan(input: &[u8]) {
     };
     print_answer(&input[..end], choices, &input[end..]);
 }
+
+// The same of standard input: at most 711 bytes, until these are full or the input ends.
+pub fn print_input() {
+    let mut buffer = [0u8; 711];
+    let n = io::read_full(0, &mut buffer);
+    print_plan(&buffer[..n]);
+}

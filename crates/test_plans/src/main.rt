@@ -46,7 +46,7 @@ use lent::REMARK;
 use lent::TURNING;
 use lent::WEIGHTS;
 use printed::print_bytes;
-use printed::print_input;
+use printer::print_input;
 use test_tools::Words;
 use test_tools::next_command;
 use test_tools::row_to;
