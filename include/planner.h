@@ -70,8 +70,8 @@ extern "C" {
  * (a * r + b) * (capacity + 1) + c the figure of the a-th normal length, the b-th normal width and
  * share c, all counted from 0: the most that a tree of weight at most c earns on the rectangle whose
  * sides are these less k, and 0 where a or b is 0. All later words keep what they held. (That the figures
- * follow the recursion, and the rounds their rules, is proved of the library's own calls, which these
- * functions pass on.)
+ * follow the recursion, that the normal lengths are these sums, and that the rounds follow their rules is
+ * proved of the library's own calls, which these functions pass on.)
  *
  * Stages. Those of a tree are the most changes of direction on a path down through its cuts, plus
  * one; a tree without a cut has none. A limit is from 1 to 8.

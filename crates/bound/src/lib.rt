@@ -16,7 +16,8 @@ ghost use Rattle.bound.specs.Bound.{lent, BoundPromises};
 ghost use Rattle.table.specs.Contracts.{size-job, Fillable, FilledBy};
 ghost use Rattle.bound.specs.Contracts.{Boundable, Bounded};
 
-// What the bound call reports: the bound, the capacity Q, and the numbers p and r of normal lengths and widths.
+// What the bound call reports: the bound, the capacity Q, and the numbers p and r of normal lengths and widths. In the exact call the
+// capacity is the last state.
 pub struct BoundReport {
     pub bound: u64,
     pub capacity: u16,

@@ -1,4 +1,4 @@
--- What the product promises, in three parts. The clauses `answers`, `outcome` and `memory` of the calls tie each answer, its number
+-- What the base promises, in three parts. The clauses `answers`, `outcome` and `memory` of the calls tie each answer, its number
 -- and values, and lent memory to their definitions; here stands what these definitions mean, over all checks, all memory and all
 -- guillotine trees, of any size and whoever drew them. proofs/Refusals proves part 1, proofs/Promises the others.
 -- docs/SCOPE.md: The certificate; The table of refusals; Lent memory.

@@ -1,4 +1,5 @@
 -- Lists and maxima that the definitions speak of: runs of numbers, members that pass a test, pairs, sums and greatest values.
+-- docs/SCOPE.md: The bound; Lent memory.
 use mathlib.Core.Bool.{Bool, true, false, _||_}
 use mathlib.Core.Option.{Option, none, some}
 use mathlib.Core.List.{List, [], _∷_, _++_, map}

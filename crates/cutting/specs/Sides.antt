@@ -1,4 +1,5 @@
 -- A rectangle as the code has it.
+-- docs/SCOPE.md: Guillotine trees.
 use Rattle.cutting.specs.Tree.{Rect}
 use Rattle.cutting.specs.declared.Sides.{Sides}
 

@@ -138,8 +138,8 @@ pub record OptimumWritten (J : Job) (t : Tree Piece) (kinds operands new-kinds n
 -- what the call promises of its answer and of all that it is lent: answer, lists, table and plan arrays are the definitions', number and
 -- values too; with the kerf added to every side the figures follow the recursion over the remaining copies and the normal positions are the
 -- sums. Of a short order, whatever storage is lent: its optimum and its plan hold, the figure of a state is the most that a tree earns there
--- with of no kind more copies than remain, the order of states is that of these copies, and a tabled figure is that of every rectangle whose largest normal sides it has. An answered
--- optimum holds, and an answer reports the plan as it was written
+-- with of no kind more copies than remain, the order of states is that of these copies, and a tabled figure is that of every rectangle
+-- whose largest normal sides it has. An answered optimum holds, and an answer reports the plan as it was written
 pub record ExactPromises (s : List ℕ) (choices : Choices) (old new : Memory) (kinds operands new-kinds new-operands : List ℕ) (r : ExactAnswer) : Type 0 where
   pub answers : r ≡ exact-answer s choices old kinds operands
   pub outcome : exact-outcome r ≡ exact-said s choices old kinds operands

@@ -12,8 +12,8 @@ use Rattle.refusal.specs.Refusals.{Check, next, first-refusal, outcome-by}
 use Rattle.refusal.specs.declared.Checked.{Checked}
 use Rattle.refusal.specs.declared.Checked.the-variants.{Passed, Refused}
 use Rattle.refusal.specs.declared.Refusal.{Refusal}
-use Rattle.job.specs.Block.{plate-length-at, plate-width-at, count-at, kerf-at, sizes-end, length-at, width-at, price-at, demand-at, outside, sides-outside, count-checks, header-checks, plateless-checks, header-by, size-check, pair-checks, each-kind, checks-by, job-checks, record-of, empty-record, read-by, read-of, job-values, job-outcome, job-from, job-of}
-use Rattle.job.specs.Contracts.{HoldsKinds}
+use Rattle.job.specs.Block.{plate-length-at, plate-width-at, count-at, kerf-at, sizes-end, length-at, width-at, price-at, demand-at, outside, sides-outside, count-checks, header-checks, plateless-checks, size-check, pair-checks, each-kind, checks-by, job-checks, record-of, empty-record, read-by, read-of, job-values, job-outcome, job-from, job-of}
+use Rattle.job.specs.Contracts.{HoldsKinds, header-by}
 use Rattle.job.specs.declared.Choices.{Choices}
 use Rattle.job.specs.declared.JobAnswer.{JobAnswer}
 use Rattle.job.specs.declared.JobRecord.{JobRecord}

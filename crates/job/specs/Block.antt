@@ -111,16 +111,6 @@ demand-check h s i = (ltb most-demand (demand-at h s i), Demand i)
 abbrev pub pair-checks : ℕ → List ℕ → ℕ → List Check
 pair-checks h s i = (ltb most-price (price-at h s i), Price i) ∷ demand-check h s i ∷ []
 
--- the checks of a header, whose plate is read or not
-abbrev pub header-by : Bool → Bool → List ℕ → List Check
-header-by true = header-checks
-header-by false = plateless-checks
-
--- the checks of a pair, whose price is read or not
-abbrev pub pairs-by : Bool → ℕ → List ℕ → ℕ → List Check
-pairs-by true = pair-checks
-pairs-by false = λ h s i. demand-check h s i ∷ []
-
 -- the checks of the kinds from i on, n of them, kind after kind
 unfoldable pub each-kind : (ℕ → List Check) → ℕ → ℕ → List Check
 each-kind f i zero = []

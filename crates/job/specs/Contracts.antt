@@ -1,10 +1,22 @@
--- What only the inner contracts of the job cite: a block with room for its kinds.
+-- What only the inner contracts of the job cite: a block with room for its kinds, and the checks of a header and of a pair by what is read.
 use mathlib.Core.Path.{_≡_}
-use mathlib.Core.List.{List}
+use mathlib.Core.Bool.{Bool, true, false}
+use mathlib.Core.List.{List, [], _∷_}
 use Prim.Native.Nat.{ℕ, _+_, _*_, _≤_}
 use lib.ListN.{length}
-use Rattle.job.specs.Block.{count-at}
+use Rattle.refusal.specs.Refusals.{Check}
+use Rattle.job.specs.Block.{count-at, header-checks, plateless-checks, demand-check, pair-checks}
 
 -- a block whose sizes end at byte h and that has all the bytes of its n kinds
 abbrev pub HoldsKinds : ℕ → List ℕ → ℕ → Type 0
 HoldsKinds h s n = (n ≡ count-at s) × (n ≤ 64) × (h ≤ 8) × (h + 10 * n ≤ length s)
+
+-- the checks of a header, whose plate is read or not
+abbrev pub header-by : Bool → Bool → List ℕ → List Check
+header-by true = header-checks
+header-by false = plateless-checks
+
+-- the checks of a pair, whose price is read or not
+abbrev pub pairs-by : Bool → ℕ → List ℕ → ℕ → List Check
+pairs-by true = pair-checks
+pairs-by false = λ h s i. demand-check h s i ∷ []

@@ -35,7 +35,7 @@ use Rattle.rounds.specs.Rounds.{Lent, weight-at, round-verdict, rounds-b
 use Rattle.weight_steps.proofs.Rules.{step-rules}
 use Rattle.rounds.proofs.Rules.{rounds-most, stop-rules}
 use Rattle.rounds.proofs.Run.{neither, weights-good, weight-past, no-capacity}
-use Rattle.rounds.proofs.Turns.{listed}
+use Rattle.rounds.proofs.Ends.{listed}
 
 module _ (J : Job) (lower : ℕ) where
   -- the best round's bound is the least, and no earlier round has it

@@ -1,5 +1,5 @@
 pub mod Count
-pub mod Turns
+pub mod Ends
 pub mod Best
 pub mod Run
 pub mod Rules

@@ -33,7 +33,7 @@ use Rattle.weight_steps.specs.Step.{pick-number}
 use Rattle.rounds.specs.Rounds.{plan-copies, next-weight, weight-at, within, stops-after, Lent, round-verdict, refuses, last-here, last-from, last-round, rounds-by, rounds-run, bound-at, best-round, answer-of, found, find-answer-by, run-answer, RoundLeaves, RoundsLeave, RunLeaves}
 use Rattle.rounds.specs.Contracts.{pieces-in, Made, RoundEnded, better, ended}
 use Rattle.rounds.proofs.Count.{pieces-tree}
-use Rattle.rounds.proofs.Turns.{listed, listed-all, next-past}
+use Rattle.rounds.proofs.Ends.{listed, listed-all, next-past}
 
 one-more : (k : ℕ) → k + 1 ≡ suc k
 one-more k = omega arith

@@ -6,7 +6,8 @@ ghost use Prim.Native.Nat.{_+_, _-_, _*_, _≤_, _<_, max};
 ghost use lib.ListN.{length, getD};
 ghost use Rattle.table.specs.Words.{Run, HalfReady, Half};
 
-// What a table is made for: the plate's sides, the number of pieces, p rows and r columns of cells, and the capacity Q.
+// What a table is made for: the plate's sides, the number of pieces, p rows and r columns of cells, and the capacity Q; in the exact call
+// that is the last state.
 pub struct TableSize {
     pub length: u16,
     pub width: u16,

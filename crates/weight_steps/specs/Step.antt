@@ -6,7 +6,6 @@ use mathlib.Core.List.{List, [], _∷_}
 use Prim.Native.Nat.{ℕ, zero, suc, _+_, _-_, _*_, _/_, _^_, _≤_, _<_, max, min}
 use lib.Dec.{leb, ltb}
 use lib.ListN.{getD}
-use Rattle.cutting.specs.Lists.{sum}
 
 -- the most rounds of a run, numbered from 0
 abbrev pub most-rounds : ℕ
@@ -31,10 +30,6 @@ factors = 32 ∷ 32 ∷ 32 ∷ 16 ∷ 16 ∷ 16 ∷ 8 ∷ 8 ∷ 8 ∷ 4 ∷ 4 �
 -- d: how far copies lie from the demand
 abbrev pub distance : ℕ → ℕ → ℕ
 distance copies demand = (copies - demand) + (demand - copies)
-
--- the summed squares of the distances of n kinds, over arrays of copies and demands
-abbrev pub summed : List ℕ → List ℕ → ℕ → ℕ
-summed copies demands n = sum n (λ i. distance (getD copies i 0) (getD demands i 0) * distance (getD copies i 0) (getD demands i 0))
 
 -- one of two numbers, by a test
 abbrev pub pick-number : Bool → ℕ → ℕ → ℕ

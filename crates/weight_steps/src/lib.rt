@@ -5,7 +5,8 @@ ghost use Prim.Native.Nat.{_+_, _*_, _-_, _≤_, _<_, min};
 ghost use lib.Dec.{ltb};
 ghost use lib.ListN.{getD};
 ghost use Rattle.job.specs.Block.{entries};
-ghost use Rattle.weight_steps.specs.Step.{factor, distance, root-below, scale, stepped, adjusted, summed};
+ghost use Rattle.weight_steps.specs.Step.{factor, distance, root-below, scale, stepped, adjusted};
+ghost use Rattle.weight_steps.specs.Contracts.{summed-squares};
 
 // The factor of each round in sixteenths: 2, halved after every third round.
 const FACTORS: [u64; 18] = [32, 32, 32, 16, 16, 16, 8, 8, 8, 4, 4, 4, 2, 2, 2, 1, 1, 1];
@@ -91,7 +92,7 @@ fn adjust(weight: u8, copies: u16, demand: u16, top: u64, q: u64) -> u8
 // The summed squares of the distances of n kinds.
 fn sum_squares(copies: &[u16; 64], demands: &[u16; 64], n: u16) -> u64
     requires { ⌜ n ≤ 64 ⌝ }
-    ensures { λ r. ⌜ (r ≡ summed (now (copies .entry)) (now (demands .entry)) n) × (r ≤ 4294836225 * n) ⌝ }
+    ensures { λ r. ⌜ (r ≡ summed-squares (now (copies .entry)) (now (demands .entry)) n) × (r ≤ 4294836225 * n) ⌝ }
 {
     let mut squares = 0u64;
     for i in 0..n {
@@ -133,7 +134,7 @@ pub fn next_weights(
     gap: u64,
 ) -> [u8; 64]
     requires { ⌜ (n ≤ 64) × (round < 18) × (gap ≤ 1000000000000) ⌝ }
-    ensures { λ r. ⌜ r ≡ entries (λ i. adjusted (factor round) gap (summed (now (copies .entry)) (now (demands .entry)) n)
+    ensures { λ r. ⌜ r ≡ entries (λ i. adjusted (factor round) gap (summed-squares (now (copies .entry)) (now (demands .entry)) n)
         (getD (now (weights .entry)) i 0) (getD (now (copies .entry)) i 0) (getD (now (demands .entry)) i 0)) n ⌝ }
 {
     let squares = sum_squares(copies, demands, n);

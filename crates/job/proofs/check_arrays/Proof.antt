@@ -4,7 +4,8 @@ use mathlib.Core.List.{[], _∷_}
 use borrow.Author.Needs.{needs}
 use denote.Ref.{now}
 use Rattle.refusal.specs.Refusals.{first-refusal}
-use Rattle.job.specs.Block.{size-check, pairs-by, each-kind}
+use Rattle.job.specs.Block.{size-check, each-kind}
+use Rattle.job.specs.Contracts.{pairs-by}
 use Rattle.job.proofs.Checks.{next-stops, next-passes, first-append}
 use Rattle.job.proofs.check_arrays.Statement.{statement}
 use Rattle.job.proofs.check_arrays.Tie as tie

@@ -20,7 +20,8 @@ use Rattle.job.specs.Weights.{weight-in, weights-answer}
 use Rattle.job.proofs.Entries.{entries-length, entries-in, entries-past}
 use Rattle.job.proofs.Weights.{answer-passed, capacity-answered, weights-passed}
 use Rattle.bound.proofs.Holds.{bound-held}
-use Rattle.weight_steps.specs.Step.{factor, distance, adjusted, summed}
+use Rattle.weight_steps.specs.Step.{factor, distance, adjusted}
+use Rattle.weight_steps.specs.Contracts.{summed-squares}
 use Rattle.rounds.specs.Rounds.{plan-copies, squares, gap, next-weight, within}
 use Rattle.rounds.specs.Contracts.{pieces-in, Made, RoundEnded}
 use Rattle.weight_steps.proofs.Sums.{any-same, sum-same}
@@ -76,7 +77,7 @@ module _ (job : JobRecord) (lower round bound nodes : ℕ) (weights kinds operan
   unfolding within
   within-is e = sym (e ∙ ap not (any-same _ _ (job .count) (λ i h. ap (ltb (getD (job .demands) i 0)) (copies-are i h))))
 
-  squares-are : summed copies (job .demands) (job .count) ≡ squares (job-of job) (plan-copies (job-of job) (weight-in weights))
+  squares-are : summed-squares copies (job .demands) (job .count) ≡ squares (job-of job) (plan-copies (job-of job) (weight-in weights))
   unfolding squares
   squares-are = sum-same (job .count) _ _ (λ i h. ap (λ x. distance x (getD (job .demands) i 0) * distance x (getD (job .demands) i 0)) (copies-are i h))
 
@@ -85,16 +86,16 @@ module _ (job : JobRecord) (lower round bound nodes : ℕ) (weights kinds operan
   gap-most = omega (arith, made .bound-is, bound-held (job-of job) (weight-in weights) (made .in-range) .ceiling)
 
   -- the next weights
-  pub next-are : {next : List ℕ} → next ≡ entries (λ i. adjusted (factor round) (bound - lower) (summed copies (job .demands) (job .count)) (getD weights i 0) (getD copies i 0) (getD (job .demands) i 0)) (job .count)
+  pub next-are : {next : List ℕ} → next ≡ entries (λ i. adjusted (factor round) (bound - lower) (summed-squares copies (job .demands) (job .count)) (getD weights i 0) (getD copies i 0) (getD (job .demands) i 0)) (job .count)
       → next ≡ entries (next-weight (job-of job) lower round (weight-in weights)) (job .count)
   unfolding next-weight
   next-are e = e ∙ entries-same _ _ (job .count) (λ i h.
-      ap (λ c. adjusted (factor round) (bound - lower) (summed copies (job .demands) (job .count)) (getD weights i 0) c (getD (job .demands) i 0)) (copies-are i h)
+      ap (λ c. adjusted (factor round) (bound - lower) (summed-squares copies (job .demands) (job .count)) (getD weights i 0) c (getD (job .demands) i 0)) (copies-are i h)
       ∙ ap₂ (λ b s. adjusted (factor round) (b - lower) s (getD weights i 0) (plan-copies (job-of job) (weight-in weights) i) (getD (job .demands) i 0)) (made .bound-is) squares-are
       ∙ sym (ap (λ t. only t (adjusted (factor round) (gap (job-of job) lower (weight-in weights)) (squares (job-of job) (plan-copies (job-of job) (weight-in weights))) (getD weights i 0) (plan-copies (job-of job) (weight-in weights) i) (getD (job .demands) i 0))) (lt-ltb i (job .count) h)))
 
   -- the array holds them
-  pub next-room : {next : List ℕ} → next ≡ entries (λ i. adjusted (factor round) (bound - lower) (summed copies (job .demands) (job .count)) (getD weights i 0) (getD copies i 0) (getD (job .demands) i 0)) (job .count)
+  pub next-room : {next : List ℕ} → next ≡ entries (λ i. adjusted (factor round) (bound - lower) (summed-squares copies (job .demands) (job .count)) (getD weights i 0) (getD copies i 0) (getD (job .demands) i 0)) (job .count)
       → length (take (job .count) next) ≡ job .count
   next-room {next} f = length-take-le (job .count) next (omega (arith, ap length (next-are f), entries-length (next-weight (job-of job) lower round (weight-in weights)) (job .count), made .in-range .kinds .1))
 
@@ -114,7 +115,7 @@ module _ (job : JobRecord) (lower round bound nodes : ℕ) (weights kinds operan
         goes-on = λ z. differ z;
       }
 
-      module _ (q : round ≡ 17 → ⊥) {next : List ℕ} (f : next ≡ entries (λ i. adjusted (factor round) (bound - lower) (summed copies (job .demands) (job .count)) (getD weights i 0) (getD copies i 0) (getD (job .demands) i 0)) (job .count))
+      module _ (q : round ≡ 17 → ⊥) {next : List ℕ} (f : next ≡ entries (λ i. adjusted (factor round) (bound - lower) (summed-squares copies (job .demands) (job .count)) (getD weights i 0) (getD copies i 0) (getD (job .demands) i 0)) (job .count))
           {a : WeightsAnswer} (g : a ≡ weights-answer (job-of job) (take (job .count) next)) where
         tested : {b : Bool} → ltb 4095 (capacity (job-of job) (next-weight (job-of job) lower round (weight-in weights))) ≡ b
             → b ≡ (within (job-of job) (plan-copies (job-of job) (weight-in weights)) || (eqb round 17 || ltb 4095 (capacity (job-of job) (next-weight (job-of job) lower round (weight-in weights)))))
