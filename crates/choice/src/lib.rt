@@ -230,25 +230,25 @@ fn choose_cut(
     cell: Cell,
     place: Place,
     size: TableSize,
-    lengths: &[u16],
-    widths: &[u16],
+    normal_lengths: &[u16],
+    normal_widths: &[u16],
     floors: &[u16],
     table: &[u64],
     blocks: &[u32],
     d: usize,
 ) -> Chosen
-    requires { ⌜ Searchable (now lengths) (now floors) (now table) (length-search size cell place)
-        × Searchable (now widths) (drop 1021 (now floors)) (now table) (width-search size cell place) × Ordered (now blocks) d ⌝ }
-    ensures { λ r. ⌜ r ≡ cut-chosen (under (now (blocks .entry)) d) (now (lengths .entry)) (now (widths .entry)) (now (floors .entry)) (now (table .entry)) size cell place ⌝ }
+    requires { ⌜ Searchable (now «normal_lengths») (now floors) (now table) (length-search size cell place)
+        × Searchable (now «normal_widths») (drop 1021 (now floors)) (now table) (width-search size cell place) × Ordered (now blocks) d ⌝ }
+    ensures { λ r. ⌜ r ≡ cut-chosen (under (now (blocks .entry)) d) (now («normal_lengths» .entry)) (now («normal_widths» .entry)) (now (floors .entry)) (now (table .entry)) size cell place ⌝ }
 {
     let along = length_search(size, cell, place);
-    let length_cut = find_cut(lengths, floors, table, blocks, d, along);
+    let length_cut = find_cut(normal_lengths, floors, table, blocks, d, along);
     if let CutFound::At(x, k) = length_cut {
         return choice_of(Node::Cut(Direction::Length, x), k);
     }
     let rest = &floors[1021..];
     let across = width_search(size, cell, place);
-    let width_cut = find_cut(widths, rest, table, blocks, d, across);
+    let width_cut = find_cut(normal_widths, rest, table, blocks, d, across);
     if let CutFound::At(x, k) = width_cut {
         return choice_of(Node::Cut(Direction::Width, x), k);
     }
@@ -261,14 +261,14 @@ pub fn choose(
     cell: Cell,
     size: TableSize,
     pieces: &[u32; 640],
-    lengths: &[u16],
-    widths: &[u16],
+    normal_lengths: &[u16],
+    normal_widths: &[u16],
     floors: &[u16],
     table: &[u64],
     blocks: &[u32],
     d: usize,
 ) -> Chosen
-    requires { ⌜ ChoiceInput size (now blocks) d (now pieces) (now lengths) (now widths) (now floors) (now table) × Inside (size-job size (now pieces)) size cell ⌝ }
+    requires { ⌜ ChoiceInput size (now blocks) d (now pieces) (now «normal_lengths») (now «normal_widths») (now floors) (now table) × Inside (size-job size (now pieces)) size cell ⌝ }
     ensures { λ r. ⌜ r ≡ chosen-at (under (now (blocks .entry)) d) size (now (pieces .entry)) cell ⌝ }
 {
     let a = floors[cell.sides.length as usize] as usize;
@@ -288,5 +288,15 @@ pub fn choose(
         b: b,
         value: value,
     };
-    choose_cut(cell, place, size, lengths, widths, floors, table, blocks, d)
+    choose_cut(
+        cell,
+        place,
+        size,
+        normal_lengths,
+        normal_widths,
+        floors,
+        table,
+        blocks,
+        d,
+    )
 }

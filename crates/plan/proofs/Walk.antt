@@ -157,13 +157,13 @@ pub record Walking (J : Job) (kinds operands : List ℕ) (first : ℕ) (copies l
   pub walks : tree-walk J first (drop first (nodes-in kinds operands)) (J .plate ∷ []) empty-report ≡ tree-walk J k (drop k (nodes-in kinds operands)) (waiting lengths widths n) (plan-report t copies)
 
 -- it begins with the plate
-pub begins : (J : Job) (kinds operands : List ℕ) (first : ℕ) (t : Tally) → first ≤ length kinds → t ≡ no-sums → Walking J kinds operands first (replicate 64 0) (replicate 4096 (J .plate .0)) (replicate 4096 (J .plate .1)) 1 t first
+pub begins : (J : Job) (kinds operands : List ℕ) (first : ℕ) (t : Tally) → first ≤ length kinds → t ≡ no-sums → Walking J kinds operands first (replicate 64 0) (set (replicate 4096 0) 0 (J .plate .0)) (set (replicate 4096 0) 0 (J .plate .1)) 1 t first
 unfolding waiting
 begins J kinds operands first t h e = rw e
     (record {
       nodes = h;
       few = omega arith;
-      held = (length-replicate {A = ℕ} 4096 (J .plate .0), length-replicate {A = ℕ} 4096 (J .plate .1));
+      held = (length-set (replicate 4096 0) 0 (J .plate .0) ∙ length-replicate {A = ℕ} 4096 0, length-set (replicate 4096 0) 0 (J .plate .1) ∙ length-replicate {A = ℕ} 4096 0);
       sized = record { profit = omega arith; pieces = omega arith; waste = omega arith; trim = omega arith; sawdust = omega arith };
       walks = refl;
     })

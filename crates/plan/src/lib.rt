@@ -202,8 +202,10 @@ pub fn walk_tree(job: JobRecord, kinds: &[u8], operands: &[u16], first: usize) -
     let demands = job.demands;
     let rules = rules_of(job);
     let mut copies = [0u16; 64];
-    let mut lengths = [job.length; 4096];
-    let mut widths = [job.width; 4096];
+    let mut lengths = [0u16; 4096];
+    let mut widths = [0u16; 4096];
+    lengths[0] = job.length;
+    widths[0] = job.width;
     let mut n: usize = 1;
     let mut t = no_sums();
     for k in first..kinds.len() {
@@ -327,16 +329,14 @@ pub fn check_plan(block: &[u8], choices: Choices, kinds: &[u8], operands: &[u16]
     check_nodes(job, kinds, operands)
 }
 
-// The operands of a plan block, in the first entries.
-fn read_operands(plan: &[u8], count: usize) -> [u16; 4095]
-    requires { ⌜ (count ≡ plan-count (now plan)) × (length (now plan) ≡ 2 + 3 * count) × (count ≤ most-nodes) ⌝ }
-    ensures { λ r. ⌜ (take count r ≡ plan-operands (now (plan .entry))) × (length r ≡ most-nodes) ⌝ }
+// The operands of a plan block, into the first entries.
+fn read_operands(plan: &[u8], count: usize, operands: &mut [u16; 4095])
+    requires { ⌜ (count ≡ plan-count (now plan)) × (length (now plan) ≡ 2 + 3 * count) × (count ≤ most-nodes) × (length (now operands) ≡ most-nodes) ⌝ }
+    ensures { λ _. ⌜ (take count (now (operands .exit)) ≡ plan-operands (now (plan .entry))) × (length (now (operands .exit)) ≡ most-nodes) ⌝ }
 {
-    let mut operands = [0u16; 4095];
     for i in 0..count {
         operands[i] = read_u16(plan, 2 + count + 2 * i);
     }
-    operands
 }
 
 // A plan block checked for a job that was read: refusals 10 to 18 and 26.
@@ -355,7 +355,8 @@ fn check_block(job: JobRecord, plan: &[u8]) -> PlanAnswer
     if 4095 < count {
         return without_report(Checked::Refused(Refusal::NodeCount));
     }
-    let operands = read_operands(plan, count);
+    let mut operands = [0u16; 4095];
+    read_operands(plan, count, &mut operands);
     check_nodes(job, &plan[2..end], &operands[..count])
 }
 

@@ -69,17 +69,17 @@ fn line_to(positions: &[u16], at: usize, index: usize, stride: usize) -> Line
 fn fill_cell(
     table: &mut [u64],
     pieces: &[u32; 640],
-    lengths: &[u16],
-    widths: &[u16],
+    normal_lengths: &[u16],
+    normal_widths: &[u16],
     floors: &[u16],
     shape: Shape,
     block: Block,
     i: usize,
     flat: usize,
 ) -> usize
-    requires { ⌜ BlockLent (job-in shape (now pieces)) (now lengths) (now widths) (now floors) shape block (now table) × (i < shape .«length_count» * shape .columns)
-        × Below (job-in shape (now pieces)) (listed-weight (now pieces)) (now lengths) (now widths) (shape .words) (block-start shape block + i) flat (now table) ⌝ }
-    ensures { λ r. ⌜ BlockMade (job-in shape (now (pieces .entry))) (listed-weight (now (pieces .entry))) (now (lengths .entry)) (now (widths .entry)) shape (block-start shape block + i + 1) r (now (table .entry)) (now (table .exit)) ⌝ }
+    requires { ⌜ BlockLent (job-in shape (now pieces)) (now «normal_lengths») (now «normal_widths») (now floors) shape block (now table) × (i < shape .«length_count» * shape .columns)
+        × Below (job-in shape (now pieces)) (listed-weight (now pieces)) (now «normal_lengths») (now «normal_widths») (shape .words) (block-start shape block + i) flat (now table) ⌝ }
+    ensures { λ r. ⌜ BlockMade (job-in shape (now (pieces .entry))) (listed-weight (now (pieces .entry))) (now («normal_lengths» .entry)) (now («normal_widths» .entry)) shape (block-start shape block + i + 1) r (now (table .entry)) (now (table .exit)) ⌝ }
 {
     let words = shape.words;
     let a = i / shape.columns;
@@ -95,22 +95,22 @@ fn fill_cell(
         return flat;
     }
     if block.stage == 0 {
-        let l = widen(lengths[a]);
-        let w = widen(widths[b]);
+        let l = widen(normal_lengths[a]);
+        let w = widen(normal_widths[b]);
         return make_uncut(table, pieces, shape, at, l, w, flat);
     }
     let source = (source_number(block) * cells + i) * words;
     let width_first = block.width_first;
     if width_first {
-        let line = line_to(widths, at, b, words);
+        let line = line_to(normal_widths, at, b, words);
         let rest = &floors[1021..];
         let above = at - shape.stride;
-        return make_later(table, widths, rest, line, source, above, words, flat);
+        return make_later(table, normal_widths, rest, line, source, above, words, flat);
     }
-    let line = line_to(lengths, at, a, shape.stride);
+    let line = line_to(normal_lengths, at, a, shape.stride);
     make_later(
         table,
-        lengths,
+        normal_lengths,
         floors,
         line,
         source,
@@ -124,16 +124,16 @@ fn fill_cell(
 pub fn fill_block(
     table: &mut [u64],
     pieces: &[u32; 640],
-    lengths: &[u16],
-    widths: &[u16],
+    normal_lengths: &[u16],
+    normal_widths: &[u16],
     floors: &[u16],
     shape: Shape,
     block: Block,
     flat: usize,
 ) -> usize
-    requires { ⌜ BlockLent (job-in shape (now pieces)) (now lengths) (now widths) (now floors) shape block (now table)
-        × Below (job-in shape (now pieces)) (listed-weight (now pieces)) (now lengths) (now widths) (shape .words) (block-start shape block) flat (now table) ⌝ }
-    ensures { λ r. ⌜ BlockMade (job-in shape (now (pieces .entry))) (listed-weight (now (pieces .entry))) (now (lengths .entry)) (now (widths .entry)) shape (block-start shape block + shape .«length_count» * shape .columns) r (now (table .entry)) (now (table .exit)) ⌝ }
+    requires { ⌜ BlockLent (job-in shape (now pieces)) (now «normal_lengths») (now «normal_widths») (now floors) shape block (now table)
+        × Below (job-in shape (now pieces)) (listed-weight (now pieces)) (now «normal_lengths») (now «normal_widths») (shape .words) (block-start shape block) flat (now table) ⌝ }
+    ensures { λ r. ⌜ BlockMade (job-in shape (now (pieces .entry))) (listed-weight (now (pieces .entry))) (now («normal_lengths» .entry)) (now («normal_widths» .entry)) shape (block-start shape block + shape .«length_count» * shape .columns) r (now (table .entry)) (now (table .exit)) ⌝ }
 {
     let cells = shape.length_count * shape.columns;
     let mut high = flat;
@@ -141,8 +141,8 @@ pub fn fill_block(
         high = fill_cell(
             table,
             pieces,
-            lengths,
-            widths,
+            normal_lengths,
+            normal_widths,
             floors,
             shape,
             block,
@@ -157,48 +157,84 @@ pub fn fill_block(
 fn fill_stage(
     table: &mut [u64],
     pieces: &[u32; 640],
-    lengths: &[u16],
-    widths: &[u16],
+    normal_lengths: &[u16],
+    normal_widths: &[u16],
     floors: &[u16],
     shape: Shape,
     stage: usize,
     flat: usize,
 ) -> usize
-    requires { ⌜ StageLent (job-in shape (now pieces)) (listed-weight (now pieces)) (now lengths) (now widths) (now floors) shape stage flat (now table) × (1 ≤ stage) ⌝ }
-    ensures { λ r. ⌜ BlockMade (job-in shape (now (pieces .entry))) (listed-weight (now (pieces .entry))) (now (lengths .entry)) (now (widths .entry)) shape ((2 * stage + 1) * (shape .«length_count» * shape .columns)) r (now (table .entry)) (now (table .exit)) ⌝ }
+    requires { ⌜ StageLent (job-in shape (now pieces)) (listed-weight (now pieces)) (now «normal_lengths») (now «normal_widths») (now floors) shape stage flat (now table) × (1 ≤ stage) ⌝ }
+    ensures { λ r. ⌜ BlockMade (job-in shape (now (pieces .entry))) (listed-weight (now (pieces .entry))) (now («normal_lengths» .entry)) (now («normal_widths» .entry)) shape ((2 * stage + 1) * (shape .«length_count» * shape .columns)) r (now (table .entry)) (now (table .exit)) ⌝ }
 {
     let along = Block {
         stage: stage,
         width_first: false,
     };
-    let high = fill_block(table, pieces, lengths, widths, floors, shape, along, flat);
+    let high = fill_block(
+        table,
+        pieces,
+        normal_lengths,
+        normal_widths,
+        floors,
+        shape,
+        along,
+        flat,
+    );
     let across = Block {
         stage: stage,
         width_first: true,
     };
-    fill_block(table, pieces, lengths, widths, floors, shape, across, high)
+    fill_block(
+        table,
+        pieces,
+        normal_lengths,
+        normal_widths,
+        floors,
+        shape,
+        across,
+        high,
+    )
 }
 
 // The block without a cut, and then stage after stage.
 pub fn fill_blocks(
     table: &mut [u64],
     pieces: &[u32; 640],
-    lengths: &[u16],
-    widths: &[u16],
+    normal_lengths: &[u16],
+    normal_widths: &[u16],
     floors: &[u16],
     shape: Shape,
     limit: usize,
 )
-    requires { ⌜ StagesLent (job-in shape (now pieces)) (now lengths) (now widths) (now floors) shape limit (now table) ⌝ }
-    ensures { λ _. ⌜ StagesMade (job-in shape (now (pieces .entry))) (listed-weight (now (pieces .entry))) (now (lengths .entry)) (now (widths .entry)) shape limit (now (table .entry)) (now (table .exit)) ⌝ }
+    requires { ⌜ StagesLent (job-in shape (now pieces)) (now «normal_lengths») (now «normal_widths») (now floors) shape limit (now table) ⌝ }
+    ensures { λ _. ⌜ StagesMade (job-in shape (now (pieces .entry))) (listed-weight (now (pieces .entry))) (now («normal_lengths» .entry)) (now («normal_widths» .entry)) shape limit (now (table .entry)) (now (table .exit)) ⌝ }
 {
     let uncut = Block {
         stage: 0,
         width_first: true,
     };
-    let mut flat = fill_block(table, pieces, lengths, widths, floors, shape, uncut, 0);
+    let mut flat = fill_block(
+        table,
+        pieces,
+        normal_lengths,
+        normal_widths,
+        floors,
+        shape,
+        uncut,
+        0,
+    );
     for below in 0..limit {
         let stage = below + 1;
-        flat = fill_stage(table, pieces, lengths, widths, floors, shape, stage, flat);
+        flat = fill_stage(
+            table,
+            pieces,
+            normal_lengths,
+            normal_widths,
+            floors,
+            shape,
+            stage,
+            flat,
+        );
     }
 }

@@ -16,12 +16,12 @@ pub fn fill(
     size: TableSize,
     limit: usize,
     pieces: &[u32; 640],
-    lengths: &[u16],
-    widths: &[u16],
+    normal_lengths: &[u16],
+    normal_widths: &[u16],
     floors: &[u16],
     table: &mut [u64],
 )
-    requires { ⌜ StagedFillable size limit (now pieces) (now lengths) (now widths) (now floors) (now table) ⌝ }
+    requires { ⌜ StagedFillable size limit (now pieces) (now «normal_lengths») (now «normal_widths») (now floors) (now table) ⌝ }
     ensures { λ _. ⌜ StagedBy (size-job size (now (pieces .entry))) (listed-weight (now (pieces .entry))) limit (size .capacity) (now (table .entry)) (now (table .exit)) ⌝ }
 {
     let rows = size.rows as usize;
@@ -37,6 +37,14 @@ pub fn fill(
         words: words,
         stride: columns * words,
     };
-    fill_blocks(table, pieces, lengths, widths, floors, shape, limit);
+    fill_blocks(
+        table,
+        pieces,
+        normal_lengths,
+        normal_widths,
+        floors,
+        shape,
+        limit,
+    );
     strip_all(table, (2 * limit + 1) * (rows * columns), words);
 }

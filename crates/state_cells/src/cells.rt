@@ -250,18 +250,18 @@ fn width_line(shape: Shape, place: Place) -> Line
 pub fn make_cell(
     table: &mut [u64],
     pieces: &[u32; 640],
-    lengths: &[u16],
-    widths: &[u16],
+    normal_lengths: &[u16],
+    normal_widths: &[u16],
     floors: &[u16],
     blocks: &[u32],
     shape: Shape,
     place: Place,
 ) -> usize
-    requires { ⌜ Spot (job-in shape (now pieces)) (listed-weight (now pieces)) (now lengths) (now floors) (now widths) (drop 1021 (now floors)) (now blocks) (shape .d) (shape .words) (shape .stride)
+    requires { ⌜ Spot (job-in shape (now pieces)) (listed-weight (now pieces)) (now «normal_lengths») (now floors) (now «normal_widths») (drop 1021 (now floors)) (now blocks) (shape .d) (shape .words) (shape .stride)
         (place .a) (place .b) (place .«length_half_end») (place .«width_half_end») (place .at) (place .column) (place .flat) (now table) ⌝ }
-    ensures { λ r. ⌜ Made (job-in shape (now (pieces .entry))) (under (now (blocks .entry)) (shape .d)) (listed-weight (now (pieces .entry))) (now (lengths .entry)) (now (widths .entry)) (shape .words) (place .a) (place .b) (now (table .exit))
+    ensures { λ r. ⌜ Made (job-in shape (now (pieces .entry))) (under (now (blocks .entry)) (shape .d)) (listed-weight (now (pieces .entry))) (now («normal_lengths» .entry)) (now («normal_widths» .entry)) (shape .words) (place .a) (place .b) (now (table .exit))
         × Outside (place .at) (place .at + shape .words) (now (table .entry)) (now (table .exit))
-        × Levelled (shape .words) (place .flat) r (tabled (job-in shape (now (pieces .entry))) (under (now (blocks .entry)) (shape .d)) (listed-weight (now (pieces .entry))) (now (lengths .entry)) (now (widths .entry)) (place .a) (place .b)) ⌝ }
+        × Levelled (shape .words) (place .flat) r (tabled (job-in shape (now (pieces .entry))) (under (now (blocks .entry)) (shape .d)) (listed-weight (now (pieces .entry))) (now («normal_lengths» .entry)) (now («normal_widths» .entry)) (place .a) (place .b)) ⌝ }
 {
     let at = place.at;
     let words = shape.words;
@@ -272,14 +272,32 @@ pub fn make_cell(
     begin(table, at, shorter, narrower, words, place.flat);
     let mut top = inherit(table, at, narrower, shorter, words, 0);
     top = inherit(table, at, shorter, narrower, words, top);
-    let l = widen(lengths[a]);
-    let w = widen(widths[b]);
+    let l = widen(normal_lengths[a]);
+    let w = widen(normal_widths[b]);
     top = place_pieces(table, pieces, blocks, shape, at, l, w, top);
     let along = length_line(shape, place);
-    top = cut(table, lengths, floors, blocks, shape.d, words, along, top);
+    top = cut(
+        table,
+        normal_lengths,
+        floors,
+        blocks,
+        shape.d,
+        words,
+        along,
+        top,
+    );
     let rest = &floors[1021..];
     let across = width_line(shape, place);
-    top = cut(table, widths, rest, blocks, shape.d, words, across, top);
+    top = cut(
+        table,
+        normal_widths,
+        rest,
+        blocks,
+        shape.d,
+        words,
+        across,
+        top,
+    );
     finish(table, shape.d, at, shorter, narrower, words, top);
     flat_after(shape.d, words, place.flat, top)
 }

@@ -31,25 +31,25 @@ pub struct Row {
 fn fill_row(
     table: &mut [u64],
     pieces: &[u32; 640],
-    lengths: &[u16],
-    widths: &[u16],
+    normal_lengths: &[u16],
+    normal_widths: &[u16],
     floors: &[u16],
     blocks: &[u32],
     shape: Shape,
     row: Row,
 ) -> usize
-    requires { ⌜ RowSpot (job-in shape (now pieces)) (listed-weight (now pieces)) (now lengths) (now floors) (now widths) (drop 1021 (now floors)) (now blocks) (shape .d) (shape .words)
+    requires { ⌜ RowSpot (job-in shape (now pieces)) (listed-weight (now pieces)) (now «normal_lengths») (now floors) (now «normal_widths») (drop 1021 (now floors)) (now blocks) (shape .d) (shape .words)
         (shape .«length_count») (shape .columns) (shape .stride) (row .a) (row .«half_end») (row .at) (row .flat) (now table) ⌝ }
-    ensures { λ r. ⌜ Rows (job-in shape (now (pieces .entry))) (under (now (blocks .entry)) (shape .d)) (listed-weight (now (pieces .entry))) (now (lengths .entry)) (now (widths .entry)) (shape .words) (row .a + 1) (now (table .exit))
+    ensures { λ r. ⌜ Rows (job-in shape (now (pieces .entry))) (under (now (blocks .entry)) (shape .d)) (listed-weight (now (pieces .entry))) (now («normal_lengths» .entry)) (now («normal_widths» .entry)) (shape .words) (row .a + 1) (now (table .exit))
         × Outside (row .at) (row .at + shape .stride) (now (table .entry)) (now (table .exit)) × (r ≤ shape .words)
-        × LevelRows (job-in shape (now (pieces .entry))) (under (now (blocks .entry)) (shape .d)) (listed-weight (now (pieces .entry))) (now (lengths .entry)) (now (widths .entry)) (shape .words) r (row .a + 1) ⌝ }
+        × LevelRows (job-in shape (now (pieces .entry))) (under (now (blocks .entry)) (shape .d)) (listed-weight (now (pieces .entry))) (now («normal_lengths» .entry)) (now («normal_widths» .entry)) (shape .words) r (row .a + 1) ⌝ }
 {
     set_run(table, row.at, shape.words, 0);
     let mut half_end: usize = 1;
     let mut column = shape.words;
     let mut flat = row.flat;
     for b in 1..shape.columns {
-        half_end = half(widths, half_end, b);
+        half_end = half(normal_widths, half_end, b);
         let place = Place {
             a: row.a,
             b: b,
@@ -59,7 +59,16 @@ fn fill_row(
             column: column,
             at: row.at + column,
         };
-        flat = make_cell(table, pieces, lengths, widths, floors, blocks, shape, place);
+        flat = make_cell(
+            table,
+            pieces,
+            normal_lengths,
+            normal_widths,
+            floors,
+            blocks,
+            shape,
+            place,
+        );
         column = column + shape.words;
     }
     flat
@@ -94,13 +103,13 @@ pub fn strip_all(table: &mut [u64], s: usize, words: usize)
 pub fn fill(
     table: &mut [u64],
     pieces: &[u32; 640],
-    lengths: &[u16],
-    widths: &[u16],
+    normal_lengths: &[u16],
+    normal_widths: &[u16],
     floors: &[u16],
     blocks: &[u32],
     shape: Shape,
 )
-    requires { ⌜ CellsLent (job-in shape (now pieces)) (now lengths) (now floors) (now widths) (drop 1021 (now floors)) (now blocks) (shape .d) (shape .words) (now table)
+    requires { ⌜ CellsLent (job-in shape (now pieces)) (now «normal_lengths») (now floors) (now «normal_widths») (drop 1021 (now floors)) (now blocks) (shape .d) (shape .words) (now table)
         × Counted (job-in shape (now pieces)) (shape .words) (shape .«length_count») (shape .columns) (shape .stride) ⌝ }
     ensures { λ _. ⌜ Figures (job-in shape (now (pieces .entry))) (under (now (blocks .entry)) (shape .d)) (listed-weight (now (pieces .entry))) (shape .words) (now (table .exit))
         × Kept (position-count (job-in shape (now (pieces .entry))) Length * position-count (job-in shape (now (pieces .entry))) Width * shape .words) (now (table .entry)) (now (table .exit)) ⌝ }
@@ -110,14 +119,23 @@ pub fn fill(
     let mut half_end: usize = 1;
     let mut flat: usize = 0;
     for a in 1..shape.length_count {
-        half_end = half(lengths, half_end, a);
+        half_end = half(normal_lengths, half_end, a);
         let row = Row {
             a: a,
             half_end: half_end,
             at: at,
             flat: flat,
         };
-        flat = fill_row(table, pieces, lengths, widths, floors, blocks, shape, row);
+        flat = fill_row(
+            table,
+            pieces,
+            normal_lengths,
+            normal_widths,
+            floors,
+            blocks,
+            shape,
+            row,
+        );
         at = at + shape.stride;
     }
     set_run(table, 0, shape.words, 0);

@@ -19,12 +19,12 @@ pub fn fill_states(
     words: usize,
     blocks: &[u32],
     pieces: &[u32; 640],
-    lengths: &[u16],
-    widths: &[u16],
+    normal_lengths: &[u16],
+    normal_widths: &[u16],
     floors: &[u16],
     table: &mut [u64],
 )
-    requires { ⌜ Fillable size (now pieces) (now lengths) (now widths) (now floors) (now table) × Digits (now blocks) d words
+    requires { ⌜ Fillable size (now pieces) (now «normal_lengths») (now «normal_widths») (now floors) (now table) × Digits (now blocks) d words
         × (position-count (size-job size (now pieces)) Length * position-count (size-job size (now pieces)) Width * words ≤ length (now table)) ⌝ }
     ensures { λ _. ⌜ Figures (size-job size (now (pieces .entry))) (under (now (blocks .entry)) d) (listed-weight (now (pieces .entry))) words (now (table .exit))
         × Kept (position-count (size-job size (now (pieces .entry))) Length * position-count (size-job size (now (pieces .entry))) Width * words) (now (table .entry)) (now (table .exit)) ⌝ }
@@ -40,19 +40,27 @@ pub fn fill_states(
         words: words,
         stride: columns * words,
     };
-    fill(table, pieces, lengths, widths, floors, blocks, shape);
+    fill(
+        table,
+        pieces,
+        normal_lengths,
+        normal_widths,
+        floors,
+        blocks,
+        shape,
+    );
 }
 
 // The table of pieces, their weights and a capacity.
 pub fn fill_weighed(
     size: TableSize,
     pieces: &[u32; 640],
-    lengths: &[u16],
-    widths: &[u16],
+    normal_lengths: &[u16],
+    normal_widths: &[u16],
     floors: &[u16],
     table: &mut [u64],
 )
-    requires { ⌜ Fillable size (now pieces) (now lengths) (now widths) (now floors) (now table) ⌝ }
+    requires { ⌜ Fillable size (now pieces) (now «normal_lengths») (now «normal_widths») (now floors) (now table) ⌝ }
     ensures { λ _. ⌜ FilledBy (size-job size (now (pieces .entry))) (listed-weight (now (pieces .entry))) (size .capacity) (now (table .entry)) (now (table .exit)) ⌝ }
 {
     let words = (size.capacity as usize) + 1;
@@ -63,8 +71,8 @@ pub fn fill_weighed(
         words,
         &blocks,
         pieces,
-        lengths,
-        widths,
+        normal_lengths,
+        normal_widths,
         floors,
         table,
     );
@@ -75,12 +83,12 @@ pub fn fill_two(
     size: TableSize,
     second: u16,
     pieces: &[u32; 640],
-    lengths: &[u16],
-    widths: &[u16],
+    normal_lengths: &[u16],
+    normal_widths: &[u16],
     floors: &[u16],
     table: &mut [u64],
 )
-    requires { ⌜ TwoFillable size second (now pieces) (now lengths) (now widths) (now floors) (now table) ⌝ }
+    requires { ⌜ TwoFillable size second (now pieces) (now «normal_lengths») (now «normal_widths») (now floors) (now table) ⌝ }
     ensures { λ _. ⌜ TwoBy (size-job size (now (pieces .entry))) (figure-pair (size-job size (now (pieces .entry))) (size .capacity) second (listed-weight (now (pieces .entry)))) (size .capacity) second (now (table .entry)) (now (table .exit)) ⌝ }
 {
     let fast = (second as usize) + 1;
@@ -92,8 +100,8 @@ pub fn fill_two(
         words,
         &blocks,
         pieces,
-        lengths,
-        widths,
+        normal_lengths,
+        normal_widths,
         floors,
         table,
     );

@@ -1,6 +1,8 @@
 -- `certificate::certify` meets its contract. What is known once job and weights were taken apart is said once, of the context at that point.
 use mathlib.Core.Path.{refl}
 use denote.Ref.{now}
+use Rattle.cutting.specs.Job.{InRange}
+use Rattle.job.specs.Block.{job-of}
 use Rattle.job.proofs.Read.{read-in-range, answered}
 use Rattle.job.proofs.Taken.{Taken, taken-apart}
 use Rattle.bound.specs.Bound.{Memory, lent}
@@ -21,6 +23,10 @@ start k = k .before .before .before .before .before .before .before .before .bef
 -- job and weights are accepted, and the record and the capacity are theirs
 took : (k : tie.After-accepted) → Taken (now (start k .args .block)) (start k .args .choices) (now (start k .args .weights)) (k .before .before .before .before .before .before .read-job .result .job) (k .accepted .given .0 .0)
 took k = taken-apart _ _ _ _ (k .before .before .before .before .before .before .read-job .ensures .0) (k .before .before .before .before .enum-told .given .1) (k .before .before .check-weights .ensures .0) (k .accepted .given .1)
+
+-- so the record is in range
+ranged : (k : tie.After-accepted) → InRange (job-of (k .before .before .before .before .before .before .read-job .result .job))
+ranged k = range-taken (now (start k .args .block)) (start k .args .choices) (now (start k .args .weights)) (took k)
 
 enum-told : tie.Need-enum-told
 enum-told c = search needs
@@ -43,9 +49,7 @@ returns-2 c =
     (c .before .before .before .before .before .before .enum-told .given .1) (c .before .before .before .before .check-weights .ensures .0) (c .before .before .enum-told3 .given .1) (c .before .weights-verdict .ensures) (c .conclude2 .ensures)
 
 check-nodes-requires : tie.Need-check-nodes-requires
-check-nodes-requires c κs =
-    let k = c .before in
-    range-taken (now (start k .args .block)) (start k .args .choices) (now (start k .args .weights)) (took k)
+check-nodes-requires c κs = ranged (c .before)
 
 returns-3 : tie.Need-returns-3
 returns-3 c =
@@ -59,9 +63,7 @@ list-pieces-requires c κs =
     listable (now (start k .args .block)) (start k .args .choices) (now (start k .args .weights)) (took k)
 
 plate-of-requires : tie.Need-plate-of-requires
-plate-of-requires c κs =
-    let k = c .before .before .before .before .before .before in
-    range-taken (now (start k .args .block)) (start k .args .choices) (now (start k .args .weights)) (took k)
+plate-of-requires c κs = ranged (c .before .before .before .before .before .before)
 
 bound-of-pieces-requires : tie.Need-bound-of-pieces-requires
 bound-of-pieces-requires c κs =

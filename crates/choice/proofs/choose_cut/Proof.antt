@@ -11,7 +11,7 @@ use Rattle.choice.proofs.choose_cut.Statement.{statement}
 use Rattle.choice.proofs.choose_cut.Tie as tie
 
 -- the floors of the widths are a part of the floors, and searched by it
-width-searchable : (s : tie.Start) → Searchable (now (s .args .widths)) (take (length (now (s .args .floors)) - 1021) (drop 1021 (now (s .args .floors)))) (now (s .args .table)) (width-search (s .args .size) (s .args .cell) (s .args .place))
+width-searchable : (s : tie.Start) → Searchable (now (s .args .normal-widths)) (take (length (now (s .args .floors)) - 1021) (drop 1021 (now (s .args .floors)))) (now (s .args .table)) (width-search (s .args .size) (s .args .cell) (s .args .place))
 width-searchable s = rw (rest-part 1021 (now (s .args .floors))) (s .pre .1)
 
 -- the length of the table is listed, because it stands too deep to be found

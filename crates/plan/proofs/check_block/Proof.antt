@@ -25,14 +25,14 @@ returns-3 c = let e = c .before .before .before .read-u16 .ensures in let n = c 
     c .without-report3 .ensures ∙ sym (block-many (job-of (c .before .before .before .before .before .before .args .job)) (now (c .before .before .before .before .before .before .args .plan)) (c .before .before .before .before .if1 .left) (omega (arith, e, n)) (omega (arith, e, c .before .if3 .taken)))
 
 slice-aggregate-check-nodes : tie.Need-slice-aggregate-check-nodes
-slice-aggregate-check-nodes c = sym (length-take-le (c .before .before .before .before .before .read-u16 .result) (c .before .before .read-operands .result) (omega (arith, c .before .before .read-operands .ensures .1, c .before .before .before .if3 .left)))
+slice-aggregate-check-nodes c = sym (length-take-le (c .before .before .before .before .before .before .read-u16 .result) _ (omega (arith, c .before .before .read-operands .ensures .1, c .before .before .before .before .if3 .left)))
 
 returns-4 : tie.Need-returns-4
-returns-4 c = let e = c .before .before .before .before .before .before .read-u16 .ensures in let n = c .before .before .before .before .before .if2 .left in
-    let p = now (c .before .before .before .before .before .before .before .before .before .args .plan) in
+returns-4 c = let e = c .before .before .before .before .before .before .before .read-u16 .ensures in let n = c .before .before .before .before .before .before .if2 .left in
+    let p = now (c .before .before .before .before .before .before .before .before .before .before .args .plan) in
     c .check-nodes .ensures
-    ∙ ap₂ (plan-answer (job-of (c .before .before .before .before .before .before .before .before .before .args .job))) (ap (λ k. take k (drop 2 p)) (let z : 2 + c .before .before .before .before .before .before .read-u16 .result - 2 ≡ plan-count p = omega (arith, e) in z)) (c .before .before .before .read-operands .ensures .0)
-    ∙ sym (block-on (job-of (c .before .before .before .before .before .before .before .before .before .args .job)) p (c .before .before .before .before .before .before .before .if1 .left) (omega (arith, e, n)))
+    ∙ ap₂ (plan-answer (job-of (c .before .before .before .before .before .before .before .before .before .before .args .job))) (ap (λ k. take k (drop 2 p)) (let z : 2 + c .before .before .before .before .before .before .before .read-u16 .result - 2 ≡ plan-count p = omega (arith, e) in z)) (c .before .before .before .read-operands .ensures .0)
+    ∙ sym (block-on (job-of (c .before .before .before .before .before .before .before .before .before .before .args .job)) p (c .before .before .before .before .before .before .before .before .if1 .left) (omega (arith, e, n)))
 
 pub check-block-spec : {M : Type 1} → statement M
 check-block-spec =

@@ -20,7 +20,7 @@ abbrev μ-loop : tie.MeasureT-loop
 
 loop-holds : tie.Need-loop-holds Inv-loop μ-loop
 unfolding range
-loop-holds c = (search needs, length-replicate {A = ℕ} 4095 0, refl)
+loop-holds c = (search needs, c .before .pre .3, refl)
 
 loop-again : tie.Need-loop-again Inv-loop μ-loop
 loop-again c = (search needs, length-set (c .before .before .loop .operands) (c .before .before .loop .i) (c .read-u16 .result) ∙ c .before .before .loop .inv .1, entry-more (λ k. u16-at (now (c .before .before .before .before .args .plan)) (2 + c .before .before .before .before .args .count + 2 * k)) (c .before .before .loop .i) (c .before .before .loop .operands) (c .read-u16 .result) (omega (arith, c .before .before .loop .inv .1)) (c .read-u16 .ensures) (c .before .before .loop .inv .2))

@@ -61,6 +61,6 @@ returns-3 c = ends (c .before .before .loop .inv .1) (c .before .before .before 
 pub walk-tree-spec : {M : Type 1} → statement M
 walk-tree-spec =
     tie.close
-    (tie.spec Inv-loop μ-loop (λ c κs. search needs) (λ c κs. search needs) loop-holds (λ c κs. search needs) returns
+    (tie.spec Inv-loop μ-loop (λ c κs. search needs) (λ c. search needs) (λ c. search needs) (λ c κs. search needs) loop-holds (λ c κs. search needs) returns
     (λ c κs. search needs) (λ c κs. search needs) check-node-requires (λ c. search needs) (λ c. search needs) (λ c κs. search needs) returns-2
     (λ c κs. search needs) leave-parts-requires add-k loop-less loop-again (λ c κs. search needs) returns-3)

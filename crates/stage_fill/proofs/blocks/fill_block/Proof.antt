@@ -9,11 +9,11 @@ use Rattle.stage_fill.proofs.blocks.fill_block.Statement.{statement}
 use Rattle.stage_fill.proofs.blocks.fill_block.Tie as tie
 
 abbrev Inv-loop : tie.InvT-loop
-Inv-loop table₀ pieces lengths widths floors shape block flat cells high₀ i₀ table high i =
-    InBlock (job-in shape pieces) (listed-weight pieces) lengths widths shape block i high table₀ table
+Inv-loop table₀ pieces normal-lengths normal-widths floors shape block flat cells high₀ i₀ table high i =
+    InBlock (job-in shape pieces) (listed-weight pieces) normal-lengths normal-widths shape block i high table₀ table
 
 abbrev μ-loop : tie.MeasureT-loop
-μ-loop table₀ pieces lengths widths floors shape block flat cells high₀ i₀ table high i = shape .«length_count» * shape .columns - i
+μ-loop table₀ pieces normal-lengths normal-widths floors shape block flat cells high₀ i₀ table high i = shape .«length_count» * shape .columns - i
 
 mul-cells : tie.Need-mul-cells Inv-loop μ-loop
 mul-cells c = let p = c .before .before .before .before .before .pre in omega (arith, few-cells (p .0 .lent) (p .0 .counted))

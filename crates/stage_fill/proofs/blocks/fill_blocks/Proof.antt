@@ -16,11 +16,11 @@ no-width : {A : Type 0} → Width ≡ Length → A
 no-width e = absurd (let z : _≡_ {A = ℕ} 0 1 = cc in let w : ⊥ = omega arith in w)
 
 abbrev Inv-loop : tie.InvT-loop
-Inv-loop table₀ pieces lengths widths floors shape limit flat₀ below₀ table flat below =
-    (below ≤ limit) × (length table ≡ length table₀) × BlockMade (job-in shape pieces) (listed-weight pieces) lengths widths shape ((2 * below + 1) * (shape .«length_count» * shape .columns)) flat table₀ table
+Inv-loop table₀ pieces normal-lengths normal-widths floors shape limit flat₀ below₀ table flat below =
+    (below ≤ limit) × (length table ≡ length table₀) × BlockMade (job-in shape pieces) (listed-weight pieces) normal-lengths normal-widths shape ((2 * below + 1) * (shape .«length_count» * shape .columns)) flat table₀ table
 
 abbrev μ-loop : tie.MeasureT-loop
-μ-loop table₀ pieces lengths widths floors shape limit flat₀ below₀ table flat below = limit - below
+μ-loop table₀ pieces normal-lengths normal-widths floors shape limit flat₀ below₀ table flat below = limit - below
 
 fill-block-requires : tie.Need-fill-block-requires Inv-loop μ-loop
 fill-block-requires c κs =
