@@ -2,7 +2,7 @@
 use mathlib.Core.Path.{_≡_, refl, sym, _∙_, ap, ap₂}
 use mathlib.Core.List.{List, [], _∷_}
 use Prim.Native.Nat.{ℕ, zero, suc, _+_, _-_, _*_, _/_, _%_, _≤_, _<_}
-use native.Mathlib.Nat.{mul-le-mul, mul-le-mul-right, mod-lt, div-add-mod', div-lt-iff-lt-mul}
+use native.Mathlib.Nat.{mul-le-mul-right, mod-lt, div-add-mod', div-lt-iff-lt-mul}
 use native.Mathlib.Omega.{arith}
 use lib.Dec.{leb}
 use lib.ListN.{length, getD, drop}
@@ -10,7 +10,7 @@ use Rattle.cutting.specs.declared.Direction.{Direction}
 use Rattle.cutting.specs.declared.Direction.the-variants.{Length, Width}
 use Rattle.cutting.specs.Job.{Job}
 use Rattle.cutting.specs.Staged.{block}
-use Rattle.cutting.proofs.Table.{positions-some, positions-length}
+use Rattle.cutting.proofs.Table.{positions-some}
 use Rattle.table.specs.Table.{position-count, position}
 use Rattle.table.specs.Staged.{block-number, staged-words, staged-word}
 use Rattle.table.specs.Contracts.{size-job, StagedFillable, StagedBy}
@@ -26,7 +26,7 @@ use Rattle.states.proofs.Ties.{one-digit}
 use Rattle.table.specs.declared.TableSize.{TableSize}
 use Rattle.stage_fill.specs.declared.blocks.Block.{Block}
 use Rattle.stage_fill.proofs.Numbers.{few-cells}
-use Rattle.stage_fill.specs.Blocks.{direction-of, first-of, block-start, cell-number, Below, BlockLent, BlockMade, StagesLent, StagesMade}
+use Rattle.stage_fill.specs.Blocks.{first-of, Numbered, block-start, cell-number, Below, BlockLent, BlockMade, StagesLent, StagesMade}
 
 -- what a block is lent, with a table of the same length
 pub block-kept : {J : Job} {normal-lengths normal-widths floors : List ℕ} {shape : Shape} {block : Block} {old new : List ℕ} → length new ≡ length old → BlockLent J normal-lengths normal-widths floors shape block old → BlockLent J normal-lengths normal-widths floors shape block new
@@ -35,30 +35,19 @@ block-kept e w = record { lent = lent-kept e (w .lent); counted = w .counted; on
 pub stages-kept : {J : Job} {normal-lengths normal-widths floors : List ℕ} {shape : Shape} {stage : ℕ} {old new : List ℕ} → length new ≡ length old → StagesLent J normal-lengths normal-widths floors shape stage old → StagesLent J normal-lengths normal-widths floors shape stage new
 stages-kept e w = record { lent = lent-kept e (w .lent); counted = w .counted; one-digit = w .one-digit; most = w .most; floors-there = w .floors-there; room = omega (arith, e, w .room) }
 
--- fewer stages ask no more
-pub stages-fewer : {J : Job} {normal-lengths normal-widths floors : List ℕ} {shape : Shape} {stage limit : ℕ} {xs : List ℕ} → stage ≤ limit → StagesLent J normal-lengths normal-widths floors shape limit xs → StagesLent J normal-lengths normal-widths floors shape stage xs
-stages-fewer {shape = shape} {stage = stage} {limit = limit} h w = record {
+-- a block of a stage up to the limit
+pub stage-block : {J : Job} {normal-lengths normal-widths floors : List ℕ} {shape : Shape} {limit : ℕ} {xs : List ℕ} (block : Block) → Numbered block → block-number (block .stage) (first-of block) ≤ 2 * limit → StagesLent J normal-lengths normal-widths floors shape limit xs → BlockLent J normal-lengths normal-widths floors shape block xs
+stage-block {shape = shape} {limit = limit} block numbered h w = record {
   lent = w .lent;
   counted = w .counted;
   one-digit = w .one-digit;
-  most = omega (arith, w .most);
-  floors-there = w .floors-there;
-  room = omega (arith, w .room, mul-le-mul-right {m = (2 * stage + 1) * (shape .«length_count» * shape .columns)} {n = (2 * limit + 1) * (shape .«length_count» * shape .columns)} (shape .words) (mul-le-mul-right {m = 2 * stage + 1} {n = 2 * limit + 1} (shape .«length_count» * shape .columns) (omega arith)));
-}
-
--- a block of a stage
-pub stage-block : {J : Job} {normal-lengths normal-widths floors : List ℕ} {shape : Shape} {stage : ℕ} {xs : List ℕ} (block : Block) → block .stage ≡ stage → (first-of block ≡ Length → 1 ≤ stage) → StagesLent J normal-lengths normal-widths floors shape stage xs → BlockLent J normal-lengths normal-widths floors shape block xs
-stage-block {shape = shape} {stage = stage} block e some w = record {
-  lent = w .lent;
-  counted = w .counted;
-  one-digit = w .one-digit;
-  numbered = (omega (arith, w .most), λ z. (let h = some (ap direction-of z) in omega arith));
+  numbered = numbered;
   floors-there = w .floors-there;
   room = omega (
     arith,
     w .room,
-    mul-le-mul-right {m = (block-number (block .stage) (first-of block) + 1) * (shape .«length_count» * shape .columns)} {n = (2 * stage + 1) * (shape .«length_count» * shape .columns)} (shape .words)
-        (mul-le-mul-right {m = block-number (block .stage) (first-of block) + 1} {n = 2 * stage + 1} (shape .«length_count» * shape .columns) (omega (arith, block-number-below stage (block .stage) (first-of block) (omega arith)))),
+    mul-le-mul-right {m = (block-number (block .stage) (first-of block) + 1) * (shape .«length_count» * shape .columns)} {n = (2 * limit + 1) * (shape .«length_count» * shape .columns)} (shape .words)
+        (mul-le-mul-right {m = block-number (block .stage) (first-of block) + 1} {n = 2 * limit + 1} (shape .«length_count» * shape .columns) (omega arith)),
   );
 }
 
@@ -91,16 +80,6 @@ block-ends {shape = shape} {i = i} w h = let e : i ≡ shape .«length_count» *
 pub made-then : {J : Job} {own : ℕ → ℕ} {normal-lengths normal-widths : List ℕ} {shape : Shape} {m n flat next : ℕ} {old mid new : List ℕ} → m ≤ n → BlockMade J own normal-lengths normal-widths shape m flat old mid → BlockMade J own normal-lengths normal-widths shape n next mid new
     → BlockMade J own normal-lengths normal-widths shape n next old new
 made-then {shape = shape} {m = m} {n = n} h p q = record { cells = q .cells; rest = λ j l. q .rest j l ∙ p .rest j (omega (arith, mul-le-mul-right {m = m} {n = n} (shape .words) h)) }
-
--- the number of a block's cells goes on with the next block's
-pub length-next : (k cells : ℕ) → 1 ≤ k → (2 * k - 1) * cells + cells ≡ 2 * k * cells
-length-next k cells h = let e : 2 * k - 1 + 1 ≡ 2 * k = omega arith in (let f : (2 * k - 1) * cells + cells ≡ (2 * k - 1 + 1) * cells = omega arith in f) ∙ ap (λ x. x * cells) e
-
-pub width-next : (k cells : ℕ) → 2 * k * cells + cells ≡ (2 * k + 1) * cells
-width-next k cells = omega arith
-
-pub stage-next : (k cells : ℕ) → (2 * k + 1) * cells ≡ (2 * (k + 1) - 1) * cells
-stage-next k cells = ap (λ x. x * cells) (let e : 2 * k + 1 ≡ 2 * (k + 1) - 1 = omega arith in e)
 
 -- a number of a block
 numbered : (n : ℕ) → (k : ℕ) × (d : Direction) × (block-number k d ≡ n) × (d ≡ Length → 1 ≤ k)
@@ -173,12 +152,6 @@ module _ {size : TableSize} {limit : ℕ} {pieces normal-lengths normal-widths f
   staged-few =
       let few = few-cells (staged-lent .0) (staged-lent .1) in
       (few, omega (arith, few, mul-le-mul-right {m = 2 * limit + 1} {n = 17} (size .rows * size .columns) (omega (arith, asked .within))))
-
-  pub row-few : size .columns * (size .capacity + 1) ≤ 4182016
-  row-few =
-      let r : size .columns ≤ 1021 = omega (arith, staged-lent .1 .widths, positions-length (size-job size pieces) Width, asked .fillable .in-range .plate-width .1) in
-      let q : size .capacity + 1 ≤ 4096 = omega (arith, asked .fillable .most) in
-      omega (arith, mul-le-mul r q)
 
   -- for a shape of those numbers
   pub stages-lent : (shape : Shape) → shape .d ≡ 0 → shape .words ≡ size .capacity + 1 → shape .«length_count» ≡ size .rows → shape .columns ≡ size .columns → shape .stride ≡ size .columns * (size .capacity + 1)

@@ -84,11 +84,6 @@ pub record StagesLent (J : Job) (normal-lengths normal-widths floors : List ℕ)
   pub floors-there : length floors ≡ 2042
   pub room : (2 * stage + 1) * (shape .«length_count» * shape .columns) * shape .words ≤ length xs
 
--- what a stage asks: the blocks of the stages before it are made
-abbrev pub StageLent : Job → (ℕ → ℕ) → List ℕ → List ℕ → List ℕ → Shape → ℕ → ℕ → List ℕ → Type 0
-StageLent J own normal-lengths normal-widths floors shape stage flat xs = StagesLent J normal-lengths normal-widths floors shape stage xs
-    × Below J own normal-lengths normal-widths (shape .words) ((2 * stage - 1) * (shape .«length_count» * shape .columns)) flat xs
-
 -- all blocks are made, and the words past them are as they were
 abbrev pub StagesMade : Job → (ℕ → ℕ) → List ℕ → List ℕ → Shape → ℕ → List ℕ → List ℕ → Type 0
 StagesMade J own normal-lengths normal-widths shape limit old new =

@@ -8,12 +8,13 @@ use table::set_run;
 use table::widen;
 ghost use mathlib.Core.Path.{_≡_};
 ghost use Prim.Native.Nat.{_+_, _-_, _*_, _≤_, _<_};
+ghost use Rattle.cutting.specs.Limits.{most-limit};
 ghost use Rattle.cutting.specs.Listed.{listed-weight};
 ghost use Rattle.cutting.specs.Shares.{other};
 ghost use Rattle.table.specs.Staged.{block-number};
 ghost use Rattle.table.specs.Words.{HalfReady};
 ghost use Rattle.state_cells.specs.Places.{job-in};
-ghost use Rattle.stage_fill.specs.Blocks.{first-of, Numbered, LineTo, BlockLent, Below, block-start, BlockMade, StageLent, StagesLent, StagesMade};
+ghost use Rattle.stage_fill.specs.Blocks.{first-of, Numbered, LineTo, BlockLent, Below, block-start, BlockMade, StagesLent, StagesMade};
 
 // A block: its stage, and whether its first cuts go across the width. The block without a cut counts as one of width cuts.
 pub struct Block {
@@ -31,6 +32,23 @@ fn number(block: Block) -> usize
         return 2 * block.stage;
     }
     2 * block.stage - 1
+}
+
+// The block of a number: the odd ones have length cuts first.
+fn block_of(n: usize) -> Block
+    requires { ⌜ n ≤ 2 * most-limit ⌝ }
+    ensures { λ r. ⌜ Numbered r × (block-number (r .stage) (first-of r) ≡ n) ⌝ }
+{
+    if n % 2 == 0 {
+        return Block {
+            stage: n / 2,
+            width_first: true,
+        };
+    }
+    Block {
+        stage: n / 2 + 1,
+        width_first: false,
+    }
 }
 
 // The number of the block with one stage fewer, whose first cuts go in the other direction.
@@ -121,7 +139,7 @@ fn fill_cell(
 }
 
 // A block, cell after cell.
-pub fn fill_block(
+fn fill_block(
     table: &mut [u64],
     pieces: &[u32; 640],
     normal_lengths: &[u16],
@@ -153,51 +171,7 @@ pub fn fill_block(
     high
 }
 
-// The two blocks of a stage, length first and then width first.
-fn fill_stage(
-    table: &mut [u64],
-    pieces: &[u32; 640],
-    normal_lengths: &[u16],
-    normal_widths: &[u16],
-    floors: &[u16],
-    shape: Shape,
-    stage: usize,
-    flat: usize,
-) -> usize
-    requires { ⌜ StageLent (job-in shape (now pieces)) (listed-weight (now pieces)) (now «normal_lengths») (now «normal_widths») (now floors) shape stage flat (now table) × (1 ≤ stage) ⌝ }
-    ensures { λ r. ⌜ BlockMade (job-in shape (now (pieces .entry))) (listed-weight (now (pieces .entry))) (now («normal_lengths» .entry)) (now («normal_widths» .entry)) shape ((2 * stage + 1) * (shape .«length_count» * shape .columns)) r (now (table .entry)) (now (table .exit)) ⌝ }
-{
-    let along = Block {
-        stage: stage,
-        width_first: false,
-    };
-    let high = fill_block(
-        table,
-        pieces,
-        normal_lengths,
-        normal_widths,
-        floors,
-        shape,
-        along,
-        flat,
-    );
-    let across = Block {
-        stage: stage,
-        width_first: true,
-    };
-    fill_block(
-        table,
-        pieces,
-        normal_lengths,
-        normal_widths,
-        floors,
-        shape,
-        across,
-        high,
-    )
-}
-
-// The block without a cut, and then stage after stage.
+// The blocks, in the order of their numbers.
 pub fn fill_blocks(
     table: &mut [u64],
     pieces: &[u32; 640],
@@ -210,30 +184,18 @@ pub fn fill_blocks(
     requires { ⌜ StagesLent (job-in shape (now pieces)) (now «normal_lengths») (now «normal_widths») (now floors) shape limit (now table) ⌝ }
     ensures { λ _. ⌜ StagesMade (job-in shape (now (pieces .entry))) (listed-weight (now (pieces .entry))) (now («normal_lengths» .entry)) (now («normal_widths» .entry)) shape limit (now (table .entry)) (now (table .exit)) ⌝ }
 {
-    let uncut = Block {
-        stage: 0,
-        width_first: true,
-    };
-    let mut flat = fill_block(
-        table,
-        pieces,
-        normal_lengths,
-        normal_widths,
-        floors,
-        shape,
-        uncut,
-        0,
-    );
-    for below in 0..limit {
-        let stage = below + 1;
-        flat = fill_stage(
+    let blocks = 2 * limit + 1;
+    let mut flat: usize = 0;
+    for n in 0..blocks {
+        let block = block_of(n);
+        flat = fill_block(
             table,
             pieces,
             normal_lengths,
             normal_widths,
             floors,
             shape,
-            stage,
+            block,
             flat,
         );
     }

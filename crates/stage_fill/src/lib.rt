@@ -5,7 +5,7 @@ mod blocks;
 mod cells;
 
 use blocks::fill_blocks;
-use state_cells::Shape;
+use state_cells::shape_of;
 use state_fill::strip_all;
 use table::TableSize;
 ghost use Rattle.cutting.specs.Listed.{listed-weight};
@@ -24,19 +24,8 @@ pub fn fill(
     requires { ⌜ StagedFillable size limit (now pieces) (now «normal_lengths») (now «normal_widths») (now floors) (now table) ⌝ }
     ensures { λ _. ⌜ StagedBy (size-job size (now (pieces .entry))) (listed-weight (now (pieces .entry))) limit (size .capacity) (now (table .entry)) (now (table .exit)) ⌝ }
 {
-    let rows = size.rows as usize;
-    let columns = size.columns as usize;
     let words = (size.capacity as usize) + 1;
-    let shape = Shape {
-        length: size.length,
-        width: size.width,
-        count: size.count as usize,
-        length_count: rows,
-        columns: columns,
-        d: 0,
-        words: words,
-        stride: columns * words,
-    };
+    let shape = shape_of(size, 0, words);
     fill_blocks(
         table,
         pieces,
@@ -46,5 +35,9 @@ pub fn fill(
         shape,
         limit,
     );
-    strip_all(table, (2 * limit + 1) * (rows * columns), words);
+    strip_all(
+        table,
+        (2 * limit + 1) * (shape.length_count * shape.columns),
+        words,
+    );
 }

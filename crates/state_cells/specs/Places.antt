@@ -8,6 +8,7 @@ use lib.ListN.{length, getD}
 use Rattle.cutting.specs.declared.Direction.the-variants.{Length, Width}
 use Rattle.cutting.specs.Job.{Job}
 use Rattle.cutting.specs.Listed.{InTableRange, pieces-job}
+use Rattle.table.specs.declared.TableSize.{TableSize}
 use Rattle.table.specs.Table.{position-count}
 use Rattle.table.specs.Contracts.{Positions}
 use Rattle.table.specs.Words.{Half}
@@ -18,6 +19,10 @@ use Rattle.state_joins.specs.Joins.{Marked, Sorted}
 use Rattle.state_cells.specs.declared.shape.Shape.{Shape}
 use Rattle.state_cells.specs.declared.cells.Place.{Place}
 use Rattle.state_cells.specs.Cells.{Level}
+
+-- the shape of a table, its cells of so many words over states of the digits up to d
+abbrev pub shape-of : TableSize → ℕ → ℕ → Shape
+shape-of size d words = record { length = size .length; width = size .width; count = size .count; «length_count» = size .rows; columns = size .columns; d = d; words = words; stride = size .columns * words }
 
 -- the cells of a cell's width, along the lengths
 abbrev pub length-line : Shape → Place → Line

@@ -10,3 +10,4 @@ pub use cells::inherit;
 pub use cells::make_cell;
 pub use cells::place_pieces;
 pub use shape::Shape;
+pub use shape::shape_of;

@@ -1,7 +1,7 @@
 // The states of one weight and of two. One: the shares from 0 to the capacity, one digit, and the state of a piece is its weight. Two:
 // the second share is digit 0 and the first digit 1, and a piece's entry for its weight is the number of its state.
 use crate::rows::fill;
-use state_cells::Shape;
+use state_cells::shape_of;
 use table::TableSize;
 ghost use Prim.Native.Nat.{_*_, _≤_};
 ghost use lib.ListN.{length};
@@ -29,17 +29,7 @@ pub fn fill_states(
     ensures { λ _. ⌜ Figures (size-job size (now (pieces .entry))) (under (now (blocks .entry)) d) (listed-weight (now (pieces .entry))) words (now (table .exit))
         × Kept (position-count (size-job size (now (pieces .entry))) Length * position-count (size-job size (now (pieces .entry))) Width * words) (now (table .entry)) (now (table .exit)) ⌝ }
 {
-    let columns = size.columns as usize;
-    let shape = Shape {
-        length: size.length,
-        width: size.width,
-        count: size.count as usize,
-        length_count: size.rows as usize,
-        columns: columns,
-        d: d,
-        words: words,
-        stride: columns * words,
-    };
+    let shape = shape_of(size, d, words);
     fill(
         table,
         pieces,

@@ -1,78 +1,70 @@
--- `stage_fill::blocks::fill_blocks` meets its contract. The loop's invariant: the blocks of the stages passed are made.
+-- `stage_fill::blocks::fill_blocks` meets its contract. The loop's invariant: the blocks before number n are made.
+use borrow.Author.Needs.{needs}
 use native.Mathlib.Omega.{arith}
-use mathlib.Core.Path.{_≡_, refl, _∙_}
+use mathlib.Core.Path.{_≡_, refl, _∙_, ap}
 use Prim.Native.Nat.{ℕ, _+_, _*_, _-_, _≤_}
 use lib.ListN.{length}
-use Rattle.cutting.specs.declared.Direction.the-variants.{Length, Width}
 use Rattle.cutting.specs.Listed.{listed-weight}
 use Rattle.state_cells.specs.Places.{job-in}
 use Rattle.stage_fill.specs.Blocks.{BlockMade}
 use Rattle.stage_fill.proofs.Numbers.{below-none}
-use Rattle.stage_fill.proofs.Filling.{stages-kept, stages-fewer, stage-block, made-then, width-next, stage-next}
+use Rattle.stage_fill.proofs.Filling.{stages-kept, stage-block, made-then}
 use Rattle.stage_fill.proofs.blocks.fill_blocks.Statement.{statement}
 use Rattle.stage_fill.proofs.blocks.fill_blocks.Tie as tie
 
-no-width : {A : Type 0} → Width ≡ Length → A
-no-width e = absurd (let z : _≡_ {A = ℕ} 0 1 = cc in let w : ⊥ = omega arith in w)
-
 abbrev Inv-loop : tie.InvT-loop
-Inv-loop table₀ pieces normal-lengths normal-widths floors shape limit flat₀ below₀ table flat below =
-    (below ≤ limit) × (length table ≡ length table₀) × BlockMade (job-in shape pieces) (listed-weight pieces) normal-lengths normal-widths shape ((2 * below + 1) * (shape .«length_count» * shape .columns)) flat table₀ table
+Inv-loop table₀ pieces normal-lengths normal-widths floors shape limit blocks flat₀ n₀ table flat n =
+    (n ≤ 2 * limit + 1) × (length table ≡ length table₀) × BlockMade (job-in shape pieces) (listed-weight pieces) normal-lengths normal-widths shape (n * (shape .«length_count» * shape .columns)) flat table₀ table
 
 abbrev μ-loop : tie.MeasureT-loop
-μ-loop table₀ pieces normal-lengths normal-widths floors shape limit flat₀ below₀ table flat below = limit - below
+μ-loop table₀ pieces normal-lengths normal-widths floors shape limit blocks flat₀ n₀ table flat n = 2 * limit + 1 - n
+
+mul-blocks : tie.Need-mul-blocks Inv-loop μ-loop
+mul-blocks c = omega (arith, c .before .before .before .before .pre .most)
+
+add-blocks : tie.Need-add-blocks Inv-loop μ-loop
+add-blocks c = omega (arith, c .before .before .before .before .pre .most)
+
+loop-holds : tie.Need-loop-holds Inv-loop μ-loop
+loop-holds c = (omega arith, refl, record { cells = below-none _ (omega arith); rest = λ j h. refl })
+
+block-of-requires : tie.Need-block-of-requires Inv-loop μ-loop
+block-of-requires c κs = omega (arith, c .before .before .before .before .before .before .pre .most)
 
 fill-block-requires : tie.Need-fill-block-requires Inv-loop μ-loop
 fill-block-requires c κs =
-    let s = c .before .before .before .before .before in
-    (stage-block _ refl (λ z. no-width z) (stages-fewer (omega arith) (s .pre)), below-none (2 * 0 * (s .args .shape .«length_count» * s .args .shape .columns)) (omega arith))
-
-loop-holds : tie.Need-loop-holds Inv-loop μ-loop
-loop-holds c =
     let s = c .before .before .before .before .before .before .before .before in
-    let cells = s .args .shape .«length_count» * s .args .shape .columns in
-    (omega arith, refl, record { cells = rw (width-next 0 cells) at (c .before .before .fill-block .ensures .cells); rest = λ j h. refl })
-
-add-stage : tie.Need-add-stage Inv-loop μ-loop
-add-stage c = omega (arith, c .loop-test .taken, c .before .before .before .before .before .before .before .before .before .before .pre .most)
-
-fill-stage-requires : tie.Need-fill-stage-requires Inv-loop μ-loop
-fill-stage-requires c κs =
-    let s = c .before .before .before .before .before .before .before .before .before .before .before in
-    let l = c .before .before .loop in
-    let cells = s .args .shape .«length_count» * s .args .shape .columns in
-    ((stages-fewer (omega (arith, c .before .loop-test .taken)) (stages-kept (l .inv .1 ∙ c .before .before .before .before .before .fill-block .kept .0) (s .pre)), rw (stage-next (l .below) cells) at (l .inv .2 .cells)), omega arith)
-
-add-below : tie.Need-add-below Inv-loop μ-loop
-add-below c = omega (arith, c .before .before .before .before .loop-test .taken, c .before .before .before .before .before .before .before .before .before .before .before .before .before .before .pre .most)
-
-loop-less : tie.Need-loop-less Inv-loop μ-loop
-loop-less c = omega (arith, c .before .before .before .before .loop-test .taken)
+    let l = c .before .before .before .loop in
+    let block = c .before .block-of .ensures in
+    (stage-block _ (block .0) (omega (arith, block .1)) (stages-kept (l .inv .1) (s .pre)), rw (block .1) (l .inv .2 .cells))
 
 loop-again : tie.Need-loop-again Inv-loop μ-loop
 loop-again c =
-    let s = c .before .before .before .before .before .before .before .before .before .before .before .before .before .before in
-    let l = c .before .before .before .before .before .loop in
-    let stage = c .before .before .fill-stage in
+    let s = c .before .before .before .before .before .before .before .before .before .before .before in
+    let l = c .before .before .before .before .before .before .loop in
     let cells = s .args .shape .«length_count» * s .args .shape .columns in
-    (omega (arith, c .before .before .before .before .loop-test .taken), stage .kept .0 ∙ l .inv .1, made-then (more (l .below) cells) (l .inv .2) (stage .ensures))
+    let filled = c .before .before .fill-block in
+    let next = ap (λ m. m * cells + cells) (c .before .before .before .before .block-of .ensures .1) ∙ step (l .n) cells in
+    (omega arith, filled .kept .0 ∙ l .inv .1, made-then (more (l .n) cells) (l .inv .2) (rw next at (filled .ensures)))
   where
-    more : (k cells : ℕ) → (2 * k + 1) * cells ≤ (2 * (k + 1) + 1) * cells
-    more k cells = omega arith
+    step : (n cells : ℕ) → n * cells + cells ≡ (n + 1) * cells
+    step n cells = omega arith
+
+    more : (n cells : ℕ) → n * cells ≤ (n + 1) * cells
+    more n cells = omega arith
 
 same-length : tie.Need-same-length Inv-loop μ-loop
-same-length c = c .before .loop .inv .1 ∙ c .before .before .before .before .fill-block .kept .0
+same-length c = c .before .loop .inv .1
 
 returns : tie.Need-returns Inv-loop μ-loop
 returns c =
-    let s = c .before .before .before .before .before .before .before .before .before .before in
+    let s = c .before .before .before .before .before .before in
     let l = c .before .loop in
-    let cells = s .args .shape .«length_count» * s .args .shape .columns in
-    let e : l .below ≡ s .args .limit = omega (arith, c .loop-test .left, l .inv .0) in
-    (l .flat, made-then (more (s .args .limit) cells) (c .before .before .before .before .fill-block .ensures) (rw e at (l .inv .2)))
-  where
-    more : (k cells : ℕ) → 2 * 0 * cells + cells ≤ (2 * k + 1) * cells
-    more k cells = omega arith
+    let e : l .n ≡ 2 * s .args .limit + 1 = omega arith in
+    (l .flat, rw e at (l .inv .2))
 
 pub fill-blocks-spec : {M : Type 1} → statement M
-fill-blocks-spec = tie.close (tie.spec Inv-loop μ-loop fill-block-requires loop-holds add-stage fill-stage-requires add-below loop-less loop-again same-length returns)
+fill-blocks-spec =
+    tie.close
+    (tie.spec Inv-loop μ-loop mul-blocks add-blocks loop-holds block-of-requires fill-block-requires (λ c. search needs) (λ c. search needs)
+    loop-again same-length returns)
