@@ -39,10 +39,13 @@ module _ (s : List ℕ) (choices : Choices) (ws : List ℕ) {j : JobRecord} {q :
   pub range-taken : InRange (job-of j)
   range-taken = rw (t .record-is) (accepted-in-range s choices ws (t .accepted))
 
-  pub listable : InRange (job-of j) × (j .count ≤ length ws)
-  listable =
+  pub weights-there : j .count ≤ length ws
+  weights-there =
       let k = weights-passed (block-job s choices) ws (accepted-both s choices ws (t .accepted) .1) in
-      (range-taken, omega (arith, k .0, ap (λ j. job-of j .count) (t .record-is)))
+      omega (arith, k .0, ap (λ j. job-of j .count) (t .record-is))
+
+  pub listable : {entries : ℕ} → entries ≡ 640 → InRange (job-of j) × (j .count ≤ length ws) × (entries ≡ 640)
+  listable h = (range-taken, weights-there, h)
 
   pub boundable : {plate : Sides} {n : ℕ} {pieces floors : List ℕ} → plate ≡ sides-of (widened (job-of j) .plate) → PieceArray (widened (job-of j)) (weight-in ws) n pieces → length floors ≡ 2042
       → Boundable (pieces-job (rect-of plate) n pieces) q floors

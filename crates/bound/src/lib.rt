@@ -105,12 +105,12 @@ pub fn bound(
     let record = accepted.job;
     let q = accepted.capacity;
     let plate = plate_of(record);
-    let listing = list_pieces(record, weights);
-    let pieces = listing.pieces;
+    let mut pieces = [0u32; 640];
+    let count = list_pieces(record, weights, &mut pieces);
     let mut floors = [0u16; 2042];
     bound_of_pieces(
         plate,
-        listing.count,
+        count,
         &pieces,
         q,
         lengths,

@@ -95,12 +95,12 @@ pub fn certify(
     let Checked::Passed = walked else {
         return conclude(walked, 0, 0);
     };
-    let listing = list_pieces(record, weights);
-    let pieces = listing.pieces;
+    let mut pieces = [0u32; 640];
+    let count = list_pieces(record, weights, &mut pieces);
     let mut floors = [0u16; 2042];
     let found = bound::bound_of_pieces(
         plate_of(record),
-        listing.count,
+        count,
         &pieces,
         q,
         lengths,

@@ -175,9 +175,8 @@ fn exact_accepted(
 {
     let plate = plate_of(job);
     let weights = [0u8; 64];
-    let listing = list_pieces(job, &weights);
-    let count = listing.count;
-    let mut pieces = listing.pieces;
+    let mut pieces = [0u32; 640];
+    let count = list_pieces(job, &weights, &mut pieces);
     put_states(&mut pieces, count, &blocks[..]);
     let d = job.count as usize - 1;
     let mut floors = [0u16; 2042];

@@ -29,12 +29,6 @@ struct Piece {
     node: u32,
 }
 
-// The pieces that may lie: how many, and five entries for each.
-pub struct Listing {
-    pub count: u16,
-    pub pieces: [u32; 640],
-}
-
 // The plate's sides, the kerf added.
 pub fn plate_of(job: JobRecord) -> Sides
     requires { ⌜ InRange (job-of job) ⌝ }
@@ -90,12 +84,11 @@ fn put_kind(pieces: &mut [u32; 640], n: usize, piece: Piece, demand: u16, turnin
     n + 1
 }
 
-// Lists the pieces of a job with their weights, the kerf added to every side.
-pub fn list_pieces(job: JobRecord, weights: &[u8]) -> Listing
-    requires { ⌜ InRange (job-of job) × (job .count ≤ length (now weights)) ⌝ }
-    ensures { λ r. ⌜ PieceArray (widened (job-of job)) (weight-in (now (weights .entry))) (r .count) (r .pieces) ⌝ }
+// Lists the pieces of a job with their weights into the array, the kerf added to every side; answers how many.
+pub fn list_pieces(job: JobRecord, weights: &[u8], pieces: &mut [u32; 640]) -> u16
+    requires { ⌜ InRange (job-of job) × (job .count ≤ length (now weights)) × (length (now pieces) ≡ 640) ⌝ }
+    ensures { λ r. ⌜ PieceArray (widened (job-of job)) (weight-in (now (weights .entry))) r (now (pieces .exit)) ⌝ }
 {
-    let mut pieces = [0u32; 640];
     let mut n: usize = 0;
     for i in 0..job.count {
         let k = i as usize;
@@ -109,10 +102,7 @@ pub fn list_pieces(job: JobRecord, weights: &[u8]) -> Listing
             weight: weights[k],
             node: 2 * (i as u32),
         };
-        n = put_kind(&mut pieces, n, piece, job.demands[k], job.turning);
+        n = put_kind(pieces, n, piece, job.demands[k], job.turning);
     }
-    Listing {
-        count: n as u16,
-        pieces: pieces,
-    }
+    n as u16
 }

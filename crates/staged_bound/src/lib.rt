@@ -112,12 +112,12 @@ pub fn bound_staged(
     }
     let record = accepted.job;
     let plate = plate_of(record);
-    let listing = list_pieces(record, weights);
-    let pieces = listing.pieces;
+    let mut pieces = [0u32; 640];
+    let count = list_pieces(record, weights, &mut pieces);
     let mut floors = [0u16; 2042];
     bound_of_pieces(
         plate,
-        listing.count,
+        count,
         &pieces,
         accepted.capacity,
         limit as usize,

@@ -46,12 +46,12 @@ pub fn certify_staged(
         return conclude(walked, 0, 0);
     };
     let report = drawn.report;
-    let listing = list_pieces(record, weights);
-    let pieces = listing.pieces;
+    let mut pieces = [0u32; 640];
+    let count = list_pieces(record, weights, &mut pieces);
     let mut floors = [0u16; 2042];
     let found = staged_bound::bound_of_pieces(
         plate_of(record),
-        listing.count,
+        count,
         &pieces,
         accepted.capacity,
         limit as usize,

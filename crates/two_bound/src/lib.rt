@@ -217,9 +217,8 @@ pub fn bound_two(
         return TwoAnswer::Refused(r);
     }
     let plate = plate_of(record);
-    let listing = list_pieces(record, first);
-    let count = listing.count;
-    let mut pieces = listing.pieces;
+    let mut pieces = [0u32; 640];
+    let count = list_pieces(record, first, &mut pieces);
     let most = Capacities {
         first: weighed.first,
         second: weighed.second,

@@ -23,7 +23,7 @@ use Rattle.job.proofs.Weights.{weights-passed, accepted-both, accepted-in-range
 use Rattle.job.proofs.Taken.{Taken}
 use Rattle.bound.specs.Bound as bound
 use Rattle.bound.proofs.Holds.{bound-held}
-use Rattle.bound.proofs.Calls.{range-taken, listable}
+use Rattle.bound.proofs.Calls.{range-taken, weights-there}
 use Rattle.writer.specs.declared.WriteReport.{WriteReport}
 use Rattle.writer.specs.declared.WriteAnswer.{WriteAnswer}
 use Rattle.writer.specs.declared.WriteAnswer.the-variants as answer
@@ -35,7 +35,7 @@ use Rattle.writer.proofs.Write.{none-long, untouched}
 pub weighed : (s : List ℕ) (choices : Choices) (ws : List ℕ) {j : JobRecord} {q : ℕ} → Taken s choices ws j q → Weighed (job-of j) ws q
 weighed s choices ws t =
     let k = weights-passed (block-job s choices) ws (accepted-both s choices ws (t .accepted) .1) in
-    record { in-range = range-taken s choices ws t; weights = listable s choices ws t .1; most = omega (arith, k .1, t .capacity-is) }
+    record { in-range = range-taken s choices ws t; weights = weights-there s choices ws t; most = omega (arith, k .1, t .capacity-is) }
 
 said-by : (v : Checked) (b : WriteReport) → write-outcome (write-answer-by v b) ≡ outcome-by v (write-values b)
 said-by Passed b = refl

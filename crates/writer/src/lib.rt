@@ -148,9 +148,8 @@ fn write_accepted(
         (bound-report (widened (job-of job)) (weight-in (now (weights .entry))) q) (plan-under (job-of job) (weight-in (now (weights .entry))) q) (now (kinds .entry)) (now (operands .entry)) (now (kinds .exit)) (now (operands .exit)) r ⌝ }
 {
     let plate = plate_of(job);
-    let listing = list_pieces(job, weights);
-    let count = listing.count;
-    let pieces = listing.pieces;
+    let mut pieces = [0u32; 640];
+    let count = list_pieces(job, weights, &mut pieces);
     let blocks = [(q as u32) + 1; 1];
     let mut floors = [0u16; 2042];
     let bounded = bound_of_pieces(

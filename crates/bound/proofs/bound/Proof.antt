@@ -24,22 +24,22 @@ plate-of-requires c κs =
 
 list-pieces-requires : tie.Need-list-pieces-requires
 list-pieces-requires c κs =
-    let e = c .before .before .before .before .before .before .before .before .before .before .args in
-    let t = taken (now (e .block)) (e .choices) (now (e .weights)) (c .before .before .before .before .accept .ensures .0) (c .before .before .enum-told .given .1) in
-    listable (now (e .block)) (e .choices) (now (e .weights)) t
+    let e = c .before .before .before .before .before .before .before .before .before .before .before .args in
+    let t = taken (now (e .block)) (e .choices) (now (e .weights)) (c .before .before .before .before .before .accept .ensures .0) (c .before .before .before .enum-told .given .1) in
+    listable (now (e .block)) (e .choices) (now (e .weights)) t refl
 
 bound-of-pieces-requires : tie.Need-bound-of-pieces-requires
 bound-of-pieces-requires c κs =
     let e = c .before .before .before .before .before .before .before .before .before .before .before .before .before .before .before .before .before .args in
     let t = taken (now (e .block)) (e .choices) (now (e .weights)) (c .before .before .before .before .before .before .before .before .before .before .before .accept .ensures .0) (c .before .before .before .before .before .before .before .before .before .enum-told .given .1) in
-    boundable (now (e .block)) (e .choices) (now (e .weights)) t (c .before .before .before .before .before .before .before .plate-of .ensures) (c .before .before .before .before .before .before .list-pieces .ensures) refl
+    boundable (now (e .block)) (e .choices) (now (e .weights)) t (c .before .before .before .before .before .before .before .plate-of .ensures) (c .before .before .before .before .before .list-pieces .ensures) refl
 
 returns-2 : tie.Need-returns-2
 returns-2 c =
     let e = c .before .before .before .before .before .before .before .before .before .before .before .before .before .before .before .before .before .before .before .before .before .before .before .before .before .args in
     let t = taken (now (e .block)) (e .choices) (now (e .weights)) (c .before .before .before .before .before .before .before .before .before .before .before .before .before .before .before .before .before .before .before .accept .ensures .0) (c .before .before .before .before .before .before .before .before .before .before .before .before .before .before .before .before .before .enum-told .given .1) in
     accepted (now (e .block)) (e .choices) (now (e .weights)) _ (t .accepted) _
-    (job-bounded (now (e .block)) (e .choices) (now (e .weights)) t (c .before .before .before .before .before .before .before .before .before .before .before .before .before .before .before .plate-of .ensures) (c .before .before .before .before .before .before .before .before .before .before .before .before .before .before .list-pieces .ensures) (c .before .before .before .before .before .before .before .bound-of-pieces .ensures))
+    (job-bounded (now (e .block)) (e .choices) (now (e .weights)) t (c .before .before .before .before .before .before .before .before .before .before .before .before .before .before .before .plate-of .ensures) (c .before .before .before .before .before .before .before .before .before .before .before .before .before .list-pieces .ensures) (c .before .before .before .before .before .before .before .bound-of-pieces .ensures))
 
 pub bound-spec : {M : Type 1} → statement M
 bound-spec =

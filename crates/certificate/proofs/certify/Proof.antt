@@ -59,8 +59,8 @@ returns-3 c =
 
 list-pieces-requires : tie.Need-list-pieces-requires
 list-pieces-requires c κs =
-    let k = c .before .before .before .before in
-    listable (now (start k .args .block)) (start k .args .choices) (now (start k .args .weights)) (took k)
+    let k = c .before .before .before .before .before in
+    listable (now (start k .args .block)) (start k .args .choices) (now (start k .args .weights)) (took k) refl
 
 plate-of-requires : tie.Need-plate-of-requires
 plate-of-requires c κs = ranged (c .before .before .before .before .before .before)
@@ -68,28 +68,28 @@ plate-of-requires c κs = ranged (c .before .before .before .before .before .bef
 bound-of-pieces-requires : tie.Need-bound-of-pieces-requires
 bound-of-pieces-requires c κs =
     let k = c .before .before .before .before .before .before .before .before .before .before .before .before in
-    boundable (now (start k .args .block)) (start k .args .choices) (now (start k .args .weights)) (took k) (c .before .before .before .before .before .plate-of .ensures) (c .before .before .before .before .before .before .before .list-pieces .ensures) refl
+    boundable (now (start k .args .block)) (start k .args .choices) (now (start k .args .weights)) (took k) (c .before .before .before .before .before .plate-of .ensures) (c .before .before .before .before .before .before .list-pieces .ensures) refl
 
 returns-4 : tie.Need-returns-4
 returns-4 c =
     let k = c .before .before .before .before .before .before .before .before .before .before .before .before .before .before .before .before .before .before .before .before .before .before .before .before in
     let e = start k in
     storage-refused (now (e .args .block)) (e .args .choices) (now (e .args .weights)) (now (e .args .kinds)) (now (e .args .operands)) (memory e) (took k) (c .before .before .before .before .before .before .before .before .before .before .before .before .before .before .before .before .before .before .before .before .before .before .check-nodes .ensures) (c .before .before .before .before .before .before .before .before .before .before .before .before .before .before .before .before .before .before .before .before .enum-told4 .given .1)
-    (job-bounded (now (e .args .block)) (e .args .choices) (now (e .args .weights)) (took k) (c .before .before .before .before .before .before .before .before .before .before .before .before .before .before .before .before .before .plate-of .ensures) (c .before .before .before .before .before .before .before .before .before .before .before .before .before .before .before .before .before .before .before .list-pieces .ensures) (c .before .before .before .before .before .before .before .before .before .before .before .bound-of-pieces .ensures)) _ (c .before .before .enum-told6 .given .1) (c .before .storage-verdict .ensures) (c .conclude4 .ensures)
+    (job-bounded (now (e .args .block)) (e .args .choices) (now (e .args .weights)) (took k) (c .before .before .before .before .before .before .before .before .before .before .before .before .before .before .before .before .before .plate-of .ensures) (c .before .before .before .before .before .before .before .before .before .before .before .before .before .before .before .before .before .before .list-pieces .ensures) (c .before .before .before .before .before .before .before .before .before .before .before .bound-of-pieces .ensures)) _ (c .before .before .enum-told6 .given .1) (c .before .storage-verdict .ensures) (c .conclude4 .ensures)
 
 conclude-requires-5 : tie.Need-conclude-requires-5
 conclude-requires-5 c κs =
     let k = c .before .before .before .before .before .before .before .before .before .before .before .before .before .before .before .before .before .before .before .before .before .before .before .before in
     let e = start k in
     λ p. profit-most (now (e .args .block)) (e .args .choices) (now (e .args .weights)) (now (e .args .kinds)) (now (e .args .operands)) (memory e) (took k) (c .before .before .before .before .before .before .before .before .before .before .before .before .before .before .before .before .before .before .before .before .before .before .check-nodes .ensures) (c .before .before .before .before .before .before .before .before .before .before .before .before .before .before .before .before .before .before .before .before .enum-told4 .given .1)
-    (job-bounded (now (e .args .block)) (e .args .choices) (now (e .args .weights)) (took k) (c .before .before .before .before .before .before .before .before .before .before .before .before .before .before .before .before .before .plate-of .ensures) (c .before .before .before .before .before .before .before .before .before .before .before .before .before .before .before .before .before .before .before .list-pieces .ensures) (c .before .before .before .before .before .before .before .before .before .before .before .bound-of-pieces .ensures)) _ (c .before .before .found .given .1)
+    (job-bounded (now (e .args .block)) (e .args .choices) (now (e .args .weights)) (took k) (c .before .before .before .before .before .before .before .before .before .before .before .before .before .before .before .before .before .plate-of .ensures) (c .before .before .before .before .before .before .before .before .before .before .before .before .before .before .before .before .before .before .list-pieces .ensures) (c .before .before .before .before .before .before .before .before .before .before .before .bound-of-pieces .ensures)) _ (c .before .before .found .given .1)
 
 returns-5 : tie.Need-returns-5
 returns-5 c =
     let k = c .before .before .before .before .before .before .before .before .before .before .before .before .before .before .before .before .before .before .before .before .before .before .before .before .before in
     let e = start k in
     certified (now (e .args .block)) (e .args .choices) (now (e .args .weights)) (now (e .args .kinds)) (now (e .args .operands)) (memory e) (took k) (c .before .before .before .before .before .before .before .before .before .before .before .before .before .before .before .before .before .before .before .before .before .before .before .check-nodes .ensures) (c .before .before .before .before .before .before .before .before .before .before .before .before .before .before .before .before .before .before .before .before .before .enum-told4 .given .1)
-    (job-bounded (now (e .args .block)) (e .args .choices) (now (e .args .weights)) (took k) (c .before .before .before .before .before .before .before .before .before .before .before .before .before .before .before .before .before .before .plate-of .ensures) (c .before .before .before .before .before .before .before .before .before .before .before .before .before .before .before .before .before .before .before .before .list-pieces .ensures) (c .before .before .before .before .before .before .before .before .before .before .before .before .bound-of-pieces .ensures)) _ (c .before .before .before .found .given .1) (c .conclude5 .ensures)
+    (job-bounded (now (e .args .block)) (e .args .choices) (now (e .args .weights)) (took k) (c .before .before .before .before .before .before .before .before .before .before .before .before .before .before .before .before .before .before .plate-of .ensures) (c .before .before .before .before .before .before .before .before .before .before .before .before .before .before .before .before .before .before .before .list-pieces .ensures) (c .before .before .before .before .before .before .before .before .before .before .before .before .bound-of-pieces .ensures)) _ (c .before .before .before .found .given .1) (c .conclude5 .ensures)
 
 pub certify-spec : {M : Type 1} → statement M
 certify-spec =

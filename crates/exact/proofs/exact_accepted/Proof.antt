@@ -12,10 +12,10 @@ plate-of-requires : tie.Need-plate-of-requires
 plate-of-requires c κs = c .before .before .before .before .before .pre .in-range
 
 list-pieces-requires : tie.Need-list-pieces-requires
-list-pieces-requires c κs = let given = c .before .before .before .before .before .before .before .pre in (given .in-range, given .in-range .kinds .1)
+list-pieces-requires c κs = let given = c .before .before .before .before .before .before .before .before .pre in (given .in-range, given .in-range .kinds .1, refl)
 
 put-states-requires : tie.Need-put-states-requires
-put-states-requires c κs = let given = c .before .before .before .before .before .before .before .before .before .before .before .pre in statable _ _ _ (c .before .before .before .list-pieces .ensures) (given .in-range .kinds .1) (given .entries)
+put-states-requires c κs = let given = c .before .before .before .before .before .before .before .before .before .before .before .pre in statable _ _ _ (c .before .before .list-pieces .ensures) (given .in-range .kinds .1) (given .entries)
 
 sub-d : tie.Need-sub-d
 sub-d c = omega (arith, c .before .before .before .before .before .before .before .before .before .before .before .before .before .pre .in-range .kinds .0)
@@ -23,13 +23,13 @@ sub-d c = omega (arith, c .before .before .before .before .before .before .befor
 states-of-pieces-requires : tie.Need-states-of-pieces-requires
 states-of-pieces-requires c κs =
     let given = c .before .before .before .before .before .before .before .before .before .before .before .before .before .before .before .before .before .before .before .pre in
-    countable given (c .before .before .before .before .before .before .before .before .before .before .before .before .before .plate-of .ensures) (stated-array _ _ _ (c .before .before .before .before .before .before .before .before .before .before .before .list-pieces .ensures) _ _ (given .listed) (c .before .before .before .before .before .before .before .put-states .ensures)) refl
+    countable given (c .before .before .before .before .before .before .before .before .before .before .before .before .before .plate-of .ensures) (stated-array _ _ _ (c .before .before .before .before .before .before .before .before .before .before .list-pieces .ensures) _ _ (given .listed) (c .before .before .before .before .before .before .before .put-states .ensures)) refl
 
 plan-of-pieces-requires : tie.Need-plan-of-pieces-requires
 plan-of-pieces-requires c κs =
     let given = c .before .before .before .before .before .before .before .before .before .before .before .before .before .before .before .before .before .before .before .before .before .before .before .before .before .before .before .before .before .before .before .before .before .before .before .before .before .before .before .pre in
     let plate = c .before .before .before .before .before .before .before .before .before .before .before .before .before .before .before .before .before .before .before .before .before .before .before .before .before .before .before .before .before .before .before .before .before .plate-of .ensures in
-    let array = stated-array _ _ _ (c .before .before .before .before .before .before .before .before .before .before .before .before .before .before .before .before .before .before .before .before .before .before .before .before .before .before .before .before .before .before .before .list-pieces .ensures) _ _ (given .listed) (c .before .before .before .before .before .before .before .before .before .before .before .before .before .before .before .before .before .before .before .before .before .before .before .before .before .before .before .put-states .ensures) in
+    let array = stated-array _ _ _ (c .before .before .before .before .before .before .before .before .before .before .before .before .before .before .before .before .before .before .before .before .before .before .before .before .before .before .before .before .before .before .list-pieces .ensures) _ _ (given .listed) (c .before .before .before .before .before .before .before .before .before .before .before .before .before .before .before .before .before .before .before .before .before .before .before .before .before .before .before .put-states .ensures) in
     let left = c .before .before .before .before .before .before .before .before .before .before .before .before .before .before .before .before .before .before .before .states-of-pieces .ensures in
     let answered = c .before .before .before .before .before .before .before .before .before .before .filled2 .given .1 in
     rw (c .before .before .before .before .before .before .before .before .table-of .ensures) (plan-ready given plate array left answered, plan-thick given plate array left answered)
@@ -48,7 +48,7 @@ returns : tie.Need-returns
 returns c =
     let e = c .before .before .before .before .before .before .before .before .before .before .before .before .before .before .before .before .before .before .before .before .before .before .before .before .before .before .before .before .before .before in
     let plate = c .before .before .before .before .before .before .before .before .before .before .before .before .before .before .before .before .before .before .before .before .before .before .before .before .plate-of .ensures in
-    let array = stated-array _ _ _ (c .before .before .before .before .before .before .before .before .before .before .before .before .before .before .before .before .before .before .before .before .before .before .list-pieces .ensures) _ _ (e .pre .listed) (c .before .before .before .before .before .before .before .before .before .before .before .before .before .before .before .before .before .before .put-states .ensures) in
+    let array = stated-array _ _ _ (c .before .before .before .before .before .before .before .before .before .before .before .before .before .before .before .before .before .before .before .before .before .list-pieces .ensures) _ _ (e .pre .listed) (c .before .before .before .before .before .before .before .before .before .before .before .before .before .before .before .before .before .before .put-states .ensures) in
     let left = c .before .before .before .before .before .before .before .before .before .before .states-of-pieces .ensures in
     (memory-left (e .pre) plate array left, storage-refused (e .pre) plate array left (now (e .args .kinds)) (now (e .args .operands)) (c .before .filled .given .1))
 
@@ -65,7 +65,7 @@ returns-2 : tie.Need-returns-2
 returns-2 c =
     let given = c .before .before .before .before .before .before .before .before .before .before .before .before .before .before .before .before .before .before .before .before .before .before .before .before .before .before .before .before .before .before .before .before .before .before .before .before .before .before .before .before .before .before .before .before .before .pre in
     let plate = c .before .before .before .before .before .before .before .before .before .before .before .before .before .before .before .before .before .before .before .before .before .before .before .before .before .before .before .before .before .before .before .before .before .before .before .before .before .before .before .plate-of .ensures in
-    let array = stated-array _ _ _ (c .before .before .before .before .before .before .before .before .before .before .before .before .before .before .before .before .before .before .before .before .before .before .before .before .before .before .before .before .before .before .before .before .before .before .before .before .before .list-pieces .ensures) _ _ (given .listed) (c .before .before .before .before .before .before .before .before .before .before .before .before .before .before .before .before .before .before .before .before .before .before .before .before .before .before .before .before .before .before .before .before .before .put-states .ensures) in
+    let array = stated-array _ _ _ (c .before .before .before .before .before .before .before .before .before .before .before .before .before .before .before .before .before .before .before .before .before .before .before .before .before .before .before .before .before .before .before .before .before .before .before .before .list-pieces .ensures) _ _ (given .listed) (c .before .before .before .before .before .before .before .before .before .before .before .before .before .before .before .before .before .before .before .before .before .before .before .before .before .before .before .before .before .before .before .before .before .put-states .ensures) in
     let left = c .before .before .before .before .before .before .before .before .before .before .before .before .before .before .before .before .before .before .before .before .before .before .before .before .before .states-of-pieces .ensures in
     (memory-left given plate array left, plan-made given plate array left (c .before .before .before .before .before .before .before .before .before .before .before .before .before .before .before .before .filled2 .given .1) (c .exact-of .ensures) (rw (c .before .before .before .before .before .before .before .before .before .before .before .before .before .before .table-of .ensures) at (c .before .before .before .before .before .plan-of-pieces .ensures)))
 

@@ -13,13 +13,13 @@ use Rattle.pieces.proofs.list_pieces.Statement.{statement}
 use Rattle.pieces.proofs.list_pieces.Tie as tie
 
 abbrev Inv-loop : tie.InvT-loop
-Inv-loop weights job pieces₀ n₀ i₀ i-end pieces n i = (i ≤ job .count) × (i-end ≡ job .count) × Listed (widened (job-of job)) (weight-in weights) (kinds-below (widened (job-of job)) i) n pieces
+Inv-loop weights pieces₀ job n₀ i₀ i-end pieces n i = (i ≤ job .count) × (i-end ≡ job .count) × Listed (widened (job-of job)) (weight-in weights) (kinds-below (widened (job-of job)) i) n pieces
 
 abbrev μ-loop : tie.MeasureT-loop
-μ-loop weights job pieces₀ n₀ i₀ i-end pieces n i = i-end - i
+μ-loop weights pieces₀ job n₀ i₀ i-end pieces n i = i-end - i
 
 loop-holds : tie.Need-loop-holds Inv-loop μ-loop
-loop-holds c = let e = c .before .args in (search needs, refl, listed-none (widened (job-of (e .t1))) (weight-in (now (e .weights))) _ refl)
+loop-holds c = let e = c .before in (search needs, refl, listed-none (widened (job-of (e .args .t1))) (weight-in (now (e .args .weights))) _ (e .pre .2))
 
 element-copy-out-widen : tie.Need-element-copy-out-widen Inv-loop μ-loop
 element-copy-out-widen c = omega (arith, c .before .before .before .pre .0 .kinds .1, c .loop-test .taken)
@@ -61,8 +61,8 @@ loop-again c =
           (c .put-kind .ensures J (weight-in (now (e .weights))) _ (turn .loop .i) (turn .loop .inv .2) (rw (c .before .before .before .before .before .widen .ensures) refl)),
     )
 
-cast-t31 : tie.Need-cast-t31 Inv-loop μ-loop
-cast-t31 c =
+cast-result : tie.Need-cast-result Inv-loop μ-loop
+cast-result c =
     let e = c .before .before .before in
     let turn = c .before .loop in
     omega (arith, kinds-count (widened (job-of (e .args .t1))) (turn .i) (turn .inv .2), turn .inv .0, e .pre .0 .kinds .1)
@@ -80,4 +80,4 @@ list-pieces-spec =
     (tie.spec
     Inv-loop μ-loop loop-holds (λ c. search needs) (λ c. search needs) element-copy-out-widen (λ c. search needs) element-copy-out-put-kind
     widen-requires (λ c. search needs) element-copy-out-t23 (λ c. search needs) (λ c. search needs) mul-t27 (λ c. search needs)
-    element-copy-out-put-kind-2 put-kind-requires (λ c. search needs) (λ c. search needs) loop-again cast-t31 returns)
+    element-copy-out-put-kind-2 put-kind-requires (λ c. search needs) (λ c. search needs) loop-again cast-result returns)

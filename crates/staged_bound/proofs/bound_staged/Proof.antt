@@ -24,20 +24,20 @@ plate-of-requires : tie.Need-plate-of-requires
 plate-of-requires c κs = let e = c .before .before .before .before .before .before .before .before .before .before .before .args in range-taken (now (e .block)) (e .choices) (now (e .weights)) (taken (now (e .block)) (e .choices) (now (e .weights)) (c .before .before .before .before .before .accept .ensures .0) (c .before .before .before .enum-told .given .1))
 
 list-pieces-requires : tie.Need-list-pieces-requires
-list-pieces-requires c κs = let e = c .before .before .before .before .before .before .before .before .before .before .before .before .args in listable (now (e .block)) (e .choices) (now (e .weights)) (taken (now (e .block)) (e .choices) (now (e .weights)) (c .before .before .before .before .before .before .accept .ensures .0) (c .before .before .before .before .enum-told .given .1))
+list-pieces-requires c κs = let e = c .before .before .before .before .before .before .before .before .before .before .before .before .before .args in listable (now (e .block)) (e .choices) (now (e .weights)) (taken (now (e .block)) (e .choices) (now (e .weights)) (c .before .before .before .before .before .before .before .accept .ensures .0) (c .before .before .before .before .before .enum-told .given .1)) refl
 
 bound-of-pieces-requires : tie.Need-bound-of-pieces-requires
 bound-of-pieces-requires c κs =
     let e = c .before .before .before .before .before .before .before .before .before .before .before .before .before .before .before .before .before .before .before .args in
     let t = taken (now (e .block)) (e .choices) (now (e .weights)) (c .before .before .before .before .before .before .before .before .before .before .before .before .before .accept .ensures .0) (c .before .before .before .before .before .before .before .before .before .before .before .enum-told .given .1) in
-    (stageable (now (e .block)) (e .choices) (now (e .weights)) t (e .limit) (sym (c .before .before .before .before .before .before .before .before .before .before .limit-outside .ensures) ∙ c .before .before .before .before .before .before .before .before .before .if1 .left) (c .before .before .before .before .before .before .before .plate-of .ensures) (c .before .before .before .before .before .before .list-pieces .ensures), refl)
+    (stageable (now (e .block)) (e .choices) (now (e .weights)) t (e .limit) (sym (c .before .before .before .before .before .before .before .before .before .before .limit-outside .ensures) ∙ c .before .before .before .before .before .before .before .before .before .if1 .left) (c .before .before .before .before .before .before .before .plate-of .ensures) (c .before .before .before .before .before .list-pieces .ensures), refl)
 
 returns-3 : tie.Need-returns-3
 returns-3 c =
     let e = c .before .before .before .before .before .before .before .before .before .before .before .before .before .before .before .before .before .before .before .before .before .before .before .before .before .before .before .args in
     let t = taken (now (e .block)) (e .choices) (now (e .weights)) (c .before .before .before .before .before .before .before .before .before .before .before .before .before .before .before .before .before .before .before .before .before .accept .ensures .0) (c .before .before .before .before .before .before .before .before .before .before .before .before .before .before .before .before .before .before .before .enum-told .given .1) in
     accepted (now (e .block)) (e .choices) (now (e .weights)) (e .limit) _ (t .accepted) (sym (c .before .before .before .before .before .before .before .before .before .before .before .before .before .before .before .before .before .before .limit-outside .ensures) ∙ c .before .before .before .before .before .before .before .before .before .before .before .before .before .before .before .before .before .if1 .left) _
-    (job-staged (now (e .block)) (e .choices) (now (e .weights)) t (e .limit) (c .before .before .before .before .before .before .before .before .before .before .before .before .before .before .before .plate-of .ensures) (c .before .before .before .before .before .before .before .before .before .before .before .before .before .before .list-pieces .ensures) (c .before .before .before .before .before .before .before .bound-of-pieces .ensures))
+    (job-staged (now (e .block)) (e .choices) (now (e .weights)) t (e .limit) (c .before .before .before .before .before .before .before .before .before .before .before .before .before .before .before .plate-of .ensures) (c .before .before .before .before .before .before .before .before .before .before .before .before .before .list-pieces .ensures) (c .before .before .before .before .before .before .before .bound-of-pieces .ensures))
 
 pub bound-staged-spec : {M : Type 1} → statement M
 bound-staged-spec =

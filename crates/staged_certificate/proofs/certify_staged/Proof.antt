@@ -41,7 +41,7 @@ bounded : (w : tie.After-bound-of-pieces) →
     (lent (w .bound-of-pieces .last .1 .1 .1 .1 .1 .0) (w .bound-of-pieces .last .1 .1 .1 .1 .1 .1 .0) (w .bound-of-pieces .last .1 .1 .1 .1 .1 .1 .1 .1 .0)) (w .bound-of-pieces .result)
 bounded w =
     let k = w .before .before .before .before .before .before .before .before .before .before .before .before .before in
-    job-staged (now (start k .args .block)) (start k .args .choices) (now (start k .args .weights)) (took k) (start k .args .limit) (w .before .before .before .before .before .before .plate-of .ensures) (w .before .before .before .before .before .before .before .before .list-pieces .ensures) (w .bound-of-pieces .ensures)
+    job-staged (now (start k .args .block)) (start k .args .choices) (now (start k .args .weights)) (took k) (start k .args .limit) (w .before .before .before .before .before .before .plate-of .ensures) (w .before .before .before .before .before .before .before .list-pieces .ensures) (w .bound-of-pieces .ensures)
 
 returns : tie.Need-returns
 returns c =
@@ -71,8 +71,8 @@ returns-3 c =
 
 list-pieces-requires : tie.Need-list-pieces-requires
 list-pieces-requires c κs =
-    let k = c .before .before .before .before in
-    listable (now (start k .args .block)) (start k .args .choices) (now (start k .args .weights)) (took k)
+    let k = c .before .before .before .before .before in
+    listable (now (start k .args .block)) (start k .args .choices) (now (start k .args .weights)) (took k) refl
 
 plate-of-requires : tie.Need-plate-of-requires
 plate-of-requires c κs =
@@ -82,7 +82,7 @@ plate-of-requires c κs =
 bound-of-pieces-requires : tie.Need-bound-of-pieces-requires
 bound-of-pieces-requires c κs =
     let k = c .before .before .before .before .before .before .before .before .before .before .before .before in
-    (stageable (now (start k .args .block)) (start k .args .choices) (now (start k .args .weights)) (took k) (start k .args .limit) (inside k) (c .before .before .before .before .before .plate-of .ensures) (c .before .before .before .before .before .before .before .list-pieces .ensures), refl)
+    (stageable (now (start k .args .block)) (start k .args .choices) (now (start k .args .weights)) (took k) (start k .args .limit) (inside k) (c .before .before .before .before .before .plate-of .ensures) (c .before .before .before .before .before .before .list-pieces .ensures), refl)
 
 returns-4 : tie.Need-returns-4
 returns-4 c =

@@ -35,26 +35,26 @@ plate-of-requires : tie.Need-plate-of-requires
 plate-of-requires c κs = taken c .range
 
 list-pieces-requires : tie.Need-list-pieces-requires
-list-pieces-requires c κs = let k = c .before in let e = start k .args in listable (now (e .block)) (e .choices) (now (e .first)) (now (e .second)) (taken k)
+list-pieces-requires c κs = let k = c .before .before in let e = start k .args in listable (now (e .block)) (e .choices) (now (e .first)) (now (e .second)) (taken k) refl
 
 put-states-requires : tie.Need-put-states-requires
 put-states-requires c κs =
     let k = c .before .before .before .before in
     let e = start k .args in
-    states-ready (now (e .block)) (e .choices) (now (e .first)) (now (e .second)) (taken k) (c .before .before .list-pieces .ensures)
+    states-ready (now (e .block)) (e .choices) (now (e .first)) (now (e .second)) (taken k) (c .before .list-pieces .ensures)
 
 two-of-pieces-requires : tie.Need-two-of-pieces-requires
 two-of-pieces-requires c κs =
     let k = c .before .before .before .before .before .before .before .before .before .before in
     let e = start k .args in
-    pairable (now (e .block)) (e .choices) (now (e .first)) (now (e .second)) (taken k) (c .before .before .before .before .before .before .before .before .list-pieces .ensures) (c .before .before .before .before .before .put-states .ensures) (c .before .before .before .before .before .before .before .before .before .plate-of .ensures) refl
+    pairable (now (e .block)) (e .choices) (now (e .first)) (now (e .second)) (taken k) (c .before .before .before .before .before .before .before .list-pieces .ensures) (c .before .before .before .before .before .put-states .ensures) (c .before .before .before .before .before .before .before .before .before .plate-of .ensures) refl
 
 returns-3 : tie.Need-returns-3
 returns-3 c =
     let k = c .before .before .before .before .before .before .before .before .before .before .before .before .before .before .before .before .before .before in
     let e = start k .args in
     accepted (now (e .block)) (e .choices) (now (e .first)) (now (e .second)) _ (taken k .accepted-is) _
-    (job-paired (now (e .block)) (e .choices) (now (e .first)) (now (e .second)) (taken k) (c .before .before .before .before .before .before .before .before .before .before .before .before .before .before .before .before .list-pieces .ensures) (c .before .before .before .before .before .before .before .before .before .before .before .before .before .put-states .ensures) (c .before .before .before .before .before .before .before .before .before .before .before .before .before .before .before .before .before .plate-of .ensures) (c .before .before .before .before .before .before .before .two-of-pieces .ensures))
+    (job-paired (now (e .block)) (e .choices) (now (e .first)) (now (e .second)) (taken k) (c .before .before .before .before .before .before .before .before .before .before .before .before .before .before .before .list-pieces .ensures) (c .before .before .before .before .before .before .before .before .before .before .before .before .before .put-states .ensures) (c .before .before .before .before .before .before .before .before .before .before .before .before .before .before .before .before .before .plate-of .ensures) (c .before .before .before .before .before .before .before .two-of-pieces .ensures))
 
 pub bound-two-spec : {M : Type 1} → statement M
 bound-two-spec =

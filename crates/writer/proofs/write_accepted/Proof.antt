@@ -10,34 +10,34 @@ plate-of-requires : tie.Need-plate-of-requires
 plate-of-requires c κs = c .before .before .before .before .before .before .pre .in-range
 
 list-pieces-requires : tie.Need-list-pieces-requires
-list-pieces-requires c κs = let given = c .before .before .before .before .before .before .before .pre in (given .in-range, given .weights)
+list-pieces-requires c κs = let given = c .before .before .before .before .before .before .before .before .pre in (given .in-range, given .weights, refl)
 
 bound-of-pieces-requires : tie.Need-bound-of-pieces-requires
-bound-of-pieces-requires c κs = boundable (c .before .before .before .before .before .before .before .before .before .before .before .before .before .before .pre) (c .before .before .before .before .before .before .before .plate-of .ensures) (c .before .before .before .before .before .before .list-pieces .ensures) refl
+bound-of-pieces-requires c κs = boundable (c .before .before .before .before .before .before .before .before .before .before .before .before .before .before .pre) (c .before .before .before .before .before .before .before .plate-of .ensures) (c .before .before .before .before .before .list-pieces .ensures) refl
 
 plan-of-pieces-requires : tie.Need-plan-of-pieces-requires
 plan-of-pieces-requires c κs =
     let table = c .before .before .before .before .before .before .before .before in
     let answered = table .before .before in
     let found = answered .before .before .before .before .before .before .before .before .before in
-    let pieces = found .before .before .before .before .before .before .before in
-    let given = pieces .before .before .before .before .before .before .before .before .pre in
-    let ready = plan-ready given (pieces .before .plate-of .ensures) (pieces .list-pieces .ensures) (found .bound-of-pieces .ensures) (answered .bounded2 .given .1) in
-    let thick = plan-thick given (pieces .before .plate-of .ensures) (pieces .list-pieces .ensures) (found .bound-of-pieces .ensures) (answered .bounded2 .given .1) in
+    let pieces = found .before .before .before .before .before .before in
+    let given = pieces .before .before .before .before .before .before .before .before .before .pre in
+    let ready = plan-ready given (pieces .before .before .plate-of .ensures) (pieces .list-pieces .ensures) (found .bound-of-pieces .ensures) (answered .bounded2 .given .1) in
+    let thick = plan-thick given (pieces .before .before .plate-of .ensures) (pieces .list-pieces .ensures) (found .bound-of-pieces .ensures) (answered .bounded2 .given .1) in
     rw (table .table-of .ensures) (ready, thick)
 
 returns : tie.Need-returns
 returns c =
     let e = c .before .before .before .before .before .before .before .before .before .before .before .before .before .before .before .before .before .before .before .before .before .before .before .before .before .args in
     let left = c .before .before .before .before .before .before .before .before .before .before .bound-of-pieces .ensures in
-    (memory-left (c .before .before .before .before .before .before .before .before .before .before .before .before .before .before .before .before .before .before .before .before .before .before .before .before .before .pre) (c .before .before .before .before .before .before .before .before .before .before .before .before .before .before .before .before .before .before .plate-of .ensures) (c .before .before .before .before .before .before .before .before .before .before .before .before .before .before .before .before .before .list-pieces .ensures) left, bound-refused (c .before .before .before .before .before .before .before .before .before .before .before .before .before .before .before .before .before .before .before .before .before .before .before .before .before .pre) (c .before .before .before .before .before .before .before .before .before .before .before .before .before .before .before .before .before .before .plate-of .ensures) (c .before .before .before .before .before .before .before .before .before .before .before .before .before .before .before .before .before .list-pieces .ensures) left (now (e .kinds)) (now (e .operands)) (c .before .bounded .given .1))
+    (memory-left (c .before .before .before .before .before .before .before .before .before .before .before .before .before .before .before .before .before .before .before .before .before .before .before .before .before .pre) (c .before .before .before .before .before .before .before .before .before .before .before .before .before .before .before .before .before .before .plate-of .ensures) (c .before .before .before .before .before .before .before .before .before .before .before .before .before .before .before .before .list-pieces .ensures) left, bound-refused (c .before .before .before .before .before .before .before .before .before .before .before .before .before .before .before .before .before .before .before .before .before .before .before .before .before .pre) (c .before .before .before .before .before .before .before .before .before .before .before .before .before .before .before .before .before .before .plate-of .ensures) (c .before .before .before .before .before .before .before .before .before .before .before .before .before .before .before .before .list-pieces .ensures) left (now (e .kinds)) (now (e .operands)) (c .before .bounded .given .1))
 
 returns-2 : tie.Need-returns-2
 returns-2 c =
     let left = c .before .before .before .before .before .before .before .before .before .before .before .before .before .before .before .before .before .before .before .before .before .before .before .before .bound-of-pieces .ensures in
     let given = c .before .before .before .before .before .before .before .before .before .before .before .before .before .before .before .before .before .before .before .before .before .before .before .before .before .before .before .before .before .before .before .before .before .before .before .before .before .before .before .pre in
     let plate = c .before .before .before .before .before .before .before .before .before .before .before .before .before .before .before .before .before .before .before .before .before .before .before .before .before .before .before .before .before .before .before .before .plate-of .ensures in
-    let pieces = c .before .before .before .before .before .before .before .before .before .before .before .before .before .before .before .before .before .before .before .before .before .before .before .before .before .before .before .before .before .before .before .list-pieces .ensures in (
+    let pieces = c .before .before .before .before .before .before .before .before .before .before .before .before .before .before .before .before .before .before .before .before .before .before .before .before .before .before .before .before .before .before .list-pieces .ensures in (
       memory-left given plate pieces left,
       plan-made given plate pieces left (c .before .before .before .before .before .before .before .before .before .before .before .before .before .before .before .bounded2 .given .1) (rw (c .before .before .before .before .before .before .before .before .before .before .before .before .before .table-of .ensures) at (c .before .before .before .before .plan-of-pieces .ensures)),
     )
