@@ -582,14 +582,19 @@ pub fn accept(block: &[u8], choices: Choices, weights: &[u8]) -> Acceptance
     let Checked::Passed = read else {
         return unaccepted(read);
     };
-    let job = read_record(block, choices);
-    let weighed = check_weights(job, weights);
+    let mut accepted = Acceptance {
+        verdict: Checked::Passed,
+        job: read_record(block, choices),
+        capacity: 0,
+    };
+    let weighed = check_weights(accepted.job, weights);
     match weighed {
-        WeightsAnswer::Refused(r) => unaccepted(Checked::Refused(r)),
-        WeightsAnswer::Capacity(q) => Acceptance {
-            verdict: Checked::Passed,
-            job: job,
-            capacity: q,
-        },
+        WeightsAnswer::Refused(r) => {
+            return unaccepted(Checked::Refused(r));
+        }
+        WeightsAnswer::Capacity(q) => {
+            accepted.capacity = q;
+        }
     }
+    accepted
 }

@@ -45,4 +45,4 @@ accept-spec =
     tie.close
     (tie.spec
     (λ c κs. search needs) enum-told (λ c. search needs) (λ c κs. search needs) returns read-record-requires check-weights-requires
-    (λ c. search needs) (λ c κs. search needs) (λ c. search needs) returns-2 returns-3)
+    (λ c. search needs) (λ c κs. search needs) returns-2 (λ c. search needs) returns-3)
