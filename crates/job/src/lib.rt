@@ -17,7 +17,7 @@ ghost use Rattle.cutting.specs.Areas as measured;
 ghost use Rattle.cutting.specs.Pieces.{fits-either};
 ghost use Rattle.cutting.specs.Sides.{rect-of};
 ghost use Rattle.cutting.specs.Job.{InRange, capacity, copies-on, counted-of};
-ghost use Rattle.job.specs.Block.{with-full-demand, with-old-block, u16-at, u32-at, count-at, kerf-at, sizes-end, price-at, outside, sides-outside, short-check, count-checks, header-checks, plateless-checks, size-check, demand-check, pair-checks, each-kind, array-checks, checks-by, job-checks, entries, record-of, unpriced, empty-record, read-of, job-outcome, job-said, job-of};
+ghost use Rattle.job.specs.Block.{with-old-block, u16-at, u32-at, count-at, kerf-at, sizes-end, price-at, outside, sides-outside, short-check, count-checks, header-checks, plateless-checks, size-check, demand-check, pair-checks, each-kind, array-checks, checks-by, job-checks, entries, record-of, unpriced, empty-record, read-of, job-outcome, job-said, job-of};
 ghost use Rattle.job.specs.Weights.{weight-in, weights-answer, weights-outcome, weights-said, acceptance-of, acceptance-outcome, acceptance-said};
 ghost use Rattle.job.specs.Contracts.{HoldsKinds, header-by, pairs-by};
 

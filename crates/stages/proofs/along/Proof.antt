@@ -1,5 +1,5 @@
 -- `stages::along` meets its contract: each turn of the loop passes one node that keeps the direction.
-use mathlib.Core.Path.{refl, sym}
+use mathlib.Core.Path.{refl}
 use Prim.Native.Nat.{_-_}
 use native.Mathlib.Omega.{arith}
 use borrow.Author.Needs.{needs}

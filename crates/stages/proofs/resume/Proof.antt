@@ -1,5 +1,4 @@
 -- `stages::resume` meets its contract: the walk goes on where that of the cut's parts ended.
-use mathlib.Core.Path.{refl}
 use native.Mathlib.Omega.{arith}
 use borrow.Author.Needs.{needs}
 use Rattle.stages.proofs.Steps.{resumed-past, resumed-next}
