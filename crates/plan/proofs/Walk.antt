@@ -157,15 +157,16 @@ pub record Walking (J : Job) (kinds operands : List ℕ) (first : ℕ) (copies l
   pub walks : tree-walk J first (drop first (nodes-in kinds operands)) (J .plate ∷ []) empty-report ≡ tree-walk J k (drop k (nodes-in kinds operands)) (waiting lengths widths n) (plan-report t copies)
 
 -- it begins with the plate
-pub begins : (J : Job) (kinds operands : List ℕ) (first : ℕ) (t : Tally) → first ≤ length kinds → t ≡ no-sums → Walking J kinds operands first (replicate 64 0) (set (replicate 4096 0) 0 (J .plate .0)) (set (replicate 4096 0) 0 (J .plate .1)) 1 t first
+pub begins : (J : Job) (kinds operands : List ℕ) (first : ℕ) (lengths widths : List ℕ) (t : Tally) → first ≤ length kinds → Held lengths widths → t ≡ no-sums
+    → Walking J kinds operands first (replicate 64 0) (set lengths 0 (J .plate .0)) (set widths 0 (J .plate .1)) 1 t first
 unfolding waiting
-begins J kinds operands first t h e = rw e
+begins J kinds operands first lengths widths t h held e = rw e
     (record {
       nodes = h;
       few = omega arith;
-      held = (length-set (replicate 4096 0) 0 (J .plate .0) ∙ length-replicate {A = ℕ} 4096 0, length-set (replicate 4096 0) 0 (J .plate .1) ∙ length-replicate {A = ℕ} 4096 0);
+      held = (length-set lengths 0 (J .plate .0) ∙ held .0, length-set widths 0 (J .plate .1) ∙ held .1);
       sized = record { profit = omega arith; pieces = omega arith; waste = omega arith; trim = omega arith; sawdust = omega arith };
-      walks = refl;
+      walks = sym (ap₂ (λ x y. tree-walk J first (drop first (nodes-in kinds operands)) ((x, y) ∷ []) empty-report) (getD-set-same lengths 0 (J .plate .0) 0 (omega (arith, held .0))) (getD-set-same widths 0 (J .plate .1) 0 (omega (arith, held .1))));
     })
 
 module _ {J : Job} {kinds operands : List ℕ} {first : ℕ} {copies lengths widths : List ℕ} {n : ℕ} {t : Tally} {k : ℕ} (given : Walking J kinds operands first copies lengths widths n t k) (same : length kinds ≡ length operands) where

@@ -191,10 +191,17 @@ fn finish(n: usize, k: usize, t: Tally, copies: [u16; 64]) -> TreeAnswer
     end_tree(k, t, copies)
 }
 
-// The walk over one tree, from node `first` and the plate on: refusals 12 to 17.
-pub fn walk_tree(job: JobRecord, kinds: &[u8], operands: &[u16], first: usize) -> TreeAnswer
-    requires { ⌜ Walkable (now kinds) (now operands) × (job .count ≤ most-kinds) × (first ≤ length (now kinds)) ⌝ }
-    ensures { λ r. ⌜ r ≡ tree-walk (job-of job) first (drop first (nodes-in (now (kinds .entry)) (now (operands .entry)))) (job-of job .plate ∷ []) empty-report ⌝ }
+// The walk over one tree, from node `first` and the plate on: refusals 12 to 17. The two arrays are for the rectangles that wait.
+pub fn walk_tree(
+    job: JobRecord,
+    kinds: &[u8],
+    operands: &[u16],
+    first: usize,
+    lengths: &mut [u16; 4096],
+    widths: &mut [u16; 4096],
+) -> TreeAnswer
+    requires { ⌜ Walkable (now kinds) (now operands) × (job .count ≤ most-kinds) × (first ≤ length (now kinds)) × Held (now lengths) (now widths) ⌝ }
+    ensures { λ r. ⌜ (r ≡ tree-walk (job-of job) first (drop first (nodes-in (now (kinds .entry)) (now (operands .entry)))) (job-of job .plate ∷ []) empty-report) × Held (now (lengths .exit)) (now (widths .exit)) ⌝ }
 {
     let kind_lengths = job.lengths;
     let kind_widths = job.widths;
@@ -202,8 +209,6 @@ pub fn walk_tree(job: JobRecord, kinds: &[u8], operands: &[u16], first: usize) -
     let demands = job.demands;
     let rules = rules_of(job);
     let mut copies = [0u16; 64];
-    let mut lengths = [0u16; 4096];
-    let mut widths = [0u16; 4096];
     lengths[0] = job.length;
     widths[0] = job.width;
     let mut n: usize = 1;
@@ -213,7 +218,7 @@ pub fn walk_tree(job: JobRecord, kinds: &[u8], operands: &[u16], first: usize) -
             return end_tree(k, t, copies);
         }
         let e = entry(kinds, operands, k);
-        let room = next_room(&lengths, &widths, n);
+        let room = next_room(lengths, widths, n);
         let a = check_node(
             &kind_lengths,
             &kind_widths,
@@ -231,7 +236,7 @@ pub fn walk_tree(job: JobRecord, kinds: &[u8], operands: &[u16], first: usize) -
         };
         t = a.tally;
         let node = decode(e.kind, e.operand);
-        n = leave_parts(node, job.kerf, room, &mut lengths, &mut widths, n);
+        n = leave_parts(node, job.kerf, room, lengths, widths, n);
     }
     finish(n, kinds.len(), t, copies)
 }
@@ -252,7 +257,9 @@ fn walk_nodes(job: JobRecord, kinds: &[u8], operands: &[u16]) -> PlanAnswer
     requires { ⌜ Walkable (now kinds) (now operands) × (job .count ≤ most-kinds) ⌝ }
     ensures { λ r. ⌜ r ≡ walk (job-of job) 0 (nodes-in (now (kinds .entry)) (now (operands .entry))) (job-of job .plate ∷ []) empty-report ⌝ }
 {
-    let tree = walk_tree(job, kinds, operands, 0);
+    let mut lengths = [0u16; 4096];
+    let mut widths = [0u16; 4096];
+    let tree = walk_tree(job, kinds, operands, 0, &mut lengths, &mut widths);
     let walked = tree.verdict;
     let Checked::Passed = walked else {
         return without_report(walked);

@@ -22,7 +22,7 @@ ghost use lib.Dec.{ltb};
 ghost use Rattle.cutting.specs.Limits.{most-kinds};
 ghost use Rattle.refusal.specs.Refusals.{first-refusal};
 ghost use Rattle.job.specs.Block.{job-of};
-ghost use Rattle.plan.specs.Walk.{Walkable};
+ghost use Rattle.plan.specs.Walk.{Walkable, Held};
 ghost use Rattle.rack.specs.Check.{most-plates, plate-at, rack-size-check, plate-checks, rack-checks, own-answer, rack-stopped, plans-answer};
 ghost use Rattle.rack.specs.Promises.{PlatesPromises};
 ghost use Rattle.rack.specs.Plates.{on-plate, OneEach, TotalsAfter};
@@ -123,12 +123,19 @@ fn check_before(
     check_whole(kinds, operands)
 }
 
-// One plan from node `first` on, by its own checks: refusals 12 to 17, and 26 at its end.
-fn check_own(job: JobRecord, kinds: &[u8], operands: &[u16], first: usize) -> TreeAnswer
-    requires { ⌜ Walkable (now kinds) (now operands) × (job .count ≤ most-kinds) × (first ≤ length (now kinds)) ⌝ }
-    ensures { λ r. ⌜ r ≡ own-answer (job-of job) (now (kinds .entry)) (now (operands .entry)) first ⌝ }
+// One plan from node `first` on, by its own checks: refusals 12 to 17, and 26 at its end. The two last arrays are for the walk.
+fn check_own(
+    job: JobRecord,
+    kinds: &[u8],
+    operands: &[u16],
+    first: usize,
+    waiting_lengths: &mut [u16; 4096],
+    waiting_widths: &mut [u16; 4096],
+) -> TreeAnswer
+    requires { ⌜ Walkable (now kinds) (now operands) × (job .count ≤ most-kinds) × (first ≤ length (now kinds)) × Held (now «waiting_lengths») (now «waiting_widths») ⌝ }
+    ensures { λ r. ⌜ (r ≡ own-answer (job-of job) (now (kinds .entry)) (now (operands .entry)) first) × Held (now («waiting_lengths» .exit)) (now («waiting_widths» .exit)) ⌝ }
 {
-    let tree = walk_tree(job, kinds, operands, first);
+    let tree = walk_tree(job, kinds, operands, first, waiting_lengths, waiting_widths);
     let walked = tree.verdict;
     let Checked::Passed = walked else {
         return stop_tree(walked);
@@ -194,10 +201,19 @@ fn check_plans(
     let demands = job.demands;
     let mut totals = [0u16; 64];
     let mut profits = [0u64; 16];
+    let mut waiting_lengths = [0u16; 4096];
+    let mut waiting_widths = [0u16; 4096];
     let mut k: usize = 0;
     for i in 0..lengths.len() {
         let plated = on_plate(job, lengths[i], widths[i]);
-        let a = check_own(plated, kinds, operands, k);
+        let a = check_own(
+            plated,
+            kinds,
+            operands,
+            k,
+            &mut waiting_lengths,
+            &mut waiting_widths,
+        );
         let verdict = a.verdict;
         let Checked::Passed = verdict else {
             return without_profits(verdict);

@@ -13,18 +13,18 @@ use Rattle.plan.proofs.walk_tree.Statement.{statement}
 use Rattle.plan.proofs.walk_tree.Tie as tie
 
 abbrev Inv-loop : tie.InvT-loop
-Inv-loop job kinds operands first kind-lengths kind-widths prices demands rules copies₀ lengths₀ widths₀ n₀ t₀ k₀ k-end copies lengths widths n t k =
+Inv-loop job kinds operands first lengths₀ widths₀ kind-lengths kind-widths prices demands rules copies₀ n₀ t₀ k₀ k-end lengths widths copies n t k =
     (k-end ≡ length kinds) × Walking (job-of job) kinds operands first copies lengths widths n t k
 
 abbrev μ-loop : tie.MeasureT-loop
-μ-loop job kinds operands first kind-lengths kind-widths prices demands rules copies₀ lengths₀ widths₀ n₀ t₀ k₀ k-end copies lengths widths n t k =
+μ-loop job kinds operands first lengths₀ widths₀ kind-lengths kind-widths prices demands rules copies₀ n₀ t₀ k₀ k-end lengths widths copies n t k =
     k-end - k
 
 loop-holds : tie.Need-loop-holds Inv-loop μ-loop
-loop-holds c = let a = c .before .before .before .before .before .before .before .before .args in (refl, begins (job-of (a .job)) (now (a .kinds)) (now (a .operands)) (a .first) (c .no-sums .result) (c .before .before .before .before .before .before .before .before .pre .2) (c .no-sums .ensures))
+loop-holds c = let a = c .before .before .before .before .before .before .before .before .args in (refl, begins (job-of (a .job)) (now (a .kinds)) (now (a .operands)) (a .first) (now (a .lengths)) (now (a .widths)) (c .no-sums .result) (c .before .before .before .before .before .before .before .before .pre .2) (c .before .before .before .before .before .before .before .before .pre .3) (c .no-sums .ensures))
 
 returns : tie.Need-returns Inv-loop μ-loop
-returns c = c .end-tree .ensures ∙ filled-all (c .before .before .before .loop .inv .1) (c .before .before .before .before .before .before .before .before .before .before .before .before .pre .0 .0) (omega arith) (c .before .if1 .taken)
+returns c = (c .end-tree .ensures ∙ filled-all (c .before .before .before .loop .inv .1) (c .before .before .before .before .before .before .before .before .before .before .before .before .pre .0 .0) (omega arith) (c .before .if1 .taken), c .before .before .before .loop .inv .1 .held)
 
 check-node-requires : tie.Need-check-node-requires Inv-loop μ-loop
 check-node-requires c κs = (
@@ -33,9 +33,11 @@ check-node-requires c κs = (
 )
 
 returns-2 : tie.Need-returns-2 Inv-loop μ-loop
-returns-2 c = let a = c .before .before .before .before .before .before .before .before .before .before .before .before .before .before .before .before .before .before .before .before .before .before .before .before .args in
-    c .stop-tree .ensures ∙ halts (c .before .before .before .before .before .before .before .before .before .before .before .before .before .before .before .loop .inv .1) (c .before .before .before .before .before .before .before .before .before .before .before .before .before .before .before .before .before .before .before .before .before .before .before .before .pre .0 .0) (omega (arith, c .before .before .before .before .before .before .before .before .before .before .before .before .before .before .loop-test, c .before .before .before .before .before .before .before .before .before .before .before .before .before .before .before .loop .inv .0)) (c .before .before .before .before .before .before .before .before .before .before .before .before .before .if1 .left) (c .before .before .before .before .before .before .before .before .before .next-room .ensures) (c .before .before .before .before .before .before .before .before .before .before .before .before .entry .ensures)
-    (by-rules (a .job) (c .before .before .before .before .before .before .before .before .before .before .before .before .before .before .before .before .before .rules-of .ensures) (c .before .before .before .check-node .ensures (a .job .length) (a .job .width) (a .job .«full_demand»))) (c .before .enum-told2 .given .1)
+returns-2 c = let a = c .before .before .before .before .before .before .before .before .before .before .before .before .before .before .before .before .before .before .before .before .before .before .before .before .args in (
+  c .stop-tree .ensures ∙ halts (c .before .before .before .before .before .before .before .before .before .before .before .before .before .before .before .loop .inv .1) (c .before .before .before .before .before .before .before .before .before .before .before .before .before .before .before .before .before .before .before .before .before .before .before .before .pre .0 .0) (omega (arith, c .before .before .before .before .before .before .before .before .before .before .before .before .before .before .loop-test, c .before .before .before .before .before .before .before .before .before .before .before .before .before .before .before .loop .inv .0)) (c .before .before .before .before .before .before .before .before .before .before .before .before .before .if1 .left) (c .before .before .before .before .before .before .before .before .before .next-room .ensures) (c .before .before .before .before .before .before .before .before .before .before .before .before .entry .ensures)
+      (by-rules (a .job) (c .before .before .before .before .before .before .before .before .before .before .before .before .before .before .before .before .before .rules-of .ensures) (c .before .before .before .check-node .ensures (a .job .length) (a .job .width) (a .job .«full_demand»))) (c .before .enum-told2 .given .1),
+  c .before .before .before .before .before .before .before .before .before .before .before .before .before .before .before .loop .inv .1 .held,
+)
 
 leave-parts-requires : tie.Need-leave-parts-requires Inv-loop μ-loop
 leave-parts-requires c κs = let a = c .before .before .before .before .before .before .before .before .before .before .before .before .before .before .before .before .before .before .before .before .before .before .before .before .before .before .before .args in
@@ -56,7 +58,7 @@ loop-again c = let a = c .before .before .before .before .before .before .before
 )
 
 returns-3 : tie.Need-returns-3 Inv-loop μ-loop
-returns-3 c = ends (c .before .before .loop .inv .1) (c .before .before .before .before .before .before .before .before .before .before .before .pre .0 .0) (omega (arith, c .before .loop-test, c .before .before .loop .inv .0)) _ (c .finish .ensures (job-of (c .before .before .before .before .before .before .before .before .before .before .before .args .job)) _ _)
+returns-3 c = (ends (c .before .before .loop .inv .1) (c .before .before .before .before .before .before .before .before .before .before .before .pre .0 .0) (omega (arith, c .before .loop-test, c .before .before .loop .inv .0)) _ (c .finish .ensures (job-of (c .before .before .before .before .before .before .before .before .before .before .before .args .job)) _ _), c .before .before .loop .inv .1 .held)
 
 pub walk-tree-spec : {M : Type 1} → statement M
 walk-tree-spec =
