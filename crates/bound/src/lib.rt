@@ -115,7 +115,7 @@ pub fn bound(
         q,
         lengths,
         widths,
-        &mut floors[..],
+        &mut floors,
         table,
     )
 }
