@@ -30,7 +30,7 @@ use Rattle.bound.proofs.Holds.{bound-held, answered-behind}
 
 module _ (J : Job) (weight : ℕ → ℕ) (q : ℕ) (m : Memory) where
   -- a refusal before the storage checks is the call's, and changes nothing
-  pub refused-before : {A : Type 0} (a : A) (f : Refusal → A) {v : Checked} {r : Refusal} → v ≡ Refused r
+  refused-before : {A : Type 0} (a : A) (f : Refusal → A) {v : Checked} {r : Refusal} → v ≡ Refused r
       → (f r ≡ by-check (next v (first-refusal (memory-checks J q m))) a f) × Leaves v J weight q m m
   refused-before a f e = (sym (ap (λ v. by-check (next v (first-refusal (memory-checks J q m))) a f) e), rw e (record { lengths = refl; widths = refl; table = refl }))
 
@@ -43,9 +43,6 @@ module _ (s : List ℕ) (choices : Choices) (ws : List ℕ) {j : JobRecord} {q :
   weights-there =
       let k = weights-passed (block-job s choices) ws (accepted-both s choices ws (t .accepted) .1) in
       omega (arith, k .0, ap (λ j. job-of j .count) (t .record-is))
-
-  pub listable : {entries : ℕ} → entries ≡ 640 → InRange (job-of j) × (j .count ≤ length ws) × (entries ≡ 640)
-  listable h = (range-taken, weights-there, h)
 
   pub boundable : {plate : Sides} {n : ℕ} {pieces floors : List ℕ} → plate ≡ sides-of (widened (job-of j) .plate) → PieceArray (widened (job-of j)) (weight-in ws) n pieces → length floors ≡ 2042
       → Boundable (pieces-job (rect-of plate) n pieces) q floors

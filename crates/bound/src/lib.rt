@@ -17,7 +17,7 @@ ghost use Rattle.table.specs.Contracts.{size-job, Fillable, FilledBy};
 ghost use Rattle.bound.specs.Contracts.{Boundable, Bounded};
 
 // What the bound call reports: the bound, the capacity Q, and the numbers p and r of normal lengths and widths. In the exact call the
-// capacity is the last state.
+// optimum stands in the place of the bound and the last state in that of the capacity.
 pub struct BoundReport {
     pub bound: u64,
     pub capacity: u16,
@@ -103,7 +103,6 @@ pub fn bound(
         return BoundAnswer::Refused(r);
     }
     let record = accepted.job;
-    let q = accepted.capacity;
     let plate = plate_of(record);
     let mut pieces = [0u32; 640];
     let count = list_pieces(record, weights, &mut pieces);
@@ -112,7 +111,7 @@ pub fn bound(
         plate,
         count,
         &pieces,
-        q,
+        accepted.capacity,
         lengths,
         widths,
         &mut floors,

@@ -105,7 +105,7 @@ pub fn certify(
         q,
         lengths,
         widths,
-        &mut floors[..],
+        &mut floors,
         table,
     );
     let BoundAnswer::Answered(b) = found else {

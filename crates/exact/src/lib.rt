@@ -188,7 +188,7 @@ fn exact_accepted(
         &blocks[..],
         normal_lengths,
         normal_widths,
-        &mut floors[..],
+        &mut floors,
         table,
     );
     match filled {

@@ -573,7 +573,8 @@ fn unaccepted(verdict: Checked) -> Acceptance
     }
 }
 
-// A job block and weights, accepted or refused: one reading of the block for all calls that need its weights.
+// A job block and weights, accepted or refused. The record is read into the answer itself, so that it is not copied; its capacity is set
+// once the weights have passed.
 pub fn accept(block: &[u8], choices: Choices, weights: &[u8]) -> Acceptance
     ensures answers { λ r. ⌜ r ≡ acceptance-of (now (block .entry)) choices (now (weights .entry)) ⌝ }
     ensures outcome { λ r. ⌜ acceptance-outcome r ≡ acceptance-said (now (block .entry)) choices (now (weights .entry)) ⌝ }

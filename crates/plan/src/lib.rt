@@ -191,17 +191,18 @@ fn finish(n: usize, k: usize, t: Tally, copies: [u16; 64]) -> TreeAnswer
     end_tree(k, t, copies)
 }
 
-// The walk over one tree, from node `first` and the plate on: refusals 12 to 17. The two arrays are for the rectangles that wait.
+// The walk over one tree, from node `first` and the plate on: refusals 12 to 17. `waiting_lengths` and `waiting_widths` hold
+// the rectangles that wait; what stood in them is not read.
 pub fn walk_tree(
     job: JobRecord,
     kinds: &[u8],
     operands: &[u16],
     first: usize,
-    lengths: &mut [u16; 4096],
-    widths: &mut [u16; 4096],
+    waiting_lengths: &mut [u16; 4096],
+    waiting_widths: &mut [u16; 4096],
 ) -> TreeAnswer
-    requires { ⌜ Walkable (now kinds) (now operands) × (job .count ≤ most-kinds) × (first ≤ length (now kinds)) × Held (now lengths) (now widths) ⌝ }
-    ensures { λ r. ⌜ (r ≡ tree-walk (job-of job) first (drop first (nodes-in (now (kinds .entry)) (now (operands .entry)))) (job-of job .plate ∷ []) empty-report) × Held (now (lengths .exit)) (now (widths .exit)) ⌝ }
+    requires { ⌜ Walkable (now kinds) (now operands) × (job .count ≤ most-kinds) × (first ≤ length (now kinds)) × Held (now «waiting_lengths») (now «waiting_widths») ⌝ }
+    ensures { λ r. ⌜ (r ≡ tree-walk (job-of job) first (drop first (nodes-in (now (kinds .entry)) (now (operands .entry)))) (job-of job .plate ∷ []) empty-report) × Held (now («waiting_lengths» .exit)) (now («waiting_widths» .exit)) ⌝ }
 {
     let kind_lengths = job.lengths;
     let kind_widths = job.widths;
@@ -209,8 +210,8 @@ pub fn walk_tree(
     let demands = job.demands;
     let rules = rules_of(job);
     let mut copies = [0u16; 64];
-    lengths[0] = job.length;
-    widths[0] = job.width;
+    waiting_lengths[0] = job.length;
+    waiting_widths[0] = job.width;
     let mut n: usize = 1;
     let mut t = no_sums();
     for k in first..kinds.len() {
@@ -218,7 +219,7 @@ pub fn walk_tree(
             return end_tree(k, t, copies);
         }
         let e = entry(kinds, operands, k);
-        let room = next_room(lengths, widths, n);
+        let room = next_room(waiting_lengths, waiting_widths, n);
         let a = check_node(
             &kind_lengths,
             &kind_widths,
@@ -236,7 +237,7 @@ pub fn walk_tree(
         };
         t = a.tally;
         let node = decode(e.kind, e.operand);
-        n = leave_parts(node, job.kerf, room, lengths, widths, n);
+        n = leave_parts(node, job.kerf, room, waiting_lengths, waiting_widths, n);
     }
     finish(n, kinds.len(), t, copies)
 }
@@ -257,9 +258,16 @@ fn walk_nodes(job: JobRecord, kinds: &[u8], operands: &[u16]) -> PlanAnswer
     requires { ⌜ Walkable (now kinds) (now operands) × (job .count ≤ most-kinds) ⌝ }
     ensures { λ r. ⌜ r ≡ walk (job-of job) 0 (nodes-in (now (kinds .entry)) (now (operands .entry))) (job-of job .plate ∷ []) empty-report ⌝ }
 {
-    let mut lengths = [0u16; 4096];
-    let mut widths = [0u16; 4096];
-    let tree = walk_tree(job, kinds, operands, 0, &mut lengths, &mut widths);
+    let mut waiting_lengths = [0u16; 4096];
+    let mut waiting_widths = [0u16; 4096];
+    let tree = walk_tree(
+        job,
+        kinds,
+        operands,
+        0,
+        &mut waiting_lengths,
+        &mut waiting_widths,
+    );
     let walked = tree.verdict;
     let Checked::Passed = walked else {
         return without_report(walked);
@@ -336,7 +344,7 @@ pub fn check_plan(block: &[u8], choices: Choices, kinds: &[u8], operands: &[u16]
     check_nodes(job, kinds, operands)
 }
 
-// The operands of a plan block, into the first entries.
+// Reads the operands of a plan block into the first entries of the array.
 fn read_operands(plan: &[u8], count: usize, operands: &mut [u16; 4095])
     requires { ⌜ (count ≡ plan-count (now plan)) × (length (now plan) ≡ 2 + 3 * count) × (count ≤ most-nodes) × (length (now operands) ≡ most-nodes) ⌝ }
     ensures { λ _. ⌜ (take count (now (operands .exit)) ≡ plan-operands (now (plan .entry))) × (length (now (operands .exit)) ≡ most-nodes) ⌝ }

@@ -123,7 +123,8 @@ fn check_before(
     check_whole(kinds, operands)
 }
 
-// One plan from node `first` on, by its own checks: refusals 12 to 17, and 26 at its end. The two last arrays are for the walk.
+// One plan from node `first` on, by its own checks: refusals 12 to 17, and 26 at its end. `waiting_lengths` and
+// `waiting_widths` hold the rectangles that wait; what stood in them is not read.
 fn check_own(
     job: JobRecord,
     kinds: &[u8],

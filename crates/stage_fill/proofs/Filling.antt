@@ -1,7 +1,7 @@
--- The blocks cell after cell and stage after stage, and the table when its lists are off.
+-- The blocks cell after cell and block after block, and the table when its lists are off.
 use mathlib.Core.Path.{_≡_, refl, sym, _∙_, ap, ap₂}
 use mathlib.Core.List.{List, [], _∷_}
-use Prim.Native.Nat.{ℕ, zero, suc, _+_, _-_, _*_, _/_, _%_, _≤_, _<_}
+use Prim.Native.Nat.{ℕ, zero, suc, _+_, _*_, _/_, _%_, _≤_, _<_}
 use native.Mathlib.Nat.{mul-le-mul-right, mod-lt, div-add-mod', div-lt-iff-lt-mul}
 use native.Mathlib.Omega.{arith}
 use lib.Dec.{leb}
@@ -19,7 +19,7 @@ use Rattle.table.proofs.Words.{cell-before, words-past}
 use Rattle.table.proofs.Figures.{entry-is}
 use Rattle.table.proofs.Staged.{block-one, block-number-below}
 use Rattle.state_cells.specs.declared.shape.Shape.{Shape}
-use Rattle.state_cells.specs.Places.{CellsLent}
+use Rattle.state_cells.specs.Places.{CellsLent, shape-of}
 use Rattle.state_fill.specs.Tables.{Counted, Bare, Plain}
 use Rattle.state_fill.proofs.Filling.{lent-kept, lent-of}
 use Rattle.states.proofs.Ties.{one-digit}
@@ -32,10 +32,10 @@ use Rattle.stage_fill.specs.Blocks.{first-of, Numbered, block-start, cel
 pub block-kept : {J : Job} {normal-lengths normal-widths floors : List ℕ} {shape : Shape} {block : Block} {old new : List ℕ} → length new ≡ length old → BlockLent J normal-lengths normal-widths floors shape block old → BlockLent J normal-lengths normal-widths floors shape block new
 block-kept e w = record { lent = lent-kept e (w .lent); counted = w .counted; one-digit = w .one-digit; numbered = w .numbered; floors-there = w .floors-there; room = omega (arith, e, w .room) }
 
-pub stages-kept : {J : Job} {normal-lengths normal-widths floors : List ℕ} {shape : Shape} {stage : ℕ} {old new : List ℕ} → length new ≡ length old → StagesLent J normal-lengths normal-widths floors shape stage old → StagesLent J normal-lengths normal-widths floors shape stage new
+pub stages-kept : {J : Job} {normal-lengths normal-widths floors : List ℕ} {shape : Shape} {limit : ℕ} {old new : List ℕ} → length new ≡ length old → StagesLent J normal-lengths normal-widths floors shape limit old → StagesLent J normal-lengths normal-widths floors shape limit new
 stages-kept e w = record { lent = lent-kept e (w .lent); counted = w .counted; one-digit = w .one-digit; most = w .most; floors-there = w .floors-there; room = omega (arith, e, w .room) }
 
--- a block of a stage up to the limit
+-- a block whose number is at most twice the limit
 pub stage-block : {J : Job} {normal-lengths normal-widths floors : List ℕ} {shape : Shape} {limit : ℕ} {xs : List ℕ} (block : Block) → Numbered block → block-number (block .stage) (first-of block) ≤ 2 * limit → StagesLent J normal-lengths normal-widths floors shape limit xs → BlockLent J normal-lengths normal-widths floors shape block xs
 stage-block {shape = shape} {limit = limit} block numbered h w = record {
   lent = w .lent;
@@ -81,7 +81,7 @@ pub made-then : {J : Job} {own : ℕ → ℕ} {normal-lengths normal-widths : Li
     → BlockMade J own normal-lengths normal-widths shape n next old new
 made-then {shape = shape} {m = m} {n = n} h p q = record { cells = q .cells; rest = λ j l. q .rest j l ∙ p .rest j (omega (arith, mul-le-mul-right {m = m} {n = n} (shape .words) h)) }
 
--- a number of a block
+-- every number is that of a block
 numbered : (n : ℕ) → (k : ℕ) × (d : Direction) × (block-number k d ≡ n) × (d ≡ Length → 1 ≤ k)
 numbered zero = (0, Width, refl, λ e. apart e)
   where
@@ -139,7 +139,7 @@ module _ {J : Job} {own : ℕ → ℕ} {normal-lengths normal-widths floors : Li
 
 -- what the blocks are lent
 module _ {size : TableSize} {limit : ℕ} {pieces normal-lengths normal-widths floors xs : List ℕ} (asked : StagedFillable size limit pieces normal-lengths normal-widths floors xs) where
-  pub staged-lent : CellsLent (size-job size pieces) normal-lengths floors normal-widths (drop 1021 floors) ((size .capacity + 1) ∷ []) 0 (size .capacity + 1) xs
+  staged-lent : CellsLent (size-job size pieces) normal-lengths floors normal-widths (drop 1021 floors) ((size .capacity + 1) ∷ []) 0 (size .capacity + 1) xs
       × Counted (size-job size pieces) (size .capacity + 1) (size .rows) (size .columns) (size .columns * (size .capacity + 1))
   staged-lent =
       let f = asked .fillable in
@@ -153,14 +153,13 @@ module _ {size : TableSize} {limit : ℕ} {pieces normal-lengths normal-widths f
       let few = few-cells (staged-lent .0) (staged-lent .1) in
       (few, omega (arith, few, mul-le-mul-right {m = 2 * limit + 1} {n = 17} (size .rows * size .columns) (omega (arith, asked .within))))
 
-  -- for a shape of those numbers
-  pub stages-lent : (shape : Shape) → shape .d ≡ 0 → shape .words ≡ size .capacity + 1 → shape .«length_count» ≡ size .rows → shape .columns ≡ size .columns → shape .stride ≡ size .columns * (size .capacity + 1)
-      → StagesLent (size-job size pieces) normal-lengths normal-widths floors shape limit xs
-  stages-lent shape e0 e1 e2 e3 e4 = record {
-    lent = rw e1 (staged-lent .0);
-    counted = rw (e1, e2, e3, e4) (staged-lent .1);
-    one-digit = e0;
+  -- for the shape of that size
+  pub stages-lent : StagesLent (size-job size pieces) normal-lengths normal-widths floors (shape-of size 0 (size .capacity + 1)) limit xs
+  stages-lent = record {
+    lent = staged-lent .0;
+    counted = staged-lent .1;
+    one-digit = refl;
     most = asked .within .1;
     floors-there = asked .fillable .floors-there;
-    room = rw (e1, e2, e3) staged-room;
+    room = staged-room;
   }

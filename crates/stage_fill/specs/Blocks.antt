@@ -75,14 +75,14 @@ pub record BlockMade (J : Job) (own : ℕ → ℕ) (normal-lengths normal-widths
   pub cells : Below J own normal-lengths normal-widths (shape .words) m flat new
   pub rest : (j : ℕ) → m * shape .words ≤ j → getD new j 0 ≡ getD old j 0
 
--- what all blocks up to a stage ask: one digit, the normal positions with their floors, and a table that holds them
-pub record StagesLent (J : Job) (normal-lengths normal-widths floors : List ℕ) (shape : Shape) (stage : ℕ) (xs : List ℕ) : Type 0 where
+-- what all blocks up to a limit ask: one digit, the normal positions with their floors, and a table that holds them
+pub record StagesLent (J : Job) (normal-lengths normal-widths floors : List ℕ) (shape : Shape) (limit : ℕ) (xs : List ℕ) : Type 0 where
   pub lent : CellsLent J normal-lengths floors normal-widths (drop 1021 floors) (shape .words ∷ []) 0 (shape .words) xs
   pub counted : Counted J (shape .words) (shape .«length_count») (shape .columns) (shape .stride)
   pub one-digit : shape .d ≡ 0
-  pub most : stage ≤ most-limit
+  pub most : limit ≤ most-limit
   pub floors-there : length floors ≡ 2042
-  pub room : (2 * stage + 1) * (shape .«length_count» * shape .columns) * shape .words ≤ length xs
+  pub room : (2 * limit + 1) * (shape .«length_count» * shape .columns) * shape .words ≤ length xs
 
 -- all blocks are made, and the words past them are as they were
 abbrev pub StagesMade : Job → (ℕ → ℕ) → List ℕ → List ℕ → Shape → ℕ → List ℕ → List ℕ → Type 0

@@ -28,19 +28,35 @@ fn fill_table(
     size: TableSize,
     limit: usize,
     pieces: &[u32; 640],
-    lengths: &[u16],
-    widths: &[u16],
+    normal_lengths: &[u16],
+    normal_widths: &[u16],
     floors: &[u16],
     table: &mut [u64],
 )
-    requires { ⌜ StagedFillable size limit (now pieces) (now lengths) (now widths) (now floors) (now table) ⌝ }
+    requires { ⌜ StagedFillable size limit (now pieces) (now «normal_lengths») (now «normal_widths») (now floors) (now table) ⌝ }
     ensures { λ _. ⌜ StagedBy (size-job size (now (pieces .entry))) (listed-weight (now (pieces .entry))) limit (size .capacity) (now (table .entry)) (now (table .exit)) ⌝ }
 {
     if size.capacity == 0 {
-        stage_rows::fill(size, limit, pieces, lengths, widths, floors, table);
+        stage_rows::fill(
+            size,
+            limit,
+            pieces,
+            normal_lengths,
+            normal_widths,
+            floors,
+            table,
+        );
         return;
     }
-    stage_fill::fill(size, limit, pieces, lengths, widths, floors, table);
+    stage_fill::fill(
+        size,
+        limit,
+        pieces,
+        normal_lengths,
+        normal_widths,
+        floors,
+        table,
+    );
 }
 
 // The staged bound of pieces on a plate at a capacity and a limit: refusals 19 and 20, then the lists, the floors of both sides, the
@@ -123,7 +139,7 @@ pub fn bound_staged(
         limit as usize,
         lengths,
         widths,
-        &mut floors[..],
+        &mut floors,
         table,
     )
 }

@@ -57,7 +57,7 @@ pub fn certify_staged(
         limit as usize,
         lengths,
         widths,
-        &mut floors[..],
+        &mut floors,
         table,
     );
     let BoundAnswer::Answered(b) = found else {

@@ -1,5 +1,5 @@
--- Inner definitions of a cell's place in the table: the lines of cells that its cuts read, the cells before it, which are made, and what is
--- lent to make it. A cell that is made holds the figures of its normal length and width, and a list that covers them.
+-- Inner definitions of a cell's place in the table: the shape of the table, the lines of cells that its cuts read, the cells before it,
+-- which are made, and what is lent to make it. A cell that is made holds the figures of its normal length and width, and a list that covers them.
 use mathlib.Core.Path.{_≡_}
 use mathlib.Core.Bool.{Bool}
 use mathlib.Core.List.{List}
@@ -20,7 +20,7 @@ use Rattle.state_cells.specs.declared.shape.Shape.{Shape}
 use Rattle.state_cells.specs.declared.cells.Place.{Place}
 use Rattle.state_cells.specs.Cells.{Level}
 
--- the shape of a table, its cells of so many words over states of the digits up to d
+-- the shape of a table of that size, with so many words a cell, over states of the digits up to d
 abbrev pub shape-of : TableSize → ℕ → ℕ → Shape
 shape-of size d words = record { length = size .length; width = size .width; count = size .count; «length_count» = size .rows; columns = size .columns; d = d; words = words; stride = size .columns * words }
 

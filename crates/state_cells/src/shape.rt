@@ -18,7 +18,7 @@ pub struct Shape {
     pub stride: usize,
 }
 
-// The shape of a table, its cells of so many words over states of the digits up to d.
+// The shape of a table of that size, with so many words a cell, over states of the digits up to d.
 pub fn shape_of(size: TableSize, d: usize, words: usize) -> Shape
     requires { ⌜ words ≤ 65536 ⌝ }
     ensures { λ r. ⌜ r ≡ shape-of size d words ⌝ }

@@ -39,12 +39,12 @@ fn lists_short(m: usize, n: usize, length: u16, width: u16) -> bool
 }
 
 // The floors of both sides into one array: those of the lengths first, those of the widths from entry 1,021 on.
-fn map_sides(size: TableSize, lengths: &[u16], widths: &[u16], floors: &mut [u16])
-    requires { ⌜ Mappable (now lengths) (size .rows) (size .length) 1021 × Mappable (now widths) (size .columns) (size .width) 1021 × (length (now floors) ≡ 2042) ⌝ }
-    ensures { λ _. ⌜ SidesMapped size (now (lengths .entry)) (now (widths .entry)) (now (floors .exit)) ⌝ }
+fn map_sides(size: TableSize, normal_lengths: &[u16], normal_widths: &[u16], floors: &mut [u16])
+    requires { ⌜ Mappable (now «normal_lengths») (size .rows) (size .length) 1021 × Mappable (now «normal_widths») (size .columns) (size .width) 1021 × (length (now floors) ≡ 2042) ⌝ }
+    ensures { λ _. ⌜ SidesMapped size (now («normal_lengths» .entry)) (now («normal_widths» .entry)) (now (floors .exit)) ⌝ }
 {
-    map_floors(lengths, size.rows, size.length, &mut floors[..1021]);
-    map_floors(widths, size.columns, size.width, &mut floors[1021..]);
+    map_floors(normal_lengths, size.rows, size.length, &mut floors[..1021]);
+    map_floors(normal_widths, size.columns, size.width, &mut floors[1021..]);
 }
 
 // The storage for a table of pieces on a plate, of so many words a cell, where the table that is lent has `room`. The 2,042 entries for

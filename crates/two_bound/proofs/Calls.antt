@@ -161,8 +161,8 @@ two-taken s choices first second {a} e p f g h =
 
 -- what the steps ask, and what the bound of the pieces says of the job's block
 module _ (s : List ℕ) (choices : Choices) (first second : List ℕ) {j : JobRecord} {q q′ : ℕ} (t : TwoTaken s choices first second j q q′) where
-  pub listable : {entries : ℕ} → entries ≡ 640 → InRange (job-of j) × (j .count ≤ length first) × (entries ≡ 640)
-  listable h = (t .range, omega (arith, t .weighs .first-all), h)
+  pub weights-there : j .count ≤ length first
+  weights-there = omega (arith, t .weighs .first-all)
 
   few-pairs : pair-count q q′ ≤ 65536
   few-pairs = omega (arith, t .weighs .pairs, ap₂ pair-count (t .first-is) (t .second-is))

@@ -130,19 +130,27 @@ fn fill_pairs(
     size: TableSize,
     second: u16,
     pieces: &[u32; 640],
-    lengths: &[u16],
-    widths: &[u16],
+    normal_lengths: &[u16],
+    normal_widths: &[u16],
     floors: &[u16],
     table: &mut [u64],
 )
-    requires { ⌜ TwoFillable size second (now pieces) (now lengths) (now widths) (now floors) (now table) ⌝ }
+    requires { ⌜ TwoFillable size second (now pieces) (now «normal_lengths») (now «normal_widths») (now floors) (now table) ⌝ }
     ensures { λ _. ⌜ TwoBy (size-job size (now (pieces .entry))) (figure-pair (size-job size (now (pieces .entry))) (size .capacity) second (listed-weight (now (pieces .entry)))) (size .capacity) second (now (table .entry)) (now (table .exit)) ⌝ }
 {
     if second == 0 {
-        fill_table(size, pieces, lengths, widths, floors, table);
+        fill_table(size, pieces, normal_lengths, normal_widths, floors, table);
         return;
     }
-    fill_two(size, second, pieces, lengths, widths, floors, table);
+    fill_two(
+        size,
+        second,
+        pieces,
+        normal_lengths,
+        normal_widths,
+        floors,
+        table,
+    );
 }
 
 // The bound of pieces on a plate at two capacities: refusals 19 and 20, then the lists, the floors of both sides, the table and the
@@ -232,7 +240,7 @@ pub fn bound_two(
         most,
         lengths,
         widths,
-        &mut floors[..],
+        &mut floors,
         table,
     )
 }

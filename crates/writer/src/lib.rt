@@ -26,8 +26,7 @@ ghost use Rattle.bound.specs.Bound.{lent, Leaves, bound-report};
 ghost use Rattle.writer.specs.Contracts.{table-of, Readable, sawn-plan, Weighed, room-verdict, Planned};
 ghost use Rattle.writer.specs.Write.{reported, nodes-verdict, WritePromises};
 
-// What the writing call reports: what the bound call does, and the number of the plan's nodes. In the exact call the optimum stands in the
-// place of the bound and the last state in that of the capacity.
+// What the writing call reports: what the bound call does, and the number of the plan's nodes.
 pub struct WriteReport {
     pub bound: u64,
     pub capacity: u16,
@@ -160,7 +159,7 @@ fn write_accepted(
         q,
         normal_lengths,
         normal_widths,
-        &mut floors[..],
+        &mut floors,
         table,
     );
     match bounded {

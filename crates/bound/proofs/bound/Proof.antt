@@ -3,7 +3,7 @@ use mathlib.Core.Path.{refl}
 use denote.Ref.{now}
 use Rattle.job.proofs.Taken.{taken, refused-both}
 use Rattle.bound.specs.Bound.{lent}
-use Rattle.bound.proofs.Calls.{range-taken, listable, boundable, job-bounded, early, accepted}
+use Rattle.bound.proofs.Calls.{range-taken, weights-there, boundable, job-bounded, early, accepted}
 use borrow.Author.Needs.{needs}
 use Rattle.bound.proofs.bound.Statement.{statement}
 use Rattle.bound.proofs.bound.Tie as tie
@@ -26,7 +26,7 @@ list-pieces-requires : tie.Need-list-pieces-requires
 list-pieces-requires c κs =
     let e = c .before .before .before .before .before .before .before .before .before .before .before .args in
     let t = taken (now (e .block)) (e .choices) (now (e .weights)) (c .before .before .before .before .before .accept .ensures .0) (c .before .before .before .enum-told .given .1) in
-    listable (now (e .block)) (e .choices) (now (e .weights)) t refl
+    (range-taken (now (e .block)) (e .choices) (now (e .weights)) t, weights-there (now (e .block)) (e .choices) (now (e .weights)) t, refl)
 
 bound-of-pieces-requires : tie.Need-bound-of-pieces-requires
 bound-of-pieces-requires c κs =

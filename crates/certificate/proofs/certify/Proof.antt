@@ -6,7 +6,7 @@ use Rattle.job.specs.Block.{job-of}
 use Rattle.job.proofs.Read.{read-in-range, answered}
 use Rattle.job.proofs.Taken.{Taken, taken-apart}
 use Rattle.bound.specs.Bound.{Memory, lent}
-use Rattle.bound.proofs.Calls.{range-taken, listable, boundable, job-bounded}
+use Rattle.bound.proofs.Calls.{range-taken, weights-there, boundable, job-bounded}
 use Rattle.certificate.proofs.Calls.{job-refused, weights-refused, plan-refused, storage-refused, certified, profit-most}
 use borrow.Author.Needs.{needs}
 use Rattle.certificate.proofs.certify.Statement.{statement}
@@ -60,7 +60,7 @@ returns-3 c =
 list-pieces-requires : tie.Need-list-pieces-requires
 list-pieces-requires c κs =
     let k = c .before .before .before .before .before in
-    listable (now (start k .args .block)) (start k .args .choices) (now (start k .args .weights)) (took k) refl
+    (ranged k, weights-there (now (start k .args .block)) (start k .args .choices) (now (start k .args .weights)) (took k), refl)
 
 plate-of-requires : tie.Need-plate-of-requires
 plate-of-requires c κs = ranged (c .before .before .before .before .before .before)

@@ -13,15 +13,15 @@ use Rattle.plan.proofs.walk_tree.Statement.{statement}
 use Rattle.plan.proofs.walk_tree.Tie as tie
 
 abbrev Inv-loop : tie.InvT-loop
-Inv-loop job kinds operands first lengths₀ widths₀ kind-lengths kind-widths prices demands rules copies₀ n₀ t₀ k₀ k-end lengths widths copies n t k =
-    (k-end ≡ length kinds) × Walking (job-of job) kinds operands first copies lengths widths n t k
+Inv-loop job kinds operands first waiting-lengths₀ waiting-widths₀ kind-lengths kind-widths prices demands rules copies₀ n₀ t₀ k₀ k-end waiting-lengths waiting-widths copies n t k =
+    (k-end ≡ length kinds) × Walking (job-of job) kinds operands first copies waiting-lengths waiting-widths n t k
 
 abbrev μ-loop : tie.MeasureT-loop
-μ-loop job kinds operands first lengths₀ widths₀ kind-lengths kind-widths prices demands rules copies₀ n₀ t₀ k₀ k-end lengths widths copies n t k =
+μ-loop job kinds operands first waiting-lengths₀ waiting-widths₀ kind-lengths kind-widths prices demands rules copies₀ n₀ t₀ k₀ k-end waiting-lengths waiting-widths copies n t k =
     k-end - k
 
 loop-holds : tie.Need-loop-holds Inv-loop μ-loop
-loop-holds c = let a = c .before .before .before .before .before .before .before .before .args in (refl, begins (job-of (a .job)) (now (a .kinds)) (now (a .operands)) (a .first) (now (a .lengths)) (now (a .widths)) (c .no-sums .result) (c .before .before .before .before .before .before .before .before .pre .2) (c .before .before .before .before .before .before .before .before .pre .3) (c .no-sums .ensures))
+loop-holds c = let a = c .before .before .before .before .before .before .before .before .args in (refl, begins (job-of (a .job)) (now (a .kinds)) (now (a .operands)) (a .first) (now (a .waiting-lengths)) (now (a .waiting-widths)) (c .no-sums .result) (c .before .before .before .before .before .before .before .before .pre .2) (c .before .before .before .before .before .before .before .before .pre .3) (c .no-sums .ensures))
 
 returns : tie.Need-returns Inv-loop μ-loop
 returns c = (c .end-tree .ensures ∙ filled-all (c .before .before .before .loop .inv .1) (c .before .before .before .before .before .before .before .before .before .before .before .before .pre .0 .0) (omega arith) (c .before .if1 .taken), c .before .before .before .loop .inv .1 .held)

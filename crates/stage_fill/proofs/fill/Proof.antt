@@ -10,7 +10,7 @@ shape-of-requires : tie.Need-shape-of-requires
 shape-of-requires c κs = omega (arith, c .before .before .before .before .before .pre .fillable .most)
 
 fill-blocks-requires : tie.Need-fill-blocks-requires
-fill-blocks-requires c κs = rw (c .before .shape-of .ensures) (stages-lent (c .before .before .before .before .before .before .before .pre) _ refl refl refl refl refl)
+fill-blocks-requires c κs = rw (c .before .shape-of .ensures) (stages-lent (c .before .before .before .before .before .before .before .pre))
 
 mul-strip-all-2 : tie.Need-mul-strip-all-2
 mul-strip-all-2 c = rw (c .before .before .before .before .before .before .shape-of .ensures) (omega (arith, staged-few (c .before .before .before .before .before .before .before .before .before .before .before .before .pre) .0))
@@ -23,7 +23,7 @@ strip-all-requires c κs =
     let s = c .before .before .before .before .before .before .before .before .before .before .before .before in
     let made = c .before .before .before .before .fill-blocks in
     let e = c .before .before .before .before .before .before .shape-of .ensures in
-    rw e (omega (arith, staged-room (s .pre), made .kept .0), all-bare (s .args .size .capacity) (stages-lent (s .pre) _ refl refl refl refl refl) refl (rw e at (made .ensures)))
+    rw e (omega (arith, staged-room (s .pre), made .kept .0), all-bare (s .args .size .capacity) (stages-lent (s .pre)) refl (rw e at (made .ensures)))
 
 returns : tie.Need-returns
 returns c =
@@ -31,7 +31,7 @@ returns c =
     let made = c .before .before .before .before .before .before .before .fill-blocks in
     let off = c .before .before .strip-all in
     let e = c .before .before .before .before .before .before .before .before .before .shape-of .ensures in
-    staged-filled (s .args .size .capacity) (stages-lent (s .pre) _ refl refl refl refl refl) refl (rw e at (made .ensures)) (rw e at (off .ensures)) (off .kept .0 ∙ made .kept .0)
+    staged-filled (s .args .size .capacity) (stages-lent (s .pre)) refl (rw e at (made .ensures)) (rw e at (off .ensures)) (off .kept .0 ∙ made .kept .0)
 
 pub fill-spec : {M : Type 1} → statement M
 fill-spec =

@@ -3,7 +3,7 @@ use mathlib.Core.Path.{refl, sym, _∙_}
 use denote.Ref.{now}
 use Rattle.job.proofs.Taken.{taken, refused-both}
 use Rattle.bound.specs.Bound.{lent}
-use Rattle.bound.proofs.Calls.{range-taken, listable}
+use Rattle.bound.proofs.Calls.{range-taken, weights-there}
 use Rattle.staged_bound.proofs.Calls.{stageable, job-staged, early, limit-refused, accepted}
 use borrow.Author.Needs.{needs}
 use Rattle.staged_bound.proofs.bound_staged.Statement.{statement}
@@ -24,7 +24,10 @@ plate-of-requires : tie.Need-plate-of-requires
 plate-of-requires c κs = let e = c .before .before .before .before .before .before .before .before .before .before .before .args in range-taken (now (e .block)) (e .choices) (now (e .weights)) (taken (now (e .block)) (e .choices) (now (e .weights)) (c .before .before .before .before .before .accept .ensures .0) (c .before .before .before .enum-told .given .1))
 
 list-pieces-requires : tie.Need-list-pieces-requires
-list-pieces-requires c κs = let e = c .before .before .before .before .before .before .before .before .before .before .before .before .before .args in listable (now (e .block)) (e .choices) (now (e .weights)) (taken (now (e .block)) (e .choices) (now (e .weights)) (c .before .before .before .before .before .before .before .accept .ensures .0) (c .before .before .before .before .before .enum-told .given .1)) refl
+list-pieces-requires c κs =
+    let e = c .before .before .before .before .before .before .before .before .before .before .before .before .before .args in
+    let t = taken (now (e .block)) (e .choices) (now (e .weights)) (c .before .before .before .before .before .before .before .accept .ensures .0) (c .before .before .before .before .before .enum-told .given .1) in
+    (range-taken (now (e .block)) (e .choices) (now (e .weights)) t, weights-there (now (e .block)) (e .choices) (now (e .weights)) t, refl)
 
 bound-of-pieces-requires : tie.Need-bound-of-pieces-requires
 bound-of-pieces-requires c κs =

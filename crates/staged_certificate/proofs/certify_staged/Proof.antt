@@ -10,7 +10,7 @@ use Rattle.job.specs.Weights.{weight-in}
 use Rattle.job.proofs.Taken.{Taken, taken, refused-both}
 use Rattle.stages.proofs.Limit.{limit-inside}
 use Rattle.bound.specs.Bound.{Memory, lent, wide-job, block-capacity}
-use Rattle.bound.proofs.Calls.{range-taken, listable}
+use Rattle.bound.proofs.Calls.{range-taken, weights-there}
 use Rattle.staged_bound.specs.Contracts.{Staged}
 use Rattle.staged_bound.proofs.Calls.{stageable, job-staged}
 use Rattle.staged_certificate.proofs.Calls.{job-refused, limit-refused, plan-refused, storage-refused, certified, profit-most}
@@ -72,7 +72,7 @@ returns-3 c =
 list-pieces-requires : tie.Need-list-pieces-requires
 list-pieces-requires c κs =
     let k = c .before .before .before .before .before in
-    listable (now (start k .args .block)) (start k .args .choices) (now (start k .args .weights)) (took k) refl
+    (range-taken (now (start k .args .block)) (start k .args .choices) (now (start k .args .weights)) (took k), weights-there (now (start k .args .block)) (start k .args .choices) (now (start k .args .weights)) (took k), refl)
 
 plate-of-requires : tie.Need-plate-of-requires
 plate-of-requires c κs =

@@ -31,7 +31,7 @@ returns c =
     let given = e .pre in
     let first = c .before .before .before .before .before .before .map-floors in
     let second = c .before .before .map-floors2 in
-    sides-mapped (now (e .args .floors)) (first .last .1 .1 .1 .0) (given .2) (first .ensures .0) (e .args .size) (now (e .args .lengths)) (now (e .args .widths))
+    sides-mapped (now (e .args .floors)) (first .last .1 .1 .1 .0) (given .2) (first .ensures .0) (e .args .size) (now (e .args .normal-lengths)) (now (e .args .normal-widths))
     (second .last .1 .1 .1 .0) (second .ensures .0) (c .before .floors2 .given .1) (given .0 .room-there) (given .1 .room-there) (first .ensures .1) (second .ensures .1)
 
 pub map-sides-spec : {M : Type 1} → statement M

@@ -3,7 +3,7 @@
 use mathlib.Core.Path.{refl}
 use denote.Ref.{now}
 use Rattle.bound.specs.Bound.{lent}
-use Rattle.two_bound.proofs.Calls.{job-refused, weights-refused, early, accepted, TwoTaken, range-read, two-taken, listable, states-ready, pairable, job-paired}
+use Rattle.two_bound.proofs.Calls.{job-refused, weights-refused, early, accepted, TwoTaken, range-read, two-taken, weights-there, states-ready, pairable, job-paired}
 use borrow.Author.Needs.{needs}
 use Rattle.two_bound.proofs.bound_two.Statement.{statement}
 use Rattle.two_bound.proofs.bound_two.Tie as tie
@@ -35,7 +35,7 @@ plate-of-requires : tie.Need-plate-of-requires
 plate-of-requires c κs = taken c .range
 
 list-pieces-requires : tie.Need-list-pieces-requires
-list-pieces-requires c κs = let k = c .before .before in let e = start k .args in listable (now (e .block)) (e .choices) (now (e .first)) (now (e .second)) (taken k) refl
+list-pieces-requires c κs = let k = c .before .before in let e = start k .args in (taken k .range, weights-there (now (e .block)) (e .choices) (now (e .first)) (now (e .second)) (taken k), refl)
 
 put-states-requires : tie.Need-put-states-requires
 put-states-requires c κs =
