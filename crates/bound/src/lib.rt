@@ -103,12 +103,11 @@ pub fn bound(
         return BoundAnswer::Refused(r);
     }
     let record = accepted.job;
-    let plate = plate_of(record);
     let mut pieces = [0u32; 640];
     let count = list_pieces(record, weights, &mut pieces);
     let mut floors = [0u16; 2042];
     bound_of_pieces(
-        plate,
+        plate_of(record),
         count,
         &pieces,
         accepted.capacity,
