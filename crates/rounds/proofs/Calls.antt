@@ -9,9 +9,11 @@ use borrow.Author.Tests.{ltb-true, ltb-false}
 use lib.Dec.{ltb, eqb}
 use lib.ListN.{length, take}
 use lib.Seq.{length-take-le}
-use Rattle.cutting.specs.Job.{Job, capacity, bound-of}
+use Rattle.cutting.specs.Job.{Job, by-kind, capacity, bound-of}
 use Rattle.cutting.specs.Promises.{NoneAbove}
 use Rattle.cutting.proofs.Members.{range-solid}
+use Rattle.cutting.proofs.Plan.{plan-idle}
+use Rattle.cutting.proofs.Weights.{by-weight-monotone}
 use Rattle.cutting.proofs.Finer.{none-finer}
 use Rattle.cutting.proofs.Promises.{none-above}
 use Rattle.refusal.specs.Refusals.{next, first-refusal, outcome-by}
@@ -31,7 +33,7 @@ use Rattle.plan.specs.Calls.{arrays-answer}
 use Rattle.plan.proofs.Plans.{plans-checked}
 use Rattle.rounds.specs.declared.WeightsFound.{WeightsFound}
 use Rattle.weight_steps.specs.Step.{pick-number}
-use Rattle.rounds.specs.Rounds.{Lent, weight-at, round-verdict, rounds-by, rounds-run, bound-at, best-round, found, refused-answer, find-answer-by, before-verdict, lower-figure, run-answer, find-verdict, find-found, find-answer, found-values, found-outcome, find-said, refuses, last-here, last-round, within, plan-copies, RunLeaves, LeastMet, BoundAgain, FindPromises}
+use Rattle.rounds.specs.Rounds.{Lent, weight-at, round-verdict, rounds-by, rounds-run, bound-at, best-round, found, refused-answer, find-answer-by, before-verdict, lower-figure, run-answer, find-verdict, find-found, find-answer, found-values, found-outcome, find-said, refuses, last-here, last-round, within, plan-copies, RunLeaves, LeastMet, RoundHolds, BoundAgain, FindPromises}
 use Rattle.weight_steps.proofs.Rules.{step-rules}
 use Rattle.rounds.proofs.Rules.{rounds-most, stop-rules}
 use Rattle.rounds.proofs.Run.{neither, weights-good, weight-past, no-capacity}
@@ -182,6 +184,7 @@ module _ (s : List ℕ) (choices : Choices) (kinds operands : List ℕ) where
           least = λ p. unlike (sym (ap (λ (x : WeightsFound). x .verdict) e) ∙ p);
           again = λ p. unlike (sym (ap (λ (x : WeightsFound). x .verdict) e) ∙ p);
           rounds = omega (arith, ap (λ (x : WeightsFound). x .rounds) e);
+          each = λ p. unlike (sym (ap (λ (x : WeightsFound). x .verdict) e) ∙ p);
           demands = λ p. unlike (sym (ap (λ (x : WeightsFound). x .verdict) e) ∙ p);
           finer = λ p. unlike (sym (ap (λ (x : WeightsFound). x .verdict) e) ∙ p);
           steps = step-rules;
@@ -221,6 +224,13 @@ module _ (s : List ℕ) (choices : Choices) (kinds operands : List ℕ) where
               bound-is = l .bound-is ∙ ap (bound-of J) (sym ws);
             }
 
+        -- every round's gap is a true difference, and no plan of one has an idle cut
+        holds : (k : ℕ) → RoundHolds J lower k
+        holds k =
+            let l = low good passed (weight-at J lower k) in
+            let e = ap (λ (a : PlanAnswer). a .report .profit) walked in
+            record { gap-is = omega (arith, l, e); idle-free = plan-idle J (by-kind (weight-at J lower k)) (by-weight-monotone _) (range-solid J (read-in-range s choices good)) _ _ _ }
+
         -- the rounds are run
         pub ran : {r : WeightsFound} {profit : ℕ} → profit ≡ plan-answer J kinds operands .report .profit → r ≡ run-answer J profit old → RunLeaves J profit old new → FindPromises s choices kinds operands old new r
         ran {r} {profit} l a m =
@@ -236,6 +246,7 @@ module _ (s : List ℕ) (choices : Choices) (kinds operands : List ℕ) where
               least = best;
               again = λ p. given-again e (best p);
               rounds = omega (arith, ap (λ (x : WeightsFound). x .rounds) e, run-few J lower old);
+              each = λ p k h. holds k;
               demands = none;
               finer = λ p. none-finer J (range-solid J range) (r .bound) (none p);
               steps = step-rules;

@@ -9,6 +9,7 @@ use lib.Dec.{ltb, eqb}
 use lib.ListN.{replicate, take}
 use Rattle.cutting.specs.Limits.{most-kinds, most-capacity}
 use Rattle.cutting.specs.Lists.{range, sum, only, any}
+use Rattle.cutting.specs.Tree.{IdleFree}
 use Rattle.cutting.specs.Preorder.{kinds-of, operands-of}
 use Rattle.cutting.specs.Job.{Job, KeepsDemands, copies-of, widened, capacity, bound-of, bound-plan}
 use Rattle.cutting.specs.Promises.{NoneAbove, NoneFiner}
@@ -193,15 +194,20 @@ pub record StopRules (J : Job) (lower : ℕ) (m : Lent) : Type 0 where
   pub last : last-here J lower m (last-round J lower m) ≡ true
   pub first : (k : ℕ) → k < last-round J lower m → last-here J lower m k ≡ false
 
+-- what holds of each round run: its gap is a true difference, for the lower figure is at most its bound, and its plan has no idle cut
+pub record RoundHolds (J : Job) (lower k : ℕ) : Type 0 where
+  pub gap-is : lower + gap J lower (weight-at J lower k) ≡ bound-at J lower k
+  pub idle-free : IdleFree (bound-plan J (weight-at J lower k))
+
 -- the answered weights of the job's kinds are accepted for the job, and the answered bound is theirs: the bound call answers it again
 pub record BoundAgain (s : List ℕ) (choices : Choices) (a : WeightsFound) : Type 0 where
   pub accepted : Accepted s choices (take (block-job s choices .count) (a .weights))
   pub bound-is : a .bound ≡ bound-of (block-job s choices) (weight-in (take (block-job s choices .count) (a .weights)))
 
 -- what the call promises of its answer and of all that it is lent: both are the definitions', number and values too; an answered bound is
--- the least met, with the weights that first gave it, which the bound call accepts and gives the same bound; at most 18 rounds are run, and no
--- guillotine tree on the plate that keeps every demand, cut at whole units or finer, earns more than the answered bound. Steps and stop
--- follow their rules
+-- the least met, with the weights that first gave it, which the bound call accepts and gives the same bound; at most 18 rounds are run, each
+-- with a true gap and a plan without an idle cut, and no guillotine tree on the plate that keeps every demand, cut at whole units or finer,
+-- earns more than the answered bound. Steps and stop follow their rules
 pub record FindPromises (s : List ℕ) (choices : Choices) (kinds operands : List ℕ) (old new : Lent) (r : WeightsFound) : Type 0 where
   pub answers : r ≡ find-answer s choices kinds operands old
   pub outcome : found-outcome r ≡ find-said s choices kinds operands old
@@ -209,6 +215,7 @@ pub record FindPromises (s : List ℕ) (choices : Choices) (kinds operands : Lis
   pub least : r .verdict ≡ Passed → LeastMet (block-job s choices) (lower-figure s choices kinds operands) r
   pub again : r .verdict ≡ Passed → BoundAgain s choices r
   pub rounds : r .rounds ≤ most-rounds
+  pub each : r .verdict ≡ Passed → (k : ℕ) → k < r .rounds → RoundHolds (block-job s choices) (lower-figure s choices kinds operands) k
   pub demands : r .verdict ≡ Passed → NoneAbove (block-job s choices) (r .bound)
   pub finer : r .verdict ≡ Passed → NoneFiner (block-job s choices) (r .bound)
   pub steps : StepRules

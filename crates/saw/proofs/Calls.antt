@@ -12,7 +12,7 @@ use Rattle.refusal.specs.Refusals.{next, first-refusal, outcome-by}
 use Rattle.job.specs.declared.Choices.{Choices}
 use Rattle.job.specs.declared.JobRecord.{JobRecord}
 use Rattle.job.specs.declared.JobAnswer.{JobAnswer}
-use Rattle.job.specs.Block.{plate-length-at, plate-width-at, count-at, sizes-end, demand-at, header-checks, entries, record-of, job-outcome, job-of}
+use Rattle.job.specs.Block.{plate-length-at, plate-width-at, count-at, sizes-end, demand-at, header-checks, entries, record-of, read-by, job-outcome, job-of}
 use Rattle.job.specs.Contracts.{HoldsKinds}
 use Rattle.job.proofs.Checks.{cons-passed}
 use Rattle.job.proofs.Entries.{entries-past}
@@ -22,9 +22,10 @@ use Rattle.plan.specs.Plan.{empty-report, proceed, walk-answer, plan-answer}
 use Rattle.plan.specs.Trees.{ChecksPlan}
 use Rattle.plan.proofs.Plans.{plans-checked, checked-after}
 use Rattle.saw.specs.declared.SawAnswer.{SawAnswer}
-use Rattle.saw.specs.Saw.{demand-checks, saw-checks, SawPasses, saw-record, saw-job, saw-read, saw-read-said, without-profit, saw-of, saw-values, saw-answer, saw-outcome, saw-said, SawChecks}
-use Rattle.saw.specs.Prices.{AtAnyPrices, BesideOffice}
-use Rattle.saw.proofs.Prices.{same-read, same-answer}
+use Rattle.saw.specs.Saw.{demand-checks, saw-checks, SawPasses, saw-record, saw-job, saw-read, saw-read-said, without-profit, saw-of, saw-values, saw-answer, saw-outcome, saw-said, NeverSix, SawChecks}
+use Rattle.saw.specs.Prices.{AtAnyPrices, PricesFree, BesideOffice}
+use Rattle.saw.proofs.Prices.{same-read, same-answer, prices-free}
+use Rattle.saw.proofs.Six.{read-never, saw-never}
 use Rattle.saw.proofs.Office.{beside}
 
 module _ (s : List ℕ) (choices : Choices) where
@@ -47,11 +48,19 @@ module _ (s : List ℕ) (choices : Choices) where
       let r = answered-by (first-refusal (saw-checks s choices)) (saw-record s choices) e p in
       subst (λ (j : JobRecord). InRange (job-of j)) (sym (r .1)) (saw-range (r .0))
 
-  -- both clauses of the reader, and that no price matters to it
-  pub read-met : {r : JobAnswer} → r ≡ saw-read s choices → (r ≡ saw-read s choices) × ((job-outcome r ≡ saw-read-said s choices) × AtAnyPrices choices s (λ z. r ≡ saw-read z choices))
+  -- every clause of the reader
+  abbrev pub Reads : JobAnswer → Type 0
+  Reads r = (r ≡ saw-read s choices) × ((job-outcome r ≡ saw-read-said s choices) × (AtAnyPrices choices s (λ z. r ≡ saw-read z choices) × ((r .verdict ≡ Passed → PricesFree choices s) × NeverSix (r .verdict))))
+
+  pub read-met : {r : JobAnswer} → r ≡ saw-read s choices → Reads r
   read-met e =
-      let a = said-by (first-refusal (saw-checks s choices)) (saw-record s choices) e in
-      (e, (a .1, λ z o. e ∙ same-read choices s z o))
+      let v = first-refusal (saw-checks s choices) in
+      let a = said-by v (saw-record s choices) e in
+      (e, (a .1, (λ z o. e ∙ same-read choices s z o, (λ p. prices-free choices s (saw-holds (answered-by v (saw-record s choices) e p .0) .3), subst (λ (x : JobAnswer). NeverSix (x .verdict)) (sym e) (unpriced-by v (read-never s choices))))))
+    where
+      unpriced-by : (v : Checked) → NeverSix v → NeverSix (read-by v (saw-record s choices) .verdict)
+      unpriced-by Passed f = f
+      unpriced-by (Refused x) f = f
 
   module _ (kinds operands : List ℕ) where
     -- a block that is read: the check of its nodes is the answer
@@ -71,13 +80,15 @@ module _ (s : List ℕ) (choices : Choices) where
     Before-idle = proceed (first-refusal (saw-checks s choices)) (walk-answer (saw-job s choices) kinds operands)
 
     -- the plan check's theorem, of the report without its profit
-    checked : (a : PlanAnswer) → ChecksPlan (SawPasses s choices) (saw-job s choices) kinds operands Before-idle a → SawChecks s choices kinds operands (saw-of a)
-    checked a c = record {
+    checked : (a : PlanAnswer) → ChecksPlan (SawPasses s choices) (saw-job s choices) kinds operands Before-idle a → NeverSix (a .verdict) → SawChecks s choices kinds operands (saw-of a)
+    checked a c six = record {
       passes = c .passes;
       before = c .before;
       tree = λ p. (let t = c .tree p in (t .0, t .1, record { own = ap (λ r. without-profit r) (t .2 .own); areas = t .2 .areas }));
       zeros = λ r p. ap (λ r. without-profit r) (c .zeros r p);
       idle = c .idle;
+      old-table = λ f. ap (λ b. saw-of b) (c .old-table f);
+      never-six = six;
     }
 
     -- the number and values of an answer that follows a check
@@ -97,7 +108,7 @@ module _ (s : List ℕ) (choices : Choices) where
           (
             ap (λ a. saw-outcome a) e ∙ said-after (first-refusal (saw-checks s choices)) (plan-answer (saw-job s choices) kinds operands),
             (
-              subst (λ (a : SawAnswer). SawChecks s choices kinds operands a) (sym e) (checked _ c),
+              subst (λ (a : SawAnswer). SawChecks s choices kinds operands a) (sym e) (checked _ c (saw-never s choices kinds operands)),
               (λ z o. e ∙ same-answer choices s z o kinds operands, beside s choices kinds operands e),
             ),
           ),

@@ -1,25 +1,57 @@
--- Between blocks that differ only in prices the saw's checks and its record are equal, and so is everything that it answers.
-use mathlib.Core.Path.{_≡_, refl, _∙_, ap, ap₂}
+-- Between blocks that differ only in prices the saw's checks and its record are equal, and so is everything that it answers. Whatever the
+-- prices are to be, such a block has them.
+use mathlib.Core.Path.{_≡_, refl, sym, _∙_, ap, ap₂, subst}
 use mathlib.Core.Bool.{Bool, true, false, _||_, not}
 use mathlib.Core.List.{List, [], _∷_, _++_, map}
-use Prim.Native.Nat.{ℕ, zero, suc, _+_, _*_, _<_}
+use Prim.Native.Nat.{ℕ, zero, suc, _+_, _*_, _≤_, _<_}
 use native.Mathlib.Omega.{arith}
 use lib.Dec.{ltb, eqb}
-use lib.ListN.{length, getD}
+use lib.ListN.{length, getD, set, length-set}
+use lib.Seq.{getD-set-same, getD-set-other}
 use borrow.Author.Tests.{ltb-true}
 use Rattle.cutting.specs.Lists.{range, only}
 use Rattle.refusal.specs.declared.Refusal.the-variants.{ShortHeader, PlateSide, KindCount, Kerf, BlockLength, KindSide, Demand}
 use Rattle.refusal.specs.Refusals.{Check, first-refusal}
 use Rattle.job.specs.declared.Choices.{Choices}
-use Rattle.job.specs.Block.{u16-at, plate-length-at, plate-width-at, count-at, kerf-at, sizes-end, length-at, width-at, demand-at, outside, header-checks, size-check, each-kind, entries, record-of, read-by, job-of}
+use Rattle.job.specs.Block.{u16-at, u32-at, price-at, plate-length-at, plate-width-at, count-at, kerf-at, sizes-end, length-at, width-at, demand-at, outside, header-checks, size-check, each-kind, entries, record-of, read-by, job-of}
 use Rattle.job.proofs.Read.{sizes-least}
 use Rattle.plan.specs.Plan.{proceed, plan-answer}
 use Rattle.saw.specs.Saw.{demand-checks, saw-checks, saw-record, saw-read, saw-of, saw-answer}
-use Rattle.saw.specs.Prices.{PriceByte, OnlyPrices}
+use Rattle.saw.specs.Prices.{PriceByte, OnlyPrices, PricesFree}
 
 -- each of the four bytes of every price is one that may differ
 pub price-bytes : (h n i j : ℕ) → i < n → j < 4 → PriceByte h n (h + 4 * n + 6 * i + j)
 price-bytes h n i j l m = (i, l, omega arith, omega (arith, m))
+
+-- four bytes, put at a place of a block
+module _ (s : List ℕ) (at a b c d : ℕ) where
+  abbrev four : List ℕ
+  four = set (set (set (set s at a) (at + 1) b) (at + 2) c) (at + 3) d
+
+  four-length : length four ≡ length s
+  four-length = simp length-set
+
+  -- every other byte stays
+  four-other : (k : ℕ) → ((j : ℕ) → j < 4 → k ≡ at + j → ⊥) → getD four k 0 ≡ getD s k 0
+  four-other k f = getD-set-other (set (set (set s at a) (at + 1) b) (at + 2) c) (at + 3) k d 0 (f 3 (omega arith))
+      ∙ getD-set-other (set (set s at a) (at + 1) b) (at + 2) k c 0 (f 2 (omega arith))
+      ∙ getD-set-other (set s at a) (at + 1) k b 0 (f 1 (omega arith))
+      ∙ getD-set-other s at k a 0 (λ e. f 0 (omega arith) (omega (arith, e)))
+
+  -- and they are read there
+  four-there : at + 3 < length s → u32-at four at ≡ a + 256 * b + 65536 * c + 16777216 * d
+  four-there h =
+      let x = set s at a in
+      let y = set x (at + 1) b in
+      let z = set y (at + 2) c in
+      let lx : length x ≡ length s = length-set s at a in
+      let ly : length y ≡ length x = length-set x (at + 1) b in
+      let lz : length z ≡ length y = length-set y (at + 2) c in
+      let d3 : getD four (at + 3) 0 ≡ d = getD-set-same z (at + 3) d 0 (omega arith) in
+      let d2 : getD four (at + 2) 0 ≡ c = getD-set-other z (at + 3) (at + 2) d 0 (λ e. omega arith) ∙ getD-set-same y (at + 2) c 0 (omega arith) in
+      let d1 : getD four (at + 1) 0 ≡ b = getD-set-other z (at + 3) (at + 1) d 0 (λ e. omega arith) ∙ getD-set-other y (at + 2) (at + 1) c 0 (λ e. omega arith) ∙ getD-set-same x (at + 1) b 0 (omega arith) in
+      let d0 : getD four at 0 ≡ a = getD-set-other z (at + 3) at d 0 (λ e. omega arith) ∙ getD-set-other y (at + 2) at c 0 (λ e. omega arith) ∙ getD-set-other x (at + 1) at b 0 (λ e. omega arith) ∙ getD-set-same s at a 0 (omega arith) in
+      λ i. d0 i + 256 * d1 i + 65536 * d2 i + 16777216 * d3 i
 
 -- checks of the kinds, and entries of an array, that agree kind by kind
 each-same : (f g : ℕ → List Check) (i n : ℕ) → ((k : ℕ) → k < i + n → f k ≡ g k) → each-kind f i n ≡ each-kind g i n
@@ -123,3 +155,15 @@ module _ (choices : Choices) (s z : List ℕ) (same : OnlyPrices choices s z) wh
 
   pub same-answer : (kinds operands : List ℕ) → saw-answer s choices kinds operands ≡ saw-answer z choices kinds operands
   same-answer kinds operands = λ i. saw-of (proceed (first-refusal (same-checks i)) (plan-answer (job-of (same-record i)) kinds operands))
+
+-- a block that has the bytes of its kinds may have any prices
+pub prices-free : (choices : Choices) (s : List ℕ) → sizes-end (choices .«old_block») + 10 * count-at s ≤ length s → PricesFree choices s
+prices-free choices s h i a b c d l =
+    let end = sizes-end (choices .«old_block») in
+    let at = end + 4 * count-at s + 6 * i in
+    let z = four s at a b c d in
+    let o : OnlyPrices choices s z = record {
+      same-length = sym (four-length s at a b c d);
+      same-bytes = λ k f. sym (four-other s at a b c d k (λ j m e. f (subst (PriceByte end (count-at s)) (sym e) (price-bytes end (count-at s) i j l m))));
+    } in
+    (z, o, ap (λ n. u32-at z (end + 4 * n + 6 * i)) (sym (same-count choices s z o)) ∙ four-there s at a b c d (omega (arith, h, l)))

@@ -4,10 +4,11 @@
 use mathlib.Core.Path.{_≡_}
 use mathlib.Core.List.{List, [], _∷_, _++_}
 use Prim.Native.Nat.{ℕ, _+_, _*_}
-use Rattle.cutting.specs.Tree.{Tree}
+use Rattle.cutting.specs.Tree.{Tree, IdleFree}
 use Rattle.cutting.specs.Pieces.{Piece}
 use Rattle.cutting.specs.Job.{Job}
 use Rattle.refusal.specs.declared.Refusal.{Refusal}
+use Rattle.refusal.specs.declared.Checked.{Checked}
 use Rattle.refusal.specs.declared.Checked.the-variants.{Passed, Refused}
 use Rattle.refusal.specs.Refusals.{Check, Outcome, next, first-refusal, outcome-by}
 use Rattle.job.specs.declared.Choices.{Choices}
@@ -17,7 +18,7 @@ use Rattle.job.specs.Block.{header-checks, demand-check, checks-by, record-of, 
 use Rattle.idle.specs.Idle.{tree-checks}
 use Rattle.plan.specs.declared.Report.{Report}
 use Rattle.plan.specs.declared.PlanAnswer.{PlanAnswer}
-use Rattle.plan.specs.Plan.{empty-report, proceed, plan-answer}
+use Rattle.plan.specs.Plan.{empty-report, proceed, walk-answer, plan-answer}
 use Rattle.plan.specs.Trees.{DrawnAs, PlanOf, tree-report}
 use Rattle.saw.specs.declared.SawReport.{SawReport}
 use Rattle.saw.specs.declared.SawAnswer.{SawAnswer}
@@ -62,6 +63,14 @@ saw-of a = record { verdict = a .verdict; report = without-profit (a .report) }
 abbrev pub saw-answer : List ℕ → Choices → List ℕ → List ℕ → SawAnswer
 saw-answer s choices kinds operands = saw-of (proceed (first-refusal (saw-checks s choices)) (plan-answer (saw-job s choices) kinds operands))
 
+-- and what it answers without 26
+abbrev pub saw-before-idle : List ℕ → Choices → List ℕ → List ℕ → SawAnswer
+saw-before-idle s choices kinds operands = saw-of (proceed (first-refusal (saw-checks s choices)) (walk-answer (saw-job s choices) kinds operands))
+
+-- a verdict's number is not 6
+abbrev pub NeverSix : Checked → Type 0
+NeverSix v = outcome-by v [] .0 ≡ 6 → ⊥
+
 -- a report in words: the areas of pieces, waste nodes and trim, the copies of each kind, and the sawdust's area
 abbrev pub saw-values : SawReport → List ℕ
 saw-values r = r .pieces ∷ r .waste ∷ r .trim ∷ (r .copies ++ (r .sawdust ∷ []))
@@ -81,10 +90,13 @@ pub record SawReports (J : Job) (t : Tree Piece) (r : SawReport) : Type 0 where
   pub areas : r .pieces + r .waste + r .trim + r .sawdust ≡ J .plate .0 * J .plate .1
 
 -- an answer passes exactly for a block that no check of the saw refuses and the plan of a tree; it then reports that tree, and a refusal
--- reports zeros. Arrays drawn as a tree are refused for its first idle cut in preorder alone
+-- reports zeros. Arrays drawn as a tree are refused for its first idle cut in preorder alone; without one, the answer is that of the checks
+-- before 26. The number is never 6
 pub record SawChecks (s : List ℕ) (choices : Choices) (kinds operands : List ℕ) (a : SawAnswer) : Type 0 where
   pub passes : SawPasses s choices → (t : Tree Piece) → PlanOf (saw-job s choices) t kinds operands → a .verdict ≡ Passed
   pub before : a .verdict ≡ Passed → SawPasses s choices
   pub tree : a .verdict ≡ Passed → (t : Tree Piece) × PlanOf (saw-job s choices) t kinds operands × SawReports (saw-job s choices) t (a .report)
   pub zeros : (r : Refusal) → a .verdict ≡ Refused r → a .report ≡ without-profit empty-report
   pub idle : SawPasses s choices → (t : Tree Piece) → DrawnAs (saw-job s choices) t kinds operands → a .verdict ≡ first-refusal (tree-checks 0 t)
+  pub old-table : ((t : Tree Piece) → DrawnAs (saw-job s choices) t kinds operands → IdleFree t) → a ≡ saw-before-idle s choices kinds operands
+  pub never-six : NeverSix (a .verdict)

@@ -16,8 +16,9 @@ ghost use lib.ListN.{length};
 ghost use Rattle.cutting.specs.Preorder.{kinds-of, operands-of};
 ghost use Rattle.job.specs.Block.{job-outcome};
 ghost use Rattle.plan.specs.Plan.{empty-report};
-ghost use Rattle.saw.specs.Saw.{saw-read, saw-read-said, saw-of, without-profit, saw-answer, saw-outcome, saw-said, SawChecks};
-ghost use Rattle.saw.specs.Prices.{AtAnyPrices, BesideOffice};
+ghost use Rattle.refusal.specs.declared.Checked.the-variants.{Passed};
+ghost use Rattle.saw.specs.Saw.{saw-read, saw-read-said, saw-of, without-profit, saw-answer, saw-outcome, saw-said, NeverSix, SawChecks};
+ghost use Rattle.saw.specs.Prices.{AtAnyPrices, PricesFree, BesideOffice};
 ghost use Rattle.saw.specs.Parts.{left-after, end-of, part-by, HandsBack};
 
 // What the saw reports of a passed plan: copies of each of 64 kinds, and the areas of pieces, waste nodes, trim and sawdust.
@@ -40,6 +41,8 @@ pub fn read_saw_job(block: &[u8], choices: Choices) -> JobAnswer
     ensures answers { λ r. ⌜ r ≡ saw-read (now (block .entry)) choices ⌝ }
     ensures outcome { λ r. ⌜ job-outcome r ≡ saw-read-said (now (block .entry)) choices ⌝ }
     ensures blind { λ r. ⌜ AtAnyPrices choices (now (block .entry)) (λ z. r ≡ saw-read z choices) ⌝ }
+    ensures free { λ r. ⌜ (r .verdict ≡ Passed → PricesFree choices (now (block .entry))) ⌝ }
+    ensures unpriced { λ r. ⌜ NeverSix (r .verdict) ⌝ }
 {
     let verdict = check_block(block, choices, true, false);
     let Checked::Passed = verdict else {

@@ -13,7 +13,7 @@ use Rattle.refusal.specs.declared.Checked.{Checked}
 use Rattle.job.specs.declared.Choices.{Choices}
 use Rattle.job.specs.Weights.{block-job, weight-in}
 use Rattle.plan.specs.Plan.{plan-answer}
-use Rattle.staged_plan.specs.Check.{within-verdict, LimitPasses, staged-check-answer, StagedPlanOf, ChecksStaged}
+use Rattle.staged_plan.specs.Check.{within-verdict, LimitPasses, staged-check-answer, staged-before-idle, StagedPlanOf, ChecksStaged}
 use Rattle.bound.specs.Bound.{Memory, wide-job, block-capacity}
 use Rattle.staged_bound.specs.Staged.{limit-verdict, staged-checks, StagedLeaves}
 use Rattle.certificate.specs.Certificate.{compared, handed-on, certificate-values, certificate-outcome}
@@ -60,6 +60,6 @@ pub record CertifyStagedPromises (s : List ℕ) (choices : Choices) (ws : List �
   pub answers : r ≡ staged-certificate s choices ws n kinds operands old
   pub outcome : certificate-outcome r ≡ staged-certificate-said s choices ws n kinds operands old
   pub memory : StagedLeaves (staged-plan-verdict s choices ws n kinds operands) (wide-job s choices) (weight-in ws) n (block-capacity s choices ws) old new
-  pub judged : ChecksStaged (LimitPasses s choices n) (block-job s choices) n kinds operands (staged-check-answer s choices n kinds operands)
+  pub judged : ChecksStaged (LimitPasses s choices n) (block-job s choices) n kinds operands (staged-before-idle s choices n kinds operands) (staged-check-answer s choices n kinds operands)
   pub best : BestStaged (block-job s choices) (weight-in ws) n kinds operands r
   pub gap : GapStaged (block-job s choices) (weight-in ws) n kinds operands r

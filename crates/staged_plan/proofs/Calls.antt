@@ -24,7 +24,7 @@ use Rattle.plan.specs.declared.Report.{Report}
 use Rattle.plan.specs.Plan.{plan-answer}
 use Rattle.plan.specs.Trees.{tree-in}
 use Rattle.staged_plan.specs.declared.StagedAnswer.{StagedAnswer}
-use Rattle.staged_plan.specs.Check.{within-verdict, staged-refused, staged-by, within-answer, read-verdict, LimitPasses, staged-check-verdict, staged-check-answer, staged-values, staged-check-outcome, staged-check-said, ChecksStaged}
+use Rattle.staged_plan.specs.Check.{within-verdict, staged-refused, staged-by, within-answer, read-verdict, LimitPasses, staged-check-verdict, staged-check-answer, staged-before-idle, staged-values, staged-check-outcome, staged-check-said, ChecksStaged}
 use Rattle.staged_plan.proofs.Within.{staged-after}
 
 -- an answer's number and values are those of its verdict
@@ -38,12 +38,12 @@ module _ (s : List ℕ) (choices : Choices) (n : ℕ) (kinds operands : List ℕ
   after v = staged-by (next v (within-verdict (block-job s choices) n kinds operands)) (plan-answer (block-job s choices) kinds operands .report) (stages (tree-in kinds operands))
 
   pub check-met : {r : StagedAnswer} → r ≡ staged-check-answer s choices n kinds operands
-      → (r ≡ staged-check-answer s choices n kinds operands) × ((staged-check-outcome r ≡ staged-check-said s choices n kinds operands) × ChecksStaged (LimitPasses s choices n) (block-job s choices) n kinds operands r)
+      → (r ≡ staged-check-answer s choices n kinds operands) × ((staged-check-outcome r ≡ staged-check-said s choices n kinds operands) × ChecksStaged (LimitPasses s choices n) (block-job s choices) n kinds operands (staged-before-idle s choices n kinds operands) r)
   check-met e = (
     e,
     (
       ap (λ a. staged-check-outcome a) e ∙ said-by (staged-check-verdict s choices n kinds operands) (plan-answer (block-job s choices) kinds operands .report) (stages (tree-in kinds operands)),
-      subst (λ (a : StagedAnswer). ChecksStaged (LimitPasses s choices n) (block-job s choices) n kinds operands a) (sym e)
+      subst (λ (a : StagedAnswer). ChecksStaged (LimitPasses s choices n) (block-job s choices) n kinds operands (staged-before-idle s choices n kinds operands) a) (sym e)
           (staged-after (read-verdict s choices n) (λ p. read.read-in-range s choices (passed-both (first-refusal (job-checks s choices)) (first-refusal (limit-check n ∷ [])) p .0) .kinds .1)),
     ),
   )

@@ -29,7 +29,7 @@ use Rattle.plan.proofs.Parse.{no-pass}
 use Rattle.plan.proofs.Plans.{walked-counts, plans-checked}
 use Rattle.plan.proofs.Drawn.{drawn-is, plan-is}
 use Rattle.staged_plan.specs.declared.StagedAnswer.{StagedAnswer}
-use Rattle.staged_plan.specs.Check.{stage-verdict, within-verdict, staged-refused, staged-by, within-answer, StagedPlanOf, ChecksStaged}
+use Rattle.staged_plan.specs.Check.{stage-verdict, within-verdict, staged-refused, staged-by, within-answer, without-idle, StagedPlanOf, ChecksStaged}
 
 -- the verdict of an answer, and zeros where it refuses
 pub verdict-by : (v : Checked) (s : Report) (k : ℕ) → staged-by v s k .verdict ≡ v
@@ -89,7 +89,7 @@ module _ (J : Job) (few : J .count ≤ 64) (n : ℕ) (kinds operands : List ℕ)
 
 -- the same after the verdict of the checks before it
 pub staged-after : (v : Checked) {J : Job} {n : ℕ} {kinds operands : List ℕ} → (v ≡ Passed → J .count ≤ 64)
-    → ChecksStaged (v ≡ Passed) J n kinds operands (staged-by (next v (within-verdict J n kinds operands)) (plan-answer J kinds operands .report) (stages (tree-in kinds operands)))
+    → ChecksStaged (v ≡ Passed) J n kinds operands (without-idle v J n kinds operands) (staged-by (next v (within-verdict J n kinds operands)) (plan-answer J kinds operands .report) (stages (tree-in kinds operands)))
 staged-after Passed {J} {n} {kinds} {operands} f =
     let few = f refl in
     let s = plan-answer J kinds operands .report in
@@ -104,6 +104,7 @@ staged-after Passed {J} {n} {kinds} {operands} f =
       zeros = λ r e. zeros-by w s k r (sym same ∙ e);
       past = λ b t h. same ∙ judged J few n kinds operands t h;
       refused = λ b r e. same ∙ ap (λ v. next v (stage-verdict n kinds operands)) e;
+      old-table = λ f. ap (λ (a : PlanAnswer). staged-by (next (a .verdict) (stage-verdict n kinds operands)) (a .report) k) (plans-checked J few kinds operands .old-table f);
     }
   where
     passed-tree : J .count ≤ 64 → within-verdict J n kinds operands ≡ Passed
@@ -120,4 +121,5 @@ staged-after (Refused x) f =
       zeros = λ r e. (refl, refl);
       past = λ b t h. cc;
       refused = λ b r e. cc;
+      old-table = λ f. refl;
     }

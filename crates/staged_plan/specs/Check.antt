@@ -5,7 +5,7 @@ use mathlib.Core.Path.{_≡_}
 use mathlib.Core.List.{List, [], _∷_, _++_}
 use Prim.Native.Nat.{ℕ, _≤_}
 use Rattle.cutting.specs.Lists.{greatest}
-use Rattle.cutting.specs.Tree.{Tree}
+use Rattle.cutting.specs.Tree.{Tree, IdleFree}
 use Rattle.cutting.specs.Pieces.{Piece}
 use Rattle.cutting.specs.Shares.{stages}
 use Rattle.cutting.specs.Staged.{paths, path-stages}
@@ -19,8 +19,8 @@ use Rattle.job.specs.Block.{job-checks}
 use Rattle.job.specs.Weights.{block-job}
 use Rattle.stages.specs.Stages.{limit-check, path-checks}
 use Rattle.plan.specs.declared.Report.{Report}
-use Rattle.plan.specs.Plan.{empty-report, plan-answer}
-use Rattle.plan.specs.Trees.{tree-in, PlanOf, Reports}
+use Rattle.plan.specs.Plan.{empty-report, walk-answer, plan-answer}
+use Rattle.plan.specs.Trees.{tree-in, DrawnAs, PlanOf, Reports}
 use Rattle.plan.specs.Calls.{plan-values}
 use Rattle.staged_plan.specs.declared.StagedAnswer.{StagedAnswer}
 
@@ -44,6 +44,10 @@ staged-by v s k = by-check v (record { verdict = Passed; report = s; stages = k 
 abbrev pub within-answer : Job → ℕ → List ℕ → List ℕ → StagedAnswer
 within-answer J n kinds operands = staged-by (within-verdict J n kinds operands) (plan-answer J kinds operands .report) (stages (tree-in kinds operands))
 
+-- what a plan's arrays answer within a limit after other checks, by their verdict, without 26
+abbrev pub without-idle : Checked → Job → ℕ → List ℕ → List ℕ → StagedAnswer
+without-idle v J n kinds operands = staged-by (next v (next (walk-answer J kinds operands .verdict) (stage-verdict n kinds operands))) (walk-answer J kinds operands .report) (stages (tree-in kinds operands))
+
 -- the verdict of the checks that stand before the plan's: 1 to 7 and 27, then 22
 abbrev pub read-verdict : List ℕ → Choices → ℕ → Checked
 read-verdict s choices n = next (first-refusal (job-checks s choices)) (first-refusal (limit-check n ∷ []))
@@ -60,6 +64,10 @@ staged-check-verdict s choices n kinds operands = next (read-verdict s choices n
 abbrev pub staged-check-answer : List ℕ → Choices → ℕ → List ℕ → List ℕ → StagedAnswer
 staged-check-answer s choices n kinds operands =
     staged-by (staged-check-verdict s choices n kinds operands) (plan-answer (block-job s choices) kinds operands .report) (stages (tree-in kinds operands))
+
+-- and what it answers without 26
+abbrev pub staged-before-idle : List ℕ → Choices → ℕ → List ℕ → List ℕ → StagedAnswer
+staged-before-idle s choices n kinds operands = without-idle (read-verdict s choices n) (block-job s choices) n kinds operands
 
 -- report and stages in words: the plan check's, then the stages
 abbrev pub staged-values : Report → ℕ → List ℕ
@@ -82,8 +90,8 @@ pub record StagedPlanOf (J : Job) (n : ℕ) (t : Tree Piece) (kinds operands : L
 -- where what stands before the plan's checks holds, an answer passes exactly for the plan of a tree of at most n stages; it then reports
 -- that tree and its stages, which are the most changes of direction on a path plus one, and a refusal reports zeros. The plan of a tree of
 -- more stages is refused for the first cut in preorder whose path, from the plate down through it, passes the limit, and what the plan
--- check refuses is refused as there
-pub record ChecksStaged (Before : Type 0) (J : Job) (n : ℕ) (kinds operands : List ℕ) (a : StagedAnswer) : Type 0 where
+-- check refuses is refused as there. Where no tree that the arrays draw has an idle cut, `old` is the answer, which is that without 26
+pub record ChecksStaged (Before : Type 0) (J : Job) (n : ℕ) (kinds operands : List ℕ) (old a : StagedAnswer) : Type 0 where
   pub passes : Before → (t : Tree Piece) → StagedPlanOf J n t kinds operands → a .verdict ≡ Passed
   pub before : a .verdict ≡ Passed → Before
   pub tree : a .verdict ≡ Passed → (t : Tree Piece) × StagedPlanOf J n t kinds operands × Reports J t (a .report) × (a .stages ≡ stages t)
@@ -91,3 +99,4 @@ pub record ChecksStaged (Before : Type 0) (J : Job) (n : ℕ) (kinds operands : 
   pub zeros : (r : Refusal) → a .verdict ≡ Refused r → (a .report ≡ empty-report) × (a .stages ≡ 0)
   pub past : Before → (t : Tree Piece) → PlanOf J t kinds operands → a .verdict ≡ first-refusal (path-checks n t)
   pub refused : Before → (r : Refusal) → plan-answer J kinds operands .verdict ≡ Refused r → a .verdict ≡ Refused r
+  pub old-table : ((t : Tree Piece) → DrawnAs J t kinds operands → IdleFree t) → a ≡ old

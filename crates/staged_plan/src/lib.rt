@@ -15,7 +15,7 @@ ghost use Rattle.cutting.specs.Limits.{most-limit};
 ghost use Rattle.cutting.specs.Job.{InRange};
 ghost use Rattle.job.specs.Block.{job-of};
 ghost use Rattle.job.specs.Weights.{block-job};
-ghost use Rattle.staged_plan.specs.Check.{staged-refused, within-answer, LimitPasses, staged-check-answer, staged-check-outcome, staged-check-said, ChecksStaged};
+ghost use Rattle.staged_plan.specs.Check.{staged-refused, within-answer, LimitPasses, staged-check-answer, staged-before-idle, staged-check-outcome, staged-check-said, ChecksStaged};
 
 // What the staged check answers: where the plan is refused, the report is all zeros, and so are the stages.
 pub struct StagedAnswer {
@@ -74,7 +74,7 @@ pub fn check_plan_staged(
 ) -> StagedAnswer
     ensures answers { λ r. ⌜ r ≡ staged-check-answer (now (block .entry)) choices limit (now (kinds .entry)) (now (operands .entry)) ⌝ }
     ensures outcome { λ r. ⌜ staged-check-outcome r ≡ staged-check-said (now (block .entry)) choices limit (now (kinds .entry)) (now (operands .entry)) ⌝ }
-    ensures trees { λ r. ⌜ ChecksStaged (LimitPasses (now (block .entry)) choices limit) (block-job (now (block .entry)) choices) limit (now (kinds .entry)) (now (operands .entry)) r ⌝ }
+    ensures trees { λ r. ⌜ ChecksStaged (LimitPasses (now (block .entry)) choices limit) (block-job (now (block .entry)) choices) limit (now (kinds .entry)) (now (operands .entry)) (staged-before-idle (now (block .entry)) choices limit (now (kinds .entry)) (now (operands .entry))) r ⌝ }
 {
     let read = read_job(block, choices);
     let verdict = read.verdict;

@@ -5,16 +5,16 @@ ghost use Prim.Native.Nat.{_+_, _*_, _-_, _≤_, _<_, min};
 ghost use lib.Dec.{ltb};
 ghost use lib.ListN.{getD};
 ghost use Rattle.job.specs.Block.{entries};
-ghost use Rattle.weight_steps.specs.Step.{factor, distance, root-below, scale, stepped, adjusted};
+ghost use Rattle.weight_steps.specs.Step.{factor, factors, distance, root-below, scale, stepped, adjusted};
 ghost use Rattle.weight_steps.specs.Contracts.{summed-squares};
 
 // The factor of each round in sixteenths: 2, halved after every third round.
 const FACTORS: [u64; 18] = [32, 32, 32, 16, 16, 16, 8, 8, 8, 4, 4, 4, 2, 2, 2, 1, 1, 1];
 
-// The factor of a round.
+// The table's entry of a round.
 fn factor_of(round: u16) -> u64
     requires { ⌜ round < 18 ⌝ }
-    ensures { λ r. ⌜ (r ≡ factor round) × (r ≤ 32) ⌝ }
+    ensures { λ r. ⌜ (r ≡ getD factors round 0) × (r ≤ 32) ⌝ }
 {
     FACTORS[round as usize]
 }

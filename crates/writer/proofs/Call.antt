@@ -116,3 +116,10 @@ written-fits s choices ws m kinds operands e f =
     let v = passed-both (bound.bound-verdict s choices ws m) (nodes-verdict (block-plan s choices ws) kinds operands) (w .0) in
     let check = nodes-check (block-plan s choices ws) (length kinds) (length operands) in
     rw (w .1) (none-long (node-count (block-plan s choices ws)) (length kinds) (length operands) (cons-passed (check .0) (check .1) [] (v .1) .0))
+
+-- and its job and weights were accepted
+pub written-accepted : (s : List ℕ) (choices : Choices) (ws : List ℕ) (m : bound.Memory) (kinds operands : List ℕ) {r : WriteAnswer} {report : WriteReport} → r ≡ write-answer s choices ws m kinds operands → r ≡ answer.Written report → Accepted s choices ws
+written-accepted s choices ws m kinds operands e f =
+    let w = written-by (write-verdict s choices ws m kinds operands) (write-report s choices ws) (sym f ∙ e) in
+    let v = passed-both (bound.bound-verdict s choices ws m) (nodes-verdict (block-plan s choices ws) kinds operands) (w .0) in
+    passed-both (bound.accept-verdict s choices ws) _ (v .0) .0

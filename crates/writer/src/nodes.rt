@@ -7,11 +7,11 @@ use crate::Sawing;
 use choice::Cell;
 use choice::Chosen;
 use choice::choose;
+use cutting::Direction;
 use cutting::Node;
 use cutting::Sides;
 use cutting::cut_side;
 use cutting::first_part;
-use cutting::kind_number;
 use cutting::operand;
 use table::TableSize;
 ghost use mathlib.Core.Path.{_≡_};
@@ -197,12 +197,27 @@ fn next_node(
     }
 }
 
+// A node's kind as it is written: that of a cut goes by its direction.
+fn written_kind(node: Node) -> u8
+    ensures { λ r. ⌜ r ≡ kind-of node ⌝ }
+{
+    match node {
+        Node::Cut(d, _) => match d {
+            Direction::Length => 2,
+            Direction::Width => 3,
+        },
+        Node::Waste => 0,
+        Node::Piece(_) => 1,
+        Node::Turned(_) => 4,
+    }
+}
+
 // Puts a node's kind at a place of the list of kinds, if the list goes so far.
 fn put_kind(kinds: &mut [u8], at: usize, node: Node)
     ensures { λ _. ⌜ now (kinds .exit) ≡ set (now (kinds .entry)) at (kind-of node) ⌝ }
 {
     if at < kinds.len() {
-        kinds[at] = kind_number(node);
+        kinds[at] = written_kind(node);
     }
 }
 

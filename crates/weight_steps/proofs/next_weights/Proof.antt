@@ -1,4 +1,4 @@
--- `weight_steps::next_weights` meets its contract.
+-- `weight_steps::next_weights` meets its contract: the table's entry is the round's factor.
 use mathlib.Core.Path.{_∙_, ap₂}
 use Prim.Native.Nat.{_*_}
 use denote.Ref.{now}
@@ -6,13 +6,14 @@ use lib.Dec.{ltb}
 use lib.ListN.{getD}
 use Rattle.job.specs.Block.{entries}
 use Rattle.weight_steps.specs.Step.{distance, root-below, scale, stepped}
+use Rattle.weight_steps.proofs.Rules.{step-rules}
 use borrow.Author.Needs.{needs}
 use Rattle.weight_steps.proofs.next_weights.Statement.{statement}
 use Rattle.weight_steps.proofs.next_weights.Tie as tie
 
 returns : tie.Need-returns
 returns c = let s = c .before .before .before .sum-squares .ensures .0 in
-    let t = c .before .scale-of .ensures .0 ∙ ap₂ (λ f s. scale f (c .before .before .before .before .args .gap) s) (c .before .before .factor-of .ensures .0) s in
+    let t = c .before .scale-of .ensures .0 ∙ ap₂ (λ f s. scale f (c .before .before .before .before .args .gap) s) (c .before .before .factor-of .ensures .0 ∙ step-rules .tabled (c .before .before .before .before .args .round) (c .before .before .before .before .pre .1)) s in
     c .adjust-all .ensures ∙ ap₂ (λ t s. entries (λ i. stepped (ltb (getD (now (c .before .before .before .before .args .demands)) i 0) (getD (now (c .before .before .before .before .args .copies)) i 0)) (getD (now (c .before .before .before .before .args .weights)) i 0)
     (root-below 255 (distance (getD (now (c .before .before .before .before .args .copies)) i 0) (getD (now (c .before .before .before .before .args .demands)) i 0) * t) (16 * s))) (c .before .before .before .before .args .n)) t s
 

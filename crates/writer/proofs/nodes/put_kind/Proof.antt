@@ -7,7 +7,7 @@ use Rattle.writer.proofs.nodes.put_kind.Statement.{statement}
 use Rattle.writer.proofs.nodes.put_kind.Tie as tie
 
 returns : tie.Need-returns
-returns c = rw (c .kind-number .ensures)
+returns c = rw (c .written-kind .ensures)
 
 returns-2 : tie.Need-returns-2
 returns-2 c = sym (set-out _ _ _ (omega (arith, c .if1 .left)))
