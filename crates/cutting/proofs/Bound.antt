@@ -13,7 +13,7 @@ use Rattle.cutting.specs.Figure.{figure}
 use Rattle.cutting.specs.Pieces.{Piece, upright, turned, kind, quarter, wider, _⊑_, fits-in, fits-either, sized}
 use Rattle.cutting.specs.Saws.{saw}
 use Rattle.cutting.specs.Areas.{area}
-use Rattle.cutting.specs.Job.{Job, laid, MayLie, GuillotineTree, OnPlate, profit, weight-of, copies-of, KeepsDemands, widened, copies-on, plate-copies, counted-of, counted, capacity, at-full-demand, ordered, members, pieces, by-kind, figure-of, bound-of, SolidKinds, InRange}
+use Rattle.cutting.specs.Job.{Job, laid, turns, MayLie, GuillotineTree, OnPlate, profit, weight-of, copies-of, KeepsDemands, widened, copies-on, plate-copies, counted-of, counted, capacity, at-full-demand, ordered, members, pieces, by-kind, figure-of, bound-of, SolidKinds, InRange}
 use Rattle.cutting.specs.Promises.{MostAmong, OfWeight, MostWithin, FiguresMost}
 use Rattle.cutting.proofs.Tests.{T-or, or-T}
 use Rattle.cutting.proofs.Exact.{figure-upper, figure-attained}
@@ -62,9 +62,9 @@ module _ (J : Job) (i : ℕ) where
   wide-size j = widened J .size j
 
   -- a piece of kind i that lies in no other way than upright has the kind's size
-  one-size : J .turning ≡ false → (p : Piece) → MayLie J p → kind p ≡ i → laid J p ≡ J .size i
+  one-size : turns J i ≡ false → (p : Piece) → MayLie J p → kind p ≡ i → laid J p ≡ J .size i
   one-size e (upright j) h k = ap (J .size) k
-  one-size e (turned j) h k = absurd (subst T e (h .2))
+  one-size e (turned j) h k = absurd (subst T (ap (turns J) k ∙ e) (h .2))
 
   -- and in either way the kind's area, the kerf added
   one-area : (p : Piece) → kind p ≡ i → area (wider (J .kerf) (laid J p)) ≡ area (wide-size i)
@@ -98,14 +98,14 @@ module _ (J : Job) (solid : SolidKinds J) (i : ℕ) (known : i < J .count) (t : 
         (λ p m h. absent p e h (eqb (kind p) i) refl) t (J .plate) (omega arith) on-plate,
   )
 
-  held : (b : Bool) → J .turning ≡ b → copies-of i t ≤ copies-on b (widened J .plate) (widened J .size i)
+  held : (b : Bool) → turns J i ≡ b → copies-of i t ≤ copies-on b (widened J .plate) (widened J .size i)
   unfolding pieces
   held false e = copies-room (members J) (λ p. J .price (kind p)) (laid J) (members-solid J solid) (J .kerf) kind i (J .size i) (solid i known .0) (solid i known .1)
       (λ p m k. one-size J i e p (member-lies J p m) k) t (J .plate) on-plate
   held true e = either _ refl
 
   pub copies-plate : copies-of i t ≤ plate-copies J i
-  copies-plate = held (J .turning) refl
+  copies-plate = held (turns J i) refl
 
   -- so one that keeps the demands has no more than the capacity counts
   pub copies-counted : KeepsDemands J t → copies-of i t ≤ counted J i
@@ -129,7 +129,7 @@ module _ (J : Job) (weight : ℕ → ℕ) where
 
   -- capacity and bound are the widened job's own
   pub capacity-widened : capacity (widened J) weight ≡ capacity J weight
-  capacity-widened = ap (λ K. sum (J .count) (λ i. counted-of (J .full-demand) (J .demand i) (copies-on (J .turning) (K .plate) (K .size i)) * weight i)) (widened-whole (widened J) refl)
+  capacity-widened = ap (λ K. sum (J .count) (λ i. counted-of (J .full-demand) (J .demand i) (copies-on (turns J i) (K .plate) (K .size i)) * weight i)) (widened-whole (widened J) refl)
 
   pub bound-widened : bound-of (widened J) weight ≡ bound-of J weight
   bound-widened = ap₂ (λ K q. figure-of K weight (K .plate .0) (K .plate .1) q) (widened-whole (widened J) refl) capacity-widened

@@ -178,7 +178,7 @@ module _ (J : Job) (weight : ℕ → ℕ) (n : ℕ) (size : ℕ → Rect) (price
 module _ (J : Job) (weight : ℕ → ℕ) (n : ℕ) (size : ℕ → Rect) (price heavy : ℕ → ℕ) (given : Listing (widened J) weight n size price heavy) where
   pub listed-range : InRange J → InTableRange (plain (widened J .plate) n size price)
   listed-range h = record {
-    fixed = refl;
+    fixed = λ i. refl;
     demands = λ j l. omega arith;
     plate-length = omega (arith, h .plate-length, h .kerfs);
     plate-width = omega (arith, h .plate-width, h .kerfs);

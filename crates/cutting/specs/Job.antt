@@ -1,8 +1,8 @@
 -- The scope as definitions: a job, its guillotine trees and what they earn, the figure and the bound, the normal positions and the plan
 -- behind the bound. The general definitions stand in the other modules; proofs/Job, Table, Bound and Plan have what is proved of these.
--- docs/SCOPE.md: Guillotine trees; Weights and capacity; The bound; Normal positions; The written plan; Pieces that may be turned; Zero
+-- docs/SCOPE.md: Guillotine trees; Weights and capacity; The bound; Normal positions; The written plan; Pieces that may be turned; Grain; Zero
 -- ordered means zero; What the plate can hold; The blade's width; Cuts between the marks.
-use mathlib.Core.Bool.{Bool, true, false, _&&_}
+use mathlib.Core.Bool.{Bool, true, false, _&&_, not}
 use mathlib.Core.Option.{Option}
 use mathlib.Core.List.{List}
 use Prim.Native.Nat.{ℕ, suc, _+_, _-_, _*_, _/_, _≤_, _<_, min}
@@ -21,7 +21,7 @@ use Rattle.cutting.specs.Choice.{Choice, as-waste, as-piece, as-cut, or-
 use Rattle.cutting.specs.Areas.{area, pieces-area, waste-area, trim-area, sawdust-area}
 
 -- a job: the plate, the kerf, whether pieces may be turned, whether the capacity is that of the full demands, and kinds numbered from 0
--- with their sizes, prices and demands
+-- with their sizes, prices and demands, and whether each keeps its grain
 pub record Job : Type 0 where
   pub plate : Rect
   pub kerf : ℕ
@@ -31,15 +31,20 @@ pub record Job : Type 0 where
   pub size : ℕ → Rect
   pub price : ℕ → ℕ
   pub demand : ℕ → ℕ
+  pub grain : ℕ → Bool
+
+-- whether kind i may be turned: the job's pieces may, and it does not keep its grain
+abbrev pub turns : Job → ℕ → Bool
+turns J i = not (J .grain i) && J .turning
 
 -- the size of a piece as it lies
 abbrev pub laid : Job → Piece → Rect
 laid J p = lying (J .size) p
 
--- a piece that may lie: its kind is one of the job's and is ordered, and it is turned only where pieces may be turned
+-- a piece that may lie: its kind is one of the job's and is ordered, and it is turned only where its kind may be
 abbrev pub MayLie : Job → Piece → Type 0
 MayLie J (upright i) = (i < J .count) × (1 ≤ J .demand i)
-MayLie J (turned i) = (i < J .count) × (1 ≤ J .demand i) × T (J .turning)
+MayLie J (turned i) = (i < J .count) × (1 ≤ J .demand i) × T (turns J i)
 
 -- a guillotine tree of a job on a rectangle l by w: waste; or a piece that may lie, neither side greater than the rectangle's; or a cut
 -- at a whole position x, with a tree on the first part, which has that size, and on the second, the side less x less the kerf; both at
@@ -82,14 +87,15 @@ widened J = record {
   size = λ i. wider (J .kerf) (J .size i);
   price = J .price;
   demand = J .demand;
+  grain = J .grain;
 }
 
 -- the job measured in m-ths of a unit: plate, kerf and pieces keep their whole sizes, m times the number, and a whole position of it is a
 -- multiple of one m-th
 abbrev pub finer : ℕ → Job → Job
-finer m J = record { plate = times m (J .plate); kerf = m * J .kerf; turning = J .turning; full-demand = J .full-demand; count = J .count; size = λ i. times m (J .size i); price = J .price; demand = J .demand }
+finer m J = record { plate = times m (J .plate); kerf = m * J .kerf; turning = J .turning; full-demand = J .full-demand; count = J .count; size = λ i. times m (J .size i); price = J .price; demand = J .demand; grain = J .grain }
 
--- the copies of a size q that can lie on a rectangle r: length over length times width over width, each rounded down; where pieces may
+-- the copies of a size q that can lie on a rectangle r: length over length times width over width, each rounded down; where it may
 -- be turned, area over area, rounded down, or none if neither way fits
 abbrev pub copies-on : Bool → Rect → Rect → ℕ
 copies-on false r q = r .0 / q .0 * (r .1 / q .1)
@@ -97,7 +103,7 @@ copies-on true r q = only (fits-either q r) (area r / area q)
 
 -- the copies of kind i that can lie on the plate, the kerf added to every side
 abbrev pub plate-copies : Job → ℕ → ℕ
-plate-copies J i = copies-on (J .turning) (widened J .plate) (widened J .size i)
+plate-copies J i = copies-on (turns J i) (widened J .plate) (widened J .size i)
 
 -- the copies that the capacity counts of a kind, where so many can lie on the plate: in the full-demand form its demand, and else the
 -- lesser of the two
@@ -115,15 +121,15 @@ capacity J weight = sum (J .count) (λ i. counted J i * weight i)
 
 -- the same job with the capacity of the full demands
 abbrev pub at-full-demand : Job → Job
-at-full-demand J = record { plate = J .plate; kerf = J .kerf; turning = J .turning; full-demand = true; count = J .count; size = J .size; price = J .price; demand = J .demand }
+at-full-demand J = record { plate = J .plate; kerf = J .kerf; turning = J .turning; full-demand = true; count = J .count; size = J .size; price = J .price; demand = J .demand; grain = J .grain }
 
 -- the kinds that are ordered: a kind of demand 0 is cancelled, and its number stays its own
 unfoldable pub ordered : Job → List ℕ
 ordered J = filter (λ i. leb 1 (J .demand i)) (range 0 (J .count))
 
--- the pieces that may lie, kinds rising, each upright before turned
+-- the pieces that may lie, kinds rising, each upright and then, where it may be, turned
 unfoldable pub members : Job → List Piece
-members J = each (ways (J .turning)) (ordered J)
+members J = each (λ i. ways (turns J i) i) (ordered J)
 
 -- a piece may lie where neither side is greater than the rectangle's, and earns its kind's price
 unfoldable pub pieces : Job → Pieces Piece

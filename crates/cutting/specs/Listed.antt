@@ -11,15 +11,15 @@ use Rattle.cutting.specs.Tree.{Rect, Tree, waste, piece, cut, Shares}
 use Rattle.cutting.specs.Pieces.{Piece, upright, turned, kind}
 use Rattle.cutting.specs.Shares.{by-state}
 use Rattle.cutting.specs.Choice.{sawn}
-use Rattle.cutting.specs.Job.{Job, laid, members, lossless-plan}
+use Rattle.cutting.specs.Job.{Job, laid, turns, members, lossless-plan}
 
 -- numbered pieces as a job cut without loss: n of them, each ordered once and not to be turned; its capacity is never read
 abbrev pub plain : Rect → ℕ → (ℕ → Rect) → (ℕ → ℕ) → Job
-plain r n size price = record { plate = r; kerf = 0; turning = false; full-demand = false; count = n; size = size; price = price; demand = λ i. 1 }
+plain r n size price = record { plate = r; kerf = 0; turning = false; full-demand = false; count = n; size = size; price = price; demand = λ i. 1; grain = λ i. false }
 
 -- a plain job in the ranges that lists and table read, as that of a widened job in range is
 pub record InTableRange (J : Job) : Type 0 where
-  pub fixed : J .turning ≡ false
+  pub fixed : (i : ℕ) → turns J i ≡ false
   pub demands : (i : ℕ) → i < J .count → 1 ≤ J .demand i
   pub plate-length : (1 ≤ J .plate .0) × (J .plate .0 ≤ most-wide-side)
   pub plate-width : (1 ≤ J .plate .1) × (J .plate .1 ≤ most-wide-side)

@@ -15,7 +15,7 @@ abbrev pub kind : Piece → ℕ
 kind (upright i) = i
 kind (turned i) = i
 
--- the ways in which a kind may lie: upright, and then turned where pieces may be turned
+-- the ways in which a kind may lie: upright, and then turned where it may be turned
 abbrev pub ways : Bool → ℕ → List Piece
 ways false i = upright i ∷ []
 ways true i = upright i ∷ turned i ∷ []

@@ -3,3 +3,4 @@ pub mod Entries
 pub mod Read
 pub mod Weights
 pub mod Taken
+pub mod Grain

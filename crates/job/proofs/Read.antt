@@ -12,8 +12,8 @@ use Rattle.refusal.specs.Refusals.{Check, next, first-refusal, outcome-by}
 use Rattle.refusal.specs.declared.Checked.{Checked}
 use Rattle.refusal.specs.declared.Checked.the-variants.{Passed, Refused}
 use Rattle.refusal.specs.declared.Refusal.{Refusal}
-use Rattle.job.specs.Block.{plate-length-at, plate-width-at, count-at, kerf-at, sizes-end, length-at, width-at, price-at, demand-at, outside, sides-outside, count-checks, header-checks, plateless-checks, size-check, pair-checks, each-kind, checks-by, job-checks, record-of, empty-record, read-by, read-of, job-values, job-outcome, job-from, job-of}
-use Rattle.job.specs.Contracts.{HoldsKinds, header-by}
+use Rattle.job.specs.Block.{plate-length-at, plate-width-at, count-at, kerf-at, sizes-end, length-at, width-at, price-at, demand-at, kind-bytes, outside, sides-outside, count-checks, header-checks, plateless-checks, size-check, pair-checks, each-kind, grain-checks, checks-by, job-checks, record-of, empty-record, read-by, read-of, job-values, job-outcome, job-from, job-of}
+use Rattle.job.specs.Contracts.{HoldsGrains, header-by}
 use Rattle.job.specs.declared.Choices.{Choices}
 use Rattle.job.specs.declared.JobAnswer.{JobAnswer}
 use Rattle.job.specs.declared.JobRecord.{JobRecord}
@@ -37,52 +37,66 @@ pub sizes-least : (old : Bool) → (6 ≤ sizes-end old) × (sizes-end old ≤ 8
 sizes-least true = omega arith
 sizes-least false = omega arith
 
-module _ (old : Bool) (s : List ℕ) where
+-- a kind has at least ten bytes
+kinds-least : (grain : Bool) (n : ℕ) → 10 * n ≤ kind-bytes grain * n
+kinds-least true n = omega arith
+kinds-least false n = omega arith
+
+module _ (choices : Choices) (s : List ℕ) where
+  -- where the sizes of the block end, and how many bytes its kinds have
+  abbrev sizes-bytes : ℕ
+  sizes-bytes = sizes-end (choices .«old_block»)
+
+  abbrev array-bytes : ℕ
+  array-bytes = kind-bytes (choices .grain) * count-at s
+
   -- the header's numbers beside the plate's, where their checks passed
   pub record Counts : Type 0 where
     pub kinds : (1 ≤ count-at s) × (count-at s ≤ 64)
-    pub kerf : kerf-at old s ≤ 20
-    pub bytes : length s ≡ sizes-end old + 10 * count-at s
+    pub kerf : kerf-at (choices .«old_block») s ≤ 20
+    pub bytes : length s ≡ sizes-bytes + array-bytes
 
-  pub counts-passed : first-refusal (count-checks old s) ≡ Passed → Counts
+  pub counts-passed : first-refusal (count-checks choices s) ≡ Passed → Counts
   counts-passed p =
       let d = cons-passed _ _ _ p in
       let e = cons-passed _ _ _ (d .1) in
       let f = cons-passed _ _ _ (e .1) in
       record {
         kinds = inside 1 64 (count-at s) (d .0);
-        kerf = ltb-false 20 (kerf-at old s) (e .0);
-        bytes = eqb-true (length s) (sizes-end old + 10 * count-at s) (not-false (eqb (length s) (sizes-end old + 10 * count-at s)) (f .0));
+        kerf = ltb-false 20 (kerf-at (choices .«old_block») s) (e .0);
+        bytes = eqb-true (length s) (sizes-bytes + array-bytes) (not-false (eqb (length s) (sizes-bytes + array-bytes)) (f .0));
       }
 
   -- the header's numbers where its checks passed
-  pub header-passed : first-refusal (header-checks old s) ≡ Passed → (((1 ≤ plate-length-at s) × (plate-length-at s ≤ 1000)) × ((1 ≤ plate-width-at s) × (plate-width-at s ≤ 1000))) × Counts
+  pub header-passed : first-refusal (header-checks choices s) ≡ Passed → (((1 ≤ plate-length-at s) × (plate-length-at s ≤ 1000)) × ((1 ≤ plate-width-at s) × (plate-width-at s ≤ 1000))) × Counts
   header-passed p = let a = cons-passed _ _ _ (cons-passed _ _ _ p .1) in (both-inside (plate-length-at s) (plate-width-at s) (a .0), counts-passed (a .1))
 
   -- and without the plate
-  pub plateless-passed : first-refusal (plateless-checks old s) ≡ Passed → Counts
+  pub plateless-passed : first-refusal (plateless-checks choices s) ≡ Passed → Counts
   plateless-passed p = counts-passed (cons-passed _ _ _ p .1)
 
   -- and where they passed with the plate or without
-  pub front-passed : (plate : Bool) → first-refusal (header-by plate old s) ≡ Passed → Counts
+  pub front-passed : (plate : Bool) → first-refusal (header-by plate choices s) ≡ Passed → Counts
   front-passed true p = header-passed p .1
   front-passed false p = plateless-passed p
 
   -- such a block has all the bytes of its kinds
-  pub counts-hold : (n : ℕ) → n ≡ count-at s → Counts → HoldsKinds (sizes-end old) s n
-  counts-hold n e h = (e, omega (arith, e, h .kinds .1), sizes-least old .1, omega (arith, e, h .bytes))
+  pub counts-hold : (n : ℕ) → n ≡ count-at s → Counts → HoldsGrains (choices .grain) sizes-bytes s n
+  counts-hold n e h =
+      let b : sizes-bytes + kind-bytes (choices .grain) * n ≤ length s = rw e (omega (arith, h .bytes)) in
+      ((e, omega (arith, e, h .kinds .1), sizes-least (choices .«old_block») .1, omega (arith, b, kinds-least (choices .grain) n)), b)
 
-  pub header-holds : (n : ℕ) → n ≡ count-at s → first-refusal (header-checks old s) ≡ Passed → HoldsKinds (sizes-end old) s n
+  pub header-holds : (n : ℕ) → n ≡ count-at s → first-refusal (header-checks choices s) ≡ Passed → HoldsGrains (choices .grain) sizes-bytes s n
   header-holds n e p = counts-hold n e (header-passed p .1)
 
 -- a block's checks, whichever checks its header and a pair have
-module _ (head : Bool → List ℕ → List Check) (pair : ℕ → List ℕ → ℕ → List Check) (s : List ℕ) (choices : Choices) where
+module _ (head : Choices → List ℕ → List Check) (pair : ℕ → List ℕ → ℕ → List Check) (s : List ℕ) (choices : Choices) where
   -- where the sizes of the block end
   abbrev end : ℕ
   end = sizes-end (choices .«old_block»)
 
   abbrev header : Checked
-  header = first-refusal (head (choices .«old_block») s)
+  header = first-refusal (head choices s)
 
   abbrev sizes : Checked
   sizes = first-refusal (each-kind (λ i. size-check end s i ∷ []) 0 (count-at s))
@@ -90,17 +104,22 @@ module _ (head : Bool → List ℕ → List Check) (pair : ℕ → List ℕ → 
   abbrev pairs : Checked
   pairs = first-refusal (each-kind (pair end s) 0 (count-at s))
 
-  -- they are the header's, then the sizes', then the pairs'
-  pub block-parts : first-refusal (checks-by head pair s choices) ≡ next header (next sizes pairs)
-  block-parts = first-append (head (choices .«old_block») s) (each-kind (λ i. size-check end s i ∷ []) 0 (count-at s) ++ each-kind (pair end s) 0 (count-at s))
-      ∙ ap (next header) (first-append (each-kind (λ i. size-check end s i ∷ []) 0 (count-at s)) (each-kind (pair end s) 0 (count-at s)))
+  abbrev grains : Checked
+  grains = first-refusal (grain-checks (choices .grain) end s)
 
-  -- where a block passed, its three parts did
+  -- they are the header's, then the sizes', then the pairs', then the grain bytes'
+  pub block-parts : first-refusal (checks-by head pair s choices) ≡ next header (next sizes (next pairs grains))
+  block-parts =
+      first-append (head choices s) (each-kind (λ i. size-check end s i ∷ []) 0 (count-at s) ++ (each-kind (pair end s) 0 (count-at s) ++ grain-checks (choices .grain) end s))
+      ∙ ap (next header) (first-append (each-kind (λ i. size-check end s i ∷ []) 0 (count-at s)) (each-kind (pair end s) 0 (count-at s) ++ grain-checks (choices .grain) end s)
+      ∙ ap (next sizes) (first-append (each-kind (pair end s) 0 (count-at s)) (grain-checks (choices .grain) end s)))
+
+  -- where a block passed, its parts did
   pub block-passed : first-refusal (checks-by head pair s choices) ≡ Passed → (header ≡ Passed) × (sizes ≡ Passed) × (pairs ≡ Passed)
   block-passed p =
-      let a = passed-both header (next sizes pairs) (sym block-parts ∙ p) in
-      let b = passed-both sizes pairs (a .1) in
-      (a .0, b .0, b .1)
+      let a = passed-both header (next sizes (next pairs grains)) (sym block-parts ∙ p) in
+      let b = passed-both sizes (next pairs grains) (a .1) in
+      (a .0, b .0, passed-both pairs grains (b .1) .0)
 
   module _ (p : first-refusal (checks-by head pair s choices) ≡ Passed) where
     -- a kind's sides where the block passed
@@ -115,9 +134,9 @@ module _ (head : Bool → List ℕ → List Check) (pair : ℕ → List ℕ → 
 
     -- its job, on whichever plate and at whichever prices, is in the scope's ranges where its header's numbers, the plate, its demands and
     -- these prices are
-    pub range-by : Counts (choices .«old_block») s → (l w : ℕ) → ((1 ≤ l) × (l ≤ 1000)) × ((1 ≤ w) × (w ≤ 1000)) → ((i : ℕ) → i < count-at s → demand-at end s i ≤ 255)
+    pub range-by : Counts choices s → (l w : ℕ) → ((1 ≤ l) × (l ≤ 1000)) × ((1 ≤ w) × (w ≤ 1000)) → ((i : ℕ) → i < count-at s → demand-at end s i ≤ 255)
         → (prices : List ℕ) → ((i : ℕ) → i < count-at s → getD prices i 0 ≤ 1000000)
-        → InRange (job-from l w (record-of s choices .kerf) (record-of s choices .turning) (record-of s choices .«full_demand») (record-of s choices .count) (record-of s choices .lengths) (record-of s choices .widths) prices (record-of s choices .demands))
+        → InRange (job-from l w (record-of s choices .kerf) (record-of s choices .turning) (record-of s choices .«full_demand») (record-of s choices .count) (record-of s choices .lengths) (record-of s choices .widths) prices (record-of s choices .demands) (record-of s choices .grains))
     unfolding record-of
     range-by h l w plate d prices q =
         record {
@@ -133,9 +152,9 @@ module _ (head : Bool → List ℕ → List Check) (pair : ℕ → List ℕ → 
 
 -- a job block's checks, whichever its header has: its job, on whichever plate, is in the scope's ranges where the header's numbers and the
 -- plate are
-pub pairs-range : (head : Bool → List ℕ → List Check) (s : List ℕ) (choices : Choices) → first-refusal (checks-by head pair-checks s choices) ≡ Passed → Counts (choices .«old_block») s
+pub pairs-range : (head : Choices → List ℕ → List Check) (s : List ℕ) (choices : Choices) → first-refusal (checks-by head pair-checks s choices) ≡ Passed → Counts choices s
     → (l w : ℕ) → ((1 ≤ l) × (l ≤ 1000)) × ((1 ≤ w) × (w ≤ 1000))
-    → InRange (job-from l w (record-of s choices .kerf) (record-of s choices .turning) (record-of s choices .«full_demand») (record-of s choices .count) (record-of s choices .lengths) (record-of s choices .widths) (record-of s choices .prices) (record-of s choices .demands))
+    → InRange (job-from l w (record-of s choices .kerf) (record-of s choices .turning) (record-of s choices .«full_demand») (record-of s choices .count) (record-of s choices .lengths) (record-of s choices .widths) (record-of s choices .prices) (record-of s choices .demands) (record-of s choices .grains))
 unfolding record-of
 pairs-range head s choices p h l w plate =
     let end = sizes-end (choices .«old_block») in
@@ -143,8 +162,8 @@ pairs-range head s choices p h l w plate =
     range-by head pair-checks s choices p h l w plate (λ i l. pair i l .1) (record-of s choices .prices) (λ i l. subst (λ x. x ≤ 1000000) (sym (entries-in (price-at end s) (count-at s) i (h .kinds .1) l)) (pair i l .0))
 
 module _ (s : List ℕ) (choices : Choices) (p : first-refusal (job-checks s choices) ≡ Passed) where
-  -- where a job block passed, its three parts did
-  pub job-passed : (first-refusal (header-checks (choices .«old_block») s) ≡ Passed) × (first-refusal (each-kind (λ i. size-check (sizes-end (choices .«old_block»)) s i ∷ []) 0 (count-at s)) ≡ Passed) × (first-refusal (each-kind (pair-checks (sizes-end (choices .«old_block»)) s) 0 (count-at s)) ≡ Passed)
+  -- where a job block passed, its parts did
+  pub job-passed : (first-refusal (header-checks choices s) ≡ Passed) × (first-refusal (each-kind (λ i. size-check (sizes-end (choices .«old_block»)) s i ∷ []) 0 (count-at s)) ≡ Passed) × (first-refusal (each-kind (pair-checks (sizes-end (choices .«old_block»)) s) 0 (count-at s)) ≡ Passed)
   unfolding job-checks
   job-passed = block-passed header-checks pair-checks s choices p
 
@@ -152,7 +171,7 @@ module _ (s : List ℕ) (choices : Choices) (p : first-refusal (job-checks s cho
   pub read-in-range : InRange (job-of (record-of s choices))
   unfolding job-checks record-of
   read-in-range =
-      let h = header-passed (choices .«old_block») s (job-passed .0) in
+      let h = header-passed choices s (job-passed .0) in
       pairs-range header-checks s choices p (h .1) (plate-length-at s) (plate-width-at s) (h .0)
 
 -- an answer by a verdict, whichever the checks and the record

@@ -12,18 +12,18 @@ use Rattle.cutting.specs.Job.{Job}
 use Rattle.refusal.specs.Refusals.{Check, Outcome, first-refusal, by-check, outcome-by}
 use Rattle.refusal.specs.declared.Checked.{Checked}
 use Rattle.refusal.specs.declared.Checked.the-variants.{Passed, Refused}
-use Rattle.refusal.specs.declared.Refusal.the-variants.{ShortHeader, PlateSide, KindCount, Kerf, BlockLength, KindSide, Price, Demand}
+use Rattle.refusal.specs.declared.Refusal.the-variants.{ShortHeader, PlateSide, KindCount, Kerf, BlockLength, KindSide, Price, Demand, Grain}
 use Rattle.job.specs.declared.Choices.{Choices}
 use Rattle.job.specs.declared.JobRecord.{JobRecord}
 use Rattle.job.specs.declared.JobAnswer.{JobAnswer}
 
 -- the same choices, and the capacity of the full demands
 abbrev pub with-full-demand : Choices → Choices
-with-full-demand choices = record { turning = choices .turning; «full_demand» = true; «old_block» = choices .«old_block» }
+with-full-demand choices = record { turning = choices .turning; «full_demand» = true; «old_block» = choices .«old_block»; grain = choices .grain }
 
 -- the same choices, and the old block
 abbrev pub with-old-block : Choices → Choices
-with-old-block choices = record { turning = choices .turning; «full_demand» = choices .«full_demand»; «old_block» = true }
+with-old-block choices = record { turning = choices .turning; «full_demand» = choices .«full_demand»; «old_block» = true; grain = choices .grain }
 
 -- a field of two bytes, lowest byte first
 abbrev pub u16-at : List ℕ → ℕ → ℕ
@@ -71,6 +71,16 @@ price-at h s i = u32-at s (h + 4 * count-at s + 6 * i)
 abbrev pub demand-at : ℕ → List ℕ → ℕ → ℕ
 demand-at h s i = u16-at s (h + 4 + 4 * count-at s + 6 * i)
 
+-- the third array, behind it, has a byte for each kind, where the call chooses grain: 1, the kind keeps its grain, 0, it need not. The grain
+-- byte of kind i
+abbrev pub grain-at : ℕ → List ℕ → ℕ → ℕ
+grain-at h s i = getD s (h + 10 * count-at s + i) 0
+
+-- the bytes of a kind in all its arrays, by whether grain is chosen
+abbrev pub kind-bytes : Bool → ℕ
+kind-bytes true = 11
+kind-bytes false = 10
+
 -- x lies outside lo to hi
 abbrev pub outside : ℕ → ℕ → ℕ → Bool
 outside lo hi x = ltb x lo || ltb hi x
@@ -84,20 +94,20 @@ abbrev pub short-check : Bool → List ℕ → Check
 short-check old s = (ltb (length s) (sizes-end old), ShortHeader)
 
 -- checks 3, 27 and 4
-abbrev pub count-checks : Bool → List ℕ → List Check
-count-checks old s =
+abbrev pub count-checks : Choices → List ℕ → List Check
+count-checks choices s =
     (outside 1 most-kinds (count-at s), KindCount)
-    ∷ (ltb most-kerf (kerf-at old s), Kerf)
-    ∷ (not (eqb (length s) (sizes-end old + 10 * count-at s)), BlockLength)
+    ∷ (ltb most-kerf (kerf-at (choices .«old_block») s), Kerf)
+    ∷ (not (eqb (length s) (sizes-end (choices .«old_block») + kind-bytes (choices .grain) * count-at s)), BlockLength)
     ∷ []
 
 -- the header's checks: 1, 2, then 3, 27 and 4
-abbrev pub header-checks : Bool → List ℕ → List Check
-header-checks old s = short-check old s ∷ (sides-outside (plate-length-at s) (plate-width-at s), PlateSide) ∷ count-checks old s
+abbrev pub header-checks : Choices → List ℕ → List Check
+header-checks choices s = short-check (choices .«old_block») s ∷ (sides-outside (plate-length-at s) (plate-width-at s), PlateSide) ∷ count-checks choices s
 
 -- those of a header whose plate is not read: 1, then 3, 27 and 4
-abbrev pub plateless-checks : Bool → List ℕ → List Check
-plateless-checks old s = short-check old s ∷ count-checks old s
+abbrev pub plateless-checks : Choices → List ℕ → List Check
+plateless-checks choices s = short-check (choices .«old_block») s ∷ count-checks choices s
 
 -- check 5, of one kind
 abbrev pub size-check : ℕ → List ℕ → ℕ → Check
@@ -111,19 +121,27 @@ demand-check h s i = (ltb most-demand (demand-at h s i), Demand i)
 abbrev pub pair-checks : ℕ → List ℕ → ℕ → List Check
 pair-checks h s i = (ltb most-price (price-at h s i), Price i) ∷ demand-check h s i ∷ []
 
+-- check 35, of one kind
+abbrev pub grain-check : ℕ → List ℕ → ℕ → Check
+grain-check h s i = (ltb 1 (grain-at h s i), Grain i)
+
 -- the checks of the kinds from i on, n of them, kind after kind
 unfoldable pub each-kind : (ℕ → List Check) → ℕ → ℕ → List Check
 each-kind f i zero = []
 each-kind f i (suc n) = f i ++ each-kind f (suc i) n
 
--- the checks of the two arrays, from byte h on: the sizes, then the pairs, each by the checks given
-abbrev pub array-checks : (ℕ → List Check) → ℕ → List ℕ → List Check
-array-checks pair h s = each-kind (λ i. size-check h s i ∷ []) 0 (count-at s) ++ each-kind pair 0 (count-at s)
+-- the checks of the grain bytes, none where the block has none
+abbrev pub grain-checks : Bool → ℕ → List ℕ → List Check
+grain-checks true h s = each-kind (λ i. grain-check h s i ∷ []) 0 (count-at s)
+grain-checks false h s = []
 
--- the checks of a block, in the table's order: the header, by the checks given, the first array, the second array, its pairs by the checks
--- given
-abbrev pub checks-by : (Bool → List ℕ → List Check) → (ℕ → List ℕ → ℕ → List Check) → List ℕ → Choices → List Check
-checks-by header pair s choices = header (choices .«old_block») s ++ array-checks (pair (sizes-end (choices .«old_block»)) s) (sizes-end (choices .«old_block»)) s
+-- the checks of the arrays, from byte h on: the sizes, then the pairs, each by the checks given, then the grain bytes
+abbrev pub array-checks : (ℕ → List Check) → Bool → ℕ → List ℕ → List Check
+array-checks pair grain h s = each-kind (λ i. size-check h s i ∷ []) 0 (count-at s) ++ (each-kind pair 0 (count-at s) ++ grain-checks grain h s)
+
+-- the checks of a block, in the table's order: the header, by the checks given, then the arrays, each pair by the checks given
+abbrev pub checks-by : (Choices → List ℕ → List Check) → (ℕ → List ℕ → ℕ → List Check) → List ℕ → Choices → List Check
+checks-by header pair s choices = header choices s ++ array-checks (pair (sizes-end (choices .«old_block»)) s) (choices .grain) (sizes-end (choices .«old_block»)) s
 
 -- the checks of a job block: each pair by its price and its demand
 unfoldable pub job-checks : List ℕ → Choices → List Check
@@ -132,6 +150,11 @@ job-checks s choices = checks-by header-checks pair-checks s choices
 -- an array of 64 entries: f at the first n, and 0 past them
 unfoldable pub entries : (ℕ → ℕ) → ℕ → List ℕ
 entries f n = map (λ i. only (ltb i n) (f i)) (range 0 64)
+
+-- the grain bytes of a record: the block's, and 0 where it has none
+abbrev pub grains-of : Bool → ℕ → List ℕ → List ℕ
+grains-of true h s = entries (grain-at h s) (count-at s)
+grains-of false h s = entries (λ i. 0) 0
 
 -- the record of a block, with the choices that it keeps
 unfoldable pub record-of : List ℕ → Choices → JobRecord
@@ -146,6 +169,7 @@ record-of s choices = record {
   widths = entries (width-at (sizes-end (choices .«old_block»)) s) (count-at s);
   prices = entries (price-at (sizes-end (choices .«old_block»)) s) (count-at s);
   demands = entries (demand-at (sizes-end (choices .«old_block»)) s) (count-at s);
+  grains = grains-of (choices .grain) (sizes-end (choices .«old_block»)) s;
 }
 
 -- the same record with other prices
@@ -161,6 +185,7 @@ priced prices j = record {
   widths = j .widths;
   prices = prices;
   demands = j .demands;
+  grains = j .grains;
 }
 
 -- the same record with every price 0
@@ -169,7 +194,7 @@ unpriced j = priced (entries (λ i. 0) 0) j
 
 -- the record where a block is refused
 abbrev pub empty-record : JobRecord
-empty-record = record { length = 0; width = 0; count = 0; kerf = 0; turning = false; «full_demand» = false; lengths = entries (λ i. 0) 0; widths = entries (λ i. 0) 0; prices = entries (λ i. 0) 0; demands = entries (λ i. 0) 0 }
+empty-record = record { length = 0; width = 0; count = 0; kerf = 0; turning = false; «full_demand» = false; lengths = entries (λ i. 0) 0; widths = entries (λ i. 0) 0; prices = entries (λ i. 0) 0; demands = entries (λ i. 0) 0; grains = entries (λ i. 0) 0 }
 
 -- what reading answers by a verdict: a record, or a refusal
 abbrev pub read-by : Checked → JobRecord → JobAnswer
@@ -180,9 +205,9 @@ abbrev pub read-of : List ℕ → Choices → JobAnswer
 read-of s choices = read-by (first-refusal (job-checks s choices)) (record-of s choices)
 
 -- a record's values: the plate's sides, the number of kinds, the kerf, the choices of turning and of full demand (1 or 0), then the
--- lengths, widths, prices and demands of 64 kinds
+-- lengths, widths, prices, demands and grain bytes of 64 kinds
 abbrev pub job-values : JobRecord → List ℕ
-job-values j = j .length ∷ j .width ∷ j .count ∷ j .kerf ∷ only (j .turning) 1 ∷ only (j .«full_demand») 1 ∷ (j .lengths ++ j .widths ++ j .prices ++ j .demands)
+job-values j = j .length ∷ j .width ∷ j .count ∷ j .kerf ∷ only (j .turning) 1 ∷ only (j .«full_demand») 1 ∷ (j .lengths ++ j .widths ++ j .prices ++ j .demands ++ j .grains)
 
 -- an answer's number and values
 abbrev pub job-outcome : JobAnswer → Outcome
@@ -193,8 +218,8 @@ abbrev pub job-said : List ℕ → Choices → Outcome
 job-said s choices = outcome-by (first-refusal (job-checks s choices)) (job-values (record-of s choices))
 
 -- the job of lent arrays
-abbrev pub job-from : ℕ → ℕ → ℕ → Bool → Bool → ℕ → List ℕ → List ℕ → List ℕ → List ℕ → Job
-job-from l w kerf turning full n lengths widths prices demands = record {
+abbrev pub job-from : ℕ → ℕ → ℕ → Bool → Bool → ℕ → List ℕ → List ℕ → List ℕ → List ℕ → List ℕ → Job
+job-from l w kerf turning full n lengths widths prices demands grains = record {
   plate = (l, w);
   kerf = kerf;
   turning = turning;
@@ -203,8 +228,9 @@ job-from l w kerf turning full n lengths widths prices demands = record {
   size = λ i. (getD lengths i 0, getD widths i 0);
   price = λ i. getD prices i 0;
   demand = λ i. getD demands i 0;
+  grain = λ i. eqb (getD grains i 0) 1;
 }
 
 -- the job of a record
 abbrev pub job-of : JobRecord → Job
-job-of j = job-from (j .length) (j .width) (j .kerf) (j .turning) (j .«full_demand») (j .count) (j .lengths) (j .widths) (j .prices) (j .demands)
+job-of j = job-from (j .length) (j .width) (j .kerf) (j .turning) (j .«full_demand») (j .count) (j .lengths) (j .widths) (j .prices) (j .demands) (j .grains)

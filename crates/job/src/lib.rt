@@ -1,4 +1,4 @@
-// A job and its weights: the job block is read into a record, the weights give the capacity. Refusals 1 to 9 and 27.
+// A job and its weights: the job block is read into a record, the weights give the capacity. Refusals 1 to 9, 27 and 35.
 // Fields are two or four bytes, lowest byte first; specs/Block says where each stands and when a block is refused.
 use cutting::Sides;
 use cutting::fits;
@@ -8,25 +8,27 @@ use refusal::Checked;
 use refusal::Refusal;
 use refusal::refuse_if;
 ghost use mathlib.Core.Path.{_≡_};
-ghost use mathlib.Core.Bool.{true, false, _||_};
+ghost use mathlib.Core.Bool.{true, false, _||_, _&&_, not};
 ghost use mathlib.Core.List.{[], _∷_};
 ghost use Prim.Native.Nat.{ℕ, _+_, _*_, _/_, _≤_, _<_};
-ghost use lib.ListN.{length};
+ghost use lib.Dec.{eqb};
+ghost use lib.ListN.{length, getD};
 ghost use Rattle.refusal.specs.Refusals.{refuse-when, first-refusal};
 ghost use Rattle.cutting.specs.Areas as measured;
 ghost use Rattle.cutting.specs.Pieces.{fits-either};
 ghost use Rattle.cutting.specs.Sides.{rect-of};
 ghost use Rattle.cutting.specs.Job.{InRange, capacity, copies-on, counted-of};
-ghost use Rattle.job.specs.Block.{with-old-block, u16-at, u32-at, count-at, kerf-at, sizes-end, price-at, outside, sides-outside, short-check, count-checks, header-checks, plateless-checks, size-check, demand-check, pair-checks, each-kind, array-checks, checks-by, job-checks, entries, record-of, unpriced, empty-record, read-of, job-outcome, job-said, job-of};
+ghost use Rattle.job.specs.Block.{with-old-block, u16-at, u32-at, count-at, kerf-at, sizes-end, price-at, kind-bytes, outside, sides-outside, short-check, count-checks, header-checks, plateless-checks, size-check, demand-check, pair-checks, grain-check, each-kind, grain-checks, array-checks, checks-by, job-checks, entries, grains-of, record-of, unpriced, empty-record, read-of, job-outcome, job-said, job-of};
 ghost use Rattle.job.specs.Weights.{weight-in, weights-answer, weights-outcome, weights-said, acceptance-of, acceptance-outcome, acceptance-said};
-ghost use Rattle.job.specs.Contracts.{HoldsKinds, header-by, pairs-by};
+ghost use Rattle.job.specs.Contracts.{HoldsKinds, HoldsGrains, HoldsBlock, header-by, pairs-by};
 
-// What a call chooses beside the job: whether pieces may be turned, whether the capacity is that of the full demands, and whether the
-// block is the old one, which has no kerf.
+// What a call chooses beside the job: whether pieces may be turned, whether the capacity is that of the full demands, whether the block is
+// the old one, which has no kerf, and whether it says of each kind if it keeps its grain.
 pub struct Choices {
     pub turning: bool,
     pub full_demand: bool,
     pub old_block: bool,
+    pub grain: bool,
 }
 
 // The same choices, and the old block.
@@ -37,11 +39,12 @@ fn with_old_block(choices: Choices) -> Choices
         turning: choices.turning,
         full_demand: choices.full_demand,
         old_block: true,
+        grain: choices.grain,
     }
 }
 
-// The job record: the plate's sides, the number of kinds, the kerf, the choices, and for each kind its sides, price and demand; 0 past the last
-// kind.
+// The job record: the plate's sides, the number of kinds, the kerf, the choices, and for each kind its sides, price, demand and grain byte; 0
+// past the last kind.
 pub struct JobRecord {
     pub length: u16,
     pub width: u16,
@@ -53,6 +56,7 @@ pub struct JobRecord {
     pub widths: [u16; 64],
     pub prices: [u32; 64],
     pub demands: [u16; 64],
+    pub grains: [u8; 64],
 }
 
 // What reading a job block answers: where it is refused, the record is empty.
@@ -163,29 +167,39 @@ fn check_short(block: &[u8], old: bool) -> Checked
     refuse_if(block.len() < sizes_end(old), Refusal::ShortHeader)
 }
 
+// The bytes of n kinds in all their arrays.
+fn kinds_bytes(grain: bool, n: u16) -> usize
+    ensures { λ r. ⌜ (r ≡ kind-bytes grain * n) × (r ≤ 11 * n) ⌝ }
+{
+    if grain {
+        return 11 * (n as usize);
+    }
+    10 * (n as usize)
+}
+
 // Refusals 3, 27 and 4: the numbers of the header beside the plate's.
-fn check_counts(block: &[u8], old: bool) -> Checked
-    requires { ⌜ sizes-end old ≤ length (now block) ⌝ }
-    ensures { λ r. ⌜ r ≡ first-refusal (count-checks old (now (block .entry))) ⌝ }
+fn check_counts(block: &[u8], choices: Choices) -> Checked
+    requires { ⌜ sizes-end (choices .«old_block») ≤ length (now block) ⌝ }
+    ensures { λ r. ⌜ r ≡ first-refusal (count-checks choices (now (block .entry))) ⌝ }
 {
     let n = read_u16(block, 4);
     let kinds = refuse_if(lies_outside(n, 1, 64), Refusal::KindCount);
     let Checked::Passed = kinds else {
         return kinds;
     };
-    let kerf = refuse_if(20 < read_kerf(block, old), Refusal::Kerf);
+    let kerf = refuse_if(20 < read_kerf(block, choices.old_block), Refusal::Kerf);
     let Checked::Passed = kerf else {
         return kerf;
     };
-    let bytes = sizes_end(old) + 10 * (n as usize);
+    let bytes = sizes_end(choices.old_block) + kinds_bytes(choices.grain, n);
     refuse_if(block.len() != bytes, Refusal::BlockLength)
 }
 
 // The header: refusals 1, 2, then 3, 27 and 4.
-fn check_header(block: &[u8], old: bool) -> Checked
-    ensures { λ r. ⌜ r ≡ first-refusal (header-checks old (now (block .entry))) ⌝ }
+fn check_header(block: &[u8], choices: Choices) -> Checked
+    ensures { λ r. ⌜ r ≡ first-refusal (header-checks choices (now (block .entry))) ⌝ }
 {
-    let short = check_short(block, old);
+    let short = check_short(block, choices.old_block);
     let Checked::Passed = short else {
         return short;
     };
@@ -193,28 +207,28 @@ fn check_header(block: &[u8], old: bool) -> Checked
     let Checked::Passed = plate else {
         return plate;
     };
-    check_counts(block, old)
+    check_counts(block, choices)
 }
 
 // A header whose plate is not read: refusals 1, then 3, 27 and 4.
-fn check_plateless(block: &[u8], old: bool) -> Checked
-    ensures { λ r. ⌜ r ≡ first-refusal (plateless-checks old (now (block .entry))) ⌝ }
+fn check_plateless(block: &[u8], choices: Choices) -> Checked
+    ensures { λ r. ⌜ r ≡ first-refusal (plateless-checks choices (now (block .entry))) ⌝ }
 {
-    let short = check_short(block, old);
+    let short = check_short(block, choices.old_block);
     let Checked::Passed = short else {
         return short;
     };
-    check_counts(block, old)
+    check_counts(block, choices)
 }
 
 // A header whose plate is read or not.
-fn check_front(block: &[u8], old: bool, plate: bool) -> Checked
-    ensures { λ r. ⌜ r ≡ first-refusal (header-by plate old (now (block .entry))) ⌝ }
+fn check_front(block: &[u8], choices: Choices, plate: bool) -> Checked
+    ensures { λ r. ⌜ r ≡ first-refusal (header-by plate choices (now (block .entry))) ⌝ }
 {
     if plate {
-        check_header(block, old)
+        check_header(block, choices)
     } else {
-        check_plateless(block, old)
+        check_plateless(block, choices)
     }
 }
 
@@ -293,28 +307,67 @@ fn check_pairs(block: &[u8], h: usize, n: u16, priced: bool) -> Checked
     Checked::Passed
 }
 
-// Refusals 5 to 7: the two arrays of n kinds.
-fn check_arrays(block: &[u8], h: usize, n: u16, priced: bool) -> Checked
-    requires { ⌜ HoldsKinds h (now block) n ⌝ }
-    ensures { λ r. ⌜ r ≡ first-refusal (array-checks (pairs-by priced h (now (block .entry))) h (now (block .entry))) ⌝ }
+// Refusal 35, of one kind.
+fn check_grain(block: &[u8], h: usize, n: u16, i: u16) -> Checked
+    requires { ⌜ HoldsGrains true h (now block) n × (i < n) ⌝ }
+    ensures { λ r. ⌜ r ≡ first-refusal (grain-check h (now (block .entry)) i ∷ []) ⌝ }
+{
+    let grains = h + 10 * (n as usize);
+    let at = grains + (i as usize);
+    refuse_if(1 < block[at], Refusal::Grain(i))
+}
+
+// The third array: the grain bytes in the order of the kinds.
+fn check_grain_bytes(block: &[u8], h: usize, n: u16) -> Checked
+    requires { ⌜ HoldsGrains true h (now block) n ⌝ }
+    ensures { λ r. ⌜ r ≡ first-refusal (each-kind (λ i. grain-check h (now (block .entry)) i ∷ []) 0 n) ⌝ }
+{
+    for i in 0..n {
+        let grain = check_grain(block, h, n, i);
+        let Checked::Passed = grain else {
+            return grain;
+        };
+    }
+    Checked::Passed
+}
+
+// The same where the block has them.
+fn check_grains(block: &[u8], h: usize, n: u16, grain: bool) -> Checked
+    requires { ⌜ HoldsGrains grain h (now block) n ⌝ }
+    ensures { λ r. ⌜ r ≡ first-refusal (grain-checks grain h (now (block .entry))) ⌝ }
+{
+    if grain {
+        return check_grain_bytes(block, h, n);
+    }
+    Checked::Passed
+}
+
+// Refusals 5 to 7 and 35: the arrays of n kinds.
+fn check_arrays(block: &[u8], h: usize, n: u16, priced: bool, grain: bool) -> Checked
+    requires { ⌜ HoldsGrains grain h (now block) n ⌝ }
+    ensures { λ r. ⌜ r ≡ first-refusal (array-checks (pairs-by priced h (now (block .entry))) grain h (now (block .entry))) ⌝ }
 {
     let sizes = check_sizes(block, h, n);
     let Checked::Passed = sizes else {
         return sizes;
     };
-    check_pairs(block, h, n, priced)
+    let pairs = check_pairs(block, h, n, priced);
+    let Checked::Passed = pairs else {
+        return pairs;
+    };
+    check_grains(block, h, n, grain)
 }
 
-// Refusals 1 to 7 and 27, in the table's order; the plate is read or not, and the prices are or not.
+// Refusals 1 to 7, 27 and 35, in the table's order; the plate is read or not, and the prices are or not.
 pub fn check_block(block: &[u8], choices: Choices, plate: bool, priced: bool) -> Checked
     ensures { λ r. ⌜ r ≡ first-refusal (checks-by (header-by plate) (pairs-by priced) (now (block .entry)) choices) ⌝ }
 {
-    let header = check_front(block, choices.old_block, plate);
+    let header = check_front(block, choices, plate);
     let Checked::Passed = header else {
         return header;
     };
     let h = sizes_end(choices.old_block);
-    check_arrays(block, h, read_u16(block, 4), priced)
+    check_arrays(block, h, read_u16(block, 4), priced, choices.grain)
 }
 
 // A job block: its plate and its prices are read.
@@ -351,9 +404,33 @@ fn read_prices(block: &[u8], h: usize, n: u16) -> [u32; 64]
     prices
 }
 
+// An array of bytes, the first at `from`.
+fn read_bytes(block: &[u8], from: usize, n: u16) -> [u8; 64]
+    requires { ⌜ (n ≤ 64) × (from + n ≤ length (now block)) ⌝ }
+    ensures { λ r. ⌜ r ≡ entries (λ i. getD (now (block .entry)) (from + i) 0) n ⌝ }
+{
+    let mut bytes = [0u8; 64];
+    for i in 0..n {
+        let k = i as usize;
+        bytes[k] = block[from + k];
+    }
+    bytes
+}
+
+// The grain bytes, 0 where the block has none.
+fn read_grains(block: &[u8], h: usize, n: u16, grain: bool) -> [u8; 64]
+    requires { ⌜ HoldsGrains grain h (now block) n ⌝ }
+    ensures { λ r. ⌜ r ≡ grains-of grain h (now (block .entry)) ⌝ }
+{
+    if grain {
+        return read_bytes(block, h + 10 * (n as usize), n);
+    }
+    [0u8; 64]
+}
+
 // The record of a block that has the bytes of its kinds, its prices not read: each is 0.
 pub fn read_unpriced(block: &[u8], choices: Choices) -> JobRecord
-    requires { ⌜ HoldsKinds (sizes-end (choices .«old_block»)) (now block) (count-at (now block)) ⌝ }
+    requires { ⌜ HoldsBlock choices (now block) ⌝ }
     ensures { λ r. ⌜ r ≡ unpriced (record-of (now (block .entry)) choices) ⌝ }
 {
     let h = sizes_end(choices.old_block);
@@ -364,6 +441,7 @@ pub fn read_unpriced(block: &[u8], choices: Choices) -> JobRecord
     let lengths = read_fields(block, h, 4, n);
     let widths = read_fields(block, h + 2, 4, n);
     let demands = read_fields(block, h + 4 + 4 * (n as usize), 6, n);
+    let grains = read_grains(block, h, n, choices.grain);
     JobRecord {
         length: length,
         width: width,
@@ -375,12 +453,13 @@ pub fn read_unpriced(block: &[u8], choices: Choices) -> JobRecord
         widths: widths,
         prices: [0u32; 64],
         demands: demands,
+        grains: grains,
     }
 }
 
 // The record of a block that has the bytes of its kinds.
 pub fn read_record(block: &[u8], choices: Choices) -> JobRecord
-    requires { ⌜ HoldsKinds (sizes-end (choices .«old_block»)) (now block) (count-at (now block)) ⌝ }
+    requires { ⌜ HoldsBlock choices (now block) ⌝ }
     ensures { λ r. ⌜ r ≡ record-of (now (block .entry)) choices ⌝ }
 {
     let h = sizes_end(choices.old_block);
@@ -406,6 +485,7 @@ pub fn empty_record() -> JobRecord
         widths: [0u16; 64],
         prices: [0u32; 64],
         demands: [0u16; 64],
+        grains: [0u8; 64],
     }
 }
 
@@ -449,6 +529,16 @@ fn fits_some_way(size: Sides, room: Sides) -> bool
     either(fits(size, room), fits(turn(size), room))
 }
 
+// Whether a kind may be turned, by the job's choice and the kind's grain byte.
+pub fn may_turn(turning: bool, grain: u8) -> bool
+    ensures { λ r. ⌜ r ≡ (not (eqb grain 1) && turning) ⌝ }
+{
+    if grain == 1 {
+        return false;
+    }
+    turning
+}
+
 // How often a piece's side goes into a side of the plate.
 fn times_in(side: u16, piece: u16) -> u16
     requires { ⌜ 1 ≤ piece ⌝ }
@@ -479,25 +569,25 @@ fn turning_copies(room: Sides, size: Sides) -> u32
 }
 
 // The copies of a size that can lie on a rectangle.
-fn copies_on(turning: bool, room: Sides, size: Sides) -> u32
+fn copies_on(turns: bool, room: Sides, size: Sides) -> u32
     requires { ⌜ (1 ≤ size .length) × (1 ≤ size .width) ⌝ }
-    ensures { λ r. ⌜ r ≡ copies-on turning (rect-of room) (rect-of size) ⌝ }
+    ensures { λ r. ⌜ r ≡ copies-on turns (rect-of room) (rect-of size) ⌝ }
 {
-    if turning {
+    if turns {
         return turning_copies(room, size);
     }
     upright_copies(room, size)
 }
 
 // The copies of a kind that the capacity counts: its demand, or the lesser of it and what can lie on the plate.
-fn counted_copies(choices: Choices, plate: Sides, size: Sides, demand: u16) -> u16
+fn counted_copies(full_demand: bool, turns: bool, plate: Sides, size: Sides, demand: u16) -> u16
     requires { ⌜ (1 ≤ size .length) × (1 ≤ size .width) ⌝ }
-    ensures { λ r. ⌜ (r ≡ counted-of (choices .«full_demand») demand (copies-on (choices .turning) (rect-of plate) (rect-of size))) × (r ≤ demand) ⌝ }
+    ensures { λ r. ⌜ (r ≡ counted-of «full_demand» demand (copies-on turns (rect-of plate) (rect-of size))) × (r ≤ demand) ⌝ }
 {
-    if choices.full_demand {
+    if full_demand {
         return demand;
     }
-    let held = copies_on(choices.turning, plate, size);
+    let held = copies_on(turns, plate, size);
     if held < (demand as u32) {
         return held as u16;
     }
@@ -517,11 +607,6 @@ fn sum_capacity(job: JobRecord, weights: &[u8]) -> u32
     requires { ⌜ InRange (job-of job) × (length (now weights) ≡ job .count) ⌝ }
     ensures { λ r. ⌜ r ≡ capacity (job-of job) (weight-in (now (weights .entry))) ⌝ }
 {
-    let choices = Choices {
-        turning: job.turning,
-        full_demand: job.full_demand,
-        old_block: false,
-    };
     let kerf = job.kerf;
     let plate = widen(
         Sides {
@@ -538,7 +623,8 @@ fn sum_capacity(job: JobRecord, weights: &[u8]) -> u32
             width: job.widths[k],
         };
         let size = widen(upright, kerf);
-        let copies = counted_copies(choices, plate, size, job.demands[k]);
+        let turns = may_turn(job.turning, job.grains[k]);
+        let copies = counted_copies(job.full_demand, turns, plate, size, job.demands[k]);
         q = q + weigh(copies, weights[k]);
     }
     q

@@ -1,6 +1,6 @@
 -- The checks of a node case by case, and the nodes that pass them: those that fit.
 use mathlib.Core.Path.{_≡_, _∙_, refl, sym, ap, ap₂, subst}
-use mathlib.Core.Bool.{Bool, true, false, not}
+use mathlib.Core.Bool.{Bool, true, false, not, _&&_}
 use mathlib.Core.List.{List}
 use Prim.Native.Nat.{ℕ, _+_, _-_, _*_, _≤_, _<_}
 use native.Mathlib.Nat.{mul-le-mul}
@@ -19,11 +19,11 @@ use Rattle.cutting.specs.Pieces.{fits-in}
 use Rattle.cutting.specs.Job.{Job, laid, MayLie}
 use Rattle.cutting.proofs.Pieces.{true-fits-in}
 use Rattle.refusal.specs.Refusals.{next, first-refusal, refuse-when}
-use Rattle.refusal.specs.declared.Refusal.the-variants.{NodeKind, PieceNumber, Operand, Misfit, Excess}
+use Rattle.refusal.specs.declared.Refusal.the-variants.{NodeKind, PieceNumber, AgainstGrain, Operand, Misfit, Excess}
 use Rattle.refusal.specs.declared.Checked.the-variants.{Passed, Refused}
 use Rattle.job.specs.Block.{outside}
 use Rattle.job.proofs.Checks.{next-passed, cons-passed}
-use Rattle.node.specs.Nodes.{node-of, most-kind, unnumbered, misplaced, misfit, excess, node-checks}
+use Rattle.node.specs.Nodes.{node-of, most-kind, unnumbered, against-grain, misplaced, misfit, excess, node-checks}
 use Rattle.node.specs.Placed.{lying-as, laying}
 
 -- a kind and an operand by the node that they are
@@ -74,27 +74,30 @@ module _ (J : Job) (c : List ℕ) (r : Rect) (k : ℕ) where
     unfolding first-refusal
     cut-checks d x e = simp (known, e) (sym (next-passed _))
 
-    -- a piece has 13, 15 and 16
+    -- a piece has 13, 36, 15 and 16
     piece-checks : (b : Bool) (i : ℕ) → node-of kind o ≡ laying b i → first-refusal (node-checks J c r k kind o)
-        ≡ next (refuse-when (leb (J .count) i) (PieceNumber k)) (next (refuse-when (not (fits-in (lying-as b (J .size i)) r)) (Misfit k)) (refuse-when (leb (J .demand i) (getD c i 0)) (Excess k)))
+        ≡ next (refuse-when (leb (J .count) i) (PieceNumber k)) (next (refuse-when (b && J .grain i) (AgainstGrain k)) (next (refuse-when (not (fits-in (lying-as b (J .size i)) r)) (Misfit k)) (refuse-when (leb (J .demand i) (getD c i 0)) (Excess k))))
     unfolding first-refusal
     piece-checks false i e = simp (known, e)
         (ap (λ v. next (refuse-when (leb (J .count) i) (PieceNumber k)) (next (refuse-when (not (fits-in (J .size i) r)) (Misfit k)) v)) (sym (next-passed (refuse-when (leb (J .demand i) (getD c i 0)) (Excess k)))))
     piece-checks true i e = simp (known, e)
-        (ap (λ v. next (refuse-when (leb (J .count) i) (PieceNumber k)) (next (refuse-when (not (fits-in (laid.quarter (J .size i)) r)) (Misfit k)) v)) (sym (next-passed (refuse-when (leb (J .demand i) (getD c i 0)) (Excess k)))))
+        (ap (λ v. next (refuse-when (leb (J .count) i) (PieceNumber k)) (next (refuse-when (J .grain i) (AgainstGrain k)) (next (refuse-when (not (fits-in (laid.quarter (J .size i)) r)) (Misfit k)) v))) (sym (next-passed (refuse-when (leb (J .demand i) (getD c i 0)) (Excess k)))))
 
     module _ (b : Bool) (i : ℕ) (e : node-of kind o ≡ laying b i) where
       pub number-refused : J .count ≤ i → first-refusal (node-checks J c r k kind o) ≡ Refused (PieceNumber k)
       number-refused n = piece-checks b i e ∙ simp (le-leb (J .count) i n)
 
-      pub misfit-refused : i < J .count → fits-in (lying-as b (J .size i)) r ≡ false → first-refusal (node-checks J c r k kind o) ≡ Refused (Misfit k)
-      misfit-refused n f = piece-checks b i e ∙ simp (lt-leb (J .count) i n, f)
+      pub grain-refused : i < J .count → (b && J .grain i) ≡ true → first-refusal (node-checks J c r k kind o) ≡ Refused (AgainstGrain k)
+      grain-refused n g = piece-checks b i e ∙ simp (lt-leb (J .count) i n, g)
 
-      pub excess-refused : i < J .count → fits-in (lying-as b (J .size i)) r ≡ true → J .demand i ≤ getD c i 0 → first-refusal (node-checks J c r k kind o) ≡ Refused (Excess k)
-      excess-refused n f d = piece-checks b i e ∙ simp (lt-leb (J .count) i n, f, le-leb (J .demand i) (getD c i 0) d)
+      pub misfit-refused : i < J .count → (b && J .grain i) ≡ false → fits-in (lying-as b (J .size i)) r ≡ false → first-refusal (node-checks J c r k kind o) ≡ Refused (Misfit k)
+      misfit-refused n g f = piece-checks b i e ∙ simp (lt-leb (J .count) i n, g, f)
 
-      pub piece-passes : i < J .count → fits-in (lying-as b (J .size i)) r ≡ true → getD c i 0 < J .demand i → first-refusal (node-checks J c r k kind o) ≡ Passed
-      piece-passes n f d = piece-checks b i e ∙ simp (lt-leb (J .count) i n, f, lt-leb (J .demand i) (getD c i 0) d)
+      pub excess-refused : i < J .count → (b && J .grain i) ≡ false → fits-in (lying-as b (J .size i)) r ≡ true → J .demand i ≤ getD c i 0 → first-refusal (node-checks J c r k kind o) ≡ Refused (Excess k)
+      excess-refused n g f d = piece-checks b i e ∙ simp (lt-leb (J .count) i n, g, f, le-leb (J .demand i) (getD c i 0) d)
+
+      pub piece-passes : i < J .count → (b && J .grain i) ≡ false → fits-in (lying-as b (J .size i)) r ≡ true → getD c i 0 < J .demand i → first-refusal (node-checks J c r k kind o) ≡ Passed
+      piece-passes n g f d = piece-checks b i e ∙ simp (lt-leb (J .count) i n, g, f, lt-leb (J .demand i) (getD c i 0) d)
 
 -- a piece takes no more than the rectangle that it fits
 pub fits-area : (q r : Rect) → fits-in q r ≡ true → q .0 * q .1 ≤ r .0 * r .1
@@ -160,26 +163,36 @@ cut-kind : (b : Bool) (d : Direction) (x : ℕ) → kind-of (Cut d x) ≤ most-k
 cut-kind b Length x = omega (arith, least-kind b)
 cut-kind b Width x = omega (arith, least-kind b)
 
+-- a kind may be turned where it does not keep its grain and the job's pieces may be turned
+turns-free : (g t : Bool) → T (not g && t) → (g ≡ false) × T t
+turns-free true t h = absurd h
+turns-free false t h = (refl, h)
+
+free-turns : (g t : Bool) → g ≡ false → T t → T (not g && t)
+free-turns g t e h = rw e h
+
 -- such a node passes
 pub node-passes : (J : Job) (c : List ℕ) (r : Rect) (k : ℕ) (n : Node) → NodeFits J c r n → first-refusal (node-checks J c r k (kind-of n) (operand-of n)) ≡ Passed
 node-passes J c r k Waste h = waste-checks J c r k 0
-node-passes J c r k (Piece i) h = piece-passes J c r k 1 i (omega (arith, least-kind (J .turning))) false i refl (h .0 .0) (h .1) (h .2)
-node-passes J c r k (Turned i) h = piece-passes J c r k 4 i (turned-kind (J .turning) (h .0 .2)) true i refl (h .0 .0) (h .1) (h .2)
+node-passes J c r k (Piece i) h = piece-passes J c r k 1 i (omega (arith, least-kind (J .turning))) false i refl (h .0 .0) refl (h .1) (h .2)
+node-passes J c r k (Turned i) h =
+    let f = turns-free (J .grain i) (J .turning) (h .0 .2) in
+    piece-passes J c r k 4 i (turned-kind (J .turning) (f .1)) true i refl (h .0 .0) (f .0) (h .1) (h .2)
 node-passes J c r k (Cut d x) h = cut-checks J c r k (kind-of (Cut d x)) x (cut-kind (J .turning) d x) d x (node-back (Cut d x)) ∙ ap (λ b. refuse-when b (Operand k)) (inside (side d r) (J .kerf) x (h .0) (h .1))
 
 -- and only such a node
-node-read : (J : Job) (c : List ℕ) (r : Rect) (k o : ℕ) (n : Node) → Read k o n → ltb (most-kind (J .turning)) k ≡ false → unnumbered J n ≡ false → misplaced (J .kerf) r n o ≡ false → misfit J r n ≡ false → excess J c n ≡ false
+node-read : (J : Job) (c : List ℕ) (r : Rect) (k o : ℕ) (n : Node) → Read k o n → ltb (most-kind (J .turning)) k ≡ false → unnumbered J n ≡ false → against-grain J n ≡ false → misplaced (J .kerf) r n o ≡ false → misfit J r n ≡ false → excess J c n ≡ false
     → ((k, o) ≡ pair-of n) × NodeFits J c r n
-node-read J c r k o Waste (is-waste e) a b d f g = (ap₂ (λ x y. (x, y)) e (eqb-true o 0 (not-false (eqb o 0) d)), tt)
-node-read J c r k o (Piece i) (is-piece e) a b d f g =
+node-read J c r k o Waste (is-waste e) a b u d f g = (ap₂ (λ x y. (x, y)) e (eqb-true o 0 (not-false (eqb o 0) d)), tt)
+node-read J c r k o (Piece i) (is-piece e) a b u d f g =
     let left = leb-false (J .demand o) (getD c o 0) g in
     (ap (λ x. (x, o)) e, ((leb-false (J .count) o b, omega (arith, left)), not-false (fits-in (J .size o) r) f, left))
-node-read J c r k o (Cut Length x) (is-length e) a b d f g = (ap (λ x. (x, o)) e, inside-range (r .0) (J .kerf) o d)
-node-read J c r k o (Cut Width x) (is-width e) a b d f g = (ap (λ x. (x, o)) e, inside-range (r .1) (J .kerf) o d)
-node-read J c r k o (Turned i) (is-turned h) a b d f g =
+node-read J c r k o (Cut Length x) (is-length e) a b u d f g = (ap (λ x. (x, o)) e, inside-range (r .0) (J .kerf) o d)
+node-read J c r k o (Cut Width x) (is-width e) a b u d f g = (ap (λ x. (x, o)) e, inside-range (r .1) (J .kerf) o d)
+node-read J c r k o (Turned i) (is-turned h) a b u d f g =
     let e = kind-turned (J .turning) k h (ltb-false (most-kind (J .turning)) k a) in
     let left = leb-false (J .demand o) (getD c o 0) g in
-    (ap (λ x. (x, o)) (e .0), ((leb-false (J .count) o b, omega (arith, left), e .1), not-false (fits-in (laid J (laid.turned o)) r) f, left))
+    (ap (λ x. (x, o)) (e .0), ((leb-false (J .count) o b, omega (arith, left), free-turns (J .grain o) (J .turning) u (e .1)), not-false (fits-in (laid J (laid.turned o)) r) f, left))
 
 pub node-passed : (J : Job) (c : List ℕ) (r : Rect) (at k o : ℕ) → first-refusal (node-checks J c r at k o) ≡ Passed
     → ((k, o) ≡ pair-of (node-of k o)) × NodeFits J c r (node-of k o)
@@ -189,4 +202,5 @@ node-passed J c r at k o p =
     let g = cons-passed _ _ _ (f .1) in
     let h = cons-passed _ _ _ (g .1) in
     let i = cons-passed _ _ _ (h .1) in
-    node-read J c r k o (node-of k o) (read k o) (e .0) (f .0) (g .0) (h .0) (i .0)
+    let j = cons-passed _ _ _ (i .1) in
+    node-read J c r k o (node-of k o) (read k o) (e .0) (f .0) (g .0) (h .0) (i .0) (j .0)

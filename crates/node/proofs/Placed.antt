@@ -1,6 +1,6 @@
 -- What a node leaves: the sums stay within their bound, and the verdict, the sums and the copies are the definition's.
 use mathlib.Core.Path.{_≡_, _∙_, refl, sym, ap, subst}
-use mathlib.Core.Bool.{Bool, true, false, not}
+use mathlib.Core.Bool.{Bool, true, false, not, _&&_}
 use mathlib.Core.List.{List}
 use Prim.Native.Nat.{ℕ, _+_, _-_, _≤_, _<_, _^_}
 use native.Mathlib.Omega.{arith}
@@ -76,10 +76,10 @@ copied-piece true i c = refl
 
 -- a piece that passes
 pub piece-placed : (J : Job) (k kind o : ℕ) (r : Rect) (t : Tally) (c : List ℕ) (s : Tally) (copies : ℕ) (b : Bool) (i : ℕ) → kind ≤ most-kind (J .turning) → node-of kind o ≡ laying b i
-    → i < J .count → fits-in (lying-as b (J .size i)) r ≡ true → getD c i 0 < J .demand i
+    → i < J .count → (b && J .grain i) ≡ false → fits-in (lying-as b (J .size i)) r ≡ true → getD c i 0 < J .demand i
     → s ≡ with-piece (J .price i) (lying-as b (J .size i)) r t → Grows t s → copies ≡ getD c i 0 + 1 → Placed J k kind o r t c (record { verdict = Passed; tally = s }) (set c i copies)
-piece-placed J k kind o r t c s copies b i h e n f d p g m = record {
-  verdict = sym (piece-passes J c r k kind o h b i e n f d);
+piece-placed J k kind o r t c s copies b i h e n u f d p g m = record {
+  verdict = sym (piece-passes J c r k kind o h b i e n u f d);
   sums = λ q. p ∙ sym (ap (λ m. tallied J m r t) e ∙ tallied-piece J b i r t);
   counts = λ q. ap (set c i) m ∙ sym (ap (λ m. copied m c) e ∙ copied-piece b i c);
   sized = g;

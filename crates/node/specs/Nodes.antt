@@ -1,6 +1,6 @@
--- One node of a plan in the scope's words: the node of a kind and an operand, the checks 12 to 16 on the rectangle that it fills, the
--- parts that it leaves to be filled, and what it adds to the sums and to the copies.
--- docs/SCOPE.md: Plans; The table of refusals.
+-- One node of a plan in the scope's words: the node of a kind and an operand, the checks 12 to 16 and 36 on the rectangle that it fills,
+-- the parts that it leaves to be filled, and what it adds to the sums and to the copies.
+-- docs/SCOPE.md: Plans; Grain; The table of refusals.
 use mathlib.Core.Bool.{Bool, true, false, not}
 use mathlib.Core.List.{List, [], _∷_}
 use Prim.Native.Nat.{ℕ, _+_, _-_, _*_}
@@ -15,7 +15,7 @@ use Rattle.cutting.specs.Pieces as way
 use Rattle.cutting.specs.Pieces.{fits-in}
 use Rattle.cutting.specs.Areas.{area, breadth}
 use Rattle.cutting.specs.Job.{Job, laid}
-use Rattle.refusal.specs.declared.Refusal.the-variants.{NodeKind, PieceNumber, Operand, Misfit, Excess}
+use Rattle.refusal.specs.declared.Refusal.the-variants.{NodeKind, PieceNumber, AgainstGrain, Operand, Misfit, Excess}
 use Rattle.refusal.specs.Refusals.{Check}
 use Rattle.job.specs.Block.{outside}
 use Rattle.node.specs.declared.Tally.{Tally}
@@ -45,6 +45,13 @@ of-piece f a (Cut d x) = a
 abbrev pub unnumbered : Job → Node → Bool
 unnumbered J n = of-piece (λ p. leb (J .count) (way.kind p)) false n
 
+-- 36: a turned piece of a kind that keeps its grain
+abbrev pub against-grain : Job → Node → Bool
+against-grain J Waste = false
+against-grain J (Piece i) = false
+against-grain J (Turned i) = J .grain i
+against-grain J (Cut d x) = false
+
 -- 14: a waste operand that is not 0, or a cut position outside 1 to the side less the kerf less 1; a side of at most the kerf and 1 has
 -- no position
 abbrev pub misplaced : ℕ → Rect → Node → ℕ → Bool
@@ -61,11 +68,12 @@ misfit J r n = of-piece (λ p. not (fits-in (laid J p) r)) false n
 abbrev pub excess : Job → List ℕ → Node → Bool
 excess J copies n = of-piece (λ p. leb (J .demand (way.kind p)) (getD copies (way.kind p) 0)) false n
 
--- checks 12 to 16 of node k, on the rectangle that it fills and after the copies before it
+-- checks 12, 13, 36 and 14 to 16 of node k, on the rectangle that it fills and after the copies before it
 abbrev pub node-checks : Job → List ℕ → Rect → ℕ → ℕ → ℕ → List Check
 node-checks J copies r k kind operand =
     (ltb (most-kind (J .turning)) kind, NodeKind k)
     ∷ (unnumbered J (node-of kind operand), PieceNumber k)
+    ∷ (against-grain J (node-of kind operand), AgainstGrain k)
     ∷ (misplaced (J .kerf) r (node-of kind operand) operand, Operand k)
     ∷ (misfit J r (node-of kind operand), Misfit k)
     ∷ (excess J copies (node-of kind operand), Excess k)

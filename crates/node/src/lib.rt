@@ -1,4 +1,4 @@
-// One node of a plan on the rectangle that it fills: refusals 12 to 16, and what the node adds to the sums and to the copies of its kind.
+// One node of a plan on the rectangle that it fills: refusals 12 to 16 and 36, and what the node adds to the sums and to the copies of its kind.
 // The job's arrays and the copies are lent, so that a walk over many nodes copies none of them.
 use cutting::Direction;
 use cutting::Node;
@@ -10,9 +10,10 @@ use refusal::Checked;
 use refusal::Refusal;
 use refusal::refuse_if;
 ghost use mathlib.Core.Path.{_≡_};
-ghost use mathlib.Core.Bool.{Bool, true};
+ghost use mathlib.Core.Bool.{Bool, true, _&&_};
 ghost use mathlib.Core.List.{List};
 ghost use Prim.Native.Nat.{ℕ, _+_, _-_, _≤_, _<_, _^_};
+ghost use lib.Dec.{eqb};
 ghost use Rattle.cutting.specs.declared.Node.the-variants.{Cut};
 ghost use Rattle.cutting.specs.Tree.{side};
 ghost use Rattle.cutting.specs.Sides.{rect-of, sides-of};
@@ -99,6 +100,16 @@ fn lay(upright: Sides, turned: bool) -> Sides
     ensures { λ r. ⌜ r ≡ sides-of (lying-as turned (rect-of upright)) ⌝ }
 {
     if turned { turn(upright) } else { upright }
+}
+
+// Whether a piece is turned of a kind that keeps its grain, by the kind's grain byte.
+fn against_grain(turned: bool, grain: u8) -> bool
+    ensures { λ r. ⌜ r ≡ (turned && eqb grain 1) ⌝ }
+{
+    if turned {
+        return grain == 1;
+    }
+    false
 }
 
 // Whether a cut's position is outside 1 to the side less the kerf less 1.
@@ -212,6 +223,7 @@ fn place_piece(
     kind_widths: &[u16; 64],
     prices: &[u32; 64],
     demands: &[u16; 64],
+    grains: &[u8; 64],
     count: u16,
     node: PieceEntry,
     room: Sides,
@@ -219,13 +231,16 @@ fn place_piece(
 ) -> NodeAnswer
     requires { ⌜ Sized 4094 t × (count ≤ 64) ⌝ }
     ensures { λ r. ⌜ ((l w kerf : ℕ) (turning full : Bool) (kind operand : ℕ) → kind ≤ most-kind turning → node-of kind operand ≡ laying (node .turned) (node .number)
-        → Placed (job-from l w kerf turning full count (now («kind_lengths» .entry)) (now («kind_widths» .entry)) (now (prices .entry)) (now (demands .entry))) (node .at) kind operand (rect-of room) t (now (copies .entry)) r (now (copies .exit))) ⌝ }
+        → Placed (job-from l w kerf turning full count (now («kind_lengths» .entry)) (now («kind_widths» .entry)) (now (prices .entry)) (now (demands .entry)) (now (grains .entry))) (node .at) kind operand (rect-of room) t (now (copies .entry)) r (now (copies .exit))) ⌝ }
 {
     let i = node.number;
     if count <= i {
         return refuse(Refusal::PieceNumber(node.at), t);
     }
     let k = i as usize;
+    if against_grain(node.turned, grains[k]) {
+        return refuse(Refusal::AgainstGrain(node.at), t);
+    }
     let upright = Sides {
         length: kind_lengths[k],
         width: kind_widths[k],
@@ -258,12 +273,13 @@ fn place_cut(d: Direction, x: u16, kerf: u16, at: u16, room: Sides, t: Tally) ->
     }
 }
 
-// One node on its rectangle, after the copies before it: checks 12 to 16, and where they pass it is counted.
+// One node on its rectangle, after the copies before it: checks 12 to 16 and 36, and where they pass it is counted.
 pub fn check_node(
     kind_lengths: &[u16; 64],
     kind_widths: &[u16; 64],
     prices: &[u32; 64],
     demands: &[u16; 64],
+    grains: &[u8; 64],
     copies: &mut [u16; 64],
     rules: Rules,
     node: NodeEntry,
@@ -271,7 +287,7 @@ pub fn check_node(
     t: Tally,
 ) -> NodeAnswer
     requires { ⌜ Sized 4094 t × (rules .count ≤ 64) ⌝ }
-    ensures { λ r. ⌜ ((l w : ℕ) (full : Bool) → Placed (job-from l w (rules .kerf) (rules .turning) full (rules .count) (now («kind_lengths» .entry)) (now («kind_widths» .entry)) (now (prices .entry)) (now (demands .entry))) (node .at) (node .kind) (node .operand) (rect-of room) t (now (copies .entry)) r (now (copies .exit))) ⌝ }
+    ensures { λ r. ⌜ ((l w : ℕ) (full : Bool) → Placed (job-from l w (rules .kerf) (rules .turning) full (rules .count) (now («kind_lengths» .entry)) (now («kind_widths» .entry)) (now (prices .entry)) (now (demands .entry)) (now (grains .entry))) (node .at) (node .kind) (node .operand) (rect-of room) t (now (copies .entry)) r (now (copies .exit))) ⌝ }
 {
     let at = node.at;
     let operand = node.operand;
@@ -287,6 +303,7 @@ pub fn check_node(
             kind_widths,
             prices,
             demands,
+            grains,
             rules.count,
             piece_entry(at, i, false),
             room,
@@ -298,6 +315,7 @@ pub fn check_node(
             kind_widths,
             prices,
             demands,
+            grains,
             rules.count,
             piece_entry(at, i, true),
             room,

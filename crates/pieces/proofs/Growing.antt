@@ -12,7 +12,7 @@ use lib.Seq.{getD-set-same, getD-set-other}
 use Rattle.cutting.specs.Lists.{range, keep, filter, each}
 use Rattle.cutting.specs.Pieces as laid
 use Rattle.cutting.specs.Pieces.{ways}
-use Rattle.cutting.specs.Job.{Job, ordered, members}
+use Rattle.cutting.specs.Job.{Job, turns, ordered, members}
 use Rattle.cutting.specs.Listed.{PieceArray}
 use Rattle.cutting.proofs.Lists.{range-length, filter-length, each-length}
 use Rattle.cutting.proofs.Members.{ways-count}
@@ -21,7 +21,7 @@ use Rattle.pieces.specs.Contracts.{entry-of, turned-piece, with-piece, A
 
 -- the pieces of the kinds below i, as many as are ordered
 abbrev pub kinds-below : Job → ℕ → List laid.Piece
-kinds-below J i = each (ways (J .turning)) (filter (λ j. leb 1 (J .demand j)) (range 0 i))
+kinds-below J i = each (λ j. ways (turns J j) j) (filter (λ j. leb 1 (J .demand j)) (range 0 i))
 
 -- an array of pieces under another writing of their list
 pub listed-as : {J : Job} {weight : ℕ → ℕ} {ps qs : List laid.Piece} {n : ℕ} {a : List ℕ} → ps ≡ qs → Listed J weight ps n a → Listed J weight qs n a
@@ -142,16 +142,26 @@ each-more f test a (suc n) k e = go (test a) (each-more f test (suc a) n k (omeg
     go true h = ap (λ ps. f a ++ ps) h ∙ sym (append-assoc (f a) (each f (filter test (range (suc a) n))) (each f (keep (test k) k [])))
     go false h = h
 
+-- a kind alone gives its own pieces, whatever the others
+each-one : (f g : ℕ → List laid.Piece) (b : Bool) (i : ℕ) → f i ≡ g i → each f (keep b i []) ≡ each g (keep b i [])
+unfolding each
+each-one f g true i e = ap (λ ps. ps ++ []) e
+each-one f g false i e = refl
+
 module _ (J : Job) (i : ℕ) where
-  pub kinds-more : kinds-below J (i + 1) ≡ kinds-below J i ++ each (ways (J .turning)) (keep (leb 1 (J .demand i)) i [])
-  kinds-more = let e : i + 1 ≡ suc i = omega arith in ap (kinds-below J) e ∙ each-more (ways (J .turning)) (λ j. leb 1 (J .demand j)) 0 i i (omega arith)
+  pub kinds-more : {b : Bool} → b ≡ turns J i → kinds-below J i ++ each (ways b) (keep (leb 1 (J .demand i)) i []) ≡ kinds-below J (i + 1)
+  kinds-more {b} t =
+      let f : ℕ → List laid.Piece = λ j. ways (turns J j) j in
+      let e : suc i ≡ i + 1 = omega arith in
+      ap (λ ps. kinds-below J i ++ ps) (each-one (ways b) f (leb 1 (J .demand i)) i (ap (λ b. ways b i) t))
+      ∙ sym (each-more f (λ j. leb 1 (J .demand j)) 0 i i (omega arith)) ∙ ap (kinds-below J) e
 
   -- there are at most two pieces a kind
   pub kinds-count : {weight : ℕ → ℕ} {n : ℕ} {a : List ℕ} → Listed J weight (kinds-below J i) n a → n ≤ 2 * i
   kinds-count w = omega (
     arith,
     w .number,
-    each-length (ways (J .turning)) 2 (ways-count (J .turning)) (filter (λ j. leb 1 (J .demand j)) (range 0 i)),
+    each-length (λ j. ways (turns J j) j) 2 (λ j. ways-count (turns J j) j) (filter (λ j. leb 1 (J .demand j)) (range 0 i)),
     filter-length (λ j. leb 1 (J .demand j)) (range 0 i),
     range-length 0 i,
   )

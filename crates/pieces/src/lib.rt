@@ -1,10 +1,11 @@
-// The pieces that may lie, numbered: the kinds that are ordered, rising, each upright, and then turned where pieces may be turned. Normal
-// positions, fills and the choice read them from one array; what they compute knows nothing of turning, of cancelled kinds and of the
-// kerf, which is added to every side here.
+// The pieces that may lie, numbered: the kinds that are ordered, rising, each upright, and then turned where it may be turned. Normal
+// positions, fills and the choice read them from one array; what they compute knows nothing of turning, of grain, of cancelled kinds and of
+// the kerf, which is added to every side here.
 use cutting::Sides;
 use cutting::turn;
 use cutting::widen;
 use job::JobRecord;
+use job::may_turn;
 ghost use mathlib.Core.Path.{_≡_};
 ghost use mathlib.Core.List.{List, [], _++_};
 ghost use Prim.Native.Nat.{ℕ, _≤_, _<_};
@@ -68,16 +69,16 @@ fn put_piece(pieces: &mut [u32; 640], j: usize, piece: Piece)
 }
 
 // Puts a kind behind n pieces in every way in which it may lie, none where it is cancelled; answers how many pieces there are then.
-fn put_kind(pieces: &mut [u32; 640], n: usize, piece: Piece, demand: u16, turning: bool) -> usize
+fn put_kind(pieces: &mut [u32; 640], n: usize, piece: Piece, demand: u16, turns: bool) -> usize
     requires { ⌜ (n < 127) × (length (now pieces) ≡ 640) × (piece .node < 128) ⌝ }
     ensures { λ r. ⌜ ((J : Job) (weight : ℕ → ℕ) (ps : List laid.Piece) (i : ℕ) → Listed J weight ps n (now (pieces .entry)) → piece ≡ entry-of J weight (laid.upright i)
-        → Listed J weight (ps ++ each (ways turning) (keep (leb 1 demand) i [])) r (now (pieces .exit))) ⌝ }
+        → Listed J weight (ps ++ each (ways turns) (keep (leb 1 demand) i [])) r (now (pieces .exit))) ⌝ }
 {
     if demand == 0 {
         return n;
     }
     put_piece(pieces, n, piece);
-    if turning {
+    if turns {
         put_piece(pieces, n + 1, turned(piece));
         return n + 2;
     }
@@ -102,7 +103,8 @@ pub fn list_pieces(job: JobRecord, weights: &[u8], pieces: &mut [u32; 640]) -> u
             weight: weights[k],
             node: 2 * (i as u32),
         };
-        n = put_kind(pieces, n, piece, job.demands[k], job.turning);
+        let turns = may_turn(job.turning, job.grains[k]);
+        n = put_kind(pieces, n, piece, job.demands[k], turns);
     }
     n as u16
 }

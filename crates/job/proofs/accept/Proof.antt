@@ -18,7 +18,7 @@ returns c =
 read-record-requires : tie.Need-read-record-requires
 read-record-requires c κs =
     let e = c .before .before .before .before .before .args in
-    header-holds (e .choices .«old_block») (now (e .block)) _ refl (job-passed (now (e .block)) (e .choices) (sym (c .before .before .check-job .ensures) ∙ c .enum-told .given .1) .0)
+    header-holds (e .choices) (now (e .block)) _ refl (job-passed (now (e .block)) (e .choices) (sym (c .before .before .check-job .ensures) ∙ c .enum-told .given .1) .0)
 
 check-weights-requires : tie.Need-check-weights-requires
 check-weights-requires c κs =

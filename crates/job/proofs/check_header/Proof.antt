@@ -18,8 +18,8 @@ returns c = check-stops _ _ _ (c .before .before .check-short .ensures) (c .enum
 side-outside-requires : tie.Need-side-outside-requires
 side-outside-requires c κs =
     let a = c .before .before .before .before .args in
-    let h = passed-least (length (now (a .block))) (sizes-end (a .old)) ShortHeader (c .before .before .check-short .ensures) (c .enum-told .given .1) in
-    omega (arith, h, sizes-least (a .old) .0)
+    let h = passed-least (length (now (a .block))) (sizes-end (a .choices .«old_block»)) ShortHeader (c .before .before .check-short .ensures) (c .enum-told .given .1) in
+    omega (arith, h, sizes-least (a .choices .«old_block») .0)
 
 returns-2 : tie.Need-returns-2
 returns-2 c =
@@ -31,7 +31,7 @@ check-counts-requires : tie.Need-check-counts-requires
 check-counts-requires c κs =
     let short = c .before .before .before .before in
     let a = short .before .before .before .before .args in
-    passed-least (length (now (a .block))) (sizes-end (a .old)) ShortHeader (short .before .before .check-short .ensures) (short .enum-told .given .1)
+    passed-least (length (now (a .block))) (sizes-end (a .choices .«old_block»)) ShortHeader (short .before .before .check-short .ensures) (short .enum-told .given .1)
 
 returns-3 : tie.Need-returns-3
 returns-3 c =

@@ -15,7 +15,7 @@ returns c = check-stops _ _ _ (c .before .before .check-short .ensures) (c .enum
 check-counts-requires : tie.Need-check-counts-requires
 check-counts-requires c κs =
     let a = c .before .before .before .before .args in
-    passed-least (length (now (a .block))) (sizes-end (a .old)) ShortHeader (c .before .before .check-short .ensures) (c .enum-told .given .1)
+    passed-least (length (now (a .block))) (sizes-end (a .choices .«old_block»)) ShortHeader (c .before .before .check-short .ensures) (c .enum-told .given .1)
 
 returns-2 : tie.Need-returns-2
 returns-2 c = c .check-counts .ensures ∙ check-passes _ _ _ (c .before .before .before .check-short .ensures) (c .before .enum-told .given .1)

@@ -8,7 +8,7 @@ use Rattle.job.proofs.counted_copies.Statement.{statement}
 use Rattle.job.proofs.counted_copies.Tie as tie
 
 returns : tie.Need-returns
-returns c = let e = c .before .args in (counted-full (e .demand) (copies-on (e .choices .turning) (rect-of (e .plate)) (rect-of (e .size))) (c .if1 .taken), omega arith)
+returns c = let e = c .before .args in (counted-full (e .demand) (copies-on (e .turns) (rect-of (e .plate)) (rect-of (e .size))) (c .if1 .taken), omega arith)
 
 returns-2 : tie.Need-returns-2
 returns-2 c = counted-held _ _ (c .before .before .if1 .left) (c .before .copies-on .ensures) (c .if2 .taken)

@@ -21,7 +21,7 @@ returns c =
 read-record-requires : tie.Need-read-record-requires
 read-record-requires c κs =
     let start = c .before .before .before .before in
-    header-holds (start .args .choices .«old_block») (now (start .args .block)) _ refl (job-passed (now (start .args .block)) (start .args .choices) (sym (c .before .before .check-job .ensures) ∙ c .enum-told .given .1) .0)
+    header-holds (start .args .choices) (now (start .args .block)) _ refl (job-passed (now (start .args .block)) (start .args .choices) (sym (c .before .before .check-job .ensures) ∙ c .enum-told .given .1) .0)
 
 returns-2 : tie.Need-returns-2
 returns-2 c =

@@ -34,31 +34,34 @@ widen-requires c κs =
     let i = turn .before .loop .i in
     (h .lengths i (turn .loop-test .taken) .1, h .widths i (turn .loop-test .taken) .1, h .kerfs)
 
-element-copy-out-t23 : tie.Need-element-copy-out-t23 Inv-loop μ-loop
-element-copy-out-t23 c = let turn = c .before .before .before in omega (arith, turn .before .before .before .pre .0 .kinds .1, turn .loop-test .taken)
+element-copy-out-t24 : tie.Need-element-copy-out-t24 Inv-loop μ-loop
+element-copy-out-t24 c = let turn = c .before .before .before in omega (arith, turn .before .before .before .pre .0 .kinds .1, turn .loop-test .taken)
 
-mul-t27 : tie.Need-mul-t27 Inv-loop μ-loop
-mul-t27 c = let turn = c .before .before .before .before .before in omega (arith, turn .before .before .before .pre .0 .kinds .1, turn .loop-test .taken)
+mul-t28 : tie.Need-mul-t28 Inv-loop μ-loop
+mul-t28 c = let turn = c .before .before .before .before .before in omega (arith, turn .before .before .before .pre .0 .kinds .1, turn .loop-test .taken)
+
+element-copy-out-may-turn : tie.Need-element-copy-out-may-turn Inv-loop μ-loop
+element-copy-out-may-turn c = let turn = c .before .before .before .before .before in omega (arith, turn .before .before .before .pre .0 .kinds .1, turn .loop-test .taken)
 
 element-copy-out-put-kind-2 : tie.Need-element-copy-out-put-kind-2 Inv-loop μ-loop
-element-copy-out-put-kind-2 c = let turn = c .before .before .before .before .before .before in omega (arith, turn .before .before .before .pre .0 .kinds .1, turn .loop-test .taken)
+element-copy-out-put-kind-2 c = let turn = c .before .before .before .before .before .before .before .before in omega (arith, turn .before .before .before .pre .0 .kinds .1, turn .loop-test .taken)
 
 put-kind-requires : tie.Need-put-kind-requires Inv-loop μ-loop
 put-kind-requires c κs =
-    let turn = c .before .before .before .before .before .before .before in
+    let turn = c .before .before .before .before .before .before .before .before .before in
     let e = turn .before .before .before in
     let n = kinds-count (widened (job-of (e .args .t1))) (turn .before .loop .i) (turn .before .loop .inv .2) in
     (omega (arith, n, e .pre .0 .kinds .1, turn .loop-test .taken, turn .before .loop .inv .1), turn .before .loop .inv .2 .entries, omega (arith, e .pre .0 .kinds .1, turn .loop-test .taken, turn .before .loop .inv .1))
 
 loop-again : tie.Need-loop-again Inv-loop μ-loop
 loop-again c =
-    let turn = c .before .before .before .before .before .before .before .before .before in
+    let turn = c .before .before .before .before .before .before .before .before .before .before .before in
     let e = turn .before .before .args in
     let J = widened (job-of (e .t1)) in (
       search needs,
       refl,
-      listed-as (sym (kinds-more J (turn .loop .i)))
-          (c .put-kind .ensures J (weight-in (now (e .weights))) _ (turn .loop .i) (turn .loop .inv .2) (rw (c .before .before .before .before .before .widen .ensures) refl)),
+      listed-as (kinds-more J (turn .loop .i) (c .before .before .before .may-turn .ensures))
+          (c .put-kind .ensures J (weight-in (now (e .weights))) _ (turn .loop .i) (turn .loop .inv .2) (rw (c .before .before .before .before .before .before .before .widen .ensures) refl)),
     )
 
 cast-result : tie.Need-cast-result Inv-loop μ-loop
@@ -79,5 +82,5 @@ list-pieces-spec =
     tie.close
     (tie.spec
     Inv-loop μ-loop loop-holds (λ c. search needs) (λ c. search needs) element-copy-out-widen (λ c. search needs) element-copy-out-put-kind
-    widen-requires (λ c. search needs) element-copy-out-t23 (λ c. search needs) (λ c. search needs) mul-t27 (λ c. search needs)
-    element-copy-out-put-kind-2 put-kind-requires (λ c. search needs) (λ c. search needs) loop-again cast-result returns)
+    widen-requires (λ c. search needs) element-copy-out-t24 (λ c. search needs) (λ c. search needs) mul-t28 element-copy-out-may-turn
+    (λ c κs. search needs) (λ c. search needs) element-copy-out-put-kind-2 put-kind-requires (λ c. search needs) (λ c. search needs) loop-again cast-result returns)

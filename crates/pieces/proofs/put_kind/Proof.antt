@@ -13,7 +13,7 @@ use Rattle.pieces.proofs.put_kind.Tie as tie
 returns : tie.Need-returns
 returns c J weight ps i w e =
     let start = c .before .args in
-    listed-as (when-cancelled (ways (start .turning)) ps i (start .demand) (c .if1 .taken)) w
+    listed-as (when-cancelled (ways (start .turns)) ps i (start .demand) (c .if1 .taken)) w
 
 put-piece-requires-2 : tie.Need-put-piece-requires-2
 put-piece-requires-2 c κs =
