@@ -36,6 +36,10 @@ pub enum Refusal {
     RackSize,
     RackDemand(u16),
     DemandProduct,
+    SizesLength,
+    TrueSize(u16),
+    NoModel(u16),
+    TrueMisfit(u16),
 }
 
 // What a check answers: passed, or the first refusal met.
@@ -83,6 +87,10 @@ fn line_of(r: Refusal) -> Line
         Refusal::RackSize => Line(28, 0),
         Refusal::RackDemand(k) => Line(29, k as u64),
         Refusal::DemandProduct => Line(30, 0),
+        Refusal::SizesLength => Line(31, 0),
+        Refusal::TrueSize(k) => Line(32, k as u64),
+        Refusal::NoModel(k) => Line(33, k as u64),
+        Refusal::TrueMisfit(k) => Line(34, k as u64),
     }
 }
 
