@@ -8,13 +8,17 @@ use lib.Dec.{ltb, eqb}
 use lib.ListN.{length, getD}
 use Rattle.cutting.specs.Limits.{most-true-side, most-true-kerf}
 use Rattle.cutting.specs.Job.{Job}
-use Rattle.refusal.specs.Refusals.{Check, first-refusal, by-check}
+use Rattle.refusal.specs.Refusals.{Check, next, first-refusal, by-check}
 use Rattle.refusal.specs.declared.Checked.{Checked}
 use Rattle.refusal.specs.declared.Checked.the-variants.{Passed, Refused}
 use Rattle.refusal.specs.declared.Refusal.the-variants.{SizesLength, TrueSize}
-use Rattle.job.specs.Block.{u32-at, outside, each-kind, entries}
+use Rattle.job.specs.declared.Choices.{Choices}
+use Rattle.job.specs.declared.JobRecord.{JobRecord}
+use Rattle.job.specs.Block.{u32-at, count-at, outside, each-kind, job-checks, entries, record-of, empty-record}
+use Rattle.job.specs.Weights.{block-job}
 use Rattle.sizes.specs.declared.TrueSizes.{TrueSizes}
 use Rattle.sizes.specs.declared.SizesAnswer.{SizesAnswer}
+use Rattle.sizes.specs.declared.TrueAnswer.{TrueAnswer}
 
 -- the plate's length stands first
 abbrev pub true-plate-length-at : List ℕ → ℕ
@@ -90,6 +94,26 @@ true-job M z = record {
   price = M .price;
   demand = M .demand;
 }
+
+-- the true job of a job block and a sizes block
+abbrev pub block-true-job : List ℕ → Choices → List ℕ → Job
+block-true-job s choices z = true-job (block-job s choices) (sizes-of (count-at s) z)
+
+-- the verdict on a job block and a sizes block: the job's checks come first
+abbrev pub true-verdict : List ℕ → Choices → List ℕ → Checked
+true-verdict s choices z = next (first-refusal (job-checks s choices)) (first-refusal (sizes-checks (count-at s) z))
+
+-- the answer without records
+abbrev pub true-refused : Checked → TrueAnswer
+true-refused v = record { verdict = v; model = empty-record; sizes = empty-sizes }
+
+-- what reading answers by a verdict: the records, or a refusal
+abbrev pub true-by : Checked → JobRecord → TrueSizes → TrueAnswer
+true-by v j z = by-check v (record { verdict = Passed; model = j; sizes = z }) (λ r. true-refused (Refused r))
+
+-- what reading a job block and a sizes block answers
+abbrev pub true-read : List ℕ → Choices → List ℕ → TrueAnswer
+true-read s choices z = true-by (true-verdict s choices z) (record-of s choices) (sizes-of (count-at s) z)
 
 -- a job whose sizes are in the ranges of true sizes
 pub record TrueRange (J : Job) : Type 0 where

@@ -1,7 +1,11 @@
-// The true sizes of a job: a sizes block is read into a record. Refusals 31 and 32.
+// The true sizes of a job: a sizes block is read into a record, beside the job block that is its model. Refusals 31 and 32.
 // Fields are four bytes, lowest byte first; specs/Sizes says where each stands, when a block is refused, and which job the sizes make of
 // their model.
+use job::Choices;
+use job::JobRecord;
 use job::either;
+use job::empty_record;
+use job::read_job;
 use job::read_u32;
 use job::read_u32_fields;
 use refusal::Checked;
@@ -13,7 +17,7 @@ ghost use Prim.Native.Nat.{_+_, _*_, _≤_, _<_};
 ghost use lib.ListN.{length};
 ghost use Rattle.refusal.specs.Refusals.{refuse-when, first-refusal};
 ghost use Rattle.job.specs.Block.{u32-at, each-kind};
-ghost use Rattle.sizes.specs.Sizes.{true-sides-outside, plate-check, kind-check, sizes-checks, sizes-of, empty-sizes, sizes-read};
+ghost use Rattle.sizes.specs.Sizes.{true-sides-outside, plate-check, kind-check, sizes-checks, sizes-of, empty-sizes, sizes-read, true-refused, true-read};
 
 // The true sizes: the plate's sides, the kerf, and each kind's sides; 0 past the last kind.
 pub struct TrueSizes {
@@ -27,6 +31,13 @@ pub struct TrueSizes {
 // What reading a sizes block answers: where it is refused, the sizes are all 0.
 pub struct SizesAnswer {
     pub verdict: Checked,
+    pub sizes: TrueSizes,
+}
+
+// What reading a job block and a sizes block answers: where one is refused, both records are empty.
+pub struct TrueAnswer {
+    pub verdict: Checked,
+    pub model: JobRecord,
     pub sizes: TrueSizes,
 }
 
@@ -139,5 +150,39 @@ pub fn read_sizes(block: &[u8], n: u16) -> SizesAnswer
     SizesAnswer {
         verdict: Checked::Passed,
         sizes: read_block(block, n),
+    }
+}
+
+// A refusal of the job block or the sizes block, without records.
+fn refuse_true(verdict: Checked) -> TrueAnswer
+    ensures { λ r. ⌜ r ≡ true-refused verdict ⌝ }
+{
+    TrueAnswer {
+        verdict: verdict,
+        model: empty_record(),
+        sizes: empty_sizes(),
+    }
+}
+
+// A job block and the sizes block of its kinds, read or refused.
+pub fn read_true_job(block: &[u8], choices: Choices, sizes: &[u8]) -> TrueAnswer
+    ensures { λ r. ⌜ r ≡ true-read (now (block .entry)) choices (now (sizes .entry)) ⌝ }
+{
+    let read = read_job(block, choices);
+    let verdict = read.verdict;
+    let Checked::Passed = verdict else {
+        return refuse_true(verdict);
+    };
+    let model = read.job;
+    let measured = read_sizes(sizes, model.count);
+    let ranges = measured.verdict;
+    let Checked::Passed = ranges else {
+        return refuse_true(ranges);
+    };
+    let true_sizes = measured.sizes;
+    TrueAnswer {
+        verdict: Checked::Passed,
+        model: model,
+        sizes: true_sizes,
     }
 }
