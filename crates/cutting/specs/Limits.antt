@@ -14,6 +14,14 @@ most-kerf = 20
 abbrev pub most-wide-side : ℕ
 most-wide-side = most-side + most-kerf
 
+-- the greatest true side of a plate or a piece
+abbrev pub most-true-side : ℕ
+most-true-side = 100000000
+
+-- the greatest true kerf
+abbrev pub most-true-kerf : ℕ
+most-true-kerf = 1000000
+
 -- the most kinds of a job
 abbrev pub most-kinds : ℕ
 most-kinds = 64

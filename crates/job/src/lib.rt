@@ -101,7 +101,7 @@ pub fn read_u16(block: &[u8], at: usize) -> u16
 }
 
 // A field of four bytes.
-fn read_u32(block: &[u8], at: usize) -> u32
+pub fn read_u32(block: &[u8], at: usize) -> u32
     requires { ⌜ at + 4 ≤ length (now block) ⌝ }
     ensures { λ r. ⌜ r ≡ u32-at (now (block .entry)) at ⌝ }
 {
@@ -112,7 +112,7 @@ fn read_u32(block: &[u8], at: usize) -> u32
 }
 
 // Whether one of two conditions holds.
-fn either(a: bool, b: bool) -> bool
+pub fn either(a: bool, b: bool) -> bool
     ensures { λ r. ⌜ r ≡ (a || b) ⌝ }
 {
     if a { true } else { b }
@@ -390,18 +390,25 @@ fn read_fields(block: &[u8], from: usize, step: usize, n: u16) -> [u16; 64]
     fields
 }
 
-// The prices, fields of four bytes.
+// The same of fields of four bytes.
+pub fn read_u32_fields(block: &[u8], from: usize, step: usize, n: u16) -> [u32; 64]
+    requires { ⌜ (n ≤ 64) × ((i : ℕ) → i < n → from + step * i + 4 ≤ length (now block)) ⌝ }
+    ensures { λ r. ⌜ r ≡ entries (λ i. u32-at (now (block .entry)) (from + step * i)) n ⌝ }
+{
+    let mut fields = [0u32; 64];
+    for i in 0..n {
+        let k = i as usize;
+        fields[k] = read_u32(block, from + step * k);
+    }
+    fields
+}
+
+// The prices.
 fn read_prices(block: &[u8], h: usize, n: u16) -> [u32; 64]
     requires { ⌜ HoldsKinds h (now block) n ⌝ }
     ensures { λ r. ⌜ r ≡ entries (price-at h (now (block .entry))) n ⌝ }
 {
-    let mut prices = [0u32; 64];
-    let pairs = h + 4 * (n as usize);
-    for i in 0..n {
-        let k = i as usize;
-        prices[k] = read_u32(block, pairs + 6 * k);
-    }
-    prices
+    read_u32_fields(block, h + 4 * (n as usize), 6, n)
 }
 
 // An array of bytes, the first at `from`.

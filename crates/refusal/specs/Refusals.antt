@@ -5,7 +5,7 @@ use mathlib.Core.Bool.{Bool, true, false}
 use mathlib.Core.List.{List, [], _∷_}
 use Prim.Native.Nat.{ℕ}
 use Rattle.refusal.specs.declared.Refusal.{Refusal}
-use Rattle.refusal.specs.declared.Refusal.the-variants.{ShortHeader, PlateSide, RackSide, KindCount, BlockLength, KindSide, Price, Demand, WeightCount, Capacity, PlanLength, NodeCount, NodeKind, PieceNumber, Operand, Misfit, Excess, NodeMissing, NodeLeft, ListShort, TableShort, PlanLong, StageLimit, ManyStages, SecondCount, CapacityProduct, IdleCut, Kerf, RackSize, RackDemand, DemandProduct, Grain, AgainstGrain}
+use Rattle.refusal.specs.declared.Refusal.the-variants.{ShortHeader, PlateSide, RackSide, KindCount, BlockLength, KindSide, Price, Demand, WeightCount, Capacity, PlanLength, NodeCount, NodeKind, PieceNumber, Operand, Misfit, Excess, NodeMissing, NodeLeft, ListShort, TableShort, PlanLong, StageLimit, ManyStages, SecondCount, CapacityProduct, IdleCut, Kerf, RackSize, RackDemand, DemandProduct, SizesLength, TrueSize, NoModel, TrueMisfit, Grain, AgainstGrain, MultiplierCount, Multiplier}
 use Rattle.refusal.specs.declared.Checked.{Checked}
 use Rattle.refusal.specs.declared.Checked.the-variants.{Passed, Refused}
 
@@ -42,10 +42,16 @@ number-of Kerf = 27
 number-of RackSize = 28
 number-of (RackDemand k) = 29
 number-of DemandProduct = 30
+number-of SizesLength = 31
+number-of (TrueSize k) = 32
+number-of (NoModel k) = 33
+number-of (TrueMisfit k) = 34
 number-of (Grain k) = 35
 number-of (AgainstGrain k) = 36
+number-of MultiplierCount = 37
+number-of (Multiplier k) = 38
 
--- the table's place of a refusal: a kind, a node, a plate, a count of words or nodes, or 0
+-- the table's place of a refusal: a kind, a node, a plate, a direction, a count of words or nodes, or 0
 abbrev pub place-of : Refusal → ℕ
 place-of ShortHeader = 0
 place-of PlateSide = 0
@@ -78,8 +84,14 @@ place-of Kerf = 0
 place-of RackSize = 0
 place-of (RackDemand k) = k
 place-of DemandProduct = 0
+place-of SizesLength = 0
+place-of (TrueSize k) = k
+place-of (NoModel k) = k
+place-of (TrueMisfit k) = k
 place-of (Grain k) = k
 place-of (AgainstGrain k) = k
+place-of MultiplierCount = 0
+place-of (Multiplier k) = k
 
 -- one line of the table: whether its condition holds, and the refusal that it then draws
 abbrev pub Check : Type 0

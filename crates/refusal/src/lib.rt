@@ -36,8 +36,14 @@ pub enum Refusal {
     RackSize,
     RackDemand(u16),
     DemandProduct,
+    SizesLength,
+    TrueSize(u16),
+    NoModel(u16),
+    TrueMisfit(u16),
     Grain(u16),
     AgainstGrain(u16),
+    MultiplierCount,
+    Multiplier(u16),
 }
 
 // What a check answers: passed, or the first refusal met.
@@ -85,8 +91,14 @@ fn line_of(r: Refusal) -> Line
         Refusal::RackSize => Line(28, 0),
         Refusal::RackDemand(k) => Line(29, k as u64),
         Refusal::DemandProduct => Line(30, 0),
+        Refusal::SizesLength => Line(31, 0),
+        Refusal::TrueSize(k) => Line(32, k as u64),
+        Refusal::NoModel(k) => Line(33, k as u64),
+        Refusal::TrueMisfit(k) => Line(34, k as u64),
         Refusal::Grain(k) => Line(35, k as u64),
         Refusal::AgainstGrain(k) => Line(36, k as u64),
+        Refusal::MultiplierCount => Line(37, 0),
+        Refusal::Multiplier(k) => Line(38, k as u64),
     }
 }
 
