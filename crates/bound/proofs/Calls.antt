@@ -1,26 +1,27 @@
 -- What the bound call promises, from the job's and the weights' verdicts and from the bound of an accepted job.
-use mathlib.Core.Path.{_≡_, refl, sym, _∙_, ap, subst}
-use mathlib.Core.List.{List}
+use mathlib.Core.Path.{_≡_, refl, sym, _∙_, ap, ap₂, subst}
+use mathlib.Core.List.{List, _++_}
 use Prim.Native.Nat.{ℕ, _≤_}
 use lib.ListN.{length}
 use native.Mathlib.Omega.{arith}
 use Rattle.cutting.specs.declared.Sides.{Sides}
 use Rattle.cutting.specs.Sides.{rect-of, sides-of}
-use Rattle.cutting.specs.Job.{Job, InRange, widened}
+use Rattle.cutting.specs.Job.{Job, InRange, widened, capacity}
 use Rattle.cutting.specs.Listed.{listed-weight, pieces-job, PieceArray}
 use Rattle.cutting.proofs.Promises.{recursion, figures-most, normal-listed, floor-figures}
-use Rattle.refusal.specs.Refusals.{next, first-refusal, by-check, outcome-by}
+use Rattle.refusal.specs.Refusals.{Check, next, first-refusal, by-check, outcome-by}
 use Rattle.refusal.specs.declared.Refusal.{Refusal}
 use Rattle.refusal.specs.declared.Checked.{Checked}
 use Rattle.refusal.specs.declared.Checked.the-variants.{Passed, Refused}
 use Rattle.job.specs.declared.Choices.{Choices}
 use Rattle.job.specs.declared.JobRecord.{JobRecord}
-use Rattle.job.specs.Block.{job-of}
-use Rattle.job.specs.Weights.{block-job, weight-in, Accepted}
+use Rattle.job.specs.Block.{job-of, ReadAlike}
+use Rattle.job.specs.Weights.{block-job, weight-in, weight-checks, Accepted}
 use Rattle.job.proofs.Checks.{passed-both}
+use Rattle.job.proofs.Kerf.{kerf-none-read}
 use Rattle.job.proofs.Weights.{weights-passed, accepted-both, accepted-in-range}
 use Rattle.job.proofs.Taken.{Taken}
-use Rattle.bound.specs.Bound.{Memory, Leaves, wide-job, answer-by, memory-checks, report-values, block-capacity, block-report, accept-verdict, bound-verdict, bound-answer, bound-outcome, BoundLeaves, BoundSaid, BoundPromises}
+use Rattle.bound.specs.Bound.{Memory, Leaves, wide-job, answer-by, bound-report, memory-checks, report-values, block-capacity, block-report, accept-verdict, bound-verdict, bound-answer, bound-outcome, BoundLeaves, BoundSaid, BoundPromises}
 use Rattle.bound.specs.Contracts.{Boundable, Bounded}
 use Rattle.bound.specs.declared.BoundReport.{BoundReport}
 use Rattle.bound.specs.declared.BoundAnswer.{BoundAnswer}
@@ -72,6 +73,22 @@ exact-by s choices ws m b e =
     let v = passed-both (accept-verdict s choices ws) (first-refusal (memory-checks (wide-job s choices) (block-capacity s choices ws) m)) (w .0) in
     rw (w .1) (bound-held (block-job s choices) (weight-in ws) (accepted-in-range s choices ws (v .0)))
 
+-- blocks that are read alike: answer and memory are the same
+module _ (ws : List ℕ) (old : Memory) where
+  abbrev answer-from : List Check → JobRecord → BoundAnswer
+  answer-from checks j = answer-by (next (first-refusal (checks ++ weight-checks (job-of j) ws)) (first-refusal (memory-checks (widened (job-of j)) (capacity (job-of j) (weight-in ws)) old)))
+      (bound-report (widened (job-of j)) (weight-in ws) (capacity (job-of j) (weight-in ws)))
+
+  abbrev LeftFrom : Memory → List Check × JobRecord → Type 0
+  LeftFrom new r = Leaves (first-refusal (r .0 ++ weight-checks (job-of (r .1)) ws)) (widened (job-of (r .1))) (weight-in ws) (capacity (job-of (r .1)) (weight-in ws)) old new
+
+  module _ {s : List ℕ} {choices : Choices} {z : List ℕ} {other : Choices} (same : ReadAlike s choices z other) where
+    alike-answers : bound-answer s choices ws old ≡ bound-answer z other ws old
+    alike-answers = ap₂ answer-from (same .checks) (same .record-is)
+
+    alike-leaves : (new : Memory) → BoundLeaves s choices ws old new → BoundLeaves z other ws old new
+    alike-leaves new l = subst (LeftFrom new) (λ i. (same .checks i, same .record-is i)) l
+
 module _ (s : List ℕ) (choices : Choices) (ws : List ℕ) (old : Memory) where
   -- the answer and the memory give the rest
   promised : {new : Memory} (r : BoundAnswer) → r ≡ bound-answer s choices ws old → BoundLeaves s choices ws old new → BoundPromises s choices ws old new r
@@ -86,6 +103,7 @@ module _ (s : List ℕ) (choices : Choices) (ws : List ℕ) (old : Memory) where
         accepted = λ a. bound-held (block-job s choices) (weight-in ws) (accepted-in-range s choices ws a);
         figures = λ a. figures-most (block-job s choices) (weight-in ws) (accepted-in-range s choices ws a);
         floor = λ a. floor-figures (block-job s choices) (weight-in ws) (accepted-in-range s choices ws a);
+        kerf-none = λ z n h. (let same = kerf-none-read s choices z n h in (e ∙ alike-answers ws old same, alike-leaves ws old same _ l));
       }
 
   -- the job or its weights are refused

@@ -4,7 +4,7 @@ use mathlib.Core.Path.{_≡_, refl}
 use Prim.Native.Nat.{ℕ}
 use Rattle.cutting.specs.Job.{Job, InRange, capacity, bound-of}
 use Rattle.cutting.proofs.Members.{range-solid}
-use Rattle.cutting.proofs.Finer.{none-finer}
+use Rattle.cutting.proofs.Finer.{none-finer, within-finer}
 use Rattle.cutting.proofs.Bound.{capacity-less, bound-ceiling, bound-less}
 use Rattle.cutting.proofs.Promises.{bound-exact, none-above, none-heavier, plate-holds}
 use Rattle.refusal.specs.declared.Refusal.{Refusal}
@@ -18,6 +18,7 @@ use Rattle.bound.specs.declared.BoundAnswer.the-variants as answer
 pub bound-held : (J : Job) (weight : ℕ → ℕ) → InRange J → BoundHolds J weight (capacity J weight) (bound-of J weight)
 bound-held J weight h = record {
   most = bound-exact J weight h;
+  most-finer = within-finer J (range-solid J h) weight (capacity J weight) (bound-of J weight) (bound-exact J weight h);
   demands = none-above J weight h;
   finer = none-finer J (range-solid J h) (bound-of J weight) (none-above J weight h);
   weighs = none-heavier J weight h;

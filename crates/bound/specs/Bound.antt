@@ -2,17 +2,18 @@
 -- answered bound is.
 -- docs/SCOPE.md: The bound; Lent memory.
 use mathlib.Core.Path.{_≡_}
+use mathlib.Core.Bool.{false}
 use mathlib.Core.List.{List, [], _∷_, _++_}
 use Prim.Native.Nat.{ℕ, _≤_}
 use lib.ListN.{length}
 use Rattle.cutting.specs.declared.Direction.the-variants.{Length, Width}
 use Rattle.cutting.specs.Limits.{most-figure}
 use Rattle.cutting.specs.Job.{Job, widened, capacity, at-full-demand, figure-of, bound-of, normal-positions}
-use Rattle.cutting.specs.Promises.{NoneAbove, NoneFiner, NoneHeavier, PlateHolds, MostWithin, Recursion, NormalSums, FiguresMost, FloorFigures}
+use Rattle.cutting.specs.Promises.{NoneAbove, NoneFiner, NoneHeavier, PlateHolds, FinerAmong, OfWeight, MostWithin, Recursion, NormalSums, FiguresMost, FloorFigures}
 use Rattle.refusal.specs.Refusals.{Check, Outcome, next, first-refusal, by-check, refused-as, outcome-by}
 use Rattle.refusal.specs.declared.Checked.{Checked}
 use Rattle.job.specs.declared.Choices.{Choices}
-use Rattle.job.specs.Block.{job-checks}
+use Rattle.job.specs.Block.{with-old-block, job-checks, KerfNone}
 use Rattle.job.specs.Weights.{block-job, weight-in, weight-checks, Accepted}
 use Rattle.table.specs.Table.{position-count, words-needed, Figures, Kept}
 pub use Rattle.storage.specs.Storage.{list-check, room-check, list-after}
@@ -103,12 +104,13 @@ bound-outcome (answer.Refused r) = refused-as r
 abbrev pub bound-said : List ℕ → Choices → List ℕ → Memory → Outcome
 bound-said s choices ws m = outcome-by (bound-verdict s choices ws m) (report-values (block-report s choices ws))
 
--- what a bound n at the capacity q is: the most that a guillotine tree of weight at most q earns; no less than any tree that keeps the
--- demands earns, which weighs at most q, and than any such tree cut finer; at most 1,000,000,000,000; the recursion's figure, the kerf
--- added to every side, at the plate and q. The capacity is the job's, no tree on the plate has more copies of a kind than it counts as what
--- the plate holds, and capacity and bound of the full demands are no less
+-- what a bound n at the capacity q is: the most that a guillotine tree of weight at most q earns; no less than any tree of the job's kinds that
+-- keeps the demands earns, which weighs at most q; no less than any of these trees cut finer; at most 1,000,000,000,000; the recursion's figure,
+-- the kerf added to every side, at the plate and q. The capacity is the job's, no tree on the plate has more copies of a kind than it counts as
+-- what the plate holds, and capacity and bound of the full demands are no less
 pub record BoundHolds (J : Job) (weight : ℕ → ℕ) (q n : ℕ) : Type 0 where
   pub most : MostWithin J weight q n
+  pub most-finer : FinerAmong J (OfWeight weight q) n
   pub demands : NoneAbove J n
   pub finer : NoneFiner J n
   pub weighs : NoneHeavier J weight q
@@ -130,7 +132,7 @@ BoundSaid s choices ws r = (b : BoundReport) → r ≡ answer.Answered b → Bou
 -- what the bound call promises of its answer and of the memory that it is lent: both are the definitions', number and values too; an
 -- answered bound holds; with the kerf added to every side the figures follow the recursion and the normal positions are the sums. Where
 -- job and weights are accepted, whatever storage is lent: their bound holds, every figure is the most that a tree earns there, and a tabled
--- figure is that of every rectangle whose largest normal sides it has
+-- figure is that of every rectangle whose largest normal sides it has. Kerf 0 in a new block answers and leaves what the old block does
 pub record BoundPromises (s : List ℕ) (choices : Choices) (ws : List ℕ) (old new : Memory) (r : BoundAnswer) : Type 0 where
   pub answers : r ≡ bound-answer s choices ws old
   pub outcome : bound-outcome r ≡ bound-said s choices ws old
@@ -141,3 +143,4 @@ pub record BoundPromises (s : List ℕ) (choices : Choices) (ws : List ℕ) (old
   pub accepted : Accepted s choices ws → BlockHolds s choices ws
   pub figures : Accepted s choices ws → FiguresMost (block-job s choices) (weight-in ws)
   pub floor : Accepted s choices ws → FloorFigures (wide-job s choices) (weight-in ws)
+  pub kerf-none : (z : List ℕ) → choices .«old_block» ≡ false → KerfNone s z → (r ≡ bound-answer z (with-old-block choices) ws old) × BoundLeaves z (with-old-block choices) ws old new

@@ -6,6 +6,7 @@ use native.Mathlib.Omega.{arith}
 use Rattle.cutting.specs.Job.{Job, bound-of, by-kind}
 use Rattle.cutting.specs.Promises.{NoneBetter}
 use Rattle.cutting.proofs.Members.{range-solid}
+use Rattle.cutting.proofs.AnyKinds.{any-on}
 use Rattle.cutting.proofs.Finer.{none-finer}
 use Rattle.cutting.proofs.Weights.{by-weight-monotone}
 use Rattle.cutting.proofs.Plan.{plan-bound, plan-idle}
@@ -39,7 +40,7 @@ module _ (s : List ℕ) (choices : Choices) (ws kinds operands : List ℕ) (good
       (t .0, t .1, sym (ap (λ (r : Report). r .profit) (t .2 .own)))
 
   pub drawn-most : plan-answer J kinds operands .report .profit ≤ bound-of J (weight-in ws)
-  drawn-most = let t = drawn in omega (arith, t .2, trees.none-above J (weight-in ws) (read-in-range s choices good) (t .0) (t .1 .drawn .on-plate) (t .1 .drawn .demands))
+  drawn-most = let t = drawn in omega (arith, t .2, trees.none-above J (weight-in ws) (read-in-range s choices good) (t .0) (any-on J (t .0) (t .1 .drawn .on-plate)) (t .1 .drawn .demands))
 
 module _ (s : List ℕ) (choices : Choices) (ws kinds operands : List ℕ) (m : Memory) (passed : certify-verdict s choices ws kinds operands m ≡ Passed) where
   -- what stands behind a certificate

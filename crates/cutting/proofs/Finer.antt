@@ -1,6 +1,6 @@
 -- Cuts between the marks. The neat plan stands its cuts where pieces end, and reads of a tree its pieces alone: so the neat plan, by whole
 -- sizes, of a tree cut at multiples of one m-th of a unit is cut at whole units, with the same pieces and no more stages. What no tree at
--- whole units earns, no finer tree does, whatever the bound that says so.
+-- whole units earns, no finer tree does, whatever the bound that says so: of trees within the demands, or within a capacity.
 use mathlib.Core.Path.{_≡_, refl, sym, _∙_, ap₂}
 use Prim.Native.Nat.{ℕ, zero, suc, _+_, _*_, _≤_, max}
 use native.Mathlib.Nat.{mul-zero, mul-le-mul-left, le-of-mul-le-mul-left}
@@ -10,14 +10,17 @@ use lib.Dec.{eqb}
 use Rattle.cutting.specs.declared.Direction.{Direction}
 use Rattle.cutting.specs.declared.Direction.the-variants.{Length, Width}
 use Rattle.cutting.specs.Lists.{only}
-use Rattle.cutting.specs.Tree.{Rect, Tree, waste, piece, cut, piece-count}
+use Rattle.cutting.specs.Tree.{Rect, Tree, waste, piece, cut, total, piece-count}
 use Rattle.cutting.specs.Pieces.{Piece, upright, turned, kind, times, _⊑_}
-use Rattle.cutting.specs.Job.{Job, laid, GuillotineTree, profit, KeepsDemands, finer, ordered, members, pieces, SolidKinds}
-use Rattle.cutting.specs.Promises.{NoneAbove, NoneFiner}
-use Rattle.cutting.specs.Staged.{NoneStaged, NoneStagedFiner}
+use Rattle.cutting.specs.Job.{Job, laid, GuillotineTree, OnPlate, profit, weight-of, KeepsDemands, finer, ordered, members, pieces, SolidKinds}
+use Rattle.cutting.specs.Promises.{NoneAbove, NoneFiner, FinerAmong, OfWeight, MostWithin}
+use Rattle.cutting.specs.Shares.{stages}
+use Rattle.cutting.specs.Staged.{NoneStaged, NoneStagedFiner, OfStages, MostStaged}
+use Rattle.cutting.specs.Two.{OfWeights, MostTwo}
 use Rattle.cutting.specs.Neat.{joined, used, neat-of, used-of}
 use Rattle.cutting.proofs.Members.{members-solid}
 use Rattle.cutting.proofs.Job.{guillotine-plain, plain-guillotine}
+use Rattle.cutting.proofs.AnyKinds.{any-on, ordered-on}
 use Rattle.cutting.proofs.Neat.{all-in, neat-fits, neat-total, neat-stages, used-on}
 
 module _ (m : ℕ) where
@@ -62,19 +65,46 @@ module _ (m : ℕ) where
         whole : times m (used-of J t) ⊑ (m * l, m * w) → used-of J t ⊑ (l, w)
         whole h = (le-of-mul-le-mul-left (h .0) pos, le-of-mul-le-mul-left (h .1) pos)
 
-module _ (J : Job) (solid : SolidKinds J) where
-  -- it earns the same and keeps the same demands
-  neat-profit : (t : Tree Piece) → profit J (neat-of J t) ≡ profit J t
-  neat-profit t = neat-total (J .kerf) (laid J) (λ p. J .price (kind p)) t
+module _ (J : Job) where
+  -- it has the same sum of any number a kind: earns the same, weighs the same, keeps the same demands
+  neat-kinds : (f : ℕ → ℕ) (t : Tree Piece) → total (λ p. f (kind p)) (neat-of J t) ≡ total (λ p. f (kind p)) t
+  neat-kinds f t = neat-total (J .kerf) (laid J) (λ p. f (kind p)) t
 
   neat-keeps : (t : Tree Piece) → KeepsDemands J t → KeepsDemands J (neat-of J t)
-  neat-keeps t k i l = omega (arith, k i l, neat-total (J .kerf) (laid J) (λ p. only (eqb (kind p) i) 1) t)
+  neat-keeps t k i l = omega (arith, k i l, neat-kinds (λ j. only (eqb j i) 1) t)
 
-  -- so a bound on the trees at whole units that keep the demands bounds the finer ones
+  neat-weighs : (weight : ℕ → ℕ) (q : ℕ) (t : Tree Piece) → weight-of weight t ≤ q → weight-of weight (neat-of J t) ≤ q
+  neat-weighs weight q t w = omega (arith, w, neat-kinds weight t)
+
+  neat-staged : (n : ℕ) (t : Tree Piece) → stages t ≤ n → stages (neat-of J t) ≤ n
+  neat-staged n t s = omega (arith, s, neat-stages (J .kerf) (laid J) t)
+
+module _ (J : Job) (solid : SolidKinds J) where
+  -- so a bound on the trees at whole units among some, where the neat plan of one is one, bounds the finer ones
+  among-finer : (Among : Tree Piece → Type 0) → ((t : Tree Piece) → Among t → Among (neat-of J t)) → (n : ℕ)
+      → ((t : Tree Piece) → OnPlate J t → Among t → profit J t ≤ n) → FinerAmong J Among n
+  among-finer Among kept n none m pos t g a =
+      omega (arith, neat-kinds J (J .price) t, none (neat-of J t) (finer-neat m J solid pos t (J .plate .0) (J .plate .1) g) (kept t a))
+
+  -- those that keep the demands
   pub none-finer : (n : ℕ) → NoneAbove J n → NoneFiner J n
-  none-finer n none m pos t g k = omega (arith, neat-profit t, none (neat-of J t) (finer-neat m J solid pos t (J .plate .0) (J .plate .1) g) (neat-keeps t k))
+  none-finer n none m pos t g k = among-finer (KeepsDemands J) (neat-keeps J) n (λ t o k. none t (any-on J t o) k) m pos t (ordered-on (finer m J) t g k) k
 
   -- and within a limit of stages too
   pub staged-finer : (n q : ℕ) → NoneStaged J n q → NoneStagedFiner J n q
-  staged-finer n q none m pos t g k =
-      omega (arith, neat-profit t, none (neat-of J t) (finer-neat m J solid pos t (J .plate .0) (J .plate .1) (g .0), omega (arith, g .1, neat-stages (J .kerf) (laid J) t)) (neat-keeps t k))
+  staged-finer n q none m pos t g s k = among-finer (λ t. (stages t ≤ n) × KeepsDemands J t) (λ t a. (neat-staged J n t (a .0), neat-keeps J t (a .1))) q
+      (λ t o a. none t (any-on J t o) (a .0) (a .1)) m pos t (ordered-on (finer m J) t g k) (s, k)
+
+  -- those within one capacity
+  pub within-finer : (weight : ℕ → ℕ) (q n : ℕ) → MostWithin J weight q n → FinerAmong J (OfWeight weight q) n
+  within-finer weight q n most = among-finer (OfWeight weight q) (neat-weighs J weight q) n (most .0)
+
+  -- within two
+  pub two-finer : (first second : ℕ → ℕ) (q q′ n : ℕ) → MostTwo J first second q q′ n → FinerAmong J (OfWeights first second q q′) n
+  two-finer first second q q′ n most =
+      among-finer (OfWeights first second q q′) (λ t a. (neat-weighs J first q t (a .0), neat-weighs J second q′ t (a .1))) n (most .0)
+
+  -- and within a limit of stages and a capacity
+  pub stages-finer : (weight : ℕ → ℕ) (n q m : ℕ) → MostStaged J weight n q m → FinerAmong J (OfStages weight n q) m
+  stages-finer weight n q m most =
+      among-finer (OfStages weight n q) (λ t a. (neat-staged J n t (a .0), neat-weighs J weight q t (a .1))) m (λ t g a. most .0 t (g, a .0) (a .1))

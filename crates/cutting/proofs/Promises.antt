@@ -9,6 +9,7 @@ use Rattle.cutting.proofs.Lists.{range-mem, mem-range, filter-mem, mem-
 use Rattle.cutting.proofs.Weights.{by-weight-monotone}
 use Rattle.cutting.proofs.Members.{range-solid, widened-solid}
 use Rattle.cutting.proofs.Job.{figure-recursion}
+use Rattle.cutting.proofs.AnyKinds.{ordered-on, none-any}
 use Rattle.cutting.proofs.Bound.{copies-plate, figure-most, bound-most, demands-weight, bound-holds}
 use Rattle.cutting.proofs.Table.{normal-sums, figure-floor}
 use Rattle.cutting.proofs.Plan.{plan-recursion}
@@ -35,11 +36,11 @@ module _ (J : Job) (weight : ℕ → ℕ) where
 
     -- and no tree within the demands earns more
     pub none-above : NoneAbove J (bound-of J weight)
-    none-above = bound-holds J weight (range-solid J h)
+    none-above = none-any J (bound-of J weight) (bound-holds J weight (range-solid J h))
 
     -- those weigh at most the capacity
     pub none-heavier : NoneHeavier J weight (capacity J weight)
-    none-heavier = demands-weight J weight (range-solid J h)
+    none-heavier t g k = demands-weight J weight (range-solid J h) t (ordered-on J t g k) k
 
     -- every figure is the most of its rectangle and share
     pub figures-most : FiguresMost J weight

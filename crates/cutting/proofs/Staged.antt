@@ -24,6 +24,7 @@ use Rattle.cutting.proofs.Saws.{saw-proper}
 use Rattle.cutting.proofs.Weights.{within-weight, weight-within, by-weight-monotone, by-weight-symmetric}
 use Rattle.cutting.proofs.Reduction.{floor-figure}
 use Rattle.cutting.proofs.Members.{members-solid, range-solid}
+use Rattle.cutting.proofs.AnyKinds.{ordered-on}
 use Rattle.cutting.proofs.Stages as theory
 use Rattle.cutting.proofs.Recursion.{figure-same}
 use Rattle.cutting.proofs.Table.{sides-suffice}
@@ -214,7 +215,7 @@ module _ (J : Job) (solid : SolidKinds J) (weight : ℕ → ℕ) (n : ℕ) where
 
   -- no tree within the limit that keeps every demand earns more
   pub staged-holds : NoneStaged J n (staged-bound J weight n)
-  staged-holds t g k = staged-under-most J solid weight (capacity J weight) n t (g .0) (demands-weight J weight solid t (g .0) k) (g .1)
+  staged-holds t g s k = let o = ordered-on J t g k in staged-under-most J solid weight (capacity J weight) n t o (demands-weight J weight solid t o k) s
 
   -- no limit gives the most
   pub staged-less : staged-bound J weight n ≤ bound-of J weight

@@ -23,6 +23,7 @@ use Rattle.cutting.proofs.Weights.{within-weight, weight-within, by-wei
 use Rattle.cutting.proofs.Pairs.{paired-within, within-paired, paired-monotone}
 use Rattle.cutting.proofs.Reduction.{floor-figure}
 use Rattle.cutting.proofs.Members.{members-solid, range-solid}
+use Rattle.cutting.proofs.AnyKinds.{none-any}
 use Rattle.cutting.proofs.Table.{sides-suffice}
 use Rattle.cutting.proofs.Bound.{share-figure, demands-weight, bound-most, bound-ceiling}
 
@@ -68,7 +69,8 @@ module _ (J : Job) (first second : ℕ → ℕ) where
 
     -- no tree that keeps every demand earns more
     pub two-holds : NoneAbove J (two-bound J first second)
-    two-holds t g k = two-most (capacity J first) (capacity J second) .0 t g (demands-weight J first solid t g k, demands-weight J second solid t g k)
+    two-holds = none-any J (two-bound J first second)
+        (λ t g k. two-most (capacity J first) (capacity J second) .0 t g (demands-weight J first solid t g k, demands-weight J second solid t g k))
 
   -- the bound is at most 1,000,000,000,000
   pub two-ceiling : InRange J → two-bound J first second ≤ most-figure

@@ -11,7 +11,7 @@ use Rattle.cutting.specs.Tree.{Tree, Shares}
 use Rattle.cutting.specs.Pieces.{Piece, kind, fits-in}
 use Rattle.cutting.specs.Shares.{below, by-state}
 use Rattle.cutting.specs.Job.{Job, laid, copies-of, KeepsDemands, widened, members, figure-under, normal-floor, plan-of}
-use Rattle.cutting.specs.Promises.{EarnsAmong, MostAmong}
+use Rattle.cutting.specs.Promises.{NoneAbove, EarnsAmong, MostAmong}
 
 -- the number of states of the kinds below n: the product of their demands, each plus 1
 unfoldable pub states : (ℕ → ℕ) → ℕ → ℕ
@@ -71,9 +71,9 @@ ExactFloors J = (l w s : ℕ) → l ≤ J .plate .0 → w ≤ J .plate .1 → ex
 abbrev pub EarnsExactly : Job → ℕ → Tree Piece → Type 0
 EarnsExactly J n t = EarnsAmong J (KeepsDemands J) (J .plate .0) (J .plate .1) n t
 
--- n is the most that a guillotine tree on the plate that keeps every demand earns: none earns more, and one earns it
+-- n is the most that a guillotine tree on the plate that keeps every demand earns: none earns more, of whatever kinds, and one earns it
 abbrev pub MostExact : Job → ℕ → Type 0
-MostExact J n = MostAmong J (KeepsDemands J) (J .plate .0) (J .plate .1) n
+MostExact J n = NoneAbove J n × ((t : Tree Piece) × EarnsExactly J n t)
 
 -- the copies of kind i that remain in a state, its digit of that kind
 abbrev pub copies-left : Job → ℕ → ℕ → ℕ

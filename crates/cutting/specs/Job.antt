@@ -41,19 +41,36 @@ turns J i = not (J .grain i) && J .turning
 abbrev pub laid : Job → Piece → Rect
 laid J p = lying (J .size) p
 
--- a piece that may lie: its kind is one of the job's and is ordered, and it is turned only where its kind may be
+-- a piece of a kind of the job, ordered or not: turned only where its kind may be turned
+abbrev pub OfJob : Job → Piece → Type 0
+OfJob J (upright i) = i < J .count
+OfJob J (turned i) = (i < J .count) × T (turns J i)
+
+-- a piece that may lie: one of a kind of the job that is ordered
 abbrev pub MayLie : Job → Piece → Type 0
 MayLie J (upright i) = (i < J .count) × (1 ≤ J .demand i)
 MayLie J (turned i) = (i < J .count) × (1 ≤ J .demand i) × T (turns J i)
 
--- a guillotine tree of a job on a rectangle l by w: waste; or a piece that may lie, neither side greater than the rectangle's; or a cut
--- at a whole position x, with a tree on the first part, which has that size, and on the second, the side less x less the kerf; both at
--- least 1
+-- a guillotine tree on a rectangle l by w of pieces that `Held` holds of: waste; or such a piece, neither side greater than the rectangle's;
+-- or a cut at a whole position x, with a tree on the first part, which has that size, and on the second, the side less x less the kerf; both
+-- at least 1
+abbrev pub TreeOf : Job → (Piece → Type 0) → ℕ → ℕ → Tree Piece → Type 0
+TreeOf J Held l w waste = Unit {0}
+TreeOf J Held l w (piece p) = Held p × (laid J p .0 ≤ l) × (laid J p .1 ≤ w)
+TreeOf J Held l w (cut Length x a b) = (1 ≤ x) × (x + J .kerf < l) × TreeOf J Held x w a × TreeOf J Held (l - x - J .kerf) w b
+TreeOf J Held l w (cut Width x a b) = (1 ≤ x) × (x + J .kerf < w) × TreeOf J Held l x a × TreeOf J Held l (w - x - J .kerf) b
+
+-- a guillotine tree of any kinds of the job, ordered or not
+abbrev pub AnyTree : Job → ℕ → ℕ → Tree Piece → Type 0
+AnyTree J l w t = TreeOf J (OfJob J) l w t
+
+-- a guillotine tree of a job: its pieces are of ordered kinds
 abbrev pub GuillotineTree : Job → ℕ → ℕ → Tree Piece → Type 0
-GuillotineTree J l w waste = Unit {0}
-GuillotineTree J l w (piece p) = MayLie J p × (laid J p .0 ≤ l) × (laid J p .1 ≤ w)
-GuillotineTree J l w (cut Length x a b) = (1 ≤ x) × (x + J .kerf < l) × GuillotineTree J x w a × GuillotineTree J (l - x - J .kerf) w b
-GuillotineTree J l w (cut Width x a b) = (1 ≤ x) × (x + J .kerf < w) × GuillotineTree J l x a × GuillotineTree J l (w - x - J .kerf) b
+GuillotineTree J l w t = TreeOf J (MayLie J) l w t
+
+-- a guillotine tree of any kinds on the job's plate
+abbrev pub AnyOnPlate : Job → Tree Piece → Type 0
+AnyOnPlate J t = AnyTree J (J .plate .0) (J .plate .1) t
 
 -- a guillotine tree on the job's plate
 abbrev pub OnPlate : Job → Tree Piece → Type 0

@@ -13,11 +13,11 @@ use Rattle.cutting.specs.Lists.{range, only, greatest}
 use Rattle.cutting.specs.Tree.{side, Tree, Shares}
 use Rattle.cutting.specs.Pieces.{Piece, kind, fits-in}
 use Rattle.cutting.specs.Normal.{Sum, sides}
-use Rattle.cutting.specs.Job.{Job, laid, members, GuillotineTree, OnPlate, KeepsDemands, profit, weight-of, copies-of, widened, finer, plate-copies, figure-of, normal-positions, normal-floor, plan-of, plan-choice, plan-after}
+use Rattle.cutting.specs.Job.{Job, laid, members, GuillotineTree, AnyOnPlate, OnPlate, KeepsDemands, profit, weight-of, copies-of, widened, finer, plate-copies, figure-of, normal-positions, normal-floor, plan-of, plan-choice, plan-after}
 
--- no guillotine tree on the plate that keeps every demand earns more than n
+-- no guillotine tree on the plate, of any kinds of the job, that keeps every demand earns more than n
 abbrev pub NoneAbove : Job → ℕ → Type 0
-NoneAbove J n = (t : Tree Piece) → OnPlate J t → KeepsDemands J t → profit J t ≤ n
+NoneAbove J n = (t : Tree Piece) → AnyOnPlate J t → KeepsDemands J t → profit J t ≤ n
 
 -- the same of trees cut at multiples of one m-th of a unit, for every whole m of at least 1
 abbrev pub NoneFiner : Job → ℕ → Type 0
@@ -31,9 +31,9 @@ NoneBetter J n = NoneAbove J n × NoneFiner J n
 abbrev pub PlateHolds : Job → Type 0
 PlateHolds J = (t : Tree Piece) → OnPlate J t → (i : ℕ) → i < J .count → copies-of i t ≤ plate-copies J i
 
--- a guillotine tree on the plate that keeps every demand weighs at most q
+-- a guillotine tree on the plate, of any kinds of the job, that keeps every demand weighs at most q
 abbrev pub NoneHeavier : Job → (ℕ → ℕ) → ℕ → Type 0
-NoneHeavier J weight q = (t : Tree Piece) → OnPlate J t → KeepsDemands J t → weight-of weight t ≤ q
+NoneHeavier J weight q = (t : Tree Piece) → AnyOnPlate J t → KeepsDemands J t → weight-of weight t ≤ q
 
 -- a guillotine tree on a rectangle, among those that `Among` holds of, that earns n
 abbrev pub EarnsAmong : Job → (Tree Piece → Type 0) → ℕ → ℕ → ℕ → Tree Piece → Type 0
@@ -42,6 +42,10 @@ EarnsAmong J Among l w n t = GuillotineTree J l w t × Among t × (profit J t �
 -- n is the most that a guillotine tree on a rectangle among those earns: none earns more, and one earns it
 abbrev pub MostAmong : Job → (Tree Piece → Type 0) → ℕ → ℕ → ℕ → Type 0
 MostAmong J Among l w n = ((t : Tree Piece) → GuillotineTree J l w t → Among t → profit J t ≤ n) × ((t : Tree Piece) × EarnsAmong J Among l w n t)
+
+-- no guillotine tree on the plate among those, cut at multiples of one m-th of a unit, earns more than n, for every whole m of at least 1
+abbrev pub FinerAmong : Job → (Tree Piece → Type 0) → ℕ → Type 0
+FinerAmong J Among n = (m : ℕ) → 1 ≤ m → (t : Tree Piece) → OnPlate (finer m J) t → Among t → profit J t ≤ n
 
 -- the trees of weight at most q
 abbrev pub OfWeight : (ℕ → ℕ) → ℕ → Tree Piece → Type 0

@@ -12,7 +12,7 @@ use Rattle.cutting.specs.Lists.{range, only, greatest}
 use Rattle.cutting.specs.Tree.{side, Tree, waste, piece, cut}
 use Rattle.cutting.specs.Pieces.{Piece, kind, fits-in}
 use Rattle.cutting.specs.Shares.{change, other, stages, stages-below}
-use Rattle.cutting.specs.Job.{Job, laid, OnPlate, profit, weight-of, KeepsDemands, widened, finer, capacity, members, normal-floor}
+use Rattle.cutting.specs.Job.{Job, laid, AnyOnPlate, OnPlate, profit, weight-of, KeepsDemands, widened, finer, capacity, members, normal-floor}
 use Rattle.cutting.specs.Promises.{MostAmong}
 
 -- the directions of the cuts on each path down through a tree's cuts
@@ -64,9 +64,9 @@ staged-bound J weight n = staged-under J weight n (capacity J weight)
 abbrev pub WithinStages : Job → ℕ → Tree Piece → Type 0
 WithinStages J n t = OnPlate J t × (stages t ≤ n)
 
--- no guillotine tree on the plate of at most n stages that keeps every demand earns more than m
+-- no guillotine tree on the plate, of any kinds of the job, of at most n stages that keeps every demand earns more than m
 abbrev pub NoneStaged : Job → ℕ → ℕ → Type 0
-NoneStaged J n m = (t : Tree Piece) → WithinStages J n t → KeepsDemands J t → profit J t ≤ m
+NoneStaged J n m = (t : Tree Piece) → AnyOnPlate J t → stages t ≤ n → KeepsDemands J t → profit J t ≤ m
 
 -- the same of trees cut at multiples of one k-th of a unit, for every whole k of at least 1
 abbrev pub NoneStagedFiner : Job → ℕ → ℕ → Type 0
@@ -75,6 +75,10 @@ NoneStagedFiner J n m = (k : ℕ) → 1 ≤ k → NoneStaged (finer k J) n m
 -- no tree of at most n stages that keeps every demand earns more than m, cut at whole units or finer
 abbrev pub NoneStagedBetter : Job → ℕ → ℕ → Type 0
 NoneStagedBetter J n m = NoneStaged J n m × NoneStagedFiner J n m
+
+-- the trees of at most n stages and of weight at most q
+abbrev pub OfStages : (ℕ → ℕ) → ℕ → ℕ → Tree Piece → Type 0
+OfStages weight n q t = (stages t ≤ n) × (weight-of weight t ≤ q)
 
 -- m is the most that a guillotine tree on the plate of at most n stages and of weight at most q earns: none earns more, and one earns it
 abbrev pub MostStaged : Job → (ℕ → ℕ) → ℕ → ℕ → ℕ → Type 0

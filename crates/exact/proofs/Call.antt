@@ -23,6 +23,8 @@ use Rattle.job.specs.Block.{job-checks, job-of, record-of, read-of}
 use Rattle.job.specs.Weights.{block-job}
 use Rattle.job.proofs.Checks.{passed-both, first-append, append-passed, cons-passed}
 use Rattle.job.proofs.Read.{read-in-range, answered}
+use Rattle.plan.specs.Trees.{PlanOf}
+use Rattle.plan.proofs.Plans.{plans-checked}
 use Rattle.plan.proofs.Calls.{read-range}
 use Rattle.bound.specs.Bound as bound
 use Rattle.writer.specs.Write.{nodes-verdict, nodes-check}
@@ -97,8 +99,10 @@ module _ (s : List ℕ) (choices : Choices) where
             let check = nodes-check P (length kinds) (length operands) in
             let few = none-long (node-count P) (length kinds) (length operands) (cons-passed (check .0) (check .1) [] (passed .1) .0) in
             let earned = optimum-earned J in-range in
+            let passes : PlanOf J P (kinds-of P) (operands-of P) = record { drawn = record { on-plate = earned .0; demands = earned .1; nodes = few .0; kinds-are = refl; operands-are = refl }; idle-free = optimum-idle J in-range } in
             record {
-              passes = record { drawn = record { on-plate = earned .0; demands = earned .1; nodes = few .0; kinds-are = refl; operands-are = refl }; idle-free = optimum-idle J in-range };
+              passes = passes;
+              checked = plans-checked J (in-range .kinds .1) (kinds-of P) (operands-of P) .passes tt P passes;
               earns = rw (reported .1) earned;
               kinds-hold = p .kinds-left ∙ ap (λ u. bound.list-after u (kinds-of P) kinds) (reported .0);
               operands-hold = p .operands-left ∙ ap (λ u. bound.list-after u (operands-of P) operands) (reported .0);

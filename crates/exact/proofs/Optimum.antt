@@ -10,7 +10,7 @@ use Rattle.cutting.specs.Tree.{IdleFree}
 use Rattle.cutting.specs.Figure.{leaf, best, step}
 use Rattle.cutting.specs.Pieces.{kind, sized}
 use Rattle.cutting.specs.Saws.{saw}
-use Rattle.cutting.specs.Job.{Job, InRange, profit, weight-of, widened, capacity, at-full-demand, ordered, members, pieces, bound-of}
+use Rattle.cutting.specs.Job.{Job, InRange, AnyOnPlate, profit, weight-of, widened, capacity, at-full-demand, ordered, members, pieces, bound-of}
 use Rattle.cutting.specs.Promises.{NoneAbove, NoneFiner, PlanFollows}
 use Rattle.cutting.specs.Two.{figure-two, two-bound}
 use Rattle.cutting.specs.Exact.{full-state, by-copies, exact-figure, optimum, optimum-plan, ExactRecursion, ExactFloors, EarnsExactly, MostExact, OfState, ExactFiguresMost}
@@ -19,6 +19,7 @@ use Rattle.cutting.proofs.Recursion.{figure-eq}
 use Rattle.cutting.proofs.Saws.{saw-proper}
 use Rattle.cutting.proofs.Members.{range-solid, widened-solid}
 use Rattle.cutting.proofs.Job.{plain-guillotine}
+use Rattle.cutting.proofs.AnyKinds.{any-on, none-any}
 use Rattle.cutting.proofs.Finer.{none-finer}
 use Rattle.cutting.proofs.Bound.{share-most, share-figure, capacity-less, bound-less}
 use Rattle.cutting.proofs.Table.{floor-under}
@@ -49,8 +50,9 @@ module _ (J : Job) (h : InRange J) where
   -- no tree that keeps the demands earns more
   pub optimum-most : NoneAbove J (optimum J)
   unfolding exact-figure
-  optimum-most t g k = share-most J (range-solid J h) (by-copies J) (copies-monotone J (h .kinds .0)) t (J .plate .0) (J .plate .1) (full-state J) g
-      (keeps-within J (h .kinds .0) t (saw (J .kerf)) (J .plate) (plain-guillotine J t (J .plate) g) k)
+  optimum-most = none-any J (optimum J)
+      (λ t g k. share-most J (range-solid J h) (by-copies J) (copies-monotone J (h .kinds .0)) t (J .plate .0) (J .plate .1) (full-state J) g
+      (keeps-within J (h .kinds .0) t (saw (J .kerf)) (J .plate) (plain-guillotine J t (J .plate) g) k))
 
   -- nor does one cut finer
   pub optimum-finer : NoneFiner J (optimum J)
@@ -67,6 +69,10 @@ module _ (J : Job) (h : InRange J) where
         e .2,
       )
 
+  -- it is one of any kinds
+  optimum-any : AnyOnPlate J (optimum-plan J)
+  optimum-any = any-on J (optimum-plan J) (optimum-earned .0)
+
   pub optimum-exact : MostExact J (optimum J)
   optimum-exact = (optimum-most, (optimum-plan J, optimum-earned))
 
@@ -80,7 +86,7 @@ module _ (J : Job) (h : InRange J) where
   -- every weighted bound lies at or above it, in either form of the capacity
   pub bounds-above : (weight : ℕ → ℕ) → (optimum J ≤ bound-of J weight) × (optimum J ≤ bound-of (at-full-demand J) weight)
   bounds-above weight =
-      let a : optimum J ≤ bound-of J weight = omega (arith, optimum-earned .2, none-above J weight h (optimum-plan J) (optimum-earned .0) (optimum-earned .1)) in
+      let a : optimum J ≤ bound-of J weight = omega (arith, optimum-earned .2, none-above J weight h (optimum-plan J) optimum-any (optimum-earned .1)) in
       (a, omega (arith, a, bound-less J weight))
 
   -- and so does every bound of two weights: the plan's weights are within the capacities of the full demands too
@@ -90,8 +96,8 @@ module _ (J : Job) (h : InRange J) where
       let e = optimum-earned in
       let q = capacity (at-full-demand J) first in
       let q′ = capacity (at-full-demand J) second in
-      let w : weight-of first (optimum-plan J) ≤ q = omega (arith, none-heavier J first h (optimum-plan J) (e .0) (e .1), capacity-less J first) in
-      let w′ : weight-of second (optimum-plan J) ≤ q′ = omega (arith, none-heavier J second h (optimum-plan J) (e .0) (e .1), capacity-less J second) in
-      let a : profit J (optimum-plan J) ≤ two-bound J first second = two-holds J first second (range-solid J h) (optimum-plan J) (e .0) (e .1) in
+      let w : weight-of first (optimum-plan J) ≤ q = omega (arith, none-heavier J first h (optimum-plan J) optimum-any (e .1), capacity-less J first) in
+      let w′ : weight-of second (optimum-plan J) ≤ q′ = omega (arith, none-heavier J second h (optimum-plan J) optimum-any (e .1), capacity-less J second) in
+      let a : profit J (optimum-plan J) ≤ two-bound J first second = two-holds J first second (range-solid J h) (optimum-plan J) optimum-any (e .1) in
       let b : profit J (optimum-plan J) ≤ two-bound (at-full-demand J) first second = two-most J first second (range-solid J h) q q′ .0 (optimum-plan J) (e .0) (w, w′) in
       (omega (arith, e .2, a), omega (arith, e .2, b))

@@ -24,6 +24,7 @@ use Rattle.job.specs.Block.{job-checks}
 use Rattle.job.specs.Weights.{block-job}
 use Rattle.table.specs.Table.{position-count, position, words-needed, word, Kept}
 use Rattle.bound.specs.Bound.{Memory, list-check, list-after, memory-checks, wide-job}
+use Rattle.plan.specs.Plan.{plan-answer}
 use Rattle.plan.specs.Trees.{PlanOf}
 use Rattle.writer.specs.Write.{nodes-verdict}
 use Rattle.exact.specs.declared.ExactReport.{ExactReport}
@@ -111,8 +112,8 @@ pub record CopiesByDigits (J : Job) : Type 0 where
   pub remains : (s i : ℕ) → s < state-count J → i < J .count → 1 ≤ J .demand i → T (no-more J (one-copy J i) s) → 1 ≤ copies-left J s i
   pub one-more : (s i : ℕ) → s < state-count J → i < J .count → 1 ≤ J .demand i → 1 ≤ copies-left J s i → T (no-more J (one-copy J i) s)
 
--- what an optimum n of a job is: the most that a guillotine tree on the plate that keeps every demand earns, and no less than one cut finer
--- earns; every bound of one weight a kind or of two, in either form of the capacity, lies at or above it; the last word's figure
+-- what an optimum n of a job is: the most that a guillotine tree on the plate that keeps every demand earns, of whatever kinds of the job, and
+-- no less than one cut finer earns; every bound of one weight a kind or of two, in either form of the capacity, lies at or above it; the last word's figure
 pub record OptimumHolds (J : Job) (n : ℕ) : Type 0 where
   pub most : MostExact J n
   pub finer : NoneFiner J n
@@ -126,10 +127,11 @@ pub record OptimumPlanned (J : Job) : Type 0 where
   pub plan : EarnsExactly J (optimum J) (optimum-plan J)
   pub idle-free : IdleFree (optimum-plan J)
 
--- a plan that was written and reported: it passes the check and earns the answered optimum, the arrays hold its preorder over their old
+-- a plan that was written and reported: it passes the check, in the words of the check too, and earns the answered optimum, the arrays hold its preorder over their old
 -- contents, and it has the answered number of nodes
 pub record OptimumWritten (J : Job) (t : Tree Piece) (kinds operands new-kinds new-operands : List ℕ) (b : ExactReport) : Type 0 where
   pub passes : PlanOf J t (kinds-of t) (operands-of t)
+  pub checked : plan-answer J (kinds-of t) (operands-of t) .verdict ≡ Passed
   pub earns : EarnsExactly J (b .optimum) t
   pub kinds-hold : new-kinds ≡ over (kinds-of t) kinds
   pub operands-hold : new-operands ≡ over (operands-of t) operands

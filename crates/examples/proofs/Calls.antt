@@ -37,7 +37,7 @@ use Rattle.bound.specs.Bound.{Memory, wide-job, memory-checks, bound-said, repo
 use Rattle.bound.proofs.Holds.{bound-held}
 use Rattle.staged_bound.specs.Staged.{staged-block-report, staged-said}
 use Rattle.writer.specs.Write.{block-plan, write-said}
-use Rattle.certificate.specs.Certificate.{certificate-said}
+use Rattle.certificate.specs.Certificate.{compared, certificate-of, certificate-said}
 use Rattle.examples.specs.Examples.{old-block, LongLists, Enough, TooShort}
 
 module _ (choices : Choices) (s ws : List ℕ) where
@@ -92,6 +92,10 @@ module _ (choices : Choices) (s ws : List ℕ) where
 
         pub bound-answered : bound-said s choices ws m ≡ (0, values-in)
         bound-answered = simp (good, storage-passes, bound-normal)
+
+        pub judged : (kinds operands : List ℕ) → plan-answer (block-job s choices) kinds operands .verdict ≡ Passed
+            → certificate-of s choices ws kinds operands m ≡ compared (plan-answer (block-job s choices) kinds operands .report .profit) bound-in
+        judged kinds operands e = simp (good, e, storage-passes, bound-normal)
 
         pub certified : (kinds operands : List ℕ) → plan-answer (block-job s choices) kinds operands .verdict ≡ Passed
             → certificate-said s choices ws kinds operands m ≡ (0, certificate-in kinds operands)

@@ -6,6 +6,7 @@ use mathlib.Core.List.{List, [], _∷_, List·Memᴰ, List·Memᴰ·not-nil, Lis
 use Prim.Native.Nat.{ℕ, _≤_}
 use native.Mathlib.Omega.{arith}
 use borrow.Author.Tests.{le-ltb}
+use Rattle.cutting.specs.declared.Direction.{Direction}
 use Rattle.cutting.specs.declared.Direction.the-variants.{Length, Width}
 use Rattle.cutting.specs.Limits.{most-limit}
 use Rattle.cutting.specs.Lists.{range, sum, filter, each, any, greatest}
@@ -37,6 +38,7 @@ use Rattle.saw.specs.Parts.{extent}
 use Rattle.stages.specs.Stages.{node-paths, above-checks}
 use Rattle.neat.specs.Neat.{block-neat}
 use Rattle.writer.specs.Write.{block-plan}
+use Rattle.certificate.specs.Certificate.{compared}
 use Rattle.examples.specs.Examples as line
 use Rattle.examples.specs.Examples.{Example, old-block, RefusedAs, PassedTo, ExampleHolds, misfit-job, marked}
 use Rattle.examples.proofs.Calls as call
@@ -55,8 +57,9 @@ Computed (line.passes choices s kinds operands profit copies pieces waste trim s
 Computed (line.refused s kinds operands number place) = ExampleHolds (line.refused s kinds operands number place)
 Computed (line.first-refused s kind operand number place) = JobPasses s old-block × RefusedAs number place (first-verdict (block-job s old-block) kind operand)
 Computed (line.first-passes s kind operand) = JobPasses s old-block × PassedTo 0 (first-verdict (block-job s old-block) kind operand)
-Computed (line.certifies choices s ws kinds operands words gap bound profit) =
-    Accepted s choices ws × (words-in choices s ws ≡ words) × (plan-answer (block-job s choices) kinds operands .verdict ≡ Passed) × (certificate-in choices s ws kinds operands ≡ gap ∷ bound ∷ profit ∷ [])
+Computed (line.certifies choices s ws kinds operands words certificate gap bound profit) =
+    Accepted s choices ws × (words-in choices s ws ≡ words) × (plan-answer (block-job s choices) kinds operands .verdict ≡ Passed)
+    × (compared (plan-answer (block-job s choices) kinds operands .report .profit) (bound-in choices s ws) ≡ certificate) × (certificate-in choices s ws kinds operands ≡ gap ∷ bound ∷ profit ∷ [])
 Computed (line.neatens s kinds operands nodes neat-kinds neat-operands) =
     JobPasses s old-block × (plan-answer (block-job s old-block) kinds operands .verdict ≡ Passed) × (node-count (block-neat s old-block kinds operands) ≡ nodes)
     × (kinds-of (block-neat s old-block kinds operands) ≡ neat-kinds) × (operands-of (block-neat s old-block kinds operands) ≡ neat-operands)
@@ -69,6 +72,7 @@ Computed (line.stages-bound s ws limit words bound q p r) =
 Computed (line.finer-most choices s ws m most) = Accepted s choices ws × (1 ≤ m) × (bound-in choices s ws ≡ most)
 Computed (line.finer-stages s ws limit m most) = Accepted s old-block ws × (1 ≤ m) × (staged-bound (block-job s old-block) (weight-in ws) limit ≡ most)
 Computed (line.finer-passes s m kinds operands profit neat-kinds neat-operands) = ExampleHolds (line.finer-passes s m kinds operands profit neat-kinds neat-operands)
+Computed (line.whatever e) = (pair ws : List ℕ) → Accepted (misfit-job pair) old-block ws → Computed (e pair ws)
 
 -- a line holds from what is computed of it
 holds : (e : Example) → Computed e → ExampleHolds e
@@ -83,7 +87,8 @@ holds (line.passes choices s kinds operands profit copies pieces waste trim sawd
 holds (line.refused s kinds operands number place) c = c
 holds (line.first-refused s kind operand number place) c = begins-refused s (c .0) kind operand number place (c .1)
 holds (line.first-passes s kind operand) c = begins-passed s (c .0) kind operand (c .1)
-holds (line.certifies choices s ws kinds operands words gap bound profit) c = λ m h. call.certified choices s ws (c .0) m (rw (c .1) h) kinds operands (c .2) ∙ ap (λ vs. (0, vs)) (c .3)
+holds (line.certifies choices s ws kinds operands words certificate gap bound profit) c =
+    λ m h. (call.judged choices s ws (c .0) m (rw (c .1) h) kinds operands (c .2) ∙ c .3, call.certified choices s ws (c .0) m (rw (c .1) h) kinds operands (c .2) ∙ ap (λ vs. (0, vs)) (c .4))
 holds (line.neatens s kinds operands nodes neat-kinds neat-operands) c = (λ ks os k o. call.neatened s (c .0) kinds operands (c .1) ks os (rw (c .2) k) (rw (c .2) o) ∙ ap (λ n. (0, n ∷ [])) (c .2), c .3, c .4)
 holds (line.saw-passes s kinds operands pieces waste trim copies sawdust) c = c
 holds (line.part s kinds operands node first entries) c = c
@@ -93,6 +98,7 @@ holds (line.stages-bound s ws limit words bound q p r) c = λ m h. call.staged-a
 holds (line.finer-most choices s ws m most) c = (call.bound-normal choices s ws (c .0) ∙ c .2, subst (NoneAbove (finer m (block-job s choices))) (c .2) (call.finer-below choices s ws (c .0) m (c .1)))
 holds (line.finer-stages s ws limit m most) c = (c .2, subst (NoneStaged (finer m (block-job s old-block)) limit) (c .2) (call.staged-below s ws limit (c .0) m (c .1)))
 holds (line.finer-passes s m kinds operands profit neat-kinds neat-operands) c = c
+holds (line.whatever e) c = λ pair ws good. holds (e pair ws) (c pair ws good)
 
 -- the computations of lines, in their order
 data AllComputed : List Example → Type 0 where
@@ -123,58 +129,76 @@ module _ (a b c d e f weight : ℕ) where
   unfolding range sum first-refusal each-kind job-checks entries record-of
   misfit-accepted price demand = simp (le-ltb 1000000 (price-at 6 priced 0) price, le-ltb 255 (demand-at 6 priced 0) demand, misfit.none-weighed (demand-at 6 priced 0) weight)
 
-module _ (pair ws : List ℕ) (good : Accepted (misfit-job pair) old-block ws) where
-  -- the table's computations, line by line
-  computed : AllComputed (marked pair ws)
-  unfolding marked range sum filter each any greatest leaf best step after figure sized floor saw-normal saw-written by-weight summed normal? sides choice plan-within written sawn lossless-plan preorder kinds-of operands-of node-count ordered members pieces normal-positions plan-of first-refusal each-kind job-checks entries record-of walk walk-answer pieceless idle-checks plan-answer total trees-in used neat saw-checks extent stages stages-below changes node-paths above-checks along block
-  computed =
-      refl
-      and refl
-      and (refl, refl, refl)
-      and (refl, refl, refl)
-      and refl
-      and (refl, refl, refl, refl)
-      and (refl, refl, refl, refl)
-      and refl
-      and refl
-      and refl
-      and (refl, refl)
-      and (refl, tt)
-      and refl
-      and refl
-      and refl
-      and refl
-      and refl
-      and (good, misfit.words pair ws, misfit.values pair ws)
-      and misfit.alone pair ws Length
-      and misfit.alone pair ws Width
-      and (good, misfit.words pair ws, misfit.values pair ws, ap node-count (misfit.wasted pair ws), omega arith, ap kinds-of (misfit.wasted pair ws), ap operands-of (misfit.wasted pair ws))
-      and (refl, refl, refl)
-      and (refl, refl, refl, refl, omega arith, refl, refl)
-      and (refl, refl, refl)
-      and (refl, refl, refl)
-      and (refl, refl, refl, refl)
-      and (refl, refl, refl, refl)
-      and (refl, refl, refl)
-      and (refl, refl, refl)
-      and refl
-      and (refl, refl, refl, refl, refl)
-      and refl
-      and refl
-      and (refl, refl)
-      and (refl, refl)
-      and refl
-      and refl
-      and (refl, refl, refl, refl)
-      and (refl, refl, refl, refl)
-      and (refl, omega arith, refl)
-      and (refl, omega arith, refl)
-      and (refl, omega arith, refl)
-      and (refl, omega arith, refl)
-      and (refl, omega arith, refl)
-      and (refl, refl, refl, refl)
-      and done
+-- what is computed of the lines whose price, demand and weight are free
+misfit-bounds : Computed (line.whatever (λ pair ws. line.bounds old-block (misfit-job pair) ws 1 0 0 1 1))
+misfit-bounds pair ws good = (good, misfit.words pair ws, misfit.values pair ws)
 
-  -- every marked example holds
-  pub marked-hold : (e : Example) → List·Memᴰ e (marked pair ws) → ExampleHolds e
-  marked-hold e m = all-hold (marked pair ws) computed m
+misfit-positions : (d : Direction) → Computed (line.whatever (λ pair ws. line.positions (misfit-job pair) d (0 ∷ [])))
+misfit-positions d pair ws good = misfit.alone pair ws d
+
+misfit-writes : Computed (line.whatever (λ pair ws. line.writes old-block (misfit-job pair) ws 1 0 0 1 1 1 (0 ∷ []) (0 ∷ [])))
+unfolding preorder kinds-of operands-of node-count
+misfit-writes pair ws good = (
+  good,
+  misfit.words pair ws,
+  misfit.values pair ws,
+  ap node-count (misfit.wasted pair ws),
+  omega arith,
+  ap kinds-of (misfit.wasted pair ws),
+  ap operands-of (misfit.wasted pair ws),
+)
+
+-- the table's computations, line by line
+computed : AllComputed marked
+unfolding marked range sum filter each any greatest leaf best step after figure sized floor saw-normal saw-written by-weight summed normal? sides choice plan-within written sawn lossless-plan preorder kinds-of operands-of node-count ordered members pieces normal-positions plan-of first-refusal each-kind job-checks entries record-of walk walk-answer pieceless idle-checks plan-answer total trees-in used neat saw-checks extent stages stages-below changes node-paths above-checks along block
+computed =
+    refl
+    and refl
+    and (refl, refl, refl)
+    and (refl, refl, refl)
+    and refl
+    and (refl, refl, refl, refl, refl)
+    and (refl, refl, refl, refl, refl)
+    and refl
+    and refl
+    and refl
+    and (refl, refl)
+    and (refl, tt)
+    and refl
+    and refl
+    and refl
+    and refl
+    and refl
+    and misfit-bounds
+    and misfit-positions Length
+    and misfit-positions Width
+    and misfit-writes
+    and (refl, refl, refl)
+    and (refl, refl, refl, refl, omega arith, refl, refl)
+    and (refl, refl, refl)
+    and (refl, refl, refl)
+    and (refl, refl, refl, refl, refl)
+    and (refl, refl, refl, refl, refl)
+    and (refl, refl, refl)
+    and (refl, refl, refl)
+    and refl
+    and (refl, refl, refl, refl, refl)
+    and refl
+    and refl
+    and (refl, refl)
+    and (refl, refl)
+    and refl
+    and refl
+    and (refl, refl, refl, refl)
+    and (refl, refl, refl, refl)
+    and (refl, omega arith, refl)
+    and (refl, omega arith, refl)
+    and (refl, omega arith, refl)
+    and (refl, omega arith, refl)
+    and (refl, omega arith, refl)
+    and (refl, refl, refl, refl)
+    and done
+
+-- every marked example holds
+pub marked-hold : (e : Example) → List·Memᴰ e marked → ExampleHolds e
+marked-hold e m = all-hold marked computed m

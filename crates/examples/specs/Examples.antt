@@ -17,7 +17,7 @@ use Rattle.refusal.specs.declared.Checked.{Checked}
 use Rattle.refusal.specs.declared.Checked.the-variants.{Passed, Refused}
 use Rattle.job.specs.declared.Choices.{Choices}
 use Rattle.job.specs.Block.{with-full-demand}
-use Rattle.job.specs.Weights.{block-job, weight-in}
+use Rattle.job.specs.Weights.{block-job, weight-in, Accepted}
 use Rattle.plan.specs.Plan.{plan-answer}
 use Rattle.plan.specs.Calls.{arrays-answer}
 use Rattle.saw.specs.Saw.{saw-said}
@@ -27,7 +27,9 @@ use Rattle.staged_plan.specs.Check.{staged-check-said}
 use Rattle.bound.specs.Bound.{Memory, wide-job, bound-said}
 use Rattle.staged_bound.specs.Staged.{staged-said}
 use Rattle.writer.specs.Write.{block-plan, write-said}
-use Rattle.certificate.specs.Certificate.{certificate-said}
+use Rattle.certificate.specs.declared.Certificate.{Certificate}
+use Rattle.certificate.specs.declared.Certificate.the-variants.{Best, Gap}
+use Rattle.certificate.specs.Certificate.{certificate-of, certificate-said}
 
 -- what a line can say of a call, with its choices where it weighs; a plan is given by its kinds and operands, and `words` are the table
 -- words that a call needs
@@ -45,8 +47,8 @@ pub data Example : Type 0 where
   -- a plan's first node decides, whatever follows it: refused, or passed at that node
   first-refused : (job : List ℕ) (kind operand number place : ℕ) → Example
   first-passes : (job : List ℕ) (kind operand : ℕ) → Example
-  -- the certificate of a plan under weights answers the gap, 0 for best, the bound and the profit
-  certifies : Choices → (job weights kinds operands : List ℕ) (words gap bound profit : ℕ) → Example
+  -- the certificate of a plan under weights, and its answer: the gap, 0 for best, the bound and the profit
+  certifies : Choices → (job weights kinds operands : List ℕ) (words : ℕ) → Certificate → (gap bound profit : ℕ) → Example
   -- the neat call answers the node count, and the neat plan of a plan is this one
   neatens : (job kinds operands : List ℕ) (nodes : ℕ) (neat-kinds neat-operands : List ℕ) → Example
   -- the saw passes a plan with areas of pieces, waste nodes and trim, copies of each kind and sawdust
@@ -65,6 +67,8 @@ pub data Example : Type 0 where
   finer-stages : (job weights : List ℕ) (limit m most : ℕ) → Example
   -- a plan cut at m-ths passes the check of the job measured in m-ths, with a profit, and its neat plan at whole units is this one
   finer-passes : (job : List ℕ) (m : ℕ) (kinds operands : List ℕ) (profit : ℕ) (neat-kinds neat-operands : List ℕ) → Example
+  -- a line of the plate 1 by 1 and a kind 2 by 2, whatever the bytes of its price and demand and the weights that are accepted with them
+  whatever : ((pair weights : List ℕ) → Example) → Example
 
 -- the marked examples' jobs are old blocks, and make no other choice
 abbrev pub old-block : Choices
@@ -112,6 +116,10 @@ Beginning s kind operand P = (kinds operands : List ℕ) → length kinds ≡ le
 abbrev pub padded : List ℕ → List ℕ
 padded xs = xs ++ replicate (most-kinds - length xs) 0
 
+-- plate 1 by 1, one kind 2 by 2, then the bytes of its price and demand
+abbrev pub misfit-job : List ℕ → List ℕ
+misfit-job pair = 1 ∷ 0 ∷ 1 ∷ 0 ∷ 1 ∷ 0 ∷ 2 ∷ 0 ∷ 2 ∷ 0 ∷ pair
+
 -- what each line means; where the table is too short the call gives refusal 20 with the words needed
 abbrev pub ExampleHolds : Example → Type 0
 ExampleHolds (positions s d xs) = normal-positions (wide-job s old-block) d ≡ xs
@@ -126,7 +134,8 @@ ExampleHolds (passes choices s kinds operands profit copies pieces waste trim sa
 ExampleHolds (refused s kinds operands number place) = RefusedAs number place (arrays-answer s old-block kinds operands .verdict)
 ExampleHolds (first-refused s kind operand number place) = Beginning s kind operand (RefusedAs number place)
 ExampleHolds (first-passes s kind operand) = Beginning s kind operand (PassedTo 0)
-ExampleHolds (certifies choices s ws kinds operands words gap bound profit) = (m : Memory) → Enough s choices words m → certificate-said s choices ws kinds operands m ≡ (0, gap ∷ bound ∷ profit ∷ [])
+ExampleHolds (certifies choices s ws kinds operands words certificate gap bound profit) =
+    (m : Memory) → Enough s choices words m → (certificate-of s choices ws kinds operands m ≡ certificate) × (certificate-said s choices ws kinds operands m ≡ (0, gap ∷ bound ∷ profit ∷ []))
 ExampleHolds (neatens s kinds operands nodes neat-kinds neat-operands) =
     ((ks os : List ℕ) → nodes ≤ length ks → nodes ≤ length os → neat-said s old-block kinds operands ks os ≡ (0, nodes ∷ []))
     × (kinds-of (block-neat s old-block kinds operands) ≡ neat-kinds) × (operands-of (block-neat s old-block kinds operands) ≡ neat-operands)
@@ -142,6 +151,7 @@ ExampleHolds (finer-stages s ws limit m most) = (staged-bound (block-job s old-b
 ExampleHolds (finer-passes s m kinds operands profit neat-kinds neat-operands) =
     (plan-answer (finer m (block-job s old-block)) kinds operands .verdict ≡ Passed) × (plan-answer (finer m (block-job s old-block)) kinds operands .report .profit ≡ profit)
     × (kinds-of (block-neat s old-block kinds operands) ≡ neat-kinds) × (operands-of (block-neat s old-block kinds operands) ≡ neat-operands)
+ExampleHolds (whatever e) = (pair ws : List ℕ) → Accepted (misfit-job pair) old-block ws → ExampleHolds (e pair ws)
 
 -- job S: plate 5 by 3, three kinds; sizes 2 by 3, 3 by 1, 2 by 2; price 7, demand 1; price 4, demand 2; price 5, demand 1
 abbrev pub job-s : List ℕ
@@ -162,10 +172,6 @@ costly-job =
     ∷ 255 ∷ 255 ∷ 255 ∷ 255 ∷ 2 ∷ 0
     ∷ 255 ∷ 255 ∷ 255 ∷ 255 ∷ 1 ∷ 0
     ∷ []
-
--- plate 1 by 1, one kind 2 by 2, then the bytes of its price and demand
-abbrev pub misfit-job : List ℕ → List ℕ
-misfit-job pair = 1 ∷ 0 ∷ 1 ∷ 0 ∷ 1 ∷ 0 ∷ 2 ∷ 0 ∷ 2 ∷ 0 ∷ pair
 
 -- plate 2 by 3, only kind 0 of S, with demand 0
 abbrev pub cancelled-job : List ℕ
@@ -189,8 +195,8 @@ abbrev pub sawn-job : List ℕ
 sawn-job = 5 ∷ 0 ∷ 3 ∷ 0 ∷ 1 ∷ 0 ∷ 1 ∷ 0 ∷ 2 ∷ 0 ∷ 3 ∷ 0 ∷ 7 ∷ 0 ∷ 0 ∷ 0 ∷ 2 ∷ 0 ∷ []
 
 -- the lines; the scope leaves the price, the demand and the weight of the kind 2 by 2 free
-unfoldable pub marked : (pair ws : List ℕ) → List Example
-marked pair ws =
+unfoldable pub marked : List Example
+marked =
     -- Normal lengths 0, 2, 3, 4, 5; widths 0, 1, 2, 3.
     positions job-s Length (0 ∷ 2 ∷ 3 ∷ 4 ∷ 5 ∷ [])
     ∷ positions job-s Width (0 ∷ 1 ∷ 2 ∷ 3 ∷ [])
@@ -200,8 +206,8 @@ marked pair ws =
     ∷ bounds old-block job-s (0 ∷ 1 ∷ 0 ∷ []) 60 16 2 5 4
     -- Kinds 2 1 3 1 1, operands 2 0 1 1 2: profit 16, one copy of each, areas 13, 0, 2. Best under weights 0 1 0; gap 3 under 0 0 0.
     ∷ passes old-block job-s (2 ∷ 1 ∷ 3 ∷ 1 ∷ 1 ∷ []) (2 ∷ 0 ∷ 1 ∷ 1 ∷ 2 ∷ []) 16 (1 ∷ 1 ∷ 1 ∷ []) 13 0 2 0
-    ∷ certifies old-block job-s (0 ∷ 1 ∷ 0 ∷ []) (2 ∷ 1 ∷ 3 ∷ 1 ∷ 1 ∷ []) (2 ∷ 0 ∷ 1 ∷ 1 ∷ 2 ∷ []) 60 0 16 16
-    ∷ certifies old-block job-s (0 ∷ 0 ∷ 0 ∷ []) (2 ∷ 1 ∷ 3 ∷ 1 ∷ 1 ∷ []) (2 ∷ 0 ∷ 1 ∷ 1 ∷ 2 ∷ []) 20 3 19 16
+    ∷ certifies old-block job-s (0 ∷ 1 ∷ 0 ∷ []) (2 ∷ 1 ∷ 3 ∷ 1 ∷ 1 ∷ []) (2 ∷ 0 ∷ 1 ∷ 1 ∷ 2 ∷ []) 60 (Best 16) 0 16 16
+    ∷ certifies old-block job-s (0 ∷ 0 ∷ 0 ∷ []) (2 ∷ 1 ∷ 3 ∷ 1 ∷ 1 ∷ []) (2 ∷ 0 ∷ 1 ∷ 1 ∷ 2 ∷ []) 20 (Gap 16 3) 3 19 16
     -- Kind 0, operand 0: profit 0, areas 0, 15, 0.
     ∷ passes old-block job-s (0 ∷ []) (0 ∷ []) 0 (0 ∷ 0 ∷ 0 ∷ []) 0 15 0 0
     -- Kind 1, operand 0: profit 7, areas 6, 0, 9.
@@ -221,10 +227,10 @@ marked pair ws =
     -- Kinds 2 1 0, operands 2 0 0: profit 7, areas 6, 9, 0.
     ∷ passes old-block job-s (2 ∷ 1 ∷ 0 ∷ []) (2 ∷ 0 ∷ 0 ∷ []) 7 (1 ∷ 0 ∷ 0 ∷ []) 6 9 0 0
     -- Plate 1 by 1, one kind 2 by 2: bound 0, only position 0 on each side, plan one waste node.
-    ∷ bounds old-block (misfit-job pair) ws 1 0 0 1 1
-    ∷ positions (misfit-job pair) Length (0 ∷ [])
-    ∷ positions (misfit-job pair) Width (0 ∷ [])
-    ∷ writes old-block (misfit-job pair) ws 1 0 0 1 1 1 (0 ∷ []) (0 ∷ [])
+    ∷ whatever (λ pair ws. bounds old-block (misfit-job pair) ws 1 0 0 1 1)
+    ∷ whatever (λ pair ws. positions (misfit-job pair) Length (0 ∷ []))
+    ∷ whatever (λ pair ws. positions (misfit-job pair) Width (0 ∷ []))
+    ∷ whatever (λ pair ws. writes old-block (misfit-job pair) ws 1 0 0 1 1 1 (0 ∷ []) (0 ∷ []))
     -- Plate 2 by 3, only kind 0 of S with demand 0, weight 0: bound 0, plan one waste node.
     ∷ bounds old-block cancelled-job (0 ∷ []) 1 0 0 1 1
     ∷ writes old-block cancelled-job (0 ∷ []) 1 0 0 1 1 1 (0 ∷ []) (0 ∷ [])
@@ -232,8 +238,8 @@ marked pair ws =
     ∷ bounds old-block loose-job (1 ∷ 1 ∷ []) 16 1 1 4 2
     ∷ bounds full loose-job (1 ∷ 1 ∷ []) 40 3 4 4 2
     -- A piece of 1 by 1 and waste, profit 1: best, and with the full demands a gap of 2.
-    ∷ certifies old-block loose-job (1 ∷ 1 ∷ []) (2 ∷ 1 ∷ 0 ∷ []) (1 ∷ 0 ∷ 0 ∷ []) 16 0 1 1
-    ∷ certifies full loose-job (1 ∷ 1 ∷ []) (2 ∷ 1 ∷ 0 ∷ []) (1 ∷ 0 ∷ 0 ∷ []) 40 2 3 1
+    ∷ certifies old-block loose-job (1 ∷ 1 ∷ []) (2 ∷ 1 ∷ 0 ∷ []) (1 ∷ 0 ∷ 0 ∷ []) 16 (Best 1) 0 1 1
+    ∷ certifies full loose-job (1 ∷ 1 ∷ []) (2 ∷ 1 ∷ 0 ∷ []) (1 ∷ 0 ∷ 0 ∷ []) 40 (Gap 1 2) 2 3 1
     -- Plate 5 by 3, kind 2 by 2 of price 5 and demand 200, weight 1: capacity 2, bound 10.
     ∷ bounds old-block roomy-job (1 ∷ []) 18 10 2 3 2
     -- Plate 5 by 3, kerf 1, kind 2 by 3 of price 7 and demand 2: bound 14 under weight 0; cut at 2, profit 14, areas 12, 0, 0 and sawdust 3.

@@ -1,9 +1,10 @@
 -- The job block: where each field stands, when a block is refused, the record that a good one gives with its job, and the number and
 -- values of what reading it answers.
 -- docs/SCOPE.md: Job block; The table of refusals.
+use mathlib.Core.Path.{_≡_}
 use mathlib.Core.Bool.{Bool, true, false, _||_, not}
 use mathlib.Core.List.{List, [], _∷_, _++_, map}
-use Prim.Native.Nat.{ℕ, zero, suc, _+_, _*_}
+use Prim.Native.Nat.{ℕ, zero, suc, _+_, _*_, _≤_, _<_}
 use lib.Dec.{ltb, eqb}
 use lib.ListN.{length, getD}
 use Rattle.cutting.specs.Limits.{most-side, most-kinds, most-kerf, most-price, most-demand}
@@ -203,6 +204,25 @@ read-by v j = by-check v (record { verdict = Passed; job = j }) (λ r. record { 
 -- what reading a block answers: its record, or the first refusal of its checks
 abbrev pub read-of : List ℕ → Choices → JobAnswer
 read-of s choices = read-by (first-refusal (job-checks s choices)) (record-of s choices)
+
+-- the new block s of a job with kerf 0 and its old block z, which has no bytes 6 and 7
+pub record KerfNone (s z : List ℕ) : Type 0 where
+  pub none : u16-at s 6 ≡ 0
+  pub two-more : length s ≡ length z + 2
+  pub front : (k : ℕ) → k < 6 → getD s k 0 ≡ getD z k 0
+  pub behind : (k : ℕ) → 6 ≤ k → getD s (k + 2) 0 ≡ getD z k 0
+
+-- two blocks are read alike, each with its choices: the checks of the job are the same, without its plate (a rack's) and without its prices
+-- (the saw's) too, and so is the record. A call reads nothing else of a block, so its answer and what it leaves in memory are the same
+pub record ReadAlike (s : List ℕ) (choices : Choices) (z : List ℕ) (other : Choices) : Type 0 where
+  pub checks : job-checks s choices ≡ job-checks z other
+  pub plateless : checks-by plateless-checks pair-checks s choices ≡ checks-by plateless-checks pair-checks z other
+  pub unpriced : checks-by header-checks (λ h b i. demand-check h b i ∷ []) s choices ≡ checks-by header-checks (λ h b i. demand-check h b i ∷ []) z other
+  pub record-is : record-of s choices ≡ record-of z other
+
+-- kerf 0 in the new block is read as the old block
+abbrev pub KerfNoneRead : List ℕ → Choices → Type 0
+KerfNoneRead s choices = (z : List ℕ) → choices .«old_block» ≡ false → KerfNone s z → ReadAlike s choices z (with-old-block choices)
 
 -- a record's values: the plate's sides, the number of kinds, the kerf, the choices of turning and of full demand (1 or 0), then the
 -- lengths, widths, prices, demands and grain bytes of 64 kinds

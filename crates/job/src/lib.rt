@@ -18,7 +18,7 @@ ghost use Rattle.cutting.specs.Areas as measured;
 ghost use Rattle.cutting.specs.Pieces.{fits-either};
 ghost use Rattle.cutting.specs.Sides.{rect-of};
 ghost use Rattle.cutting.specs.Job.{InRange, capacity, copies-on, counted-of};
-ghost use Rattle.job.specs.Block.{with-old-block, u16-at, u32-at, count-at, kerf-at, sizes-end, price-at, kind-bytes, outside, sides-outside, short-check, count-checks, header-checks, plateless-checks, size-check, demand-check, pair-checks, grain-check, each-kind, grain-checks, array-checks, checks-by, job-checks, entries, grains-of, record-of, unpriced, empty-record, read-of, job-outcome, job-said, job-of};
+ghost use Rattle.job.specs.Block.{with-old-block, u16-at, u32-at, count-at, kerf-at, sizes-end, price-at, kind-bytes, outside, sides-outside, short-check, count-checks, header-checks, plateless-checks, size-check, demand-check, pair-checks, grain-check, each-kind, grain-checks, array-checks, checks-by, job-checks, entries, grains-of, record-of, unpriced, empty-record, read-of, KerfNoneRead, job-outcome, job-said, job-of};
 ghost use Rattle.job.specs.Weights.{weight-in, weights-answer, weights-outcome, weights-said, acceptance-of, acceptance-outcome, acceptance-said};
 ghost use Rattle.job.specs.Contracts.{HoldsKinds, HoldsGrains, HoldsBlock, header-by, pairs-by};
 
@@ -500,6 +500,7 @@ pub fn empty_record() -> JobRecord
 pub fn read_job(block: &[u8], choices: Choices) -> JobAnswer
     ensures answers { λ r. ⌜ r ≡ read-of (now (block .entry)) choices ⌝ }
     ensures outcome { λ r. ⌜ job-outcome r ≡ job-said (now (block .entry)) choices ⌝ }
+    ensures alike { λ r. ⌜ KerfNoneRead (now (block .entry)) choices ⌝ }
 {
     let verdict = check_job(block, choices);
     let Checked::Passed = verdict else {

@@ -14,7 +14,7 @@ use Rattle.refusal.specs.Refusals.{Check, Outcome, by-check, next, first-refusa
 use Rattle.refusal.specs.declared.Checked.{Checked}
 use Rattle.refusal.specs.declared.Refusal.the-variants.{RackSize}
 use Rattle.job.specs.declared.Choices.{Choices}
-use Rattle.rack.specs.Racks.{OnPlates, OnFinerPlates, SharesDemands, rack-profit, rack-bound}
+use Rattle.rack.specs.Racks.{NoneTogether, NoneTogetherFiner, rack-bound}
 use Rattle.rack.specs.Check.{plate-at, rack-answer}
 use Rattle.rack.specs.Promises.{OrderPasses, BeforePasses, RackOf, IdleAt, OverAt, OnlyPlate}
 use Rattle.planner_c.specs.Exports.{choices-of, job-with, unknown}
@@ -50,8 +50,6 @@ pub record RackGiven (s : List ℕ) (choices : ℕ) (lengths widths kinds operan
       → (k : ℕ) → IdleAt (job-with s choices) (length lengths) (plate-at lengths widths) kinds operands k → (n ≡ 26) × (after ≡ over (k ∷ []) answer)
   pub shared : 1 ≤ length answer → unknown choices ≡ false → length old ≡ length lengths → BeforePasses s (choices-of choices) lengths widths kinds operands
       → (i : ℕ) → OverAt (job-with s choices) (length lengths) (plate-at lengths widths) kinds operands i → (n ≡ 29) × (after ≡ over (i ∷ []) answer)
-  pub bounds : OrderPasses s (choices-of choices) → (tree : ℕ → Tree Piece) → OnPlates (job-with s choices) (length lengths) (plate-at lengths widths) tree → SharesDemands (job-with s choices) (length lengths) tree
-      → (weight : ℕ → ℕ → ℕ) → rack-profit (job-with s choices) (length lengths) tree ≤ rack-bound (job-with s choices) (length lengths) (plate-at lengths widths) weight
-  pub finer : OrderPasses s (choices-of choices) → (m : ℕ) → 1 ≤ m → (tree : ℕ → Tree Piece) → OnFinerPlates (job-with s choices) m (length lengths) (plate-at lengths widths) tree → SharesDemands (job-with s choices) (length lengths) tree
-      → (weight : ℕ → ℕ → ℕ) → rack-profit (job-with s choices) (length lengths) tree ≤ rack-bound (job-with s choices) (length lengths) (plate-at lengths widths) weight
+  pub bounds : OrderPasses s (choices-of choices) → (weight : ℕ → ℕ → ℕ) → NoneTogether (job-with s choices) (length lengths) (plate-at lengths widths) (rack-bound (job-with s choices) (length lengths) (plate-at lengths widths) weight)
+  pub finer : OrderPasses s (choices-of choices) → (weight : ℕ → ℕ → ℕ) → NoneTogetherFiner (job-with s choices) (length lengths) (plate-at lengths widths) (rack-bound (job-with s choices) (length lengths) (plate-at lengths widths) weight)
   pub unread : (z : List ℕ) → OnlyPlate s z → rack-answer s (choices-of choices) lengths widths kinds operands ≡ rack-answer z (choices-of choices) lengths widths kinds operands

@@ -12,6 +12,7 @@ use Rattle.cutting.specs.Tree.{Rect, Tree}
 use Rattle.cutting.specs.Pieces.{Piece}
 use Rattle.cutting.specs.Preorder.{preorder, node-count, kinds-of, operands-of}
 use Rattle.cutting.specs.Job.{Job, OnPlate, profit, SolidKinds}
+use Rattle.cutting.proofs.AnyKinds.{any-on}
 use Rattle.cutting.proofs.Demands.{sum-le}
 use Rattle.refusal.specs.Refusals.{number-of, place-of, next, first-refusal, outcome-by}
 use Rattle.refusal.specs.declared.Refusal.{Refusal}
@@ -31,15 +32,15 @@ use Rattle.plan.proofs.Parse.{no-pass}
 use Rattle.plan.proofs.Preorder.{written, firsts, seconds, arrays-written, kinds-length, operands-length}
 use Rattle.plan.proofs.Whole.{whole-counts}
 use Rattle.rack.specs.declared.RackAnswer.{RackAnswer}
-use Rattle.rack.specs.Racks.{plated, OnPlates, SharesDemands, rack-profit, rack-bound, chained}
+use Rattle.rack.specs.Racks.{plated, SharesDemands, chained}
 use Rattle.rack.specs.Check.{plate-at, rack-size-check, order-checks, plate-checks, rack-checks, own-answer, total-checks, with-own, rack-passed, rack-stopped, rack-by, rack-walk, plans-answer, rack-answer, rack-outcome}
 use Rattle.rack.specs.Promises.{OrderPasses, BeforePasses, RackOf, RackUpTo, IdleAt, OverAt, RackChecks, PlatesPromises}
-use Rattle.rack.proofs.Racks.{rack-keeps, rack-holds, rack-finer}
+use Rattle.rack.proofs.Racks.{rack-keeps, any-together, any-finer, rack-holds, rack-finer}
 use Rattle.rack.proofs.Before.{before-passed, size-passed}
 use Rattle.rack.proofs.Numbers.{before-gives, tree-gives}
 use Rattle.rack.proofs.Trees.{by-passed, racked, passing}
 use Rattle.rack.proofs.Refused.{Either, by-refused, Met, Stopped, stopped, stops}
-use Rattle.rack.proofs.Unread.{same-answer}
+use Rattle.rack.proofs.Unread.{same-job, same-answer}
 
 -- a list of each plan, one after another
 map-chained : {A B : Type 0} (f : A → B) (n : ℕ) (g : ℕ → List A) → map f (chained n g) ≡ chained n (λ p. map f (g p))
@@ -137,10 +138,6 @@ module _ (s : List ℕ) (choices : Choices) where
 
     abbrev before : Checked
     before = first-refusal (rack-checks s choices lengths widths kinds operands)
-
-    -- no set of plans that share the demands earns more than the sum of the plates' bounds
-    bounded : OrderPasses s choices → (tree : ℕ → Tree Piece) → OnPlates J n plate tree → SharesDemands J n tree → (weight : ℕ → ℕ → ℕ) → rack-profit J n tree ≤ rack-bound J n plate weight
-    bounded p tree on shares weight = rack-holds J n tree shares (order-solid p) plate on weight
 
     module _ (b : BeforePasses s choices lengths widths kinds operands) where
       parts : (first-refusal (rack-size-check lengths widths ∷ []) ≡ Passed) × OrderPasses s choices × (first-refusal (plate-checks plate n) ≡ Passed) × (first-refusal (plan-checks kinds operands) ≡ Passed)
@@ -253,11 +250,14 @@ module _ (s : List ℕ) (choices : Choices) where
           idle = λ k. ((λ p. (let b = past-before (IdleCut k) (inl refl) p in (b .0, idle-told (b .0) k (b .1)))), λ t. ap (λ v. rack-by v plans .verdict) (t .0) ∙ idle-halts (t .0) k (t .1));
           shared = λ i. ((λ p. (let b = past-before (RackDemand i) (inr refl) p in (b .0, over-told (b .0) i (b .1)))), λ t. ap (λ v. rack-by v plans .verdict) (t .0) ∙ over-halts (t .0) i (t .1));
           unread = λ z h. same-answer choices s z h lengths widths kinds operands;
-          bounds = bounded;
-          finer = λ p m pos tree on shares weight. rack-finer J n tree shares (order-solid p) plate m pos on weight;
+          other-plate = λ z h. same-job choices s z h;
+          any = any-together J n plate;
+          any-finer = any-finer J n plate;
+          bounds = λ p. rack-holds J n plate (order-solid p);
+          finer = λ p. rack-finer J n plate (order-solid p);
           earned = λ p weight. (let t = trees p in let o = parts (by-passed before plans p .0) .1 in
               let a = sum-le n (λ q. getD (rack-by before plans .profits) q 0) (λ q. profit J (t .0 q)) (λ q l. omega (arith, t .2 q l)) in
-              let c = bounded o (t .0) (t .1 .on-plates) (t .1 .shares) weight in omega (arith, a, c));
+              let c = rack-holds J n plate (order-solid o) weight (t .0) (λ q l. any-on (plated J (plate q)) (t .0 q) (t .1 .on-plates q l)) (t .1 .shares) in omega (arith, a, c));
         }
 
     -- an answer that equals the definition meets the whole contract

@@ -1,5 +1,5 @@
--- A rack of plates: plans that share the demands, cut at whole units or finer, earn no more than the sum of the plates' bounds, each under
--- weights of its own, and than any other sum of numbers that bound each plate's trees.
+-- A rack of plates: plans that share the demands, cut at whole units or finer, earn no more than any sum of numbers that bound each plate's
+-- trees, so no more than the sum of the plates' bounds, each under weights of its own.
 use mathlib.Core.Path.{_≡_}
 use Prim.Native.Nat.{ℕ, zero, suc, _+_, _≤_, _<_}
 use native.Mathlib.Decide.{ℕ-discrete}
@@ -8,10 +8,12 @@ use Rattle.cutting.specs.Lists.{sum}
 use Rattle.cutting.specs.Tree.{Rect, Tree}
 use Rattle.cutting.specs.Pieces.{Piece}
 use Rattle.cutting.specs.Job.{Job, profit, copies-of, KeepsDemands, bound-of, SolidKinds}
+use Rattle.cutting.specs.Promises.{NoneAbove, NoneFiner}
 use Rattle.cutting.proofs.Demands.{sum-le}
 use Rattle.cutting.proofs.Bound.{bound-holds}
+use Rattle.cutting.proofs.AnyKinds.{none-any}
 use Rattle.cutting.proofs.Finer.{none-finer}
-use Rattle.rack.specs.Racks.{plated, OnPlates, OnFinerPlates, SharesDemands, rack-profit, rack-bound}
+use Rattle.rack.specs.Racks.{plated, SharesDemands, NoneTogether, NoneTogetherFiner, rack-profit, rack-bound}
 
 -- one term of a sum is at most the sum
 sum-one : (n : ℕ) (f : ℕ → ℕ) (p : ℕ) → p < n → f p ≤ sum n f
@@ -34,15 +36,26 @@ module _ (J : Job) (n : ℕ) (tree : ℕ → Tree Piece) (shares : SharesDemands
   pub rack-keeps : (p : ℕ) → p < n → KeepsDemands J (tree p)
   rack-keeps p h i l = let a = sum-one n (λ p. copies-of i (tree p)) p h in let b = shares i l in omega (arith, a, b)
 
-  -- whatever bounds each plate's trees that keep the demands: the sum bounds the rack
+  -- whatever bounds each plan: the sum bounds the rack
   pub rack-any : (b : ℕ → ℕ) → ((p : ℕ) → p < n → KeepsDemands J (tree p) → profit J (tree p) ≤ b p) → rack-profit J n tree ≤ sum n b
   rack-any b h = sum-le n (λ p. profit J (tree p)) b (λ p l. h p l (rack-keeps p l))
 
-  -- no set of plans that share the demands earns more than the sum of the plates' bounds, each under weights of its own
-  pub rack-holds : SolidKinds J → (plate : ℕ → Rect) → OnPlates J n plate tree → (weight : ℕ → ℕ → ℕ) → rack-profit J n tree ≤ rack-bound J n plate weight
-  rack-holds solid plate on weight = rack-any (λ p. bound-of (plated J (plate p)) (weight p)) (λ p l k. bound-holds (plated J (plate p)) (weight p) solid (tree p) (on p l) k)
+module _ (J : Job) (n : ℕ) (plate : ℕ → Rect) where
+  -- whatever bounds each plate's trees that keep the demands: no set of plans that share them earns more than the sum
+  pub any-together : (b : ℕ → ℕ) → ((p : ℕ) → p < n → NoneAbove (plated J (plate p)) (b p)) → NoneTogether J n plate (sum n b)
+  any-together b none tree on shares = rack-any J n tree shares b (λ p l k. none p l (tree p) (on p l) k)
 
   -- nor where they are cut at multiples of one m-th of a unit
-  pub rack-finer : SolidKinds J → (plate : ℕ → Rect) (m : ℕ) → 1 ≤ m → OnFinerPlates J m n plate tree → (weight : ℕ → ℕ → ℕ) → rack-profit J n tree ≤ rack-bound J n plate weight
-  rack-finer solid plate m pos on weight = rack-any (λ p. bound-of (plated J (plate p)) (weight p))
-      (λ p l k. none-finer (plated J (plate p)) solid (bound-of (plated J (plate p)) (weight p)) (λ t. bound-holds (plated J (plate p)) (weight p) solid t) m pos (tree p) (on p l) k)
+  pub any-finer : (b : ℕ → ℕ) → ((p : ℕ) → p < n → NoneFiner (plated J (plate p)) (b p)) → NoneTogetherFiner J n plate (sum n b)
+  any-finer b none m pos tree on shares = rack-any J n tree shares b (λ p l k. none p l m pos (tree p) (on p l) k)
+
+  module _ (solid : SolidKinds J) (weight : ℕ → ℕ → ℕ) where
+    -- a plate's bound under weights of its own does
+    own-bound : (p : ℕ) → p < n → NoneAbove (plated J (plate p)) (bound-of (plated J (plate p)) (weight p))
+    own-bound p l = none-any (plated J (plate p)) (bound-of (plated J (plate p)) (weight p)) (bound-holds (plated J (plate p)) (weight p) solid)
+
+    pub rack-holds : NoneTogether J n plate (rack-bound J n plate weight)
+    rack-holds = any-together (λ p. bound-of (plated J (plate p)) (weight p)) own-bound
+
+    pub rack-finer : NoneTogetherFiner J n plate (rack-bound J n plate weight)
+    rack-finer = any-finer (λ p. bound-of (plated J (plate p)) (weight p)) (λ p l. none-finer (plated J (plate p)) solid (bound-of (plated J (plate p)) (weight p)) (own-bound p l))

@@ -12,7 +12,7 @@ use Rattle.cutting.specs.Job.{Job}
 use Rattle.refusal.specs.declared.Refusal.the-variants.{ShortHeader, KindCount, Kerf, BlockLength, KindSide, Price, Demand}
 use Rattle.refusal.specs.Refusals.{next, first-refusal}
 use Rattle.job.specs.declared.Choices.{Choices}
-use Rattle.job.specs.Block.{u16-at, u32-at, count-at, kerf-at, sizes-end, length-at, width-at, price-at, demand-at, outside, sides-outside, each-kind, entries, record-of, job-from}
+use Rattle.job.specs.Block.{u16-at, u32-at, plate-length-at, plate-width-at, count-at, kerf-at, sizes-end, length-at, width-at, price-at, demand-at, outside, sides-outside, each-kind, entries, record-of, job-from}
 use Rattle.job.specs.Weights.{block-job}
 use Rattle.job.proofs.Read.{sizes-least}
 use Rattle.plan.specs.Plan.{plan-checks}
@@ -76,13 +76,13 @@ module _ (choices : Choices) (s z : List ℕ) (same : OnlyPlate s z) where
       ++ each-kind (λ j. (ltb 1000000 (same-price j i), Price j) ∷ (ltb 255 (same-demand j i), Demand j) ∷ []) 0 (same-count i))
 
   -- the job but for its plate
-  same-job : block-job z choices ≡ plated (block-job s choices) (block-job z choices .plate)
+  pub same-job : block-job z choices ≡ plated (block-job s choices) (plate-length-at z, plate-width-at z)
   unfolding record-of
-  same-job = λ i. job-from (block-job z choices .plate .0) (block-job z choices .plate .1) (sym same-kerf i) (choices .turning) (choices .«full_demand») (sym same-count i)
+  same-job = λ i. job-from (plate-length-at z) (plate-width-at z) (sym same-kerf i) (choices .turning) (choices .«full_demand») (sym same-count i)
       (entries (λ j. sym (same-length-of j) i) (sym same-count i)) (entries (λ j. sym (same-width-of j) i) (sym same-count i)) (entries (λ j. sym (same-price j) i) (sym same-count i)) (entries (λ j. sym (same-demand j) i) (sym same-count i))
 
   pub same-answer : (lengths widths kinds operands : List ℕ) → rack-answer s choices lengths widths kinds operands ≡ rack-answer z choices lengths widths kinds operands
   unfolding rack-checks plans-answer
   same-answer lengths widths kinds operands =
       ap₂ rack-by (λ i. first-refusal (rack-size-check lengths widths ∷ (same-order i ++ (plate-checks (plate-at lengths widths) (length lengths) ++ plan-checks kinds operands))))
-      (sym (ap (λ J. plans-answer J (plate-at lengths widths) (length lengths) kinds operands) same-job ∙ walk-unread (block-job s choices) (block-job z choices .plate) (plate-at lengths widths) kinds operands 0 (length lengths) 0 _ _))
+      (sym (ap (λ J. plans-answer J (plate-at lengths widths) (length lengths) kinds operands) same-job ∙ walk-unread (block-job s choices) (plate-length-at z, plate-width-at z) (plate-at lengths widths) kinds operands 0 (length lengths) 0 _ _))

@@ -10,15 +10,17 @@ use Rattle.cutting.specs.Tree.{Rect, Tree, IdleFree}
 use Rattle.cutting.specs.Pieces.{Piece}
 use Rattle.cutting.specs.Preorder.{node-count, kinds-of, operands-of}
 use Rattle.cutting.specs.Job.{Job, profit, copies-of, KeepsDemands}
+use Rattle.cutting.specs.Promises.{NoneAbove, NoneFiner}
 use Rattle.refusal.specs.Refusals.{first-refusal}
 use Rattle.refusal.specs.declared.Refusal.{Refusal}
 use Rattle.refusal.specs.declared.Refusal.the-variants.{IdleCut, RackDemand}
 use Rattle.refusal.specs.declared.Checked.the-variants.{Passed, Refused}
 use Rattle.job.specs.declared.Choices.{Choices}
+use Rattle.job.specs.Block.{plate-length-at, plate-width-at}
 use Rattle.job.specs.Weights.{block-job}
 use Rattle.idle.specs.Idle.{tree-checks}
 use Rattle.rack.specs.declared.RackAnswer.{RackAnswer}
-use Rattle.rack.specs.Racks.{OnPlates, OnFinerPlates, SharesDemands, rack-profit, rack-bound, chained}
+use Rattle.rack.specs.Racks.{plated, OnPlates, SharesDemands, NoneTogether, NoneTogetherFiner, rack-bound, chained}
 use Rattle.rack.specs.Check.{most-plates, plate-at, order-checks, rack-checks, rack-answer, rack-outcome, rack-said}
 
 -- no check of a job block beside its plate's refuses it
@@ -66,9 +68,10 @@ pub record OnlyPlate (s z : List ℕ) : Type 0 where
 
 -- what the check promises of a rack. Where no check before any plan's refuses, it passes exactly for the plans of
 -- trees; it then has the profits of those trees, and else zeros. It gives 26 and 29 exactly where those checks pass and trees, one a plate, have
--- the idle cut or pass the demand. The job's own plate is not read. No set of plans on the plates that share
--- the demands, cut at whole units or finer, earns more than the sum of the plates' bounds, each under weights of its own; nor do the plans that
--- passed
+-- the idle cut or pass the demand. The job's own plate is not read, and a block with
+-- another plate in its place is the job on that plate. Whatever bounds the trees of each plate that keep the demands (a bound of one weight, of
+-- two, an optimum): no set of plans on the plates that share the demands earns more than the sum of these, cut at whole units or finer; so of the
+-- plates' bounds, each under weights of its own, which bound the plans that passed too
 pub record RackChecks (s : List ℕ) (choices : Choices) (lengths widths kinds operands : List ℕ) (r : RackAnswer) : Type 0 where
   pub passes : BeforePasses s choices lengths widths kinds operands → (tree : ℕ → Tree Piece) → RackOf (block-job s choices) (length lengths) (plate-at lengths widths) tree kinds operands → r .verdict ≡ Passed
   pub before : r .verdict ≡ Passed → BeforePasses s choices lengths widths kinds operands
@@ -77,10 +80,11 @@ pub record RackChecks (s : List ℕ) (choices : Choices) (lengths widths kinds o
   pub idle : (k : ℕ) → (r .verdict ≡ Refused (IdleCut k)) ↔ (BeforePasses s choices lengths widths kinds operands × IdleAt (block-job s choices) (length lengths) (plate-at lengths widths) kinds operands k)
   pub shared : (i : ℕ) → (r .verdict ≡ Refused (RackDemand i)) ↔ (BeforePasses s choices lengths widths kinds operands × OverAt (block-job s choices) (length lengths) (plate-at lengths widths) kinds operands i)
   pub unread : (z : List ℕ) → OnlyPlate s z → r ≡ rack-answer z choices lengths widths kinds operands
-  pub bounds : OrderPasses s choices → (tree : ℕ → Tree Piece) → OnPlates (block-job s choices) (length lengths) (plate-at lengths widths) tree → SharesDemands (block-job s choices) (length lengths) tree → (weight : ℕ → ℕ → ℕ)
-      → rack-profit (block-job s choices) (length lengths) tree ≤ rack-bound (block-job s choices) (length lengths) (plate-at lengths widths) weight
-  pub finer : OrderPasses s choices → (m : ℕ) → 1 ≤ m → (tree : ℕ → Tree Piece) → OnFinerPlates (block-job s choices) m (length lengths) (plate-at lengths widths) tree → SharesDemands (block-job s choices) (length lengths) tree → (weight : ℕ → ℕ → ℕ)
-      → rack-profit (block-job s choices) (length lengths) tree ≤ rack-bound (block-job s choices) (length lengths) (plate-at lengths widths) weight
+  pub other-plate : (z : List ℕ) → OnlyPlate s z → block-job z choices ≡ plated (block-job s choices) (plate-length-at z, plate-width-at z)
+  pub any : (b : ℕ → ℕ) → ((p : ℕ) → p < length lengths → NoneAbove (plated (block-job s choices) (plate-at lengths widths p)) (b p)) → NoneTogether (block-job s choices) (length lengths) (plate-at lengths widths) (sum (length lengths) b)
+  pub any-finer : (b : ℕ → ℕ) → ((p : ℕ) → p < length lengths → NoneFiner (plated (block-job s choices) (plate-at lengths widths p)) (b p)) → NoneTogetherFiner (block-job s choices) (length lengths) (plate-at lengths widths) (sum (length lengths) b)
+  pub bounds : OrderPasses s choices → (weight : ℕ → ℕ → ℕ) → NoneTogether (block-job s choices) (length lengths) (plate-at lengths widths) (rack-bound (block-job s choices) (length lengths) (plate-at lengths widths) weight)
+  pub finer : OrderPasses s choices → (weight : ℕ → ℕ → ℕ) → NoneTogetherFiner (block-job s choices) (length lengths) (plate-at lengths widths) (rack-bound (block-job s choices) (length lengths) (plate-at lengths widths) weight)
   pub earned : r .verdict ≡ Passed → (weight : ℕ → ℕ → ℕ) → sum (length lengths) (λ p. getD (r .profits) p 0) ≤ rack-bound (block-job s choices) (length lengths) (plate-at lengths widths) weight
 
 -- the promises of the check on the arrays of the plates' sides: answer, number and values are the definitions', and it checks the rack

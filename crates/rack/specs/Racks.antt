@@ -6,7 +6,7 @@ use Prim.Native.Nat.{ℕ, zero, suc, _≤_, _<_}
 use Rattle.cutting.specs.Lists.{sum}
 use Rattle.cutting.specs.Tree.{Rect, Tree}
 use Rattle.cutting.specs.Pieces.{Piece}
-use Rattle.cutting.specs.Job.{Job, OnPlate, profit, copies-of, bound-of, finer}
+use Rattle.cutting.specs.Job.{Job, AnyOnPlate, OnPlate, profit, copies-of, bound-of, finer}
 
 -- the job on another plate
 abbrev pub plated : Job → Rect → Job
@@ -16,9 +16,13 @@ plated J r = record { plate = r; kerf = J .kerf; turning = J .turning; full-dema
 abbrev pub OnPlates : Job → ℕ → (ℕ → Rect) → (ℕ → Tree Piece) → Type 0
 OnPlates J n plate tree = (p : ℕ) → p < n → OnPlate (plated J (plate p)) (tree p)
 
--- each of n plans is such a tree cut at multiples of one m-th of a unit
-abbrev pub OnFinerPlates : Job → ℕ → ℕ → (ℕ → Rect) → (ℕ → Tree Piece) → Type 0
-OnFinerPlates J m n plate tree = (p : ℕ) → p < n → OnPlate (finer m (plated J (plate p))) (tree p)
+-- each of n plans is a guillotine tree of any kinds of the job on its plate
+abbrev pub AnyOnPlates : Job → ℕ → (ℕ → Rect) → (ℕ → Tree Piece) → Type 0
+AnyOnPlates J n plate tree = (p : ℕ) → p < n → AnyOnPlate (plated J (plate p)) (tree p)
+
+-- each is such a tree cut at multiples of one m-th of a unit
+abbrev pub AnyOnFinerPlates : Job → ℕ → ℕ → (ℕ → Rect) → (ℕ → Tree Piece) → Type 0
+AnyOnFinerPlates J m n plate tree = (p : ℕ) → p < n → AnyOnPlate (finer m (plated J (plate p))) (tree p)
 
 -- n plans share the demands: no kind has more copies in all of them together than its demand
 abbrev pub SharesDemands : Job → ℕ → (ℕ → Tree Piece) → Type 0
@@ -27,6 +31,14 @@ SharesDemands J n tree = (i : ℕ) → i < J .count → sum n (λ p. copies-of i
 -- what n plans earn together
 abbrev pub rack-profit : Job → ℕ → (ℕ → Tree Piece) → ℕ
 rack-profit J n tree = sum n (λ p. profit J (tree p))
+
+-- no n plans on the plates, of any kinds of the job, that share the demands earn more than b
+abbrev pub NoneTogether : Job → ℕ → (ℕ → Rect) → ℕ → Type 0
+NoneTogether J n plate b = (tree : ℕ → Tree Piece) → AnyOnPlates J n plate tree → SharesDemands J n tree → rack-profit J n tree ≤ b
+
+-- the same of plans cut at multiples of one m-th of a unit, for every whole m of at least 1
+abbrev pub NoneTogetherFiner : Job → ℕ → (ℕ → Rect) → ℕ → Type 0
+NoneTogetherFiner J n plate b = (m : ℕ) → 1 ≤ m → (tree : ℕ → Tree Piece) → AnyOnFinerPlates J m n plate tree → SharesDemands J n tree → rack-profit J n tree ≤ b
 
 -- the sum of the bounds of n plates, each under weights of its own
 abbrev pub rack-bound : Job → ℕ → (ℕ → Rect) → (ℕ → ℕ → ℕ) → ℕ

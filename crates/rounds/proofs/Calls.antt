@@ -14,6 +14,7 @@ use Rattle.cutting.specs.Promises.{NoneAbove}
 use Rattle.cutting.proofs.Members.{range-solid}
 use Rattle.cutting.proofs.Plan.{plan-idle}
 use Rattle.cutting.proofs.Weights.{by-weight-monotone}
+use Rattle.cutting.proofs.AnyKinds.{any-on}
 use Rattle.cutting.proofs.Finer.{none-finer}
 use Rattle.cutting.proofs.Promises.{none-above}
 use Rattle.refusal.specs.Refusals.{next, first-refusal, outcome-by}
@@ -166,7 +167,7 @@ module _ (s : List ℕ) (choices : Choices) (kinds operands : List ℕ) where
   pub low : first-refusal (job-checks s choices) ≡ Passed → plan-answer J kinds operands .verdict ≡ Passed → (weight : ℕ → ℕ) → plan-answer J kinds operands .report .profit ≤ bound-of J weight
   low good passed weight =
       let t = plans-checked J (read-in-range s choices good .kinds .1) kinds operands .tree passed in
-      omega (arith, ap (λ (r : Report). r .profit) (t .2 .own), none-above J weight (read-in-range s choices good) (t .0) (t .1 .drawn .on-plate) (t .1 .drawn .demands))
+      omega (arith, ap (λ (r : Report). r .profit) (t .2 .own), none-above J weight (read-in-range s choices good) (t .0) (any-on J (t .0) (t .1 .drawn .on-plate)) (t .1 .drawn .demands))
 
   module _ (old new : Lent) where
     -- number and values of the answer

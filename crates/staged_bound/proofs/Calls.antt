@@ -13,7 +13,7 @@ use Rattle.cutting.specs.Job.{Job, SolidKinds, InRange, widened, capacity, at-f
 use Rattle.cutting.specs.Staged.{block, staged-bound}
 use Rattle.cutting.specs.Listed.{listed-weight, pieces-job, PieceArray}
 use Rattle.cutting.proofs.Members.{range-solid, widened-solid}
-use Rattle.cutting.proofs.Finer.{staged-finer}
+use Rattle.cutting.proofs.Finer.{staged-finer, stages-finer}
 use Rattle.cutting.proofs.Bound.{capacity-less}
 use Rattle.cutting.proofs.Staged.{block-figure, block-recursion, block-floor, block-most, staged-under-most, staged-under-earned, staged-most, staged-holds, staged-more, staged-less, staged-ceiling}
 use Rattle.cutting.proofs.Promises.{normal-listed}
@@ -64,6 +64,7 @@ module _ (J : Job) (solid : SolidKinds J) (weight : ℕ → ℕ) (n : ℕ) where
 staged-held : (J : Job) (weight : ℕ → ℕ) (n : ℕ) → InRange J → StagedHolds J weight n (capacity J weight) (staged-bound J weight n)
 staged-held J weight n h = record {
   most = staged-most J (range-solid J h) weight n;
+  most-finer = stages-finer J (range-solid J h) weight n (capacity J weight) (staged-bound J weight n) (staged-most J (range-solid J h) weight n);
   demands = staged-holds J (range-solid J h) weight n;
   finer = staged-finer J (range-solid J h) n (staged-bound J weight n) (staged-holds J (range-solid J h) weight n);
   ceiling = staged-ceiling J weight n h;

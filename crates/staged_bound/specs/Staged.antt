@@ -8,8 +8,8 @@ use lib.ListN.{length}
 use Rattle.cutting.specs.declared.Direction.the-variants.{Length, Width}
 use Rattle.cutting.specs.Limits.{most-figure}
 use Rattle.cutting.specs.Job.{Job, capacity, at-full-demand, bound-of, normal-positions}
-use Rattle.cutting.specs.Promises.{NormalSums}
-use Rattle.cutting.specs.Staged.{block, staged-under, staged-bound, MostStaged, NoneStaged, NoneStagedFiner, StagedRecursion, StagedFloors, StagedFiguresMost}
+use Rattle.cutting.specs.Promises.{FinerAmong, NormalSums}
+use Rattle.cutting.specs.Staged.{block, staged-under, staged-bound, OfStages, MostStaged, NoneStaged, NoneStagedFiner, StagedRecursion, StagedFloors, StagedFiguresMost}
 use Rattle.refusal.specs.Refusals.{Check, Outcome, next, first-refusal, by-check, outcome-by}
 use Rattle.refusal.specs.declared.Checked.{Checked}
 use Rattle.job.specs.declared.Choices.{Choices}
@@ -70,11 +70,12 @@ abbrev pub staged-said : List ℕ → Choices → List ℕ → ℕ → Memory �
 staged-said s choices ws n m = outcome-by (staged-verdict s choices ws n m) (report-values (staged-block-report s choices ws n))
 
 -- what a staged bound m at the limit n and the capacity q is: the most that a guillotine tree of at most n stages and of weight at most q
--- earns; no less than any tree of at most n stages that keeps the demands earns, cut at whole units or finer; at most 1,000,000,000,000; the
--- greater of the two blocks of the limit, the kerf added to every side, at the plate and q. The capacity is the job's. A higher
--- limit gives no less, and the bound without a limit and that of the full demands are no less
+-- earns; no less than any tree of the job's kinds of at most n stages that keeps the demands earns; no less than any of these trees cut finer;
+-- at most 1,000,000,000,000; the greater of the two blocks of the limit, the kerf added to every side, at the plate and q. The capacity is the
+-- job's. A higher limit gives no less, and the bound without a limit and that of the full demands are no less
 pub record StagedHolds (J : Job) (weight : ℕ → ℕ) (n q m : ℕ) : Type 0 where
   pub most : MostStaged J weight n q m
+  pub most-finer : FinerAmong J (OfStages weight n q) m
   pub demands : NoneStaged J n m
   pub finer : NoneStagedFiner J n m
   pub ceiling : m ≤ most-figure

@@ -19,6 +19,7 @@ ghost use lib.ListN.{length};
 ghost use Rattle.cutting.specs.Sides.{rect-of};
 ghost use Rattle.cutting.specs.Listed.{listed-weight, pieces-job};
 ghost use Rattle.table.specs.Contracts.{size-job, StagedFillable, StagedBy};
+ghost use Rattle.job.specs.Block.{with-full-demand};
 ghost use Rattle.bound.specs.Bound.{lent};
 ghost use Rattle.staged_bound.specs.Staged.{StagedPromises};
 ghost use Rattle.staged_bound.specs.Contracts.{Stageable, Staged};
@@ -142,4 +143,21 @@ pub fn bound_staged(
         &mut floors,
         table,
     )
+}
+
+// The same with the capacity of the full demands, whatever the choices say of it: demand times weight over all kinds.
+pub fn bound_staged_full_demand(
+    block: &[u8],
+    mut choices: Choices,
+    weights: &[u8],
+    limit: u32,
+    lengths: &mut [u16],
+    widths: &mut [u16],
+    table: &mut [u64],
+) -> BoundAnswer
+    ensures { λ r. ⌜ StagedPromises (now (block .entry)) (with-full-demand choices) (now (weights .entry)) limit (lent (now (lengths .entry)) (now (widths .entry)) (now (table .entry)))
+        (lent (now (lengths .exit)) (now (widths .exit)) (now (table .exit))) r ⌝ }
+{
+    choices.full_demand = true;
+    bound_staged(block, choices, weights, limit, lengths, widths, table)
 }

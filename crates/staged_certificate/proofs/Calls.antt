@@ -10,6 +10,7 @@ use Rattle.cutting.specs.Shares.{stages}
 use Rattle.cutting.specs.Job.{Job}
 use Rattle.cutting.specs.Staged.{staged-bound, NoneStagedBetter}
 use Rattle.cutting.proofs.Members.{range-solid}
+use Rattle.cutting.proofs.AnyKinds.{any-on}
 use Rattle.cutting.proofs.Finer.{staged-finer}
 use Rattle.cutting.proofs.Staged.{staged-holds}
 use Rattle.refusal.specs.Refusals.{next, first-refusal}
@@ -73,7 +74,7 @@ module _ (s : List ℕ) (choices : Choices) (ws : List ℕ) (n : ℕ) (kinds ope
       let t = drawn-within (accepted-both s choices ws (c .0) .0) (b .1) in
       let solid = range-solid J (accepted-in-range s choices ws (c .0)) in
       let none = staged-holds J solid (weight-in ws) n in
-      (t, omega (arith, t .2, none (t .0) (t .1 .plan .drawn .on-plate, t .1 .within) (t .1 .plan .drawn .demands)), (none, staged-finer J solid n most none))
+      (t, omega (arith, t .2, none (t .0) (any-on J (t .0) (t .1 .plan .drawn .on-plate)) (t .1 .within) (t .1 .plan .drawn .demands)), (none, staged-finer J solid n most none))
 
   module _ (old : Memory) where
     -- the storage's verdict, and the certificate where no check refuses

@@ -12,6 +12,7 @@ use refusal::Checked;
 use refusal::Refusal;
 use staged_plan::check_within;
 use stages::limit_outside;
+ghost use Rattle.job.specs.Block.{with-full-demand};
 ghost use Rattle.bound.specs.Bound.{lent};
 ghost use Rattle.staged_certificate.specs.Certificate.{CertifyStagedPromises};
 
@@ -64,4 +65,33 @@ pub fn certify_staged(
         return conclude(storage_verdict(found), 0, 0);
     };
     conclude(Checked::Passed, report.profit, b.bound)
+}
+
+// The same with the capacity of the full demands, whatever the choices say of it: demand times weight over all kinds.
+pub fn certify_staged_full_demand(
+    block: &[u8],
+    mut choices: Choices,
+    weights: &[u8],
+    limit: u32,
+    kinds: &[u8],
+    operands: &[u16],
+    lengths: &mut [u16],
+    widths: &mut [u16],
+    table: &mut [u64],
+) -> Certificate
+    ensures { λ r. ⌜ CertifyStagedPromises (now (block .entry)) (with-full-demand choices) (now (weights .entry)) limit (now (kinds .entry)) (now (operands .entry)) (lent (now (lengths .entry)) (now (widths .entry)) (now (table .entry)))
+        (lent (now (lengths .exit)) (now (widths .exit)) (now (table .exit))) r ⌝ }
+{
+    choices.full_demand = true;
+    certify_staged(
+        block,
+        choices,
+        weights,
+        limit,
+        kinds,
+        operands,
+        lengths,
+        widths,
+        table,
+    )
 }

@@ -10,7 +10,7 @@ use Rattle.cutting.specs.Job.{Job, SolidKinds, InRange, widened, capacity, at-f
 use Rattle.cutting.specs.Two.{figure-two, two-bound, TwoFiguresMost}
 use Rattle.cutting.specs.Listed.{listed-weight, pieces-job, PieceArray}
 use Rattle.cutting.proofs.Members.{range-solid, widened-solid}
-use Rattle.cutting.proofs.Finer.{none-finer}
+use Rattle.cutting.proofs.Finer.{none-finer, two-finer}
 use Rattle.cutting.proofs.Bound.{capacity-less}
 use Rattle.cutting.proofs.Two.{two-recursion, two-floor, two-figures, two-most, two-holds, two-ceiling}
 use Rattle.cutting.proofs.Promises.{normal-listed}
@@ -61,6 +61,7 @@ module _ (J : Job) (first second : ℕ → ℕ) where
 two-held : (J : Job) (first second : ℕ → ℕ) → InRange J → TwoHolds J first second (capacity J first) (capacity J second) (two-bound J first second)
 two-held J first second h = record {
   most = two-most J first second (range-solid J h) (capacity J first) (capacity J second);
+  most-finer = two-finer J (range-solid J h) first second (capacity J first) (capacity J second) (two-bound J first second) (two-most J first second (range-solid J h) (capacity J first) (capacity J second));
   demands = two-holds J first second (range-solid J h);
   finer = none-finer J (range-solid J h) (two-bound J first second) (two-holds J first second (range-solid J h));
   ceiling = two-ceiling J first second h;

@@ -4,7 +4,7 @@ use Rattle.job.proofs.read_old_job.Statement.{statement}
 use Rattle.job.proofs.read_old_job.Tie as tie
 
 returns : tie.Need-returns
-returns c = rw (c .before .with-old-block .ensures) at (c .read-job .ensures)
+returns c = let read = rw (c .before .with-old-block .ensures) at (c .read-job .ensures) in (read .0, read .1 .0)
 
 pub read-old-job-spec : {M : Type 1} → statement M
 read-old-job-spec = tie.close (tie.spec (search needs) (search needs) returns)
