@@ -71,11 +71,11 @@ wide-job s choices = widened (block-job s choices)
 abbrev pub block-capacity : List ℕ → Choices → List ℕ → ℕ
 block-capacity s choices ws = capacity (block-job s choices) (weight-in ws)
 
--- the verdict of the checks that stand before the storage's, 1 to 9 and 27
+-- the verdict of the checks that stand before the storage's, 1 to 9, 27 and 35
 abbrev pub accept-verdict : List ℕ → Choices → List ℕ → Checked
 accept-verdict s choices ws = first-refusal (job-checks s choices ++ weight-checks (block-job s choices) ws)
 
--- the verdict of the bound call: 1 to 9 and 27, 19, 20
+-- the verdict of the bound call: 1 to 9, 27 and 35, 19, 20
 abbrev pub bound-verdict : List ℕ → Choices → List ℕ → Memory → Checked
 bound-verdict s choices ws m = next (accept-verdict s choices ws) (first-refusal (memory-checks (wide-job s choices) (block-capacity s choices ws) m))
 

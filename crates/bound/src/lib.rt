@@ -1,5 +1,5 @@
 // The bound call: a job block and weights are accepted or refused, the normal positions of both sides go into the lent lists, the
-// figures into the lent table, and the table's last word is the bound. Refusals 1 to 9, 27, 19 and 20.
+// figures into the lent table, and the table's last word is the bound. Refusals 1 to 9, 27, 35, 19 and 20.
 use cutting::Sides;
 use job::Choices;
 use pieces::list_pieces;

@@ -15,7 +15,7 @@ use Rattle.bound.specs.Bound.{Memory, memory-checks, wide-job, block-capacity, 
 use Rattle.certificate.specs.declared.Certificate.{Certificate}
 use Rattle.certificate.specs.declared.Certificate.the-variants as certificate
 
--- the verdict of the checks that stand before the storage's: 1 to 9 and 27, then the plan's, 10 to 18 and 26
+-- the verdict of the checks that stand before the storage's: 1 to 9, 27 and 35, then the plan's, 10 to 18, 36 and 26
 abbrev pub plan-verdict : List ℕ → Choices → List ℕ → List ℕ → List ℕ → Checked
 plan-verdict s choices ws kinds operands = next (accept-verdict s choices ws) (plan-answer (block-job s choices) kinds operands .verdict)
 

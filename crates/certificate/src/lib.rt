@@ -1,5 +1,5 @@
 // The certificate: a checked plan's profit against the bound. "Best" is a statement about every guillotine tree that keeps the demands
-// (specs/Promises). The call hands on the first refusal met, 1 to 20, 26 or 27, and leaves lists and table as the bound call does.
+// (specs/Promises). The call hands on the first refusal met, 1 to 20, 26, 27, 35 or 36, and leaves lists and table as the bound call does.
 use bound::BoundAnswer;
 use job::Choices;
 use job::WeightsAnswer;

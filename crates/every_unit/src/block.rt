@@ -1,10 +1,12 @@
 // A job as a job block and weights for the planner: how many bytes there are, and then each.
 use crate::job::DEMAND;
+use crate::job::GRAIN;
 use crate::job::KINDS;
 use crate::job::OLD_BLOCK;
 use crate::job::PLATE;
 use crate::job::PRICE;
 use crate::job::WEIGHTS;
+use crate::job::grain_byte;
 use crate::job::kind_side;
 use test_tools::Words;
 use test_tools::minus;
@@ -54,9 +56,16 @@ fn put_field(t: &mut Words, j: usize) {
 }
 
 fn put_fields(t: &mut Words, n: usize) {
-    put(t, BLOCK, 0, times(2, n));
     for j in 0..n {
         put_field(t, j);
+    }
+}
+
+// The grain bytes, behind so many bytes before them.
+fn put_grains(t: &mut Words, before: usize, n: usize) {
+    for i in 0..n {
+        let x = grain_byte(t, i);
+        put(t, plus(BLOCK, plus(before, 1)), i, x);
     }
 }
 
@@ -65,5 +74,9 @@ pub fn write_block(t: &mut Words, old: bool) {
     let n = word(t, KINDS, 0);
     put(t, OLD_BLOCK, 0, old as usize);
     put(t, WEIGHTS, 0, n);
-    put_fields(t, plus(header_fields(t), times(5, n)));
+    let fields = plus(header_fields(t), times(5, n));
+    let grains = times(word(t, GRAIN, 0), n);
+    put_fields(t, fields);
+    put_grains(t, times(2, fields), grains);
+    put(t, BLOCK, 0, plus(times(2, fields), grains));
 }

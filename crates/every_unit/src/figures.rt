@@ -1,6 +1,6 @@
-// The figures of every rectangle and share, by the definition: 0; the price of any kind that fits, upright or as the choice of turning
-// allows, and is admitted by the share (shares.rt says what a share is); every length cut with every division of the share; every width
-// cut likewise. The rectangles are those that the saw leaves: a cut at x of a side n leaves x and n - x - k, k the kerf, both at least 1.
+// The figures of every rectangle and share, by the definition: 0; the price of any kind that fits, upright or turned where it may be, and
+// is admitted by the share (shares.rt says what a share is); every length cut with every division of the share; every width cut likewise.
+// The rectangles are those that the saw leaves: a cut at x of a side n leaves x and n - x - k, k the kerf, both at least 1.
 use crate::job::FIGURES;
 use crate::job::KERF;
 use crate::job::KINDS;
@@ -24,12 +24,12 @@ pub fn cell(t: &Words, l: usize, w: usize) -> usize {
     plus(FIGURES, times(plus(times(l, widths(t)), w), shares(t)))
 }
 
-// Whether a kind lies in a rectangle: upright, or turned where that is chosen.
+// Whether a kind lies in a rectangle: upright, or turned where it may be.
 fn lies_within(t: &Words, i: usize, l: usize, w: usize) -> bool {
     if fits(t, i, l, w) {
         return true;
     }
-    if may_turn(t) {
+    if may_turn(t, i) {
         return fits(t, i, w, l);
     }
     false

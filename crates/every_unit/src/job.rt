@@ -66,6 +66,9 @@ pub const TWO: usize = 9490;
 // 1 where a share is the remaining copies of every kind, and else 0.
 pub const EXACT: usize = 9491;
 
+// 1 where the block has a grain byte for each kind, and else 0.
+pub const GRAIN: usize = 9492;
+
 // Of each kind the number of states of the kinds below it.
 pub const STRIDE: usize = 9500;
 
@@ -95,7 +98,16 @@ pub fn kind_room(t: &Words, side: usize, i: usize) -> usize {
     plus(kind_side(t, side, i), word(t, KERF, 0))
 }
 
-pub fn may_turn(t: &Words) -> bool {
+// The grain byte of a kind: where there are such bytes, kinds of an odd number keep their grain.
+pub fn grain_byte(t: &Words, i: usize) -> usize {
+    times(word(t, GRAIN, 0), i % 2)
+}
+
+// Whether a kind may be turned.
+pub fn may_turn(t: &Words, i: usize) -> bool {
+    if grain_byte(t, i) == 1 {
+        return false;
+    }
     word(t, TURNING, 0) == 1
 }
 
@@ -140,7 +152,7 @@ fn fits_plate(t: &Words, i: usize) -> bool {
 
 // The copies of a kind that can lie on the plate.
 fn held(t: &Words, i: usize) -> usize {
-    if !may_turn(t) {
+    if !may_turn(t, i) {
         return by_sides(t, i);
     }
     if fits_plate(t, i) {

@@ -16,6 +16,7 @@ pub use job::BOUND;
 pub use job::CAPACITY;
 pub use job::EXACT;
 pub use job::FIGURES;
+pub use job::GRAIN;
 pub use job::KERF;
 pub use job::KIND_LENGTH;
 pub use job::LENGTH_COUNT;

@@ -38,12 +38,12 @@ fn leads_turned(t: &Words, side: usize, i: usize, x: usize) -> bool {
     false
 }
 
-// Whether a kind leads to a position, upright or turned where that is chosen.
+// Whether a kind leads to a position, upright or turned where it may be.
 fn leads_to(t: &Words, side: usize, i: usize, x: usize) -> bool {
     if leads_upright(t, side, i, x) {
         return true;
     }
-    if may_turn(t) {
+    if may_turn(t, i) {
         return leads_turned(t, side, i, x);
     }
     false

@@ -56,7 +56,7 @@ pub record ExactLeaves (before : Checked) (J : Job) (F : ℕ → ℕ → ℕ →
   pub widths : new .widths ≡ list-after (next before (first-refusal (list-check J (length (old .lengths)) (length (old .widths)) ∷ []))) (normal-positions J Width) (old .widths)
   pub table : StatesAfter (next before (first-refusal (memory-checks J q old))) J F q (old .table) (new .table)
 
--- the verdict of the checks that stand before the storage's: 1 to 7 and 27, 30
+-- the verdict of the checks that stand before the storage's: 1 to 7, 27 and 35, 30
 abbrev pub short-verdict : List ℕ → Choices → Checked
 short-verdict s choices = first-refusal (job-checks s choices ++ (state-check (block-job s choices) ∷ []))
 

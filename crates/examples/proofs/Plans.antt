@@ -49,7 +49,7 @@ unfolding walk
 walk-past J j k h [] [] s = tt
 walk-past J j k h (n ∷ ns) [] s = λ z. h
 walk-past J j k h [] (r ∷ rs) s = λ z. h
-walk-past J j k h (n ∷ ns) (r ∷ rs) s = proceed-past j (first-refusal (node-checks J (s .copies) r k (n .0) (n .1))) _ (checks-past j _ (λ z. h, (λ z. h, (λ z. h, (λ z. h, (λ z. h, tt)))))) (walk-past J j (k + 1) (omega arith) ns _ _)
+walk-past J j k h (n ∷ ns) (r ∷ rs) s = proceed-past j (first-refusal (node-checks J (s .copies) r k (n .0) (n .1))) _ (checks-past j _ (λ z. h, (λ z. h, (λ z. h, (λ z. h, (λ z. h, (λ z. h, tt))))))) (walk-past J j (k + 1) (omega arith) ns _ _)
 
 -- the verdict of the first node's checks
 abbrev pub first-verdict : Job → ℕ → ℕ → Checked

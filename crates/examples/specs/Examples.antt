@@ -72,11 +72,11 @@ pub data Example : Type 0 where
 
 -- the marked examples' jobs are old blocks, and make no other choice
 abbrev pub old-block : Choices
-old-block = record { turning = false; «full_demand» = false; «old_block» = true }
+old-block = record { turning = false; «full_demand» = false; «old_block» = true; grain = false }
 
 -- no choice at all: a block with a kerf
 abbrev pub no-choice : Choices
-no-choice = record { turning = false; «full_demand» = false; «old_block» = false }
+no-choice = record { turning = false; «full_demand» = false; «old_block» = false; grain = false }
 
 -- the capacity of the full demands
 abbrev pub full : Choices
@@ -84,7 +84,7 @@ full = with-full-demand old-block
 
 -- pieces that may be turned, and a block with a kerf
 abbrev pub turning : Choices
-turning = record { turning = true; «full_demand» = false; «old_block» = false }
+turning = record { turning = true; «full_demand» = false; «old_block» = false; grain = false }
 
 -- lent lists that hold every length up to the plate's sides, the kerf added
 abbrev pub LongLists : List ℕ → Choices → Memory → Type 0

@@ -9,10 +9,10 @@ use borrow.Author.Tests.{lt-ltb, le-ltb, eq-eqb, ne-eqb}
 use lib.Dec.{ltb, eqb}
 use lib.ListN.{length, getD}
 use Rattle.refusal.specs.Refusals.{Check}
-use Rattle.refusal.specs.declared.Refusal.the-variants.{ShortHeader, PlateSide, KindCount, Kerf, BlockLength, KindSide, Price, Demand}
+use Rattle.refusal.specs.declared.Refusal.the-variants.{ShortHeader, PlateSide, KindCount, Kerf, BlockLength, KindSide, Price, Demand, Grain}
 use Rattle.job.specs.declared.Choices.{Choices}
 use Rattle.job.specs.declared.JobRecord.{JobRecord}
-use Rattle.job.specs.Block.{with-old-block, u16-at, u32-at, plate-length-at, plate-width-at, count-at, kerf-at, length-at, width-at, price-at, demand-at, outside, sides-outside, header-checks, plateless-checks, demand-check, pair-checks, each-kind, array-checks, checks-by, job-checks, entries, record-of, KerfNone, ReadAlike, KerfNoneRead}
+use Rattle.job.specs.Block.{with-old-block, u16-at, u32-at, plate-length-at, plate-width-at, count-at, kerf-at, length-at, width-at, price-at, demand-at, grain-at, kind-bytes, outside, sides-outside, header-checks, plateless-checks, demand-check, pair-checks, each-kind, grain-checks, array-checks, checks-by, job-checks, entries, grains-of, record-of, KerfNone, ReadAlike, KerfNoneRead}
 
 -- a length two greater against a header two greater
 shorter : (m n : ℕ) → m ≡ n + 2 → ltb m 8 ≡ ltb n 6
@@ -66,26 +66,20 @@ module _ (s z : List ℕ) (h : KerfNone s z) where
   same-demand : (i : ℕ) → demand-at 8 s i ≡ demand-at 6 z i
   same-demand i = field (6 + 4 + 4 * count-at z + 6 * i) (8 + 4 + 4 * count-at s + 6 * i) (omega arith) (omega (arith, same-count))
 
-  -- the checks of the header without its plate
-  same-plateless : plateless-checks false s ≡ plateless-checks true z
-  same-plateless = λ i. (shorter (length s) (length z) (h .two-more) i, ShortHeader)
-      ∷ (outside 1 64 (same-count i), KindCount)
-      ∷ (ltb 20 (h .none i), Kerf)
-      ∷ (not ((ap (λ c. eqb (length s) (8 + 10 * c)) same-count ∙ whole (length s) (length z) (10 * count-at z) (h .two-more)) i), BlockLength)
-      ∷ []
+  same-grain : (i : ℕ) → grain-at 8 s i ≡ grain-at 6 z i
+  same-grain i = behind (6 + 10 * count-at z + i) (8 + 10 * count-at s + i) (omega arith) (omega (arith, same-count))
 
-  -- and with it
-  same-header : header-checks false s ≡ header-checks true z
-  same-header = λ i. (shorter (length s) (length z) (h .two-more) i, ShortHeader)
-      ∷ (sides-outside (same-length i) (same-width i), PlateSide)
-      ∷ (outside 1 64 (same-count i), KindCount)
-      ∷ (ltb 20 (h .none i), Kerf)
-      ∷ (not ((ap (λ c. eqb (length s) (8 + 10 * c)) same-count ∙ whole (length s) (length z) (10 * count-at z) (h .two-more)) i), BlockLength)
-      ∷ []
+  same-grain-checks : (grain : Bool) → grain-checks grain 8 s ≡ grain-checks grain 6 z
+  same-grain-checks true = λ i. each-kind (λ j. (ltb 1 (same-grain j i), Grain j) ∷ []) 0 (same-count i)
+  same-grain-checks false = refl
+
+  same-grains : (grain : Bool) → grains-of grain 8 s ≡ grains-of grain 6 z
+  same-grains true = λ i. entries (λ j. same-grain j i) (same-count i)
+  same-grains false = refl
 
   -- the checks of the arrays, whatever the pairs' checks are that are the same
-  same-arrays : (f g : ℕ → List Check) → ((i : ℕ) → f i ≡ g i) → array-checks f 8 s ≡ array-checks g 6 z
-  same-arrays f g e = λ i. each-kind (λ j. (sides-outside (same-length-of j i) (same-width-of j i), KindSide j) ∷ []) 0 (same-count i) ++ each-kind (λ j. e j i) 0 (same-count i)
+  same-arrays : (f g : ℕ → List Check) (grain : Bool) → ((i : ℕ) → f i ≡ g i) → array-checks f grain 8 s ≡ array-checks g grain 6 z
+  same-arrays f g grain e = λ i. each-kind (λ j. (sides-outside (same-length-of j i) (same-width-of j i), KindSide j) ∷ []) 0 (same-count i) ++ (each-kind (λ j. e j i) 0 (same-count i) ++ same-grain-checks grain i)
 
   same-pair : (i : ℕ) → pair-checks 8 s i ≡ pair-checks 6 z i
   same-pair i = λ j. (ltb 1000000 (same-price i j), Price i) ∷ (ltb 255 (same-demand i j), Demand i) ∷ []
@@ -96,17 +90,37 @@ module _ (s z : List ℕ) (h : KerfNone s z) where
   module _ (choices : Choices) (new : choices .«old_block» ≡ false) where
     -- a new block by its choices
     abbrev fresh : Choices
-    fresh = record { turning = choices .turning; «full_demand» = choices .«full_demand»; «old_block» = false }
+    fresh = record { turning = choices .turning; «full_demand» = choices .«full_demand»; «old_block» = false; grain = choices .grain }
 
     same-fresh : choices ≡ fresh
-    same-fresh = λ i. record { turning = choices .turning; «full_demand» = choices .«full_demand»; «old_block» = new i }
+    same-fresh = λ i. record { turning = choices .turning; «full_demand» = choices .«full_demand»; «old_block» = new i; grain = choices .grain }
+
+    same-bytes : eqb (length s) (8 + kind-bytes (choices .grain) * count-at s) ≡ eqb (length z) (6 + kind-bytes (choices .grain) * count-at z)
+    same-bytes = ap (λ c. eqb (length s) (8 + kind-bytes (choices .grain) * c)) same-count ∙ whole (length s) (length z) (kind-bytes (choices .grain) * count-at z) (h .two-more)
+
+    -- the checks of the header without its plate
+    same-plateless : plateless-checks fresh s ≡ plateless-checks (with-old-block choices) z
+    same-plateless = λ i. (shorter (length s) (length z) (h .two-more) i, ShortHeader)
+        ∷ (outside 1 64 (same-count i), KindCount)
+        ∷ (ltb 20 (h .none i), Kerf)
+        ∷ (not (same-bytes i), BlockLength)
+        ∷ []
+
+    -- and with it
+    same-header : header-checks fresh s ≡ header-checks (with-old-block choices) z
+    same-header = λ i. (shorter (length s) (length z) (h .two-more) i, ShortHeader)
+        ∷ (sides-outside (same-length i) (same-width i), PlateSide)
+        ∷ (outside 1 64 (same-count i), KindCount)
+        ∷ (ltb 20 (h .none i), Kerf)
+        ∷ (not (same-bytes i), BlockLength)
+        ∷ []
 
     read-fresh : ReadAlike s fresh z (with-old-block choices)
     unfolding job-checks record-of
     read-fresh = record {
-      checks = ap₂ (λ a b. a ++ b) same-header (same-arrays (pair-checks 8 s) (pair-checks 6 z) same-pair);
-      plateless = ap₂ (λ a b. a ++ b) same-plateless (same-arrays (pair-checks 8 s) (pair-checks 6 z) same-pair);
-      unpriced = ap₂ (λ a b. a ++ b) same-header (same-arrays (λ i. demand-check 8 s i ∷ []) (λ i. demand-check 6 z i ∷ []) same-demanded);
+      checks = ap₂ (λ a b. a ++ b) same-header (same-arrays (pair-checks 8 s) (pair-checks 6 z) (choices .grain) same-pair);
+      plateless = ap₂ (λ a b. a ++ b) same-plateless (same-arrays (pair-checks 8 s) (pair-checks 6 z) (choices .grain) same-pair);
+      unpriced = ap₂ (λ a b. a ++ b) same-header (same-arrays (λ i. demand-check 8 s i ∷ []) (λ i. demand-check 6 z i ∷ []) (choices .grain) same-demanded);
       record-is = λ i. record {
         length = same-length i;
         width = same-width i;
@@ -118,6 +132,7 @@ module _ (s z : List ℕ) (h : KerfNone s z) where
         widths = entries (λ j. same-width-of j i) (same-count i);
         prices = entries (λ j. same-price j i) (same-count i);
         demands = entries (λ j. same-demand j i) (same-count i);
+        grains = same-grains (choices .grain) i;
       };
     }
 

@@ -255,7 +255,7 @@ fn nodes_for(pieces: usize) -> usize
     2 * pieces - 1
 }
 
-// The neat plan of a plan's arrays for a job that was read: refusals 10 to 18, 26 and 21.
+// The neat plan of a plan's arrays for a job that was read: refusals 10 to 18, 36, 26 and 21.
 fn neat_nodes(
     job: JobRecord,
     kinds: &[u8],

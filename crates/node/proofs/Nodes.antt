@@ -181,7 +181,7 @@ node-passes J c r k (Turned i) h =
 node-passes J c r k (Cut d x) h = cut-checks J c r k (kind-of (Cut d x)) x (cut-kind (J .turning) d x) d x (node-back (Cut d x)) ∙ ap (λ b. refuse-when b (Operand k)) (inside (side d r) (J .kerf) x (h .0) (h .1))
 
 -- and only such a node
-node-read : (J : Job) (c : List ℕ) (r : Rect) (k o : ℕ) (n : Node) → Read k o n → ltb (most-kind (J .turning)) k ≡ false → unnumbered J n ≡ false → against-grain J n ≡ false → misplaced (J .kerf) r n o ≡ false → misfit J r n ≡ false → excess J c n ≡ false
+node-read : (J : Job) (c : List ℕ) (r : Rect) (k o : ℕ) (n : Node) → Read k o n → ltb (most-kind (J .turning)) k ≡ false → unnumbered J n ≡ false → against-grain (J .grain) n ≡ false → misplaced (J .kerf) r n o ≡ false → misfit J r n ≡ false → excess J c n ≡ false
     → ((k, o) ≡ pair-of n) × NodeFits J c r n
 node-read J c r k o Waste (is-waste e) a b u d f g = (ap₂ (λ x y. (x, y)) e (eqb-true o 0 (not-false (eqb o 0) d)), tt)
 node-read J c r k o (Piece i) (is-piece e) a b u d f g =

@@ -46,11 +46,11 @@ abbrev pub unnumbered : Job → Node → Bool
 unnumbered J n = of-piece (λ p. leb (J .count) (way.kind p)) false n
 
 -- 36: a turned piece of a kind that keeps its grain
-abbrev pub against-grain : Job → Node → Bool
-against-grain J Waste = false
-against-grain J (Piece i) = false
-against-grain J (Turned i) = J .grain i
-against-grain J (Cut d x) = false
+abbrev pub against-grain : (ℕ → Bool) → Node → Bool
+against-grain grain Waste = false
+against-grain grain (Piece i) = false
+against-grain grain (Turned i) = grain i
+against-grain grain (Cut d x) = false
 
 -- 14: a waste operand that is not 0, or a cut position outside 1 to the side less the kerf less 1; a side of at most the kerf and 1 has
 -- no position
@@ -73,7 +73,7 @@ abbrev pub node-checks : Job → List ℕ → Rect → ℕ → ℕ → ℕ → L
 node-checks J copies r k kind operand =
     (ltb (most-kind (J .turning)) kind, NodeKind k)
     ∷ (unnumbered J (node-of kind operand), PieceNumber k)
-    ∷ (against-grain J (node-of kind operand), AgainstGrain k)
+    ∷ (against-grain (J .grain) (node-of kind operand), AgainstGrain k)
     ∷ (misplaced (J .kerf) r (node-of kind operand) operand, Operand k)
     ∷ (misfit J r (node-of kind operand), Misfit k)
     ∷ (excess J copies (node-of kind operand), Excess k)

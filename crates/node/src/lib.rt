@@ -1,5 +1,5 @@
-// One node of a plan on the rectangle that it fills: refusals 12 to 16 and 36, and what the node adds to the sums and to the copies of its kind.
-// The job's arrays and the copies are lent, so that a walk over many nodes copies none of them.
+// One node of a plan on the rectangle that it fills: refusals 12 to 16 and 36, and what the node adds to the sums and to the copies of its
+// kind. The job's arrays and the copies are lent, so that a walk over many nodes copies none of them.
 use cutting::Direction;
 use cutting::Node;
 use cutting::Sides;

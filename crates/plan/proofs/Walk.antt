@@ -81,9 +81,9 @@ module _ (J : Job) (kinds operands : List ℕ) (same : length kinds ≡ length o
 
 -- a node checked by the rules of a job that was read is checked by the job
 pub by-rules : (j : JobRecord) {q : Rules} {k kind operand : ℕ} {r : Rect} {t : Tally} {copies : List ℕ} {a : NodeAnswer} {after : List ℕ} → q ≡ rules-of j
-    → Placed (job-from (j .length) (j .width) (q .kerf) (q .turning) (j .«full_demand») (q .count) (j .lengths) (j .widths) (j .prices) (j .demands)) k kind operand r t copies a after → Placed (job-of j) k kind operand r t copies a after
+    → Placed (job-from (j .length) (j .width) (q .kerf) (q .turning) (j .«full_demand») (q .count) (j .lengths) (j .widths) (j .prices) (j .demands) (j .grains)) k kind operand r t copies a after → Placed (job-of j) k kind operand r t copies a after
 by-rules j {q} {k} {kind} {operand} {r} {t} {copies} {a} {after} e p =
-    subst (λ (x : Rules). Placed (job-from (j .length) (j .width) (x .kerf) (x .turning) (j .«full_demand») (x .count) (j .lengths) (j .widths) (j .prices) (j .demands)) k kind operand r t copies a after) e p
+    subst (λ (x : Rules). Placed (job-from (j .length) (j .width) (x .kerf) (x .turning) (j .«full_demand») (x .count) (j .lengths) (j .widths) (j .prices) (j .demands) (j .grains)) k kind operand r t copies a after) e p
 
 -- a cut that passed its checks has its position, and the kerf, inside the side
 pub fits-inside : (J : Job) (copies : List ℕ) (r : Rect) (n : Node) → NodeFits J copies r n → CutInside (J .kerf) n r

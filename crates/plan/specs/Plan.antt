@@ -102,10 +102,10 @@ nodes-in (k ∷ ks) (o ∷ os) = (k, o) ∷ nodes-in ks os
 abbrev pub plan-checks : List ℕ → List ℕ → List Check
 plan-checks kinds operands = (not (eqb (length kinds) (length operands)), PlanLength) ∷ (outside 1 most-nodes (length kinds), NodeCount) ∷ []
 
--- what 10 to 18 answer for a plan's arrays: checks 10 and 11, then the walk from the plate
+-- what 10 to 18 and 36 answer for a plan's arrays: checks 10 and 11, then the walk from the plate
 unfoldable pub walk-answer : Job → List ℕ → List ℕ → PlanAnswer
 walk-answer J kinds operands = proceed (first-refusal (plan-checks kinds operands)) (walk J 0 (nodes-in kinds operands) (J .plate ∷ []) empty-report)
 
--- what a plan's arrays answer: 10 to 18, then 26
+-- what a plan's arrays answer: 10 to 18 and 36, then 26
 unfoldable pub plan-answer : Job → List ℕ → List ℕ → PlanAnswer
 plan-answer J kinds operands = proceed (next (walk-answer J kinds operands .verdict) (first-refusal (idle-checks 0 kinds))) (walk-answer J kinds operands)

@@ -1,4 +1,4 @@
-// The check of a plan drawn by anybody: refusals 10 to 18 and 26, and what a passed plan reports. The nodes are read once, in their order,
+// The check of a plan drawn by anybody: refusals 10 to 18, 36 and 26, and what a passed plan reports. The nodes are read once, in their order,
 // with a list of the rectangles that wait to be filled, so that no plan needs more stack than another; then once more for idle cuts.
 use cutting::Node;
 use cutting::Sides;
@@ -191,7 +191,7 @@ fn finish(n: usize, k: usize, t: Tally, copies: [u16; 64]) -> TreeAnswer
     end_tree(k, t, copies)
 }
 
-// The walk over one tree, from node `first` and the plate on: refusals 12 to 17. `waiting_lengths` and `waiting_widths` hold
+// The walk over one tree, from node `first` and the plate on: refusals 12 to 17 and 36. `waiting_lengths` and `waiting_widths` hold
 // the rectangles that wait; what stood in them is not read.
 pub fn walk_tree(
     job: JobRecord,
@@ -208,6 +208,7 @@ pub fn walk_tree(
     let kind_widths = job.widths;
     let prices = job.prices;
     let demands = job.demands;
+    let grains = job.grains;
     let rules = rules_of(job);
     let mut copies = [0u16; 64];
     waiting_lengths[0] = job.length;
@@ -225,6 +226,7 @@ pub fn walk_tree(
             &kind_widths,
             &prices,
             &demands,
+            &grains,
             &mut copies,
             rules,
             e,
@@ -253,7 +255,7 @@ pub fn check_left(n: usize, k: usize) -> Checked
     Checked::Passed
 }
 
-// The walk over a plan's nodes from the plate on: refusals 12 to 18.
+// The walk over a plan's nodes from the plate on: refusals 12 to 18 and 36.
 fn walk_nodes(job: JobRecord, kinds: &[u8], operands: &[u16]) -> PlanAnswer
     requires { ⌜ Walkable (now kinds) (now operands) × (job .count ≤ most-kinds) ⌝ }
     ensures { λ r. ⌜ r ≡ walk (job-of job) 0 (nodes-in (now (kinds .entry)) (now (operands .entry))) (job-of job .plate ∷ []) empty-report ⌝ }
@@ -300,7 +302,7 @@ pub fn check_whole(kinds: &[u8], operands: &[u16]) -> Checked
     Checked::Passed
 }
 
-// A plan's arrays checked for a job that was read: refusals 10 to 18.
+// A plan's arrays checked for a job that was read: refusals 10 to 18 and 36.
 fn check_walk(job: JobRecord, kinds: &[u8], operands: &[u16]) -> PlanAnswer
     requires { ⌜ InRange (job-of job) ⌝ }
     ensures { λ r. ⌜ r ≡ walk-answer (job-of job) (now (kinds .entry)) (now (operands .entry)) ⌝ }
@@ -312,7 +314,7 @@ fn check_walk(job: JobRecord, kinds: &[u8], operands: &[u16]) -> PlanAnswer
     walk_nodes(job, kinds, operands)
 }
 
-// A plan's arrays checked for a job that was read: refusals 10 to 18, then 26.
+// A plan's arrays checked for a job that was read: refusals 10 to 18 and 36, then 26.
 pub fn check_nodes(job: JobRecord, kinds: &[u8], operands: &[u16]) -> PlanAnswer
     requires { ⌜ InRange (job-of job) ⌝ }
     ensures { λ r. ⌜ r ≡ plan-answer (job-of job) (now (kinds .entry)) (now (operands .entry)) ⌝ }
@@ -329,7 +331,7 @@ pub fn check_nodes(job: JobRecord, kinds: &[u8], operands: &[u16]) -> PlanAnswer
     answer
 }
 
-// A plan's arrays checked for a job block: refusals 1 to 7 and 27, then 10 to 18 and 26.
+// A plan's arrays checked for a job block: refusals 1 to 7, 27 and 35, then 10 to 18, 36 and 26.
 pub fn check_plan(block: &[u8], choices: Choices, kinds: &[u8], operands: &[u16]) -> PlanAnswer
     ensures answers { λ r. ⌜ r ≡ arrays-answer (now (block .entry)) choices (now (kinds .entry)) (now (operands .entry)) ⌝ }
     ensures outcome { λ r. ⌜ plan-outcome r ≡ arrays-said (now (block .entry)) choices (now (kinds .entry)) (now (operands .entry)) ⌝ }
@@ -354,7 +356,7 @@ fn read_operands(plan: &[u8], count: usize, operands: &mut [u16; 4095])
     }
 }
 
-// A plan block checked for a job that was read: refusals 10 to 18 and 26.
+// A plan block checked for a job that was read: refusals 10 to 18, 36 and 26.
 fn check_block(job: JobRecord, plan: &[u8]) -> PlanAnswer
     requires { ⌜ InRange (job-of job) ⌝ }
     ensures { λ r. ⌜ r ≡ plan-block-answer (job-of job) (now (plan .entry)) ⌝ }
@@ -375,7 +377,7 @@ fn check_block(job: JobRecord, plan: &[u8]) -> PlanAnswer
     check_nodes(job, &plan[2..end], &operands[..count])
 }
 
-// A plan block checked for a job block: refusals 1 to 7 and 27, then 10 to 18 and 26.
+// A plan block checked for a job block: refusals 1 to 7, 27 and 35, then 10 to 18, 36 and 26.
 pub fn check_plan_block(block: &[u8], choices: Choices, plan: &[u8]) -> PlanAnswer
     ensures answers { λ r. ⌜ r ≡ block-answer (now (block .entry)) choices (now (plan .entry)) ⌝ }
     ensures outcome { λ r. ⌜ plan-outcome r ≡ block-said (now (block .entry)) choices (now (plan .entry)) ⌝ }

@@ -28,15 +28,15 @@ use Rattle.certificate.specs.Promises.{Earns}
 
 -- a word of choices has a bit that is no choice
 abbrev pub unknown : ℕ → Bool
-unknown choices = ltb 7 choices
+unknown choices = ltb 15 choices
 
 -- whether a word has the bit of value n
 abbrev pub bit : ℕ → ℕ → Bool
 bit n word = eqb (word / n % 2) 1
 
--- the choices of a word: bit 1 is turning, bit 2 full demand, bit 4 the old block
+-- the choices of a word: bit 1 is turning, bit 2 full demand, bit 4 the old block, bit 8 grain
 abbrev pub choices-of : ℕ → Choices
-choices-of choices = record { turning = bit 1 choices; «full_demand» = bit 2 choices; «old_block» = bit 4 choices }
+choices-of choices = record { turning = bit 1 choices; «full_demand» = bit 2 choices; «old_block» = bit 4 choices; grain = bit 8 choices }
 
 -- the job of a block with the choices of a word
 abbrev pub job-with : List ℕ → ℕ → Job

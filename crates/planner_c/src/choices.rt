@@ -9,7 +9,7 @@ ghost use Rattle.planner_c.specs.Exports.{unknown, bit, choices-of, earl
 fn unknown(choices: u32) -> bool
     ensures { λ r. ⌜ r ≡ unknown choices ⌝ }
 {
-    7 < choices
+    15 < choices
 }
 
 // Whether a word has the bit of value n.
@@ -28,6 +28,7 @@ pub fn choices_of(choices: u32) -> Choices
         turning: bit(1, choices),
         full_demand: bit(2, choices),
         old_block: bit(4, choices),
+        grain: bit(8, choices),
     }
 }
 

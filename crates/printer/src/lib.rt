@@ -201,6 +201,7 @@ pub fn print_plan(input: &[u8]) {
         turning: false,
         full_demand: false,
         old_block: true,
+        grain: false,
     };
     print_answer(&input[..end], choices, &input[end..]);
 }

@@ -21,8 +21,8 @@ use Rattle.refusal.specs.declared.Checked.{Checked}
 use Rattle.refusal.specs.declared.Checked.the-variants.{Passed, Refused}
 use Rattle.job.specs.declared.Choices.{Choices}
 use Rattle.job.specs.declared.JobRecord.{JobRecord}
-use Rattle.job.specs.Block.{count-at, sizes-end, plateless-checks, pair-checks, record-of, job-of}
-use Rattle.job.specs.Contracts.{HoldsKinds}
+use Rattle.job.specs.Block.{count-at, plateless-checks, pair-checks, record-of, job-of}
+use Rattle.job.specs.Contracts.{HoldsBlock}
 use Rattle.job.specs.Weights.{block-job}
 use Rattle.job.proofs.Read.{Counts, plateless-passed, counts-hold, block-passed, pairs-range}
 use Rattle.node.proofs.Nodes.{pair-of}
@@ -109,12 +109,12 @@ module _ (s : List ℕ) (choices : Choices) where
   J = block-job s choices
 
   -- what a job block whose order passes says of its kinds
-  order-counts : OrderPasses s choices → Counts (choices .«old_block») s
+  order-counts : OrderPasses s choices → Counts choices s
   unfolding order-checks
-  order-counts p = plateless-passed (choices .«old_block») s (block-passed plateless-checks pair-checks s choices p .0)
+  order-counts p = plateless-passed choices s (block-passed plateless-checks pair-checks s choices p .0)
 
-  pub order-holds : OrderPasses s choices → HoldsKinds (sizes-end (choices .«old_block»)) s (count-at s)
-  order-holds p = counts-hold (choices .«old_block») s (count-at s) refl (order-counts p)
+  pub order-holds : OrderPasses s choices → HoldsBlock choices s
+  order-holds p = counts-hold choices s (count-at s) refl (order-counts p)
 
   pub order-few : OrderPasses s choices → J .count ≤ 64
   unfolding record-of

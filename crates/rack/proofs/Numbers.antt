@@ -14,7 +14,7 @@ use Rattle.refusal.specs.declared.Refusal.{Refusal}
 use Rattle.refusal.specs.declared.Checked.{Checked}
 use Rattle.refusal.specs.declared.Checked.the-variants.{Passed, Refused}
 use Rattle.job.specs.declared.Choices.{Choices}
-use Rattle.job.specs.Block.{each-kind}
+use Rattle.job.specs.Block.{each-kind, grain-checks}
 use Rattle.job.proofs.Checks.{first-append}
 use Rattle.idle.specs.Idle.{tree-checks}
 use Rattle.plan.specs.declared.Report.{Report}
@@ -79,6 +79,11 @@ Neither x = (number-of x ≡ 26 → ⊥) × (number-of x ≡ 29 → ⊥)
 abbrev GivesNeither : Checked → Type 0
 GivesNeither v = Gives Neither v
 
+-- 35
+grains-give : (b : Bool) (h : ℕ) (s : List ℕ) → GivesNeither (first-refusal (grain-checks b h s))
+grains-give true h s = given-each Neither _ _ _ (λ j. given-one Neither _ _ (λ e. omega arith, λ e. omega arith))
+grains-give false h s = given-none Neither
+
 -- the checks before any plan's
 pub before-gives : (s : List ℕ) (choices : Choices) (lengths widths kinds operands : List ℕ) → GivesNeither (first-refusal (rack-checks s choices lengths widths kinds operands))
 unfolding rack-checks order-checks
@@ -88,7 +93,8 @@ before-gives s choices lengths widths kinds operands =
     (given-append Neither _ _
     (given-cons Neither _ _ _ (λ e. omega arith, λ e. omega arith) (given-cons Neither _ _ _ (λ e. omega arith, λ e. omega arith) (given-cons Neither _ _ _ (λ e. omega arith, λ e. omega arith) (given-one Neither _ _ (λ e. omega arith, λ e. omega arith)))))
     (given-append Neither _ _ (given-each Neither _ _ _ (λ j. given-one Neither _ _ (λ e. omega arith, λ e. omega arith)))
-    (given-each Neither _ _ _ (λ j. given-cons Neither _ _ _ (λ e. omega arith, λ e. omega arith) (given-one Neither _ _ (λ e. omega arith, λ e. omega arith))))))
+    (given-append Neither _ _ (given-each Neither _ _ _ (λ j. given-cons Neither _ _ _ (λ e. omega arith, λ e. omega arith) (given-one Neither _ _ (λ e. omega arith, λ e. omega arith))))
+    (grains-give (choices .grain) _ s))))
     (given-append Neither _ _ (given-each Neither _ _ _ (λ j. given-one Neither _ _ (λ e. omega arith, λ e. omega arith)))
     (given-cons Neither _ _ _ (λ e. omega arith, λ e. omega arith) (given-one Neither _ _ (λ e. omega arith, λ e. omega arith)))))
 
@@ -96,7 +102,7 @@ before-gives s choices lengths widths kinds operands =
 pub left-gives : (n k : ℕ) → GivesNeither (first-refusal (left-check n k ∷ []))
 left-gives n k = given-one Neither _ _ (λ e. omega arith, λ e. omega arith)
 
--- the walk over one tree: 12 to 17
+-- the walk over one tree: 12 to 17 and 36
 pub walk-gives : (J : Job) (k : ℕ) (ns : List (ℕ × ℕ)) (rs : List Rect) (s : Report) → GivesNeither (tree-walk J k ns rs s .verdict)
 unfolding tree-walk
 walk-gives J k [] [] s = given-passed Neither
@@ -105,7 +111,7 @@ walk-gives J k [] (r ∷ rs) s = given-refused Neither _ (λ e. omega arith, λ 
 walk-gives J k (n ∷ ns) (r ∷ rs) s = given-tree Neither (first-refusal (node-checks J (s .copies) r k (n .0) (n .1)))
     (tree-walk J (k + 1) ns (parts (J .kerf) (node-of (n .0) (n .1)) r ++ rs) (report-after J (node-of (n .0) (n .1)) r s))
     (given-cons Neither _ _ _ (λ e. omega arith, λ e. omega arith) (given-cons Neither _ _ _ (λ e. omega arith, λ e. omega arith) (given-cons Neither _ _ _ (λ e. omega arith, λ e. omega arith)
-    (given-cons Neither _ _ _ (λ e. omega arith, λ e. omega arith) (given-one Neither _ _ (λ e. omega arith, λ e. omega arith))))))
+    (given-cons Neither _ _ _ (λ e. omega arith, λ e. omega arith) (given-cons Neither _ _ _ (λ e. omega arith, λ e. omega arith) (given-one Neither _ _ (λ e. omega arith, λ e. omega arith)))))))
     (walk-gives J (k + 1) ns _ _)
 
 -- the idle cuts of a tree

@@ -6,13 +6,13 @@ use mathlib.Core.List.{List, [], _∷_, _++_}
 use Prim.Native.Nat.{ℕ, zero, suc, _+_, _*_, _≤_}
 use native.Mathlib.Omega.{arith}
 use lib.Dec.{ltb, eqb}
-use lib.ListN.{length, set}
+use lib.ListN.{length, getD, set}
 use Rattle.cutting.specs.Tree.{Rect}
 use Rattle.cutting.specs.Job.{Job}
-use Rattle.refusal.specs.declared.Refusal.the-variants.{ShortHeader, KindCount, Kerf, BlockLength, KindSide, Price, Demand}
+use Rattle.refusal.specs.declared.Refusal.the-variants.{ShortHeader, KindCount, Kerf, BlockLength, KindSide, Price, Demand, Grain}
 use Rattle.refusal.specs.Refusals.{next, first-refusal}
 use Rattle.job.specs.declared.Choices.{Choices}
-use Rattle.job.specs.Block.{u16-at, u32-at, plate-length-at, plate-width-at, count-at, kerf-at, sizes-end, length-at, width-at, price-at, demand-at, outside, sides-outside, each-kind, entries, record-of, job-from}
+use Rattle.job.specs.Block.{u16-at, u32-at, plate-length-at, plate-width-at, count-at, kerf-at, sizes-end, length-at, width-at, price-at, demand-at, outside, sides-outside, each-kind, entries, record-of, job-from, grain-at, kind-bytes, grain-checks, grains-of}
 use Rattle.job.specs.Weights.{block-job}
 use Rattle.job.proofs.Read.{sizes-least}
 use Rattle.plan.specs.Plan.{plan-checks}
@@ -64,22 +64,31 @@ module _ (choices : Choices) (s z : List ℕ) (same : OnlyPlate s z) where
   same-demand : (i : ℕ) → demand-at end s i ≡ demand-at end z i
   same-demand i = field (end + 4 + 4 * count-at s + 6 * i) (omega (arith, sizes-least old .0)) ∙ ap (λ n. u16-at z (end + 4 + 4 * n + 6 * i)) same-count
 
+  same-grain : (i : ℕ) → grain-at end s i ≡ grain-at end z i
+  same-grain i = same .same-bytes (end + 10 * count-at s + i) (omega (arith, sizes-least old .0)) ∙ ap (λ n. getD z (end + 10 * n + i) 0) same-count
+
+  same-grains : (b : Bool) → (grain-checks b end s ≡ grain-checks b end z) × (grains-of b end s ≡ grains-of b end z)
+  same-grains true = (λ i. each-kind (λ k. (ltb 1 (same-grain k i), Grain k) ∷ []) 0 (same-count i), λ i. entries (λ k. same-grain k i) (same-count i))
+  same-grains false = (refl, refl)
+
   same-order : order-checks s choices ≡ order-checks z choices
   unfolding order-checks
   same-order = λ i.
       ((ltb (same .same-length i) end, ShortHeader)
       ∷ (outside 1 64 (same-count i), KindCount)
       ∷ (ltb 20 (same-kerf i), Kerf)
-      ∷ (not (eqb (same .same-length i) (end + 10 * same-count i)), BlockLength)
+      ∷ (not (eqb (same .same-length i) (end + kind-bytes (choices .grain) * same-count i)), BlockLength)
       ∷ [])
       ++ (each-kind (λ j. (sides-outside (same-length-of j i) (same-width-of j i), KindSide j) ∷ []) 0 (same-count i)
-      ++ each-kind (λ j. (ltb 1000000 (same-price j i), Price j) ∷ (ltb 255 (same-demand j i), Demand j) ∷ []) 0 (same-count i))
+      ++ (each-kind (λ j. (ltb 1000000 (same-price j i), Price j) ∷ (ltb 255 (same-demand j i), Demand j) ∷ []) 0 (same-count i)
+      ++ same-grains (choices .grain) .0 i))
 
   -- the job but for its plate
   pub same-job : block-job z choices ≡ plated (block-job s choices) (plate-length-at z, plate-width-at z)
   unfolding record-of
   same-job = λ i. job-from (plate-length-at z) (plate-width-at z) (sym same-kerf i) (choices .turning) (choices .«full_demand») (sym same-count i)
       (entries (λ j. sym (same-length-of j) i) (sym same-count i)) (entries (λ j. sym (same-width-of j) i) (sym same-count i)) (entries (λ j. sym (same-price j) i) (sym same-count i)) (entries (λ j. sym (same-demand j) i) (sym same-count i))
+      (sym (same-grains (choices .grain) .1) i)
 
   pub same-answer : (lengths widths kinds operands : List ℕ) → rack-answer s choices lengths widths kinds operands ≡ rack-answer z choices lengths widths kinds operands
   unfolding rack-checks plans-answer

@@ -34,7 +34,7 @@ plate-at lengths widths i = (getD lengths i 0, getD widths i 0)
 abbrev pub rack-size-check : List ℕ → List ℕ → Check
 rack-size-check lengths widths = (not (eqb (length lengths) (length widths)) || outside 1 most-plates (length lengths), RackSize)
 
--- the checks of a job block whose plate is not read: 1, 3, 27, 4, then 5 to 7
+-- the checks of a job block whose plate is not read: 1, 3, 27, 4, then 5 to 7 and 35 and 35
 unfoldable pub order-checks : List ℕ → Choices → List Check
 order-checks s choices = checks-by plateless-checks pair-checks s choices
 
@@ -51,7 +51,7 @@ unfoldable pub rack-checks : List ℕ → Choices → List ℕ → List ℕ → 
 rack-checks s choices lengths widths kinds operands =
     rack-size-check lengths widths ∷ (order-checks s choices ++ (plate-checks (plate-at lengths widths) (length lengths) ++ plan-checks kinds operands))
 
--- the walk over a plan from node k on, on the job's plate: 12 to 17
+-- the walk over a plan from node k on, on the job's plate: 12 to 17 and 36
 abbrev pub walked-at : Job → List ℕ → List ℕ → ℕ → TreeAnswer
 walked-at J kinds operands k = tree-walk J k (drop k (nodes-in kinds operands)) (J .plate ∷ []) empty-report
 
@@ -59,7 +59,7 @@ walked-at J kinds operands k = tree-walk J k (drop k (nodes-in kinds operands)) 
 abbrev pub idle-at : List ℕ → ℕ → ℕ → List Check
 idle-at kinds k past = idle-checks k (take (past - k) (drop k kinds))
 
--- what a plan answers by its own checks: 12 to 17, then 26 at its end
+-- what a plan answers by its own checks: 12 to 17 and 36, then 26 at its end
 unfoldable pub own-answer : Job → List ℕ → List ℕ → ℕ → TreeAnswer
 own-answer J kinds operands k =
     by-check (next (walked-at J kinds operands k .verdict) (first-refusal (idle-at kinds k (walked-at J kinds operands k .past)))) (walked-at J kinds operands k) (λ r. tree-stopped (Refused r))

@@ -24,6 +24,7 @@ on-plate j l w = record {
   widths = j .widths;
   prices = j .prices;
   demands = j .demands;
+  grains = j .grains;
 }
 
 -- a length and a width of each of at most 16 plates

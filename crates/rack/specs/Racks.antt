@@ -10,7 +10,7 @@ use Rattle.cutting.specs.Job.{Job, AnyOnPlate, OnPlate, profit, copies-of, boun
 
 -- the job on another plate
 abbrev pub plated : Job → Rect → Job
-plated J r = record { plate = r; kerf = J .kerf; turning = J .turning; full-demand = J .full-demand; count = J .count; size = J .size; price = J .price; demand = J .demand }
+plated J r = record { plate = r; kerf = J .kerf; turning = J .turning; full-demand = J .full-demand; count = J .count; size = J .size; price = J .price; demand = J .demand; grain = J .grain }
 
 -- each of n plans is a guillotine tree on its plate
 abbrev pub OnPlates : Job → ℕ → (ℕ → Rect) → (ℕ → Tree Piece) → Type 0

@@ -97,7 +97,7 @@ fn check_sides(lengths: &[u16], widths: &[u16]) -> Checked
     Checked::Passed
 }
 
-// What stands before any plan: refusals 28, 1, 3, 27, 4 to 7, 2, 10 and 11.
+// What stands before any plan: refusals 28, 1, 3, 27, 4 to 7, 35, 2, 10 and 11.
 fn check_before(
     block: &[u8],
     choices: Choices,
@@ -123,7 +123,7 @@ fn check_before(
     check_whole(kinds, operands)
 }
 
-// One plan from node `first` on, by its own checks: refusals 12 to 17, and 26 at its end. `waiting_lengths` and
+// One plan from node `first` on, by its own checks: refusals 12 to 17 and 36, and 26 at its end. `waiting_lengths` and
 // `waiting_widths` hold the rectangles that wait; what stood in them is not read.
 fn check_own(
     job: JobRecord,
@@ -188,7 +188,7 @@ fn add_copies(
     Checked::Passed
 }
 
-// The plans in the rack's order: refusals 12 to 17, 26 and 29 of each, and 18 after the last.
+// The plans in the rack's order: refusals 12 to 17, 36, 26 and 29 of each, and 18 after the last.
 fn check_plans(
     job: JobRecord,
     lengths: &[u16],
@@ -238,8 +238,8 @@ fn check_plans(
     }
 }
 
-// A rack of plates, by the arrays of their sides, checked for a job block: refusals 28, 1, 3, 27, 4 to 7, 2, 10 and 11; then plan after plan
-// 12 to 17, 26 and 29; then 18.
+// A rack of plates, by the arrays of their sides, checked for a job block: refusals 28, 1, 3, 27, 4 to 7, 35, 2, 10 and 11; then plan after
+// plan 12 to 17, 36, 26 and 29; then 18.
 pub fn check_plates(
     block: &[u8],
     choices: Choices,

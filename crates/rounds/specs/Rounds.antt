@@ -123,7 +123,7 @@ find-answer-by v a = by-check v a (λ r. refused-answer (Refused r))
 abbrev pub run-answer : Job → ℕ → Lent → WeightsFound
 run-answer J lower m = find-answer-by (round-verdict J (weight-at J lower 0) m) (found J lower (rounds-run J lower m))
 
--- the verdict of the checks before the rounds: the job's, 1 to 7 and 27, and the lent plan's, 10 to 18 and 26
+-- the verdict of the checks before the rounds: the job's, 1 to 7, 27 and 35, and the lent plan's, 10 to 18, 36 and 26
 abbrev pub before-verdict : List ℕ → Choices → List ℕ → List ℕ → Checked
 before-verdict s choices kinds operands = arrays-answer s choices kinds operands .verdict
 

@@ -187,9 +187,9 @@ fn run_rounds(
     found
 }
 
-// Weights found for a job block, with the profit of a lent plan as the lower figure. Refusals 1 to 7 and 27, the plan's 10 to 18 and 26,
-// then 19, 20 and 21 of round 0; later refusals end the run. Each round leaves lent memory as a writing call of its own would, over the
-// last. No guillotine tree on the plate that keeps every demand earns more than the answered bound.
+// Weights found for a job block, with the profit of a lent plan as the lower figure. Refusals 1 to 7, 27 and 35, the plan's 10 to 18, 36
+// and 26, then 19, 20 and 21 of round 0; later refusals end the run. Each round leaves lent memory as a writing call of its own would, over
+// the last. No guillotine tree on the plate that keeps every demand earns more than the answered bound.
 pub fn find_weights(
     block: &[u8],
     choices: Choices,

@@ -13,7 +13,7 @@ use Rattle.job.specs.declared.Choices.{Choices}
 use Rattle.job.specs.declared.JobRecord.{JobRecord}
 use Rattle.job.specs.declared.JobAnswer.{JobAnswer}
 use Rattle.job.specs.Block.{plate-length-at, plate-width-at, count-at, sizes-end, demand-at, header-checks, entries, record-of, read-by, job-outcome, job-of}
-use Rattle.job.specs.Contracts.{HoldsKinds}
+use Rattle.job.specs.Contracts.{HoldsKinds, HoldsBlock}
 use Rattle.job.proofs.Checks.{cons-passed}
 use Rattle.job.proofs.Entries.{entries-past}
 use Rattle.job.proofs.Read.{header-passed, header-holds, block-passed, pair-passed, range-by, said-by, answered-by, refused-by}
@@ -30,16 +30,16 @@ use Rattle.saw.proofs.Office.{beside}
 
 module _ (s : List ℕ) (choices : Choices) where
   -- a block that passed has the bytes of its kinds
-  pub saw-holds : SawPasses s choices → HoldsKinds (sizes-end (choices .«old_block»)) s (count-at s)
+  pub saw-holds : SawPasses s choices → HoldsBlock choices s
   unfolding saw-checks
-  saw-holds p = header-holds (choices .«old_block») s (count-at s) refl (block-passed header-checks demand-checks s choices p .0)
+  saw-holds p = header-holds choices s (count-at s) refl (block-passed header-checks demand-checks s choices p .0)
 
   -- and its job, every price 0, is in the scope's ranges
   pub saw-range : SawPasses s choices → InRange (saw-job s choices)
   unfolding saw-checks record-of
   saw-range p =
       let end = sizes-end (choices .«old_block») in
-      let h = header-passed (choices .«old_block») s (block-passed header-checks demand-checks s choices p .0) in
+      let h = header-passed choices s (block-passed header-checks demand-checks s choices p .0) in
       range-by header-checks demand-checks s choices p (h .1) (plate-length-at s) (plate-width-at s) (h .0) (λ i l. ltb-false 255 (demand-at end s i) (cons-passed _ _ _ (pair-passed header-checks demand-checks s choices p i l) .0)) (entries (λ i. 0) 0) (λ i l. (let e = entries-past (λ i. 0) 0 i (omega arith) in omega (arith, e)))
 
   -- and so is the job that was read

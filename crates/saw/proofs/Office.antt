@@ -18,7 +18,7 @@ use Rattle.refusal.specs.declared.Checked.{Checked}
 use Rattle.refusal.specs.declared.Checked.the-variants.{Passed, Refused}
 use Rattle.refusal.specs.Refusals.{next, refuse-when, first-refusal}
 use Rattle.job.specs.declared.Choices.{Choices}
-use Rattle.job.specs.Block.{price-at, demand-at, sizes-end, count-at, header-checks, size-check, pair-checks, each-kind, job-checks}
+use Rattle.job.specs.Block.{price-at, demand-at, sizes-end, count-at, header-checks, size-check, pair-checks, each-kind, grain-checks, job-checks}
 use Rattle.job.specs.Weights.{block-job}
 use Rattle.job.proofs.Read.{block-parts}
 use Rattle.idle.specs.Idle.{idle-checks}
@@ -34,7 +34,7 @@ use Rattle.saw.specs.Prices.{BesideOffice}
 
 -- a job at other prices
 abbrev at-prices : (ℕ → ℕ) → Job → Job
-at-prices price J = record { plate = J .plate; kerf = J .kerf; turning = J .turning; full-demand = J .full-demand; count = J .count; size = J .size; price = price; demand = J .demand }
+at-prices price J = record { plate = J .plate; kerf = J .kerf; turning = J .turning; full-demand = J .full-demand; count = J .count; size = J .size; price = price; demand = J .demand; grain = J .grain }
 
 -- what follows a check is alike where it is
 proceed-alike : (v : Checked) (a b : PlanAnswer) → saw-of a ≡ saw-of b → saw-of (proceed v a) ≡ saw-of (proceed v b)
@@ -80,6 +80,10 @@ next-alike : (v a b : Checked) → (NotPrice a → a ≡ b) → NotPrice (next v
 next-alike Passed a b f h = f h
 next-alike (Refused r) a b f h = refl
 
+alike-next : (a b g : Checked) → (NotPrice a → a ≡ b) → NotPrice (next a g) → next a g ≡ next b g
+alike-next Passed b g f h = ap (λ v. next v g) (f (λ k e. no-pass (sym e)))
+alike-next (Refused r) b g f h = ap (λ v. next v g) (f h)
+
 -- the pairs decide alike with and without their prices
 pairs-alike : (h : ℕ) (s : List ℕ) (i n : ℕ) → NotPrice (first-refusal (each-kind (pair-checks h s) i n)) → first-refusal (each-kind (pair-checks h s) i n) ≡ first-refusal (each-kind (demand-checks h s) i n)
 unfolding each-kind first-refusal
@@ -96,12 +100,15 @@ module _ (s : List ℕ) (choices : Choices) where
   unfolding job-checks saw-checks
   checks-alike f =
       let end = sizes-end (choices .«old_block») in
-      let header = first-refusal (header-checks (choices .«old_block») s) in
+      let header = first-refusal (header-checks choices s) in
       let sizes = first-refusal (each-kind (λ i. size-check end s i ∷ []) 0 (count-at s)) in
       let pairs = first-refusal (each-kind (pair-checks end s) 0 (count-at s)) in
       let demands = first-refusal (each-kind (demand-checks end s) 0 (count-at s)) in
+      let grains = first-refusal (grain-checks (choices .grain) end s) in
       let p = block-parts header-checks pair-checks s choices in
-      p ∙ next-alike header (next sizes pairs) (next sizes demands) (next-alike sizes pairs demands (pairs-alike end s 0 (count-at s))) (λ k e. f k (p ∙ e)) ∙ sym (block-parts header-checks demand-checks s choices)
+      p
+      ∙ next-alike header (next sizes (next pairs grains)) (next sizes (next demands grains)) (next-alike sizes (next pairs grains) (next demands grains) (alike-next pairs demands grains (pairs-alike end s 0 (count-at s)))) (λ k e. f k (p ∙ e))
+      ∙ sym (block-parts header-checks demand-checks s choices)
 
   module _ (kinds operands : List ℕ) where
     office-alike : NotPrice (arrays-answer s choices kinds operands .verdict) → saw-answer s choices kinds operands ≡ saw-of (arrays-answer s choices kinds operands)

@@ -10,10 +10,10 @@ use lib.ListN.{length, getD, set, length-set}
 use lib.Seq.{getD-set-same, getD-set-other}
 use borrow.Author.Tests.{ltb-true}
 use Rattle.cutting.specs.Lists.{range, only}
-use Rattle.refusal.specs.declared.Refusal.the-variants.{ShortHeader, PlateSide, KindCount, Kerf, BlockLength, KindSide, Demand}
+use Rattle.refusal.specs.declared.Refusal.the-variants.{ShortHeader, PlateSide, KindCount, Kerf, BlockLength, KindSide, Demand, Grain}
 use Rattle.refusal.specs.Refusals.{Check, first-refusal}
 use Rattle.job.specs.declared.Choices.{Choices}
-use Rattle.job.specs.Block.{u16-at, u32-at, price-at, plate-length-at, plate-width-at, count-at, kerf-at, sizes-end, length-at, width-at, demand-at, outside, header-checks, size-check, each-kind, entries, record-of, read-by, job-of}
+use Rattle.job.specs.Block.{u16-at, u32-at, price-at, plate-length-at, plate-width-at, count-at, kerf-at, sizes-end, length-at, width-at, demand-at, outside, header-checks, size-check, each-kind, entries, record-of, read-by, job-of, grain-at, kind-bytes, grain-checks, grains-of}
 use Rattle.job.proofs.Read.{sizes-least}
 use Rattle.plan.specs.Plan.{proceed, plan-answer}
 use Rattle.saw.specs.Saw.{demand-checks, saw-checks, saw-record, saw-read, saw-of, saw-answer}
@@ -112,12 +112,20 @@ module _ (choices : Choices) (s z : List ℕ) (same : OnlyPrices choices s z) wh
   same-demand i = ap₂ (λ a b. a + 256 * b) (same .same-bytes (end + 4 + 4 * count-at s + 6 * i) (λ p. omega (arith, p .2, p .3))) (same .same-bytes (end + 4 + 4 * count-at s + 6 * i + 1) (λ p. omega (arith, p .2, p .3)))
       ∙ ap (λ n. u16-at z (end + 4 + 4 * n + 6 * i)) same-count
 
-  same-header : header-checks old s ≡ header-checks old z
+  -- a grain byte, past the prices
+  same-grain : (i : ℕ) → grain-at end s i ≡ grain-at end z i
+  same-grain i = same .same-bytes (end + 10 * count-at s + i) (λ p. omega (arith, p .1, p .3)) ∙ ap (λ n. getD z (end + 10 * n + i) 0) same-count
+
+  same-grains : (b : Bool) → (grain-checks b end s ≡ grain-checks b end z) × (grains-of b end s ≡ grains-of b end z)
+  same-grains true = (λ i. each-kind (λ k. (ltb 1 (same-grain k i), Grain k) ∷ []) 0 (same-count i), λ i. entries (λ k. same-grain k i) (same-count i))
+  same-grains false = (refl, refl)
+
+  same-header : header-checks choices s ≡ header-checks choices z
   same-header = λ i. (ltb (same .same-length i) end, ShortHeader)
       ∷ (outside 1 1000 (same-length-at i) || outside 1 1000 (same-width-at i), PlateSide)
       ∷ (outside 1 64 (same-count i), KindCount)
       ∷ (ltb 20 (same-kerf i), Kerf)
-      ∷ (not (eqb (same .same-length i) (end + 10 * same-count i)), BlockLength)
+      ∷ (not (eqb (same .same-length i) (end + kind-bytes (choices .grain) * same-count i)), BlockLength)
       ∷ []
 
   -- no check reads a price
@@ -128,7 +136,7 @@ module _ (choices : Choices) (s z : List ℕ) (same : OnlyPrices choices s z) wh
       ∙ ap (each-kind (λ i. size-check end z i ∷ []) 0) same-count in
       let demands = each-same (demand-checks end s) (demand-checks end z) 0 (count-at s) (λ k l. (λ i. (ltb 255 (same-demand k i), Demand k) ∷ []))
       ∙ ap (each-kind (demand-checks end z) 0) same-count in
-      λ i. same-header i ++ (sizes i ++ demands i)
+      λ i. same-header i ++ (sizes i ++ (demands i ++ same-grains (choices .grain) .0 i))
 
   -- nor does the record
   same-record : saw-record s choices ≡ saw-record z choices
@@ -148,6 +156,7 @@ module _ (choices : Choices) (s z : List ℕ) (same : OnlyPrices choices s z) wh
         widths = widths i;
         prices = entries (λ k. 0) 0;
         demands = demands i;
+        grains = same-grains (choices .grain) .1 i;
       }
 
   pub same-read : saw-read s choices ≡ saw-read z choices

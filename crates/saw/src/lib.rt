@@ -36,7 +36,7 @@ pub struct SawAnswer {
     pub report: SawReport,
 }
 
-// A job block as the saw reads it, or refused with 1 to 5, 7 or 27: no price is read, and in the record every price is 0.
+// A job block as the saw reads it, or refused with 1 to 5, 7, 27 or 35: no price is read, and in the record every price is 0.
 pub fn read_saw_job(block: &[u8], choices: Choices) -> JobAnswer
     ensures answers { λ r. ⌜ r ≡ saw-read (now (block .entry)) choices ⌝ }
     ensures outcome { λ r. ⌜ job-outcome r ≡ saw-read-said (now (block .entry)) choices ⌝ }
@@ -93,7 +93,7 @@ fn without_profit(answer: PlanAnswer) -> SawAnswer
     }
 }
 
-// A plan's arrays checked by the saw: refusals 1 to 5, 7 and 27, then 10 to 18 and 26.
+// A plan's arrays checked by the saw: refusals 1 to 5, 7, 27 and 35, then 10 to 18, 36 and 26.
 pub fn saw_check(block: &[u8], choices: Choices, kinds: &[u8], operands: &[u16]) -> SawAnswer
     ensures answers { λ r. ⌜ r ≡ saw-answer (now (block .entry)) choices (now (kinds .entry)) (now (operands .entry)) ⌝ }
     ensures outcome { λ r. ⌜ saw-outcome r ≡ saw-said (now (block .entry)) choices (now (kinds .entry)) (now (operands .entry)) ⌝ }

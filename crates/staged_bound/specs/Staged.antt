@@ -49,11 +49,11 @@ pub record StagedLeaves (before : Checked) (J : Job) (weight : ℕ → ℕ) (n q
   pub widths : new .widths ≡ list-after (next before (first-refusal (list-check J (length (old .lengths)) (length (old .widths)) ∷ []))) (normal-positions J Width) (old .widths)
   pub table : StagedAfter (next before (first-refusal (staged-checks J n q old))) J weight n q (old .table) (new .table)
 
--- the verdict of the checks that stand before the storage's: 1 to 9 and 27, and 22
+-- the verdict of the checks that stand before the storage's: 1 to 9, 27 and 35, and 22
 abbrev pub limit-verdict : List ℕ → Choices → List ℕ → ℕ → Checked
 limit-verdict s choices ws n = next (accept-verdict s choices ws) (first-refusal (limit-check n ∷ []))
 
--- the verdict of the staged bound call: 1 to 9 and 27, 22, 19, 20
+-- the verdict of the staged bound call: 1 to 9, 27 and 35, 22, 19, 20
 abbrev pub staged-verdict : List ℕ → Choices → List ℕ → ℕ → Memory → Checked
 staged-verdict s choices ws n m = next (limit-verdict s choices ws n) (first-refusal (staged-checks (wide-job s choices) n (block-capacity s choices ws) m))
 

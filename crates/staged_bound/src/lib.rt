@@ -1,5 +1,5 @@
 // The staged bound call: the bound within a limit on the stages of a plan, the greater of length first and width first at the limit.
-// Refusals 1 to 9, 27, 22, 19 and 20.
+// Refusals 1 to 9, 27, 35, 22, 19 and 20.
 use bound::BoundAnswer;
 use bound::BoundReport;
 use cutting::Sides;

@@ -20,7 +20,8 @@ use Rattle.certificate.specs.Certificate.{compared, handed-on, certificate-valu
 use Rattle.certificate.specs.Promises.{BestAmong, GapAmong}
 use Rattle.certificate.specs.declared.Certificate.{Certificate}
 
--- the verdict of the checks that stand before the storage's: 1 to 9 and 27, 22, then the plan's within the limit, 10 to 18, 26 and 23
+-- the verdict of the checks that stand before the storage's: 1 to 9, 27 and 35, 22, then the plan's within the limit, 10 to 18, 36, 26 and
+-- 23
 abbrev pub staged-plan-verdict : List ℕ → Choices → List ℕ → ℕ → List ℕ → List ℕ → Checked
 staged-plan-verdict s choices ws n kinds operands = next (limit-verdict s choices ws n) (within-verdict (block-job s choices) n kinds operands)
 

@@ -28,7 +28,7 @@ use Rattle.staged_plan.specs.declared.StagedAnswer.{StagedAnswer}
 abbrev pub stage-verdict : ℕ → List ℕ → List ℕ → Checked
 stage-verdict n kinds operands = first-refusal (path-checks n (tree-in kinds operands))
 
--- the verdict of a plan's arrays within a limit: 10 to 18 and 26, then 23
+-- the verdict of a plan's arrays within a limit: 10 to 18, 36 and 26, then 23
 abbrev pub within-verdict : Job → ℕ → List ℕ → List ℕ → Checked
 within-verdict J n kinds operands = next (plan-answer J kinds operands .verdict) (stage-verdict n kinds operands)
 
@@ -48,7 +48,7 @@ within-answer J n kinds operands = staged-by (within-verdict J n kinds operands)
 abbrev pub without-idle : Checked → Job → ℕ → List ℕ → List ℕ → StagedAnswer
 without-idle v J n kinds operands = staged-by (next v (next (walk-answer J kinds operands .verdict) (stage-verdict n kinds operands))) (walk-answer J kinds operands .report) (stages (tree-in kinds operands))
 
--- the verdict of the checks that stand before the plan's: 1 to 7 and 27, then 22
+-- the verdict of the checks that stand before the plan's: 1 to 7, 27 and 35, then 22
 abbrev pub read-verdict : List ℕ → Choices → ℕ → Checked
 read-verdict s choices n = next (first-refusal (job-checks s choices)) (first-refusal (limit-check n ∷ []))
 

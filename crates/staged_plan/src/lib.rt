@@ -1,4 +1,4 @@
-// The check of a plan within a limit on its stages: refusals 1 to 7 and 27, 22, 10 to 18, 26 and 23.
+// The check of a plan within a limit on its stages: refusals 1 to 7, 27 and 35, 22, 10 to 18, 36, 26 and 23.
 use job::Choices;
 use job::JobRecord;
 use job::read_job;
@@ -43,7 +43,7 @@ fn refused(reason: Refusal) -> StagedAnswer
     }
 }
 
-// A plan's arrays checked for a job that was read, within a limit: refusals 10 to 18 and 26, then 23.
+// A plan's arrays checked for a job that was read, within a limit: refusals 10 to 18, 36 and 26, then 23.
 pub fn check_within(job: JobRecord, limit: u8, kinds: &[u8], operands: &[u16]) -> StagedAnswer
     requires { ⌜ InRange (job-of job) × (1 ≤ limit) × (limit ≤ most-limit) ⌝ }
     ensures { λ r. ⌜ r ≡ within-answer (job-of job) limit (now (kinds .entry)) (now (operands .entry)) ⌝ }

@@ -164,6 +164,7 @@ fn other_choices(c: Choices) -> Choices {
         turning: c.turning,
         full_demand: false,
         old_block: c.old_block,
+        grain: c.grain,
     }
 }
 

@@ -1,7 +1,8 @@
 // Generated jobs of one shape: the second computation, the bound call, and what differs. Each job is compared in three ways: 0 with upright
 // pieces alone, 1 with pieces that may be turned, 2 with the capacity of the full demands, every second job with pieces that may be turned.
-// Half of the jobs that lose no kerf are given as old blocks. Four calls are compared: 0 the bound, 1 the staged bound within the limits 1
-// to 8 in turn, 2 the bound of two weights, 3 the exact call, whose capacity is its last state.
+// Half of the jobs that lose no kerf are given as old blocks. Five calls are compared: 0 the bound, 1 the staged bound within the limits 1
+// to 8 in turn, 2 the bound of two weights, 3 the exact call, whose capacity is its last state, 4 the bound of jobs in which every second
+// kind keeps its grain.
 use crate::call::ANSWER;
 use crate::call::LENT_LENGTHS;
 use crate::call::LENT_WIDTHS;
@@ -13,6 +14,7 @@ use crate::call::try_bound;
 use every_unit::BOUND;
 use every_unit::CAPACITY;
 use every_unit::EXACT;
+use every_unit::GRAIN;
 use every_unit::KERF;
 use every_unit::LIMIT;
 use every_unit::PLATE;
@@ -167,18 +169,20 @@ fn compare_way(t: &mut Words, way: usize) {
             turning: turning,
             full_demand: full_demand,
             old_block: old,
+            grain: word(t, GRAIN, 0) == 1,
         },
     );
     note_sizes(t, way);
     note_difference(t, way);
 }
 
-// Sets the next limit of stages, or that each kind has two weights, or that copies remain, by the call.
+// Sets the next limit of stages, or that each kind has two weights, or that copies remain, or that kinds may keep their grain, by the call.
 fn set_call(t: &mut Words, call: usize) {
     let limit = plus(word(t, ALL_DRAWN, 0) % 8, 1);
     put(t, LIMIT, 0, times((call == 1) as usize, limit));
     put(t, TWO, 0, (call == 2) as usize);
     put(t, EXACT, 0, (call == 3) as usize);
+    put(t, GRAIN, 0, (call == 4) as usize);
 }
 
 // Draws the next job, and compares it in all ways.

@@ -96,6 +96,7 @@ fn row_choices(t: &Words) -> Choices {
         turning: word(t, ROW, 13) == 1,
         full_demand: word(t, ROW, 14) == 1,
         old_block: word(t, ROW, 16) == 1,
+        grain: false,
     }
 }
 

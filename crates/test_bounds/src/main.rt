@@ -4,7 +4,8 @@
 // bound, the capacity, the numbers of normal lengths and widths, both lists and every word of the table; all later words of lists and
 // table must keep what they held before the call. It prints, for each of the three ways, how many jobs agreed, the table words compared
 // and the sum of the expected bounds, and the greatest capacity and kerf. `Within` does the same with the staged bound, within the limits 1
-// to 8 in turn, `Double` with the bound of two weights, `Exact` with the exact call. `Total` sums up, and names the first job that does not agree.
+// to 8 in turn, `Double` with the bound of two weights, `Exact` with the exact call, `Grain` with the bound of jobs in which every
+// second kind keeps its grain. `Total` sums up, and names the first job that does not agree.
 // A command `Limit` runs one job and prints the answer, or the refusal's number and place, and then how many entries of the two lists
 // and how many words of the table the call changed.
 mod call;
@@ -26,6 +27,7 @@ fn run(t: &mut Words, letter: u8) {
         b'W' => compare_shape(t, 1),
         b'D' => compare_shape(t, 2),
         b'E' => compare_shape(t, 3),
+        b'G' => compare_shape(t, 4),
         b'T' => print_total(t),
         b'L' => run_limit(t),
         _ => {}

@@ -29,6 +29,9 @@ pub const FULL_DEMAND: usize = 12600;
 // Whether the job block is the old one: 1, or 0.
 pub const OLD_BLOCK: usize = 12700;
 
+// Whether the job block has a grain byte for each kind: 1, or 0.
+pub const GRAIN: usize = 12750;
+
 // Entries of the two output arrays that a neat plan is lent.
 pub const OUTPUT: usize = 12800;
 
@@ -65,6 +68,7 @@ pub fn choices(t: &Words) -> Choices {
         turning: word(t, TURNING, 1) == 1,
         full_demand: word(t, FULL_DEMAND, 1) == 1,
         old_block: word(t, OLD_BLOCK, 1) == 1,
+        grain: word(t, GRAIN, 1) == 1,
     }
 }
 
@@ -74,6 +78,7 @@ pub fn other_choices(choices: Choices) -> Choices {
         turning: choices.turning,
         full_demand: false,
         old_block: choices.old_block,
+        grain: choices.grain,
     }
 }
 

@@ -1,20 +1,20 @@
-// Runs the calls on plans by a script (its standard input): the check of plans, the writing of plans, neat plans, certificates, both
-// within a limit of stages too, the saw, the weight rounds, racks of plates; and the bound printer.
-// `job`, `weights`, `kinds`, `operands` and `plan` set the bytes of the job block, the weights, the plan's two arrays and the plan block;
-// `lend` sets how many entries of the two lists and words of the table a certificate is lent, `neat` how many entries of the two output
-// arrays a neat plan, or a round's plan, is lent, `most` the limit of stages, `x` and `y` the lengths and widths of a rack's plates;
-// `turning` sets whether pieces may be turned from here on, 1 or 0, `full` whether the capacity is that of the full demands (a plan is then
-// written, or certified, by the call of that name), and `before` whether job blocks are old ones, without a kerf. Then a call runs on what
-// is set: `Arrays` checks the two arrays, `Block` the plan block, `Jobs` and `Plans` every truncation of the job block and of the plan
-// block; `Write` writes a plan into the arrays and prints arrays of seven entries as kind.operand; `Neat` writes the neat plan of the arrays
-// into the output arrays and prints seven entries of them; `Certify` certifies the arrays and prints how many entries of the lists and
-// words of the table it changed; `Depth` checks the two arrays within the limit of stages, and `Limited` certifies them within it; `Saw`
-// checks the two arrays as the saw does, and `Entries` prints the part of them that belongs to the node which `entry` sets; `Find` finds
-// weights with the arrays as the lent plan, and prints what `Certify` and `Neat` print of memory; `Rack` checks the plans in the arrays as
-// those of the rack, and prints three profits; `Old` reads the job block by the call for old ones. An answer is printed as its values, a
-// refusal as number and place. `Give` and the bytes of an input, job block and weights, run the bound printer on them; the last command,
-// `Input`, runs it on what follows the script in standard input, read as the bound printer reads it: more than 711 bytes, of which only the
-// first 711 count.
+// Runs the calls on plans by a script (its standard input): the check of plans, the writing of plans, neat plans, certificates, both within
+// a limit of stages too, the saw, the weight rounds, racks of plates; and the bound printer. `job`, `weights`, `kinds`, `operands` and
+// `plan` set the bytes of the job block, the weights, the plan's two arrays and the plan block; `lend` sets how many entries of the two
+// lists and words of the table a certificate is lent, `neat` how many entries of the two output arrays a neat plan, or a round's plan, is
+// lent, `most` the limit of stages, `x` and `y` the lengths and widths of a rack's plates; `turning` sets whether pieces may be turned from
+// here on, 1 or 0, `full` whether the capacity is that of the full demands (a plan is then written, or certified, by the call of that
+// name), `before` whether job blocks are old ones, without a kerf, and `grain` whether they have a grain byte for each kind. Then a call
+// runs on what is set: `Arrays` checks the two arrays, `Block` the plan block, `Jobs` and `Plans` every truncation of the job block and of
+// the plan block; `Write` writes a plan into the arrays and prints arrays of seven entries as kind.operand; `Neat` writes the neat plan of
+// the arrays into the output arrays and prints seven entries of them; `Certify` certifies the arrays and prints how many entries of the
+// lists and words of the table it changed; `Depth` checks the two arrays within the limit of stages, and `Limited` certifies them within
+// it; `Saw` checks the two arrays as the saw does, and `Entries` prints the part of them that belongs to the node which `entry` sets;
+// `Find` finds weights with the arrays as the lent plan, and prints what `Certify` and `Neat` print of memory; `Rack` checks the plans in
+// the arrays as those of the rack, and prints three profits; `Old` reads the job block by the call for old ones. An answer is printed as
+// its values, a refusal as number and place. `Give` and the bytes of an input, job block and weights, run the bound printer on them; the
+// last command, `Input`, runs it on what follows the script in standard input, read as the bound printer reads it: more than 711 bytes, of
+// which only the first 711 count.
 mod call;
 mod certify;
 mod check;
@@ -30,6 +30,7 @@ mod write;
 use call::run_call;
 use call::run_truncations;
 use lent::FULL_DEMAND;
+use lent::GRAIN;
 use lent::INPUT;
 use lent::JOB;
 use lent::KINDS;
@@ -65,6 +66,7 @@ fn place(letter: u8) -> usize {
         b't' => TURNING,
         b'f' => FULL_DEMAND,
         b'b' => OLD_BLOCK,
+        b'g' => GRAIN,
         b'n' => OUTPUT,
         b'e' => NODE,
         b'm' => LIMIT,

@@ -25,6 +25,7 @@ pub fn run_old_job(block: &[u8]) {
         turning: false,
         full_demand: false,
         old_block: false,
+        grain: false,
     };
     let read = read_old_job(block, none);
     let verdict = read.verdict;

@@ -67,7 +67,7 @@ pub record TwoLeaves (before : Checked) (J : Job) (F : ℕ → ℕ → ℕ → �
   pub widths : new .widths ≡ list-after (next before (first-refusal (list-check J (length (old .lengths)) (length (old .widths)) ∷ []))) (normal-positions J Width) (old .widths)
   pub table : TwoAfter (next before (first-refusal (two-storage-checks J q q′ old))) J F q q′ (old .table) (new .table)
 
--- the verdict of the checks that stand before the storage's: 1 to 8 and 27, 24, 9, 25
+-- the verdict of the checks that stand before the storage's: 1 to 8, 27 and 35, 24, 9, 25
 abbrev pub weighed-verdict : List ℕ → Choices → List ℕ → List ℕ → Checked
 weighed-verdict s choices first second = first-refusal (job-checks s choices ++ two-checks (block-job s choices) first second)
 

@@ -1,5 +1,5 @@
 // The bound call of two weights a kind: two capacities, of which each cut shares out both, and a word of the table for each pair of
-// shares. Refusals 1 to 9, 27, 24, 25, 19 and 20.
+// shares. Refusals 1 to 9, 27, 35, 24, 25, 19 and 20.
 use bound::fill_table;
 use cutting::Sides;
 use job::Choices;

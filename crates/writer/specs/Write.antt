@@ -58,7 +58,7 @@ block-plan s choices ws = bound-plan (block-job s choices) (weight-in ws)
 abbrev pub write-report : List ℕ → Choices → List ℕ → WriteReport
 write-report s choices ws = reported (block-report s choices ws) (node-count (block-plan s choices ws))
 
--- the verdict of the writing call: 1 to 9 and 27, 19, 20, then 21
+-- the verdict of the writing call: 1 to 9, 27 and 35, 19, 20, then 21
 abbrev pub write-verdict : List ℕ → Choices → List ℕ → Memory → List ℕ → List ℕ → Checked
 write-verdict s choices ws m kinds operands = next (bound-verdict s choices ws m) (nodes-verdict (block-plan s choices ws) kinds operands)
 

@@ -8,5 +8,4 @@ pub put-fields-spec : {M : Type 1} → statement M
 put-fields-spec =
     tie.close
     (tie.spec
-    (λ t₀ n j₀ t j. j ≤ n) (λ t₀ n j₀ t j. n - j) (search needs) (search needs) (search needs) (search needs) (search needs) (search needs)
-    (search needs) (search needs))
+    (λ t₀ n j₀ t j. j ≤ n) (λ t₀ n j₀ t j. n - j) (search needs) (search needs) (search needs) (search needs) (search needs) (search needs))
