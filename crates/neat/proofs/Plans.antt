@@ -5,14 +5,18 @@ use Prim.Native.Nat.{ℕ, zero, suc, _≤_, _<_}
 use native.Mathlib.Omega.{arith}
 use lib.ListN.{length, set}
 use borrow.Author.Tests.{lt-ltb, le-ltb}
+use Rattle.cutting.specs.Limits.{most-kinds, most-true-kerf}
 use Rattle.cutting.specs.Lists.{over}
-use Rattle.cutting.specs.Tree.{Tree, waste, piece-count}
+use Rattle.cutting.specs.Tree.{Rect, Tree, waste, piece-count}
 use Rattle.cutting.specs.Pieces as laid
+use Rattle.cutting.specs.Pieces.{_⊑_, lying}
 use Rattle.cutting.specs.Preorder.{preorder, kind-of, operand-of, node-count, kinds-of, operands-of}
-use Rattle.cutting.specs.Job.{Job, laid, copies-of, InRange}
-use Rattle.cutting.specs.Neat.{neat-of}
+use Rattle.cutting.specs.Job.{Job, laid, OnPlate, copies-of, InRange}
+use Rattle.cutting.specs.Neat.{used-of, neat-of}
+use Rattle.cutting.specs.Relaxation.{Lies}
 use Rattle.cutting.proofs.Members.{range-solid}
-use Rattle.cutting.proofs.Neat.{neat-total, neat-waste, neat-stages, neat-idle, neat-again, neat-nodes, neat-count, neat-on}
+use Rattle.cutting.proofs.Relaxation.{every-map, plate-lies}
+use Rattle.cutting.proofs.Neat.{neat-total, neat-waste, neat-stages, neat-idle, neat-again, neat-nodes, neat-count, neat-on, used-on, used-none}
 use Rattle.refusal.specs.Refusals.{next, first-refusal, outcome-by}
 use Rattle.refusal.specs.declared.Refusal.{Refusal}
 use Rattle.refusal.specs.declared.Refusal.the-variants.{PlanLong}
@@ -33,8 +37,8 @@ use Rattle.plan.proofs.Drawn.{nodes-are, trees-are, drawn-is, plan-is}
 use Rattle.neat.specs.declared.NeatAnswer.{NeatAnswer}
 use Rattle.neat.specs.declared.NeatAnswer.the-variants as answer
 use Rattle.neat.specs.Neat.{neat-tree, output-check, neat-checked, neat-verdict, block-neat, neat-answer-by, neat-outcome, NeatPlan, NeatJudged, NeatPromises}
-use Rattle.neat.specs.Scan.{unless-none, neat-nodes as nodes-written, pieces-in, nodes-for, AllFit, Scannable, Neatened}
-use Rattle.neat.proofs.Trees.{pieces-tree, tree-fits}
+use Rattle.neat.specs.Scan.{unless-none, neat-nodes as nodes-written, pieces-in, nodes-for, Fair, Known, Within, AllMake, Scannable, Writable, Neatened}
+use Rattle.neat.proofs.Trees.{pieces-tree, Shared, known-parts, within-parts, tree-makes}
 
 -- the number of nodes by the number of pieces
 module _ (J : Job) (t : Tree laid.Piece) where
@@ -52,30 +56,105 @@ module _ (J : Job) (t : Tree laid.Piece) where
       go zero e = no-piece e
       go (suc n) e = some-pieces n e
 
-module _ (J : Job) (range : InRange J) (kinds operands : List ℕ) where
+-- the pieces of a tree on a job's plate are known by other sizes, where those of its kinds are fair
+piece-known : (M : Job) (size : ℕ → Rect) → M .count ≤ most-kinds → ((i : ℕ) → i < M .count → Fair (size i)) → (p : laid.Piece) → Lies M p → (laid.kind p < most-kinds) × Fair (lying size p)
+piece-known M size few fair (laid.upright i) l = (omega (arith, l .0 .0), fair i (l .0 .0))
+piece-known M size few fair (laid.turned i) l = let f = fair i (l .0 .0) in (omega (arith, l .0 .0), (f .1, f .0))
+
+pub tree-known : (M : Job) (size : ℕ → Rect) → M .count ≤ most-kinds → ((i : ℕ) → i < M .count → Fair (size i)) → (t : Tree laid.Piece) → OnPlate M t → Known (lying size) t
+tree-known M size few fair t on = every-map _ _ (piece-known M size few fair) t (plate-lies M t on)
+
+-- arrays that a tree t of a job M draws, and a job J of as many kinds, by whose sizes it is neatened
+module _ {M : Job} (J : Job) {kinds operands : List ℕ} {t : Tree laid.Piece} (drawn : DrawnAs M t kinds operands) where
+  pieces-are : pieces-in kinds ≡ piece-count t
+  unfolding pieces-in
+  pieces-are = ap pieces-in (drawn .kinds-are ∙ sym (append-nil (kinds-of t))) ∙ pieces-tree t [] ∙ omega arith
+
+  walkable : Walkable kinds operands
+  walkable = (ap length (drawn .kinds-are) ∙ kinds-length t ∙ sym (operands-length t) ∙ sym (ap length (drawn .operands-are)), omega (arith, ap length (drawn .kinds-are), kinds-length t, drawn .nodes))
+
+  pub plan-most : length kinds ≤ 4095
+  plan-most = walkable .1
+
   -- what the scan is given of them
-  module _ (t : Tree laid.Piece) (drawn : DrawnAs J t kinds operands) where
-    pieces-are : pieces-in kinds ≡ piece-count t
-    unfolding pieces-in
-    pieces-are = ap pieces-in (drawn .kinds-are ∙ sym (append-nil (kinds-of t))) ∙ pieces-tree t [] ∙ omega arith
+  all-make : (Q : Tree laid.Piece → Type 0) → Shared Q → Q t → AllMake Q (nodes-in kinds operands)
+  all-make Q parts h = subst (AllMake Q) (sym (nodes-are M kinds operands t drawn)) (tree-makes Q parts t [] h tt)
 
-    walkable : Walkable kinds operands
-    walkable = (ap length (drawn .kinds-are) ∙ kinds-length t ∙ sym (operands-length t) ∙ sym (ap length (drawn .operands-are)), omega (arith, ap length (drawn .kinds-are), kinds-length t, drawn .nodes))
+  pub scannable : J .kerf ≤ most-true-kerf → Known (laid J) t → Scannable (J .kerf) (laid J) kinds operands
+  scannable k h = record { kerfs = k; walkable = walkable; one = omega (arith, ap length (trees-are M kinds operands t drawn)); known = all-make (Known (laid J)) (known-parts (laid J)) h }
 
-    all-fit : AllFit J (nodes-in kinds operands)
-    all-fit = subst (AllFit J) (sym (nodes-are J kinds operands t drawn)) (tree-fits J range t [] (J .plate, omega arith, drawn .on-plate) tt)
+  -- the nodes needed
+  pub needed : {m n : ℕ} → m ≡ pieces-in kinds → n ≡ nodes-for m → n ≡ node-count (neat-of J t)
+  needed e f = f ∙ ap nodes-for (e ∙ pieces-are) ∙ by-pieces J t
 
-    -- what is written, where the tree holds a piece
-    written-are : (n : ℕ) → piece-count t ≡ suc n → nodes-written J (trees-in (nodes-in kinds operands)) ≡ preorder (neat-of J t)
+  -- where there is no piece, the neat plan is waste
+  none-waste : {m : ℕ} → m ≡ pieces-in kinds → m ≡ 0 → neat-of J t ≡ waste
+  none-waste e z = neat-waste (J .kerf) (laid J) t (sym (e ∙ pieces-are) ∙ z)
+
+  pub none-used : {m : ℕ} → m ≡ pieces-in kinds → m ≡ 0 → used-of J t ≡ (0, 0)
+  none-used e z = used-none (J .kerf) (laid J) t (sym (e ∙ pieces-are) ∙ z)
+
+  pub waste-one : {m : ℕ} → m ≡ pieces-in kinds → m ≡ 0 → 1 ≡ node-count (neat-of J t)
+  unfolding node-count preorder
+  waste-one e z = sym (ap node-count (none-waste e z))
+
+  pub waste-kinds : {m : ℕ} → m ≡ pieces-in kinds → m ≡ 0 → 0 ∷ [] ≡ kinds-of (neat-of J t)
+  unfolding kinds-of preorder
+  waste-kinds e z = sym (ap kinds-of (none-waste e z))
+
+  pub waste-operands : {m : ℕ} → m ≡ pieces-in kinds → m ≡ 0 → 0 ∷ [] ≡ operands-of (neat-of J t)
+  unfolding operands-of preorder
+  waste-operands e z = sym (ap operands-of (none-waste e z))
+
+  -- where there is one, the scan writes it
+  module _ {m n : ℕ} (e : m ≡ pieces-in kinds) (z : m ≡ 0 → ⊥) (f : n ≡ nodes-for m) where
+    all-written : nodes-written (J .kerf) (laid J) (trees-in (nodes-in kinds operands)) ≡ preorder (neat-of J t)
     unfolding nodes-written
-    written-are n e = ap (nodes-written J) (trees-are J kinds operands t drawn) ∙ ap (λ m. unless-none m (preorder (neat-of J t)) ++ []) e ∙ append-nil (preorder (neat-of J t))
+    all-written = ap (nodes-written (J .kerf) (laid J)) (trees-are M kinds operands t drawn) ∙ go (piece-count t) refl
+      where
+        go : (i : ℕ) → piece-count t ≡ i → unless-none (piece-count t) (preorder (neat-of J t)) ++ [] ≡ preorder (neat-of J t)
+        go zero q = absurd (z (e ∙ pieces-are ∙ q))
+        go (suc i) q = ap (λ m. unless-none m (preorder (neat-of J t)) ++ []) q ∙ append-nil (preorder (neat-of J t))
 
+    pub writable : J .kerf ≤ most-true-kerf → Known (laid J) t → Fair (J .plate) → used-of J t ⊑ J .plate
+        → {old-kinds old-operands : List ℕ} → n ≤ length old-kinds → n ≤ length old-operands → Writable (J .kerf) (laid J) (J .plate) kinds operands old-kinds old-operands n
+    unfolding node-count
+    writable k h fair w r s =
+        record {
+          scannable = scannable k h;
+          fair = fair;
+          within = all-make (Within (J .kerf) (laid J) (J .plate)) (within-parts (J .kerf) (laid J) (J .plate)) w;
+          counts = needed e f ∙ sym (ap length all-written);
+          kinds-room = r;
+          operands-room = s;
+        }
+
+    pub kinds-written : map (λ x. kind-of x) (nodes-written (J .kerf) (laid J) (trees-in (nodes-in kinds operands))) ≡ kinds-of (neat-of J t)
+    unfolding kinds-of
+    kinds-written = ap (map (λ x. kind-of x)) all-written
+
+    pub operands-written : map (λ x. operand-of x) (nodes-written (J .kerf) (laid J) (trees-in (nodes-in kinds operands))) ≡ operands-of (neat-of J t)
+    unfolding operands-of
+    operands-written = ap (map (λ x. operand-of x)) all-written
+
+module _ (J : Job) (range : InRange J) (kinds operands : List ℕ) where
   module _ (p : plan-answer J kinds operands .verdict ≡ Passed) where
     abbrev t : Tree laid.Piece
     t = tree-in kinds operands
 
     is-plan : PlanOf J t kinds operands
     is-plan = plan-is J (range .kinds .1) kinds operands p
+
+    pub drawn-by : DrawnAs J t kinds operands
+    drawn-by = is-plan .drawn
+
+    -- by its own sizes the plan lies within the plate
+    pub own-writable : {m n : ℕ} → m ≡ pieces-in kinds → (m ≡ 0 → ⊥) → n ≡ nodes-for m → {old-kinds old-operands : List ℕ} → n ≤ length old-kinds → n ≤ length old-operands
+        → Writable (J .kerf) (laid J) (J .plate) kinds operands old-kinds old-operands n
+    own-writable e z f h i =
+        let fair : (i : ℕ) → i < J .count → Fair (J .size i) = λ i l. (omega (arith, range .lengths i l), omega (arith, range .widths i l)) in
+        writable J drawn-by e z f (omega (arith, range .kerfs)) (tree-known J (J .size) (range .kinds .1) fair t (drawn-by .on-plate)) (omega (arith, range .plate-length), omega (arith, range .plate-width))
+        (used-on J t (J .plate .0) (J .plate .1) (drawn-by .on-plate)) h i
 
     same-copies : (i : ℕ) → copies-of i (neat-of J t) ≡ copies-of i t
     same-copies i = neat-total (J .kerf) (laid J) _ t
@@ -109,50 +188,6 @@ module _ (J : Job) (range : InRange J) (kinds operands : List ℕ) where
           again = neat-again (J .kerf) (laid J) t;
           same-plan = ap (neat-of J) (sym (drawn-is J (kinds-of (neat-of J t)) (operands-of (neat-of J t)) (neat-of J t) (neat-passes .drawn))) ∙ neat-again (J .kerf) (laid J) t;
         }
-
-    pub plan-most : length kinds ≤ 4095
-    plan-most = walkable t (is-plan .drawn) .1
-
-    -- the nodes needed
-    pub needed : {m n : ℕ} → m ≡ pieces-in kinds → n ≡ nodes-for m → n ≡ node-count (neat-of J t)
-    needed e f = f ∙ ap nodes-for (e ∙ pieces-are t (is-plan .drawn)) ∙ by-pieces J t
-
-    -- where there is no piece, the neat plan is waste
-    none-waste : {m : ℕ} → m ≡ pieces-in kinds → m ≡ 0 → neat-of J t ≡ waste
-    none-waste e z = neat-waste (J .kerf) (laid J) t (sym (e ∙ pieces-are t (is-plan .drawn)) ∙ z)
-
-    pub waste-one : {m : ℕ} → m ≡ pieces-in kinds → m ≡ 0 → 1 ≡ node-count (neat-of J t)
-    unfolding node-count preorder
-    waste-one e z = sym (ap node-count (none-waste e z))
-
-    pub waste-kinds : {m : ℕ} → m ≡ pieces-in kinds → m ≡ 0 → 0 ∷ [] ≡ kinds-of (neat-of J t)
-    unfolding kinds-of preorder
-    waste-kinds e z = sym (ap kinds-of (none-waste e z))
-
-    pub waste-operands : {m : ℕ} → m ≡ pieces-in kinds → m ≡ 0 → 0 ∷ [] ≡ operands-of (neat-of J t)
-    unfolding operands-of preorder
-    waste-operands e z = sym (ap operands-of (none-waste e z))
-
-    -- where there is one, the scan writes it
-    module _ {m n : ℕ} (e : m ≡ pieces-in kinds) (z : m ≡ 0 → ⊥) (f : n ≡ nodes-for m) where
-      all-written : nodes-written J (trees-in (nodes-in kinds operands)) ≡ preorder (neat-of J t)
-      all-written = go (piece-count t) refl
-        where
-          go : (i : ℕ) → piece-count t ≡ i → nodes-written J (trees-in (nodes-in kinds operands)) ≡ preorder (neat-of J t)
-          go zero q = absurd (z (e ∙ pieces-are t (is-plan .drawn) ∙ q))
-          go (suc i) q = written-are t (is-plan .drawn) i q
-
-      pub scannable : {old-kinds old-operands : List ℕ} → n ≤ length old-kinds → n ≤ length old-operands → Scannable J kinds operands old-kinds old-operands n
-      unfolding node-count
-      scannable h i = record { range = range; walkable = walkable t (is-plan .drawn); fits = all-fit t (is-plan .drawn); counts = needed e f ∙ sym (ap length all-written); kinds-room = h; operands-room = i }
-
-      pub kinds-written : map (λ x. kind-of x) (nodes-written J (trees-in (nodes-in kinds operands))) ≡ kinds-of (neat-of J t)
-      unfolding kinds-of
-      kinds-written = ap (map (λ x. kind-of x)) all-written
-
-      pub operands-written : map (λ x. operand-of x) (nodes-written J (trees-in (nodes-in kinds operands))) ≡ operands-of (neat-of J t)
-      unfolding operands-of
-      operands-written = ap (map (λ x. operand-of x)) all-written
 
   -- the answers for a job that was read
   module _ (old-kinds old-operands : List ℕ) where

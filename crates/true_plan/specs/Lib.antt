@@ -1,0 +1,2 @@
+pub mod TruePlan
+pub mod Calls
