@@ -5,7 +5,7 @@ use mathlib.Core.Bool.{Bool, true, false}
 use mathlib.Core.List.{List, [], _∷_}
 use Prim.Native.Nat.{ℕ}
 use Rattle.refusal.specs.declared.Refusal.{Refusal}
-use Rattle.refusal.specs.declared.Refusal.the-variants.{ShortHeader, PlateSide, RackSide, KindCount, BlockLength, KindSide, Price, Demand, WeightCount, Capacity, PlanLength, NodeCount, NodeKind, PieceNumber, Operand, Misfit, Excess, NodeMissing, NodeLeft, ListShort, TableShort, PlanLong, StageLimit, ManyStages, SecondCount, CapacityProduct, IdleCut, Kerf, RackSize, RackDemand, DemandProduct}
+use Rattle.refusal.specs.declared.Refusal.the-variants.{ShortHeader, PlateSide, RackSide, KindCount, BlockLength, KindSide, Price, Demand, WeightCount, Capacity, PlanLength, NodeCount, NodeKind, PieceNumber, Operand, Misfit, Excess, NodeMissing, NodeLeft, ListShort, TableShort, PlanLong, StageLimit, ManyStages, SecondCount, CapacityProduct, IdleCut, Kerf, RackSize, RackDemand, DemandProduct, MultiplierCount, Multiplier}
 use Rattle.refusal.specs.declared.Checked.{Checked}
 use Rattle.refusal.specs.declared.Checked.the-variants.{Passed, Refused}
 
@@ -42,6 +42,8 @@ number-of Kerf = 27
 number-of RackSize = 28
 number-of (RackDemand k) = 29
 number-of DemandProduct = 30
+number-of MultiplierCount = 37
+number-of (Multiplier k) = 38
 
 -- the table's place of a refusal: a kind, a node, a plate, a count of words or nodes, or 0
 abbrev pub place-of : Refusal → ℕ
@@ -76,6 +78,8 @@ place-of Kerf = 0
 place-of RackSize = 0
 place-of (RackDemand k) = k
 place-of DemandProduct = 0
+place-of MultiplierCount = 0
+place-of (Multiplier k) = k
 
 -- one line of the table: whether its condition holds, and the refusal that it then draws
 abbrev pub Check : Type 0

@@ -36,6 +36,8 @@ pub enum Refusal {
     RackSize,
     RackDemand(u16),
     DemandProduct,
+    MultiplierCount,
+    Multiplier(u16),
 }
 
 // What a check answers: passed, or the first refusal met.
@@ -83,6 +85,8 @@ fn line_of(r: Refusal) -> Line
         Refusal::RackSize => Line(28, 0),
         Refusal::RackDemand(k) => Line(29, k as u64),
         Refusal::DemandProduct => Line(30, 0),
+        Refusal::MultiplierCount => Line(37, 0),
+        Refusal::Multiplier(k) => Line(38, k as u64),
     }
 }
 
