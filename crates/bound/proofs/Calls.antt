@@ -7,6 +7,7 @@ use native.Mathlib.Omega.{arith}
 use Rattle.cutting.specs.declared.Sides.{Sides}
 use Rattle.cutting.specs.Sides.{rect-of, sides-of}
 use Rattle.cutting.specs.Job.{Job, InRange, widened, capacity}
+use Rattle.cutting.specs.Limits.{most-capacity}
 use Rattle.cutting.specs.Listed.{listed-weight, pieces-job, PieceArray}
 use Rattle.cutting.proofs.Promises.{recursion, figures-most, normal-listed, floor-figures}
 use Rattle.refusal.specs.Refusals.{Check, next, first-refusal, by-check, outcome-by}
@@ -22,7 +23,7 @@ use Rattle.job.proofs.Kerf.{kerf-none-read}
 use Rattle.job.proofs.Weights.{weights-passed, accepted-both, accepted-in-range}
 use Rattle.job.proofs.Taken.{Taken}
 use Rattle.bound.specs.Bound.{Memory, Leaves, wide-job, answer-by, bound-report, memory-checks, report-values, block-capacity, block-report, accept-verdict, bound-verdict, bound-answer, bound-outcome, BoundLeaves, BoundSaid, BoundPromises}
-use Rattle.bound.specs.Contracts.{Boundable, Bounded}
+use Rattle.bound.specs.Contracts.{Boundable, Bounded, RecordBoundable}
 use Rattle.bound.specs.declared.BoundReport.{BoundReport}
 use Rattle.bound.specs.declared.BoundAnswer.{BoundAnswer}
 use Rattle.bound.specs.declared.BoundAnswer.the-variants as answer
@@ -35,6 +36,19 @@ module _ (J : Job) (weight : ℕ → ℕ) (q : ℕ) (m : Memory) where
       → (f r ≡ by-check (next v (first-refusal (memory-checks J q m))) a f) × Leaves v J weight q m m
   refused-before a f e = (sym (ap (λ v. by-check (next v (first-refusal (memory-checks J q m))) a f) e), rw e (record { lengths = refl; widths = refl; table = refl }))
 
+-- what the bound of a record's pieces asks, and what it says of the record
+module _ (j : JobRecord) (weight : ℕ → ℕ) (q : ℕ) {plate : Sides} {n : ℕ} {pieces : List ℕ} (e : plate ≡ sides-of (widened (job-of j) .plate)) (a : PieceArray (widened (job-of j)) weight n pieces) where
+  pub record-boundable : {floors : List ℕ} → InRange (job-of j) → q ≤ most-capacity → length floors ≡ 2042 → Boundable (pieces-job (rect-of plate) n pieces) q floors
+  record-boundable {floors} range low h =
+      let b : Boundable (pieces-job (widened (job-of j) .plate) n pieces) q floors =
+      record { in-range = pieces-range (job-of j) weight n pieces a range; most = low; floors-there = h } in
+      subst (λ p. Boundable (pieces-job (rect-of p) n pieces) q floors) (sym e) b
+
+  pub record-bounded : {floors : List ℕ} {old new : Memory} {r : BoundAnswer} → Bounded (pieces-job (rect-of plate) n pieces) (listed-weight pieces) q old new floors r
+      → Bounded (widened (job-of j)) weight q old new floors r
+  record-bounded {floors} {old} {new} {r} b =
+      pieces-bounded (widened (job-of j)) weight n pieces a q old new floors r (subst (λ p. Bounded (pieces-job (rect-of p) n pieces) (listed-weight pieces) q old new floors r) e b)
+
 -- what listing the pieces and the bound of them ask, from a job and a capacity that were taken from an accepted block
 module _ (s : List ℕ) (choices : Choices) (ws : List ℕ) {j : JobRecord} {q : ℕ} (t : Taken s choices ws j q) where
   pub range-taken : InRange (job-of j)
@@ -45,21 +59,27 @@ module _ (s : List ℕ) (choices : Choices) (ws : List ℕ) {j : JobRecord} {q :
       let k = weights-passed (block-job s choices) ws (accepted-both s choices ws (t .accepted) .1) in
       omega (arith, k .0, ap (λ j. job-of j .count) (t .record-is))
 
+  pub capacity-low : q ≤ most-capacity
+  capacity-low = let k = weights-passed (block-job s choices) ws (accepted-both s choices ws (t .accepted) .1) in omega (arith, k .1, t .capacity-is)
+
   pub boundable : {plate : Sides} {n : ℕ} {pieces floors : List ℕ} → plate ≡ sides-of (widened (job-of j) .plate) → PieceArray (widened (job-of j)) (weight-in ws) n pieces → length floors ≡ 2042
       → Boundable (pieces-job (rect-of plate) n pieces) q floors
-  boundable {plate} {n} {pieces} {floors} e a h =
-      let k = weights-passed (block-job s choices) ws (accepted-both s choices ws (t .accepted) .1) in
-      let b : Boundable (pieces-job (widened (job-of j) .plate) n pieces) q floors =
-      record { in-range = pieces-range (job-of j) (weight-in ws) n pieces a range-taken; most = omega (arith, k .1, t .capacity-is); floors-there = h } in
-      subst (λ p. Boundable (pieces-job (rect-of p) n pieces) q floors) (sym e) b
+  boundable e a h = record-boundable j (weight-in ws) q e a range-taken capacity-low h
 
-  -- and what the bound of the pieces says of the job's block
+  pub record-ready : RecordBoundable (job-of j) q ws
+  record-ready = record { in-range = range-taken; weighed = weights-there; most = capacity-low }
+
+  -- what the bound of the record says of the job's block
+  pub block-bounded : {floors : List ℕ} {old new : Memory} {r : BoundAnswer} → Bounded (widened (job-of j)) (weight-in ws) q old new floors r
+      → Bounded (wide-job s choices) (weight-in ws) (block-capacity s choices ws) old new floors r
+  block-bounded {floors} {old} {new} {r} b =
+      let d : Bounded (widened (job-of j)) (weight-in ws) (block-capacity s choices ws) old new floors r = subst (λ q. Bounded (widened (job-of j)) (weight-in ws) q old new floors r) (t .capacity-is) b in
+      subst (λ j. Bounded (widened (job-of j)) (weight-in ws) (block-capacity s choices ws) old new floors r) (t .record-is) d
+
+  -- and what the bound of the pieces says of it
   pub job-bounded : {plate : Sides} {n : ℕ} {pieces floors : List ℕ} {old new : Memory} {r : BoundAnswer} → plate ≡ sides-of (widened (job-of j) .plate) → PieceArray (widened (job-of j)) (weight-in ws) n pieces
       → Bounded (pieces-job (rect-of plate) n pieces) (listed-weight pieces) q old new floors r → Bounded (wide-job s choices) (weight-in ws) (block-capacity s choices ws) old new floors r
-  job-bounded {plate} {n} {pieces} {floors} {old} {new} {r} e a b =
-      let c = pieces-bounded (widened (job-of j)) (weight-in ws) n pieces a q old new floors r (subst (λ p. Bounded (pieces-job (rect-of p) n pieces) (listed-weight pieces) q old new floors r) e b) in
-      let d : Bounded (widened (job-of j)) (weight-in ws) (block-capacity s choices ws) old new floors r = subst (λ q. Bounded (widened (job-of j)) (weight-in ws) q old new floors r) (t .capacity-is) c in
-      subst (λ j. Bounded (widened (job-of j)) (weight-in ws) (block-capacity s choices ws) old new floors r) (t .record-is) d
+  job-bounded e a b = block-bounded (record-bounded j (weight-in ws) q e a b)
 
 -- an answer's number and values are those of its verdict
 said-by : (v : Checked) (b : BoundReport) → bound-outcome (answer-by v b) ≡ outcome-by v (report-values b)

@@ -1,10 +1,10 @@
--- What only the inner contracts of the bound call cite: what the bound of pieces asks and leaves.
+-- What only the inner contracts of the bound call cite: what the bound of pieces, and that of a record, asks and leaves.
 use mathlib.Core.Path.{_≡_}
 use mathlib.Core.List.{List}
 use Prim.Native.Nat.{ℕ, _≤_}
 use lib.ListN.{length}
 use Rattle.cutting.specs.Limits.{most-capacity}
-use Rattle.cutting.specs.Job.{Job}
+use Rattle.cutting.specs.Job.{Job, InRange}
 use Rattle.cutting.specs.Listed.{InTableRange}
 use Rattle.refusal.specs.Refusals.{first-refusal}
 use Rattle.refusal.specs.declared.Checked.the-variants.{Passed}
@@ -26,3 +26,13 @@ pub record Bounded (J : Job) (weight : ℕ → ℕ) (q : ℕ) (old new : Memory)
   pub answer : r ≡ answer-by (first-refusal (memory-checks J q old)) (bound-report J weight q)
   pub memory : Leaves Passed J weight q old new
   pub mapped : (b : BoundReport) → r ≡ Answered b → BothMapped J floors
+
+-- what the bound of a record asks: a job in range, a weight for each kind, and a capacity
+pub record RecordBoundable (J : Job) (q : ℕ) (weights : List ℕ) : Type 0 where
+  pub in-range : InRange J
+  pub weighed : J .count ≤ length weights
+  pub most : q ≤ most-capacity
+
+-- the answer of a job, weights and a capacity, and what it leaves in lent memory; the floors are the call's own
+abbrev pub RecordBounded : Job → (ℕ → ℕ) → ℕ → Memory → Memory → BoundAnswer → Type 0
+RecordBounded J weight q old new r = (floors : List ℕ) × Bounded J weight q old new floors r

@@ -2,6 +2,7 @@
 // figures into the lent table, and the table's last word is the bound. Refusals 1 to 9, 27, 35, 19 and 20.
 use cutting::Sides;
 use job::Choices;
+use job::JobRecord;
 use pieces::list_pieces;
 use pieces::plate_of;
 use refusal::Checked;
@@ -10,11 +11,13 @@ use storage::Layout;
 use storage::lay_out;
 use table::TableSize;
 ghost use Rattle.cutting.specs.Sides.{rect-of};
+ghost use Rattle.cutting.specs.Job.{widened};
 ghost use Rattle.cutting.specs.Listed.{listed-weight, pieces-job};
-ghost use Rattle.job.specs.Block.{with-full-demand};
+ghost use Rattle.job.specs.Block.{with-full-demand, job-of};
+ghost use Rattle.job.specs.Weights.{weight-in};
 ghost use Rattle.bound.specs.Bound.{lent, BoundPromises};
 ghost use Rattle.table.specs.Contracts.{size-job, Fillable, FilledBy};
-ghost use Rattle.bound.specs.Contracts.{Boundable, Bounded};
+ghost use Rattle.bound.specs.Contracts.{Boundable, Bounded, RecordBoundable, RecordBounded};
 
 // What the bound call reports: the bound, the capacity Q, and the numbers p and r of normal lengths and widths. In the exact call the
 // optimum stands in the place of the bound and the last state in that of the capacity.
@@ -84,6 +87,35 @@ pub fn bound_of_pieces(
     }
 }
 
+// The bound of a job record in range and of its weights at a capacity: refusals 19 and 20, then the lists, the table and the report.
+pub fn bound_of_record(
+    job: JobRecord,
+    weights: &[u8],
+    q: u16,
+    lengths: &mut [u16],
+    widths: &mut [u16],
+    table: &mut [u64],
+) -> BoundAnswer
+    requires { ⌜ RecordBoundable (job-of job) q (now weights) ⌝ }
+    ensures { λ r. ⌜ RecordBounded (widened (job-of job)) (weight-in (now (weights .entry))) q
+        (lent (now (lengths .entry)) (now (widths .entry)) (now (table .entry)))
+        (lent (now (lengths .exit)) (now (widths .exit)) (now (table .exit))) r ⌝ }
+{
+    let mut pieces = [0u32; 640];
+    let count = list_pieces(job, weights, &mut pieces);
+    let mut floors = [0u16; 2042];
+    bound_of_pieces(
+        plate_of(job),
+        count,
+        &pieces,
+        q,
+        lengths,
+        widths,
+        &mut floors,
+        table,
+    )
+}
+
 // The bound of a job block and weights. An answered bound is exact: the most that a guillotine tree within the answered capacity earns,
 // and no tree that keeps the demands earns more.
 pub fn bound(
@@ -102,18 +134,12 @@ pub fn bound(
     if let Checked::Refused(r) = verdict {
         return BoundAnswer::Refused(r);
     }
-    let record = accepted.job;
-    let mut pieces = [0u32; 640];
-    let count = list_pieces(record, weights, &mut pieces);
-    let mut floors = [0u16; 2042];
-    bound_of_pieces(
-        plate_of(record),
-        count,
-        &pieces,
+    bound_of_record(
+        accepted.job,
+        weights,
         accepted.capacity,
         lengths,
         widths,
-        &mut floors,
         table,
     )
 }

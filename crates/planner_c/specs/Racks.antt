@@ -14,7 +14,7 @@ use Rattle.refusal.specs.Refusals.{Check, Outcome, by-check, next, first-refusa
 use Rattle.refusal.specs.declared.Checked.{Checked}
 use Rattle.refusal.specs.declared.Refusal.the-variants.{RackSize}
 use Rattle.job.specs.declared.Choices.{Choices}
-use Rattle.rack.specs.Racks.{NoneTogether, NoneTogetherFiner, rack-bound}
+use Rattle.orders.specs.Racks.{NoneTogether, NoneTogetherFiner, rack-bound}
 use Rattle.rack.specs.Check.{plate-at, rack-answer}
 use Rattle.rack.specs.Promises.{OrderPasses, BeforePasses, RackOf, IdleAt, OverAt, OnlyPlate}
 use Rattle.planner_c.specs.Exports.{choices-of, job-with, unknown}

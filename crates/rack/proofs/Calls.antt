@@ -32,10 +32,10 @@ use Rattle.plan.proofs.Parse.{no-pass}
 use Rattle.plan.proofs.Preorder.{written, firsts, seconds, arrays-written, kinds-length, operands-length}
 use Rattle.plan.proofs.Whole.{whole-counts}
 use Rattle.rack.specs.declared.RackAnswer.{RackAnswer}
-use Rattle.rack.specs.Racks.{plated, SharesDemands, chained}
 use Rattle.rack.specs.Check.{plate-at, rack-size-check, order-checks, plate-checks, rack-checks, own-answer, total-checks, with-own, rack-passed, rack-stopped, rack-by, rack-walk, plans-answer, rack-answer, rack-outcome}
 use Rattle.rack.specs.Promises.{OrderPasses, BeforePasses, RackOf, RackUpTo, IdleAt, OverAt, RackChecks, PlatesPromises}
-use Rattle.rack.proofs.Racks.{rack-keeps, any-together, any-finer, rack-holds, rack-finer}
+use Rattle.orders.specs.Racks.{plated, SharesDemands, chained}
+use Rattle.orders.proofs.Racks.{rack-keeps, any-together, any-finer, rack-holds, rack-finer}
 use Rattle.rack.proofs.Before.{before-passed, size-passed}
 use Rattle.rack.proofs.Numbers.{before-gives, tree-gives}
 use Rattle.rack.proofs.Trees.{by-passed, racked, passing}

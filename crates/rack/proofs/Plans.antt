@@ -13,7 +13,7 @@ use Rattle.refusal.specs.declared.Checked.the-variants.{Passed, Refused}
 use Rattle.plan.specs.declared.TreeAnswer.{TreeAnswer}
 use Rattle.plan.specs.Plan.{left-check}
 use Rattle.rack.specs.declared.RackAnswer.{RackAnswer}
-use Rattle.rack.specs.Racks.{plated}
+use Rattle.orders.specs.Racks.{plated}
 use Rattle.rack.specs.Check.{own-answer, total-checks, with-own, rack-passed, rack-stopped, rack-by, rack-walk, plans-answer}
 use Rattle.rack.proofs.Own.{own-inside, own-passed}
 

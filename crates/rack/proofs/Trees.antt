@@ -31,9 +31,9 @@ use Rattle.plan.proofs.Preorder.{written, firsts, count-written}
 use Rattle.plan.proofs.Parse.{no-pass}
 use Rattle.plan.proofs.Among.{Drawn, tree-drawn, drawn-tree}
 use Rattle.rack.specs.declared.RackAnswer.{RackAnswer}
-use Rattle.rack.specs.Racks.{plated, chained}
+use Rattle.orders.specs.Racks.{plated, chained}
 use Rattle.rack.specs.Check.{walked-at, idle-at, own-answer, total-check, total-checks, with-own, rack-passed, rack-by, rack-walk}
-use Rattle.rack.proofs.Racks.{sum-first}
+use Rattle.orders.proofs.Racks.{sum-first}
 use Rattle.rack.proofs.Totals.{with-own-length, with-own-in, totals-within}
 use Rattle.rack.proofs.Own.{own-decides, own-passed}
 

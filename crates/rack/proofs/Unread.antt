@@ -16,7 +16,7 @@ use Rattle.job.specs.Block.{u16-at, u32-at, plate-length-at, plate-width-at, co
 use Rattle.job.specs.Weights.{block-job}
 use Rattle.job.proofs.Read.{sizes-least}
 use Rattle.plan.specs.Plan.{plan-checks}
-use Rattle.rack.specs.Racks.{plated}
+use Rattle.orders.specs.Racks.{plated}
 use Rattle.rack.specs.Check.{plate-at, rack-size-check, order-checks, plate-checks, rack-checks, own-answer, total-checks, with-own, rack-by, rack-walk, plans-answer, rack-answer}
 use Rattle.rack.specs.Promises.{OnlyPlate}
 

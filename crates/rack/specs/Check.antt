@@ -20,7 +20,7 @@ use Rattle.idle.specs.Idle.{idle-checks}
 use Rattle.plan.specs.declared.TreeAnswer.{TreeAnswer}
 use Rattle.plan.specs.Plan.{nodes-in, empty-report, tree-stopped, tree-walk, left-check, plan-checks}
 use Rattle.rack.specs.declared.RackAnswer.{RackAnswer}
-use Rattle.rack.specs.Racks.{plated}
+use Rattle.orders.specs.Racks.{plated}
 
 -- the most plates of a rack
 abbrev pub most-plates : ℕ

@@ -20,7 +20,7 @@ use Rattle.job.specs.Block.{plate-length-at, plate-width-at}
 use Rattle.job.specs.Weights.{block-job}
 use Rattle.idle.specs.Idle.{tree-checks}
 use Rattle.rack.specs.declared.RackAnswer.{RackAnswer}
-use Rattle.rack.specs.Racks.{plated, OnPlates, SharesDemands, NoneTogether, NoneTogetherFiner, rack-bound, chained}
+use Rattle.orders.specs.Racks.{plated, OnPlates, SharesDemands, NoneTogether, NoneTogetherFiner, rack-bound, chained}
 use Rattle.rack.specs.Check.{most-plates, plate-at, order-checks, rack-checks, rack-answer, rack-outcome, rack-said}
 
 -- no check of a job block beside its plate's refuses it

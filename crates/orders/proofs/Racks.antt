@@ -13,7 +13,7 @@ use Rattle.cutting.proofs.Demands.{sum-le}
 use Rattle.cutting.proofs.Bound.{bound-holds}
 use Rattle.cutting.proofs.AnyKinds.{none-any}
 use Rattle.cutting.proofs.Finer.{none-finer}
-use Rattle.rack.specs.Racks.{plated, SharesDemands, NoneTogether, NoneTogetherFiner, rack-profit, rack-bound}
+use Rattle.orders.specs.Racks.{plated, SharesDemands, NoneTogether, NoneTogetherFiner, rack-profit, rack-bound}
 
 -- one term of a sum is at most the sum
 sum-one : (n : ℕ) (f : ℕ → ℕ) (p : ℕ) → p < n → f p ≤ sum n f

@@ -1,0 +1,4 @@
+pub mod Racks
+pub mod Orders
+pub mod Needed
+pub mod Sums

@@ -1,0 +1,2 @@
+pub mod Racks
+pub mod Orders
