@@ -157,4 +157,4 @@ module _ (s : List ℕ) (choices : Choices) (z : List ℕ) where
 
 -- the true job has the model's kinds but for their sizes
 pub true-kinds : (M : Job) (z : TrueSizes) → SameKinds (true-job M z) M
-true-kinds M z = record { counts = refl; turns = refl; prices = λ i l. refl; demands = λ i l. refl }
+true-kinds M z = record { counts = refl; turns = λ i l. refl; prices = λ i l. refl; demands = λ i l. refl }

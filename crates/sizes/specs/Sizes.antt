@@ -93,6 +93,7 @@ true-job M z = record {
   size = λ i. (getD (z .lengths) i 0, getD (z .widths) i 0);
   price = M .price;
   demand = M .demand;
+  grain = M .grain;
 }
 
 -- the true job of a job block and a sizes block
