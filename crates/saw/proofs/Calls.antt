@@ -56,7 +56,7 @@ module _ (s : List ℕ) (choices : Choices) where
   read-met e =
       let v = first-refusal (saw-checks s choices) in
       let a = said-by v (saw-record s choices) e in
-      (e, (a .1, (λ z o. e ∙ same-read choices s z o, (λ p. prices-free choices s (saw-holds (answered-by v (saw-record s choices) e p .0) .3), subst (λ (x : JobAnswer). NeverSix (x .verdict)) (sym e) (unpriced-by v (read-never s choices))))))
+      (e, (a .1, (λ z o. e ∙ same-read choices s z o, (λ p. prices-free choices s (saw-holds (answered-by v (saw-record s choices) e p .0) .0 .3), subst (λ (x : JobAnswer). NeverSix (x .verdict)) (sym e) (unpriced-by v (read-never s choices))))))
     where
       unpriced-by : (v : Checked) → NeverSix v → NeverSix (read-by v (saw-record s choices) .verdict)
       unpriced-by Passed f = f

@@ -11,7 +11,7 @@ use Rattle.refusal.specs.declared.Checked.{Checked}
 use Rattle.refusal.specs.declared.Checked.the-variants.{Passed, Refused}
 use Rattle.refusal.specs.Refusals.{Check, next, refuse-when, first-refusal}
 use Rattle.job.specs.declared.Choices.{Choices}
-use Rattle.job.specs.Block.{sizes-end, count-at, header-checks, size-check, each-kind, array-checks}
+use Rattle.job.specs.Block.{sizes-end, count-at, header-checks, size-check, each-kind, array-checks, grain-check, grain-checks}
 use Rattle.idle.specs.Idle.{idle-checks}
 use Rattle.plan.specs.declared.Report.{Report}
 use Rattle.plan.specs.declared.PlanAnswer.{PlanAnswer}
@@ -57,7 +57,7 @@ proceed-never (Refused r) a f g = f
 
 module _ (J : Job) where
   node-never : (copies : List ℕ) (r : Rect) (k kind operand : ℕ) → NeverSix (first-refusal (node-checks J copies r k kind operand))
-  node-never copies r k kind operand = checks-never (node-checks J copies r k kind operand) (λ e. omega arith, (λ e. omega arith, (λ e. omega arith, (λ e. omega arith, (λ e. omega arith, tt)))))
+  node-never copies r k kind operand = checks-never (node-checks J copies r k kind operand) (λ e. omega arith, (λ e. omega arith, (λ e. omega arith, (λ e. omega arith, (λ e. omega arith, (λ e. omega arith, tt))))))
 
   walk-never : (ns : List (ℕ × ℕ)) (k : ℕ) (rs : List Rect) (s : Report) → NeverSix (walk J k ns rs s .verdict)
   unfolding walk
@@ -85,8 +85,12 @@ module _ (s : List ℕ) (choices : Choices) where
       let end = sizes-end (choices .«old_block») in
       let sizes = none-each (λ i. size-check end s i ∷ []) 0 (count-at s) (λ k. (λ e. omega arith, tt)) in
       let demands = none-each (demand-checks end s) 0 (count-at s) (λ k. (λ e. omega arith, tt)) in
-      let header : NoneSix (header-checks (choices .«old_block») s) = (λ e. omega arith, (λ e. omega arith, (λ e. omega arith, (λ e. omega arith, (λ e. omega arith, tt))))) in
-      checks-never (saw-checks s choices) (none-append (header-checks (choices .«old_block») s) (array-checks (demand-checks end s) end s) header (none-append (each-kind (λ i. size-check end s i ∷ []) 0 (count-at s)) (each-kind (demand-checks end s) 0 (count-at s)) sizes demands))
+      let header : NoneSix (header-checks choices s) = (λ e. omega arith, (λ e. omega arith, (λ e. omega arith, (λ e. omega arith, (λ e. omega arith, tt))))) in
+      checks-never (saw-checks s choices) (none-append (header-checks choices s) (array-checks (demand-checks end s) (choices .grain) end s) header (none-append (each-kind (λ i. size-check end s i ∷ []) 0 (count-at s)) (each-kind (demand-checks end s) 0 (count-at s) ++ grain-checks (choices .grain) end s) sizes (none-append (each-kind (demand-checks end s) 0 (count-at s)) (grain-checks (choices .grain) end s) demands (grains (choices .grain)))))
+    where
+      grains : (b : Bool) → NoneSix (grain-checks b (sizes-end (choices .«old_block»)) s)
+      grains true = none-each (λ i. grain-check (sizes-end (choices .«old_block»)) s i ∷ []) 0 (count-at s) (λ k. (λ e. omega arith, tt))
+      grains false = tt
 
   pub saw-never : (kinds operands : List ℕ) → NeverSix (saw-answer s choices kinds operands .verdict)
   saw-never kinds operands = proceed-never (first-refusal (saw-checks s choices)) (plan-answer (saw-job s choices) kinds operands) read-never (plan-never (saw-job s choices) kinds operands)
