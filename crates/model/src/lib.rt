@@ -93,10 +93,11 @@ fn true_span(sizes: TrueSizes, i: u16) -> Span
     ensures { λ r. ⌜ r ≡ true-span-at sizes i ⌝ }
 {
     let k = i as usize;
+    let kerf = sizes.kerf;
     Span {
         length: sizes.lengths[k],
         width: sizes.widths[k],
-        kerf: sizes.kerf,
+        kerf: kerf,
     }
 }
 
