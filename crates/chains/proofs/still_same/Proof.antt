@@ -1,5 +1,4 @@
 -- `chains::still_same` meets its contract.
-use mathlib.Core.Path.{sym, _∙_}
 use borrow.Author.Tests.{eqb-true}
 use Rattle.chains.proofs.still_same.Statement.{statement}
 use Rattle.chains.proofs.still_same.Tie as tie
