@@ -56,7 +56,7 @@ const LONG: Scale = Scale {
 
 #[test]
 fn small_inputs_agree() {
-    agree(1, 12_000, SMALL_WORK).iter().for_each(every_code_is_met);
+    agree(1, 12_000, SMALL_WORK).iter().for_each(|tally| every_code_is_met(tally, 20));
 }
 
 /// The same with grain, on fewer inputs.
@@ -65,14 +65,14 @@ fn small_inputs_with_grain_agree() {
     let random = &mut Random::new(6);
     for turning in [TURNING, TURNING | OLD_BLOCK, 0] {
         let choices = turning | GRAIN;
-        every_code_is_met(&(choices, agree_with(random, 8_000, SMALL_WORK, choices)));
+        every_code_is_met(&(choices, agree_with(random, 8_000, SMALL_WORK, choices)), 10);
     }
 }
 
 const SMALL_WORK: Scale = Scale { work: 300_000, ..SMALL };
 
-/// Expects each call to have given each code that it can give under the choices.
-fn every_code_is_met((choices, tally): &(u32, Tally)) {
+/// Expects each call to have given each code that it can give under the choices so many times.
+fn every_code_is_met((choices, tally): &(u32, Tally), times: usize) {
     let chosen = |bit| choices & bit != 0;
     let possible = |code: &u32| match code {
         27 => !chosen(OLD_BLOCK),
@@ -83,7 +83,7 @@ fn every_code_is_met((choices, tally): &(u32, Tally)) {
     for call in ALL_CALLS {
         let seen = |code: &u32| tally.codes.get(&(call, *code)).copied().unwrap_or(0);
         for code in codes(call).into_iter().filter(possible) {
-            assert!(seen(&code) >= 10, "{call:?} gave {code} only {} times", seen(&code));
+            assert!(seen(&code) >= times, "{call:?} gave {code} only {} times", seen(&code));
         }
     }
     assert!(tally.best >= 100 && tally.gaps >= 100, "{} best, {} gaps", tally.best, tally.gaps);

@@ -150,7 +150,7 @@ fn with_equal_bytes(input: &Input, grain: u8, choices: u32) -> Input {
 #[test]
 fn equal_bytes_are_turning_for_all_or_none() {
     let random = &mut Random::new(171);
-    for i in 0..1500 {
+    for i in 0..500 {
         let mut input = draw(random, SMALL, ALL_CHOICES[i % 4]);
         let before = (input.weights.len(), input.job.len(), input.choices);
         damage(random, &mut input);
@@ -172,7 +172,7 @@ fn equal_bytes_are_turning_for_all_or_none() {
 fn alike(call: Call, plain: &Input, grained: &Input) {
     for calls in IMPLEMENTATIONS {
         let [expected, given] = [plain, grained].map(|input| {
-            let mut lent = Lent::new(AMPLE);
+            let mut lent = Lent::new(Sizes { table: 1 << 10, ..AMPLE });
             (call.run(&calls, input, &mut lent), lent)
         });
         if given.0 == 36 {

@@ -157,40 +157,39 @@ struct Replay<'a> {
 }
 
 impl Replay<'_> {
-    /// Saws a rectangle; its piece must have the rectangle's own side along the cut that made it.
-    fn saw(&mut self, sides: [usize; 2], cut: Option<usize>) {
+    /// Saws a rectangle and gives what it uses of it: at each cut the first part is used up to the blade.
+    fn saw(&mut self, sides: [usize; 2]) -> [usize; 2] {
         let (&kind, &operand) = self.nodes.next().expect("a node");
         let operand = operand as usize;
-        match kind {
-            0 => assert!(cut.is_none(), "waste below a cut"),
-            2 | 3 => {
-                let direction = usize::from(kind == 3);
-                let mut parts = [sides; 2];
-                parts[0][direction] = operand;
-                parts[1][direction] = self.job.second(sides[direction], operand).expect("two parts");
-                parts.into_iter().for_each(|part| self.saw(part, Some(direction)));
-            }
-            _ => {
-                let piece = self.job.piece(operand, kind == 4);
-                assert!(kind == 1 || self.job.turns(operand));
-                let size = [piece.length, piece.width];
-                assert!(size[0] <= sides[0] && size[1] <= sides[1], "{size:?} from {sides:?}");
-                assert!(cut.is_none_or(|cut| size[cut] == sides[cut]), "{size:?} from {sides:?}");
-                self.copies[operand] += 1;
-            }
+        if matches!(kind, 2 | 3) {
+            let (along, across) = if kind == 2 { (0, 1) } else { (1, 0) };
+            let mut parts = [sides; 2];
+            parts[0][along] = operand;
+            parts[1][along] = self.job.second(sides[along], operand).expect("two parts");
+            let [mut used, second] = parts.map(|part| self.saw(part));
+            assert!(used[along] == operand && second[along] > 0, "{used:?} before {operand}");
+            used[along] += self.job.kerf + second[along];
+            used[across] = used[across].max(second[across]);
+            return used;
         }
+        if kind == 0 {
+            return [0; 2];
+        }
+        let piece = self.job.piece(operand, kind == 4);
+        assert!(piece.fits(sides[0], sides[1]) && (kind == 1 || self.job.turns(operand)));
+        self.copies[operand] += 1;
+        [piece.length, piece.width]
     }
 }
 
-/// Replays a true plan on what it uses of the plate; the copies are those of the model's plan.
+/// Replays a true plan on the true plate; the copies are those of the model's plan.
 fn is_sawn(input: &Input, job: &Job, lent: &Lent) {
     let &[nodes, length, width, ..] = lent.answer.words() else { panic!("three words") };
-    let sides = [length as usize, width as usize];
-    assert!(sides[0] <= job.length && sides[1] <= job.width);
     let (kinds, positions) = (lent.kinds.words(), lent.positions.words());
     let nodes = kinds[..nodes as usize].iter().zip(&positions[..nodes as usize]);
     let mut replay = Replay { job, nodes, copies: vec![0; job.kinds.len()] };
-    replay.saw(sides, None);
+    let used = replay.saw([job.length, job.width]);
+    assert_eq!(used, [length as usize, width as usize], "{input:?}");
     assert!(replay.nodes.next().is_none());
     let report = words(Call::CheckPlan, input, ROOM);
     assert_eq!(replay.copies, report[4..4 + job.kinds.len()], "{input:?}");
