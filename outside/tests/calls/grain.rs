@@ -14,7 +14,7 @@ use outside::blocks::{job_block, kerf_block, old_block, Kind};
 use outside::random::Random;
 use outside::reference::Job;
 
-const ROOM: Sizes = Sizes { table: 1 << 16, ..AMPLE };
+const ROOM: Sizes = Sizes { lengths: 30, widths: 30, table: 1 << 12, ..AMPLE };
 
 /// Both choices that a kind with grain is read under.
 const KEPT: u32 = TURNING | GRAIN;

@@ -1,6 +1,6 @@
 // Generated models and true sizes: the check against every multiset of pieces, what every tree at the true
 // sizes earns against the bounds of a model that passes, and true plans replayed on the true plate.
-use crate::capacity::words;
+use crate::capacity::{done, words};
 use crate::exact::optimum;
 use crate::finer::{finer, most_within};
 use crate::inputs::{draw, Scale, SMALL};
@@ -11,7 +11,8 @@ use outside::random::Random;
 use outside::reference::{true_job, Job};
 
 const TINY: Scale = Scale { plate: 4, kerf: 1, side: 3, kinds: 3, demand: 2, ..SMALL };
-const ROOM: Sizes = Sizes { table: 1 << 17, ..AMPLE };
+const ROOM: Sizes =
+    Sizes { lengths: 30, widths: 30, table: 1 << 13, kinds: 300, operands: 300, ..AMPLE };
 
 /// Generated inputs, their jobs and their true jobs, the words of choices taking turns.
 fn generated(
@@ -83,7 +84,7 @@ fn models_agree(seed: u64, grain: u32) {
         seen[refused.map_or(2, |place| place)] += 1;
     }
     println!("{seen:?} models are refused along the length, along the width, and pass");
-    assert!(seen.iter().all(|&times| times >= 100), "{seen:?}");
+    assert!(seen.iter().all(|&times| times >= 40), "{seen:?}");
 }
 
 #[test]
@@ -197,11 +198,13 @@ fn is_sawn(input: &Input, job: &Job, lent: &Lent) {
     assert_eq!(profit.sum::<u64>(), report[0], "{input:?}");
 }
 
-/// Where the model stands for the true sizes and where it does not.
+/// The best plans of the model, where it stands for the true sizes and where it does not.
 fn true_plans_are_sawn(seed: u64, grain: u32) {
+    let scale = Scale { plate: 8, kerf: 1, side: 4, kinds: 3, demand: 2, ..SMALL };
     let (random, mut seen) = (&mut Random::new(seed), [0; 3]);
-    for i in 0..6000 {
-        let input = draw(random, Scale { plate: 12, ..SMALL }, ALL_CHOICES[i % 4] | grain);
+    for i in 0..2000 {
+        let order = draw(random, scale, ALL_CHOICES[i % 4] | grain);
+        let input = order.with_written_plan(&done(Call::Exact, &order, ROOM));
         let model = Job::read(&input.job, input.choices).expect("a job");
         let job = true_job(&model, &input.sizes).expect("true sizes");
         let (code, lent) = compare(Call::TruePlan, &input, ROOM);
@@ -213,7 +216,7 @@ fn true_plans_are_sawn(seed: u64, grain: u32) {
         seen[2] += usize::from(code == 34);
     }
     println!("{seen:?} true plans, those of more than four nodes, and those that do not fit");
-    assert!(seen[0] >= 2000 && seen[1] >= 300 && seen[2] >= 100, "{seen:?}");
+    assert!(seen[0] >= 1000 && seen[1] >= 300 && seen[2] >= 40, "{seen:?}");
 }
 
 #[test]
