@@ -6,7 +6,7 @@ use crate::lent::{Lent, Sizes};
 use crate::run::{compare, Call, Input, ALL_CALLS, ALL_CHOICES, STAGED_CALLS};
 use outside::answers::{GRAIN, OLD_BLOCK, STAGED_REPORT_WORDS, TURNING};
 use outside::random::Random;
-use outside::reference::{capacities, capacity, normal_positions, true_job, Copies, Job};
+use outside::reference::{capacities, capacity, normal_positions, true_job, Copies, Job, Kind};
 use std::collections::BTreeMap;
 
 /// How often each call gave each code, and how many certificates of a plan that earns something were
@@ -191,10 +191,11 @@ fn few_chains(input: &Input) -> bool {
     let Ok(model) = Job::read(&input.job, input.choices) else { return true };
     let Ok(job) = true_job(&model, &input.sizes) else { return true };
     let room = |job: &Job| job.length.max(job.width) + job.kerf;
-    let taken = job.kinds.iter().map(|kind| kind.length.min(kind.width) + job.kerf);
-    let copies = room(&job) / taken.min().expect("a kind");
-    let extents = room(&job).min(10_000) * room(&model).min(copies + 1);
-    extents * copies.min(255) * job.kinds.len() <= 2_000_000
+    let copies = |kind: &Kind| {
+        let side = kind.length.min(kind.width) + job.kerf;
+        (room(&job) / side).min(kind.demand as usize)
+    };
+    room(&job) * room(&model) * job.kinds.iter().map(copies).sum::<usize>() <= 20_000
 }
 
 /// The written plan again, into arrays that just hold it or do not; and as input of the checks.

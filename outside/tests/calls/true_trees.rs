@@ -216,7 +216,7 @@ fn true_plans_are_sawn(seed: u64, grain: u32) {
         seen[2] += usize::from(code == 34);
     }
     println!("{seen:?} true plans, those of more than four nodes, and those that do not fit");
-    assert!(seen[0] >= 1000 && seen[1] >= 300 && seen[2] >= 40, "{seen:?}");
+    assert!(seen[0] >= 1000 && seen[1] >= 100 && seen[2] >= 40, "{seen:?}");
 }
 
 #[test]
