@@ -120,7 +120,9 @@ fn no_true_tree_earns_more(seed: u64, grain: u32) {
         passed += 1;
         earned += usize::from(most == bound);
     }
-    println!("{earned} of {passed} bounds are earned; {below} are too low where the model is refused");
+    println!(
+        "{earned} of {passed} bounds are earned; {below} are too low where the model is refused"
+    );
     assert!(passed >= 300 && earned >= 100 && below >= 10);
 }
 
