@@ -1,30 +1,54 @@
-// The drawing of a plan for the saw, on an A4 sheet: pieces named and dimensioned, waste hatched, the kerf as wide as
-// planned, cuts numbered in the order of sawing, a legend. All numbers on the plate are millimetres.
-use crate::layout::{Cut, Laid, Rect};
+// The drawing of a plan for the saw, one A4 sheet a board: panels named and dimensioned, rests hatched, the kerf as wide
+// as it is, cuts numbered in the order of sawing, a legend. All numbers on the board are exact millimetres.
+use crate::layout::{size, Cut, Laid, Rect};
 use crate::millimetres::Millimetres;
-use crate::outcome::Outcome;
+use crate::outcome::{Board, Outcome};
 use crate::places::{Places, Spot};
 use crate::sheet::{number_text, text_width, Sheet, Turn, LEAST};
 use planner::Direction;
 use std::fmt::Write;
 
+/// The drawing of all boards, one below the other.
 pub fn svg(outcome: &Outcome) -> String {
-    let order = &outcome.order;
-    let plate = [outcome.job.length, outcome.job.width].map(|units| order.length_of(units));
-    let kinds = 0..order.panels.len();
-    let entry_width = |kind| text_width(&entry(outcome, kind, f64::INFINITY));
-    let widest = kinds.clone().map(entry_width).fold(0.0, f64::max);
-    let sheet = Sheet::new(plate.map(Millimetres::as_f64), kinds.len(), widest);
-    let mut drawing = Drawing { outcome, sheet, text: String::new(), places: Places::default() };
+    let sheets: Vec<(Sheet, String)> = (0..outcome.boards.len()).map(|index| drawn(outcome, index)).collect();
+    let wide = sheets.iter().map(|(sheet, _)| sheet.page[0]).fold(0.0, f64::max);
+    let high: f64 = sheets.iter().map(|(sheet, _)| sheet.page[1]).sum();
+    let mut text = format!(
+        "<svg xmlns=\"http://www.w3.org/2000/svg\" width=\"{wide}mm\" height=\"{high}mm\" viewBox=\"0 0 {wide} {high}\">\n"
+    );
+    if let [(sheet, _)] = &sheets[..] {
+        let [wide, high] = sheet.page;
+        writeln!(text, "<style>@page {{ size: {wide}mm {high}mm; margin: 0 }}</style>").expect("a string takes all text");
+    }
+    let mut below = 0.0;
+    for (sheet, drawing) in &sheets {
+        writeln!(text, "<g transform=\"translate(0 {below})\">\n{drawing}</g>").expect("a string takes all text");
+        below += sheet.page[1];
+    }
+    text + "</svg>\n"
+}
+
+/// The sheet of a board and its drawing, in millimetres of the sheet.
+pub fn drawn(outcome: &Outcome, index: usize) -> (Sheet, String) {
+    let board = &outcome.boards[index];
+    let plate = board.layout.board.rect.sides().map(Millimetres::of_thousandths);
+    let panels = board.panels();
+    let entry_width = |panel: &usize| text_width(&entry(outcome, board, *panel, f64::INFINITY));
+    let widest = panels.iter().map(entry_width).fold(0.0, f64::max);
+    let sheet = Sheet::new(plate.map(Millimetres::as_f64), panels.len(), widest);
+    let mut drawing = Drawing { outcome, board, index, sheet, text: String::new(), places: Places::default() };
     drawing.open(plate);
-    drawing.heading();
+    drawing.heading(plate);
     drawing.plate(plate);
-    drawing.legend();
-    drawing.text + "</svg>\n"
+    drawing.legend(&panels);
+    let text = drawing.text + "</svg>\n";
+    (drawing.sheet, text)
 }
 
 struct Drawing<'a> {
     outcome: &'a Outcome,
+    board: &'a Board,
+    index: usize,
     sheet: Sheet,
     text: String,
     places: Places,
@@ -37,31 +61,29 @@ impl Drawing<'_> {
 
     fn open(&mut self, plate: [Millimetres; 2]) {
         let Sheet { page: [wide, high], scale, .. } = self.sheet;
-        let kerf = self.outcome.order.length_of(self.outcome.job.kerf);
+        let kerf = self.outcome.order.kerf;
         self.put(format!(
-            "<svg xmlns=\"http://www.w3.org/2000/svg\" width=\"{wide}mm\" height=\"{high}mm\" \
+            "<svg class=\"board\" width=\"{wide}\" height=\"{high}\" \
              viewBox=\"0 0 {:.3} {:.3}\" font-family=\"Arial, Helvetica, sans-serif\" data-kerf=\"{kerf}\" \
              data-plate=\"{} {}\">",
             wide / scale, high / scale, plate[0], plate[1],
         ));
-        self.put(format!("<style>@page {{ size: {wide}mm {high}mm; margin: 0 }}</style>"));
-        for (name, spacing, degrees, ink) in [("waste", 2.2, 45, "#555"), ("trim", 1.1, -45, "#777")] {
-            let (spacing, middle) = (spacing / scale, spacing / scale / 2.0);
-            let thick = spacing / 6.0;
-            self.put(format!(
-                "<pattern id=\"{name}\" width=\"{spacing:.3}\" height=\"{spacing:.3}\" \
-                 patternUnits=\"userSpaceOnUse\" patternTransform=\"rotate({degrees})\">\
-                 <path d=\"M{middle:.3} 0V{spacing:.3}\" stroke=\"{ink}\" stroke-width=\"{thick:.3}\"/></pattern>",
-            ));
-        }
+        let (spacing, middle) = (2.2 / scale, 1.1 / scale);
+        let thick = spacing / 6.0;
+        self.put(format!(
+            "<pattern id=\"rest{}\" width=\"{spacing:.3}\" height=\"{spacing:.3}\" \
+             patternUnits=\"userSpaceOnUse\" patternTransform=\"rotate(45)\">\
+             <path d=\"M{middle:.3} 0V{spacing:.3}\" stroke=\"#555\" stroke-width=\"{thick:.3}\"/></pattern>",
+            self.index,
+        ));
         self.put("<rect width=\"100%\" height=\"100%\" fill=\"white\"/>");
     }
 
-    fn heading(&mut self) {
-        let order = &self.outcome.order;
+    fn heading(&mut self, [length, width]: [Millimetres; 2]) {
+        let (number, all) = (self.index + 1, self.outcome.boards.len());
         let title = format!(
-            "Plate {} x {} mm, steps of {} mm, {}, scale 1 : {:.1}",
-            order.plate[0], order.plate[1], order.unit, self.outcome.kerf(), 1.0 / self.sheet.scale,
+            "Board {number} of {all}, {length} x {width} mm, kerf {} mm, scale 1 : {:.1}",
+            self.outcome.order.kerf, 1.0 / self.sheet.scale,
         );
         let shares = self.outcome.shares().map(|(name, tenths)| {
             format!("{name} {}.{} %", tenths / 10, tenths % 10)
@@ -98,10 +120,9 @@ impl Drawing<'_> {
             "<rect class=\"plate\" x=\"0\" y=\"0\" width=\"{length}\" height=\"{width}\" \
              fill=\"white\" stroke=\"black\" stroke-width=\"{thin:.3}\"/>"
         ));
-        let layout = &self.outcome.layout;
-        layout.waste.iter().for_each(|waste| self.area("waste", *waste));
-        layout.pieces.iter().flat_map(Laid::trim).for_each(|trim| self.area("trim", trim));
-        layout.pieces.iter().for_each(|laid| self.piece(laid));
+        let layout = &self.board.layout;
+        layout.rests.iter().for_each(|rest| self.rest(*rest));
+        layout.panels.iter().for_each(|laid| self.panel(laid));
         layout.cuts.iter().for_each(|cut| self.cut(cut));
         // Short cuts have the least room for their numbers.
         let mut numbered: Vec<(usize, &Cut)> = layout.cuts.iter().enumerate().collect();
@@ -115,28 +136,28 @@ impl Drawing<'_> {
 
     /// The place of a rectangle as attributes, in exact millimetres.
     fn place(&self, rect: Rect) -> String {
-        let of = |units| self.outcome.order.length_of(units);
-        let (x, y, length, width) = (of(rect.x), of(rect.y), of(rect.length), of(rect.width));
+        let [x, y, length, width] =
+            [rect.x, rect.y, rect.length, rect.width].map(Millimetres::of_thousandths);
         format!("x=\"{x}\" y=\"{y}\" width=\"{length}\" height=\"{width}\"")
     }
 
-    fn area(&mut self, class: &str, rect: Rect) {
-        let place = self.place(rect);
-        self.put(format!("<rect class=\"{class}\" {place} fill=\"url(#{class})\"/>"));
+    fn rest(&mut self, rect: Rect) {
+        let (place, index) = (self.place(rect), self.index);
+        self.put(format!("<rect class=\"rest\" {place} fill=\"url(#rest{index})\"/>"));
     }
 
-    fn piece(&mut self, laid: &Laid) {
-        let (place, fill) = (self.place(laid.piece), colour(laid.kind));
+    fn panel(&mut self, laid: &Laid) {
+        let (place, fill) = (self.place(laid.rect), colour(laid.panel));
         let thin = 0.2 / self.sheet.scale;
-        let ordered = &self.outcome.order.panels[laid.kind];
+        let ordered = &self.outcome.order.panels[laid.panel];
         let name = escaped(&ordered.name);
         self.put(format!(
             "<rect class=\"piece\" {place} fill=\"{fill}\" stroke=\"black\" \
              stroke-width=\"{thin:.3}\" data-name=\"{name}\"/>"
         ));
-        let size = format!("{} x {}", ordered.sides[0], ordered.sides[1]);
+        let size = size(ordered.sides());
         let in_line = format!("{size}{}", if laid.turned { " turned" } else { "" });
-        let (name, number) = (ordered.name.as_str(), (laid.kind + 1).to_string());
+        let (name, number) = (ordered.name.as_str(), (laid.panel + 1).to_string());
         let below: &[&str] = if laid.turned { &["turned"] } else { &[] };
         let of = |first| [vec![first, in_line.as_str()], [&[first, size.as_str()], below].concat()];
         let [named, numbered] = [of(name), of(number.as_str())];
@@ -146,8 +167,8 @@ impl Drawing<'_> {
 
     /// The first words that fit a piece and are not too low, or else the last of them, upright or along its width.
     fn label(&mut self, laid: &Laid, choices: &[Vec<&str>]) {
-        let of = |units| self.outcome.order.length_of(units).as_f64();
-        let Rect { x, y, length, width } = laid.piece;
+        let of = |length| Millimetres::of_thousandths(length).as_f64();
+        let Rect { x, y, length, width } = laid.rect;
         let (length, width) = (of(length), of(width));
         let middle = [of(x) + length / 2.0, of(y) + width / 2.0];
         let fitted = choices.iter().map(|lines| (lines, self.sheet.fitted(lines, length, width)));
@@ -170,31 +191,26 @@ impl Drawing<'_> {
         self.put("</g>");
     }
 
-    /// A cut as a line of the planned kerf's width; a hair line where that is 0.
+    /// A cut as the rectangle that the blade takes; a hair line where that is none.
     fn cut(&mut self, cut: &Cut) {
-        let order = &self.outcome.order;
-        let kerf = order.length_of(self.outcome.job.kerf).as_f64();
-        let wide = if kerf > 0.0 { kerf } else { 0.3 / self.sheet.scale };
-        let [from, to] = self.ends(cut);
+        let place = self.place(cut.blade());
+        let thin = if self.board.layout.kerf == 0 { 0.3 / self.sheet.scale } else { 0.0 };
         self.put(format!(
-            "<line class=\"cut\" x1=\"{:.4}\" y1=\"{:.4}\" x2=\"{:.4}\" y2=\"{:.4}\" \
-             stroke=\"#222\" stroke-width=\"{wide:.4}\"/>",
-            from[0], from[1], to[0], to[1],
+            "<rect class=\"cut\" {place} fill=\"#222\" stroke=\"#222\" stroke-width=\"{thin:.3}\"/>"
         ));
     }
 
     /// Where the middle of the blade enters and leaves.
     fn ends(&self, cut: &Cut) -> [[f64; 2]; 2] {
-        let of = |units| self.outcome.order.length_of(units).as_f64();
-        let blade = of(cut.at) + of(self.outcome.job.kerf) / 2.0;
-        let Rect { x, y, length, width } = cut.of;
+        let of = |length: u32| f64::from(length) / 1000.0;
+        let Rect { x, y, length, width } = cut.blade();
         match cut.direction {
             Direction::Length => {
-                let x = of(x) + blade;
+                let x = of(x) + of(length) / 2.0;
                 [[x, of(y)], [x, of(y + width)]]
             }
             Direction::Width => {
-                let y = of(y) + blade;
+                let y = of(y) + of(width) / 2.0;
                 [[of(x), y], [of(x + length), y]]
             }
         }
@@ -203,7 +219,7 @@ impl Drawing<'_> {
     /// The number of a cut on the blade's way, near where it enters, beside other numbers and words.
     fn number(&mut self, number: usize, cut: &Cut) {
         let number = number.to_string();
-        let height = number_text(self.outcome.layout.cuts.len());
+        let height = number_text(self.board.layout.cuts.len());
         let text = height / self.sheet.scale;
         let [wide, high] = [(text_width(&number) + 0.5).max(1.3) * text, 1.3 * text];
         let [x, y] = self.places.take_along(self.ends(cut), [wide, high]);
@@ -216,20 +232,17 @@ impl Drawing<'_> {
         self.words(x, y + 0.36 * text, height, "middle", &number);
     }
 
-    fn legend(&mut self) {
-        let key = [
-            ("url(#waste)", "waste"),
-            ("url(#trim)", "trim"),
-            ("#222", "kerf; cuts are numbered in order"),
-        ];
+    fn legend(&mut self, panels: &[usize]) {
+        let rest = format!("url(#rest{})", self.index);
+        let key = [(rest.as_str(), "rest"), ("#222", "kerf; cuts are numbered in order")];
         for (column, (fill, words)) in key.into_iter().enumerate() {
             let [x, y] = self.sheet.key(column);
             self.entry(x, y, fill, words);
         }
-        for kind in 0..self.outcome.order.panels.len() {
-            let [x, y] = self.sheet.entry(kind);
-            let words = entry(self.outcome, kind, self.sheet.entry_room());
-            self.entry(x, y, &colour(kind), &words);
+        for (row, panel) in panels.iter().enumerate() {
+            let [x, y] = self.sheet.entry(row);
+            let words = entry(self.outcome, self.board, *panel, self.sheet.entry_room());
+            self.entry(x, y, &colour(*panel), &words);
         }
     }
 
@@ -245,17 +258,17 @@ impl Drawing<'_> {
     }
 }
 
-/// A kind in the legend, in so much room: its number, its name, its size and how many are cut.
-fn entry(outcome: &Outcome, kind: usize, room: f64) -> String {
-    let panel = &outcome.order.panels[kind];
-    let size = format!("{} x {}", panel.sides[0], panel.sides[1]);
-    let before = format!("{} ", kind + 1);
-    let after = format!(" {size}, {} of {}", outcome.copies(kind), panel.count);
+/// A panel in the legend, in so much room: its number, its name, its size and how many are on the board.
+fn entry(outcome: &Outcome, board: &Board, number: usize, room: f64) -> String {
+    let panel = &outcome.order.panels[number];
+    let copies = board.layout.panels.iter().filter(|laid| laid.panel == number).count();
+    let before = format!("{} ", number + 1);
+    let after = format!(" {}, {copies} of {}", size(panel.sides()), panel.count);
     let left = room - text_width(&before) - text_width(&after);
     format!("{before}{}{after}", shortened(&panel.name, left))
 }
 
-/// A light colour for a kind; neighbours in the order differ most.
+/// A light colour for a panel; neighbours in the order differ most.
 fn colour(kind: usize) -> String {
     let light = [88, 78, 93][kind / 8 % 3];
     format!("hsl({},60%,{light}%)", kind * 137 % 360)
@@ -278,7 +291,7 @@ fn shortened(name: &str, room: f64) -> String {
 }
 
 /// Text as XML has it; characters that XML has not become a mark.
-fn escaped(text: &str) -> String {
+pub fn escaped(text: &str) -> String {
     let mut safe = String::new();
     for letter in text.chars() {
         match letter {

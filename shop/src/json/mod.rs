@@ -3,8 +3,8 @@
 mod plans;
 mod reader;
 
-pub use plans::{document, Filed};
-pub use reader::read;
+pub use plans::{document, evidence, tree_document, Filed};
+pub use reader::{read, text_of};
 
 use std::fmt;
 
