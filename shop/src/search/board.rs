@@ -315,16 +315,42 @@ impl Board {
         if self.limit.is_some() {
             own[1 - usize::from(cut)] = sides[1 - usize::from(cut)];
         }
-        let (axis, mut first, mut second) = (usize::from(cut), own, own);
-        first[axis] = self.nodes[parts[0] as usize].used[axis] as u32 - saw.kerf;
-        second[axis] = own[axis] - first[axis] - saw.kerf;
-        let trees = [
-            self.tree_at(parts[0], saw, first, panel),
-            self.tree_at(parts[1], saw, second, panel),
-        ];
-        let [first_tree, second_tree] = trees;
-        let cut = Tree::cut(direction(axis), first[axis], first_tree, Some(second_tree));
-        saw.trimmed(sides, own, cut)
+        let axis = usize::from(cut);
+        let mut row = Vec::new();
+        self.row(node, cut, &mut row);
+        row.sort_by_key(|node| std::cmp::Reverse(self.nodes[*node as usize].used[axis]));
+        let tree = self.row_tree(&row, axis, saw, own, panel);
+        saw.trimmed(sides, own, tree)
+    }
+
+    /// The parts that lie in a row, cut in one direction.
+    fn row(&self, node: u32, cut: u8, row: &mut Vec<u32>) {
+        let Node { cut: own, parts, .. } = self.nodes[node as usize];
+        if own == cut {
+            parts.iter().for_each(|part| self.row(*part, cut, row));
+        } else {
+            row.push(node);
+        }
+    }
+
+    /// A row sawn part by part, the longest first: the fence stays where parts are equal.
+    fn row_tree(
+        &self,
+        row: &[u32],
+        axis: usize,
+        saw: &Saw,
+        sides: Sides,
+        panel: &mut impl FnMut(usize) -> usize,
+    ) -> Tree {
+        let (mut first, mut rest) = (sides, sides);
+        first[axis] = self.nodes[row[0] as usize].used[axis] as u32 - saw.kerf;
+        let tree = self.tree_at(row[0], saw, first, panel);
+        if row.len() == 1 {
+            return tree;
+        }
+        rest[axis] = sides[axis] - first[axis] - saw.kerf;
+        let second = self.row_tree(&row[1..], axis, saw, rest, panel);
+        Tree::cut(direction(axis), first[axis], tree, Some(second))
     }
 
     /// The tree with cuts at the used sizes of a model in which each kind has these sides: for the proved calls.

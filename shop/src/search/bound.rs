@@ -26,7 +26,7 @@ pub fn lagrange(task: &Task, counts: &[u32], board: &Priced, prices: &[u32], flo
     let mut columns: Vec<Column> = Vec::new();
     let mut best: Option<Lagrange> = None;
     let mut steady = vec![0.0; kinds];
-    let mut lowered = Priced { basis: board.basis.clone(), entries: board.entries.clone(), ..*board };
+    let mut lowered = board.clone();
     let mut calls = 0;
     loop {
         simplex.solve(&columns, 1.0);

@@ -72,6 +72,7 @@ pub struct Basis {
 }
 
 /// A board under prices, for the proved calls.
+#[derive(Clone)]
 pub struct Priced {
     pub basis: Basis,
     pub entries: Entries,

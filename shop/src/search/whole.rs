@@ -6,7 +6,7 @@ use super::clock::Clock;
 use super::dice::Dice;
 use super::model::Problem;
 use super::pack::{Packer, Packing, Run};
-use super::proof::{Modelled, Priced};
+use super::proof::Modelled;
 use super::task::Task;
 use super::{Progress, Seen};
 use std::sync::atomic::AtomicU64;
