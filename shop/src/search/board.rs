@@ -306,21 +306,26 @@ impl Board {
         sides: Sides,
         panel: &mut impl FnMut(usize) -> usize,
     ) -> Tree {
-        let Node { cut, kind, turned, parts, used, .. } = self.nodes[node as usize];
-        let mut own = used.map(|side| side as u32 - saw.kerf);
+        let Node { cut, kind, turned, used, .. } = self.nodes[node as usize];
+        let own = used.map(|side| side as u32 - saw.kerf);
         if cut == PANEL {
             let panel = panel(usize::from(kind));
             return saw.trimmed(sides, own, Tree::Panel { panel, turned });
         }
-        if self.limit.is_some() {
-            own[1 - usize::from(cut)] = sides[1 - usize::from(cut)];
-        }
-        let axis = usize::from(cut);
+        let (axis, across) = (usize::from(cut), 1 - usize::from(cut));
         let mut row = Vec::new();
         self.row(node, cut, &mut row);
         row.sort_by_key(|node| std::cmp::Reverse(self.nodes[*node as usize].used[axis]));
-        let tree = self.row_tree(&row, axis, saw, own, panel);
-        saw.trimmed(sides, own, tree)
+        let mut kept = sides;
+        if self.limit.is_none() && own[across] < sides[across] {
+            let rest = |axis: usize| u64::from(sides[axis] - own[axis]) * u64::from(sides[1 - axis]);
+            kept[across] = own[across];
+            if rest(axis) > rest(across) {
+                kept[axis] = own[axis];
+            }
+        }
+        let tree = self.row_tree(&row, axis, saw, kept, panel);
+        saw.trimmed(sides, kept, tree)
     }
 
     /// The parts that lie in a row, cut in one direction.
@@ -333,7 +338,7 @@ impl Board {
         }
     }
 
-    /// A row sawn part by part, the longest first: the fence stays where parts are equal.
+    /// A row sawn part by part, the longest first: the fence stays where parts are equal. The rest comes off last.
     fn row_tree(
         &self,
         row: &[u32],
@@ -346,7 +351,7 @@ impl Board {
         first[axis] = self.nodes[row[0] as usize].used[axis] as u32 - saw.kerf;
         let tree = self.tree_at(row[0], saw, first, panel);
         if row.len() == 1 {
-            return tree;
+            return saw.trimmed(sides, first, tree);
         }
         rest[axis] = sides[axis] - first[axis] - saw.kerf;
         let second = self.row_tree(&row[1..], axis, saw, rest, panel);

@@ -141,10 +141,20 @@ impl Search<'_> {
             packing.boards.retain(|board| !board.is_empty());
             self.seed += 1;
             self.offer(packing);
-            if self.clock.is_past(LAST_BOARD) {
+            if self.clock.is_past(LAST_BOARD) || self.fills_area() {
                 return;
             }
         }
+    }
+
+    /// Whether so much area takes as many boards, where all are of one size: then no filling has fewer.
+    fn fills_area(&self) -> bool {
+        let [stock] = &self.task.stock[..] else { return false };
+        let area = |[length, width]: [i32; 2]| i128::from(length) * i128::from(width);
+        let kinds = self.task.kinds.iter().enumerate();
+        let all: i128 = kinds.map(|(index, kind)| i128::from(kind.count) * area(self.task.wide(index, false))).sum();
+        let board = area(self.task.room(stock.sides));
+        self.missing(&self.best) == 0 && (self.best.boards.len() as i128 - 1) * board < all
     }
 
     /// A board for each offcut.
