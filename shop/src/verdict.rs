@@ -79,17 +79,19 @@ impl Verdict {
     }
 }
 
-/// The most that a plan of a board is worth by a model's Lagrangian bound, if the model stands for the board.
+/// The most that a plan of a board is worth, by a model that stands for the board: by its Lagrangian bound, or without
+/// multipliers by its optimum.
 fn most_worth(task: &Task, part: &Modelled, memory: u64) -> Option<u128> {
     let prices = Prices::new(&task.worths);
     let sides = task.stock[part.stock].sides;
     let mut priced = Priced::new(task, &held(task, sides), sides, &part.model, memory)?;
     priced.set_prices(&prices.prices);
-    if part.multipliers.is_empty() {
-        return None;
-    }
-    let bound = priced.is_whole().then(|| priced.lagrangian(&part.multipliers))??;
-    Some(prices.worth(bound))
+    let bound = match part.multipliers.is_empty() {
+        _ if !priced.is_whole() => None,
+        true => priced.exact(),
+        false => priced.lagrangian(&part.multipliers),
+    };
+    Some(prices.worth(bound?))
 }
 
 /// The least cost and the fewest boards that any plan has, by the bounds of all boards of the stock.

@@ -18,7 +18,14 @@ const STEADY: f64 = 0.6;
 
 /// The least Lagrangian bound of a board under its prices: for all multipliers m, no plan within the order earns more
 /// than the bound at prices less m, and m for every copy ordered.
-pub fn lagrange(task: &Task, counts: &[u32], board: &Priced, prices: &[u32], floor: u64, most_calls: usize, clock: Clock) -> Option<Lagrange> {
+pub fn lagrange(
+    task: &Task,
+    counts: &[u32],
+    board: &Priced,
+    prices: &[u32],
+    most_calls: usize,
+    clock: Clock,
+) -> Option<Lagrange> {
     let kinds = task.kinds.len();
     let mut right: Vec<f64> = counts.iter().map(|count| f64::from(*count)).collect();
     right.push(1.0);
@@ -41,7 +48,8 @@ pub fn lagrange(task: &Task, counts: &[u32], board: &Priced, prices: &[u32], flo
             lowered.set_prices(&left);
             let Answer { bound, copies } = lowered.price(kinds)?;
             calls += 1;
-            let charged: u64 = board.entries.entries.iter().map(|(kind, copies)| u64::from(multipliers[*kind]) * u64::from(*copies)).sum();
+            let charge = |(kind, copies): &(usize, u16)| u64::from(multipliers[*kind]) * u64::from(*copies);
+            let charged: u64 = board.entries.entries.iter().map(charge).sum();
             if best.as_ref().is_none_or(|best| bound + charged < best.bound) {
                 best = Some(Lagrange { bound: bound + charged, multipliers });
                 steady = at;
@@ -56,7 +64,7 @@ pub fn lagrange(task: &Task, counts: &[u32], board: &Priced, prices: &[u32], flo
                 break;
             }
         }
-        let reached = best.as_ref().is_some_and(|best| best.bound <= floor || (best.bound as f64) < value + 1.0);
+        let reached = best.as_ref().is_some_and(|best| (best.bound as f64) < value + 1.0);
         if !gained || reached || calls >= most_calls || clock.is_over() {
             return best;
         }

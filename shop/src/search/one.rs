@@ -67,6 +67,9 @@ pub fn one(task: &Task, board: usize, clock: Clock, memory: u64, progress: &Prog
         boards: vec![Board::new(board, task.room(stock.sides), task.stages)],
         left: task.counts(),
     };
+    if task.kinds.is_empty() {
+        return One { packing: empty, ceiling: None };
+    }
     let all: i64 = values.iter().zip(&empty.left).map(|(value, left)| value * i64::from(*left)).sum();
     let mut one = One { packing: empty.clone(), ceiling: None };
     let mut seed = 0;
@@ -134,8 +137,14 @@ fn ceiling(
         return None;
     }
     priced.set_prices(&prices.prices);
-    let Lagrange { multipliers, .. } = lagrange(task, &counts, &priced, &prices.prices, 0, calls, clock)?;
-    let bound = priced.lagrangian(&multipliers)?;
+    let exact = priced.is_short().then(|| priced.exact()).flatten();
+    let (bound, multipliers) = match exact {
+        Some(optimum) => (optimum, Vec::new()),
+        None => {
+            let Lagrange { multipliers, .. } = lagrange(task, &counts, &priced, &prices.prices, calls, clock)?;
+            (priced.lagrangian(&multipliers)?, multipliers)
+        }
+    };
     let modelled = Modelled { stock: board, model, prices: prices.prices.clone(), multipliers };
     Some(Ceiling { bound, modelled })
 }

@@ -9,6 +9,10 @@ use planner::{Choices, Job, Kind, Planner, TrueSizes};
 const MOST_COPIES: u32 = 255;
 const MOST_KINDS: usize = 64;
 
+/// Ways to take copies, and cells of a table, up to which the exact call is quick.
+const MOST_STATES: u64 = 600;
+const MOST_CELLS: u64 = 1_000_000;
+
 /// The most that a price may be.
 pub const MOST_PRICE: u64 = 1_000_000;
 
@@ -140,6 +144,18 @@ impl Priced {
         let multipliers = self.multipliers(multipliers);
         let mut planner = self.basis.planner(self.memory);
         Some(planner.bound_lagrangian(&self.basis.no_weights(), &multipliers).ok()?.bound)
+    }
+
+    /// Whether the exact call is quick: few ways to take copies, on a small model.
+    pub fn is_short(&self) -> bool {
+        let states: u64 = self.entries.entries.iter().map(|(_, copies)| u64::from(*copies) + 1).fold(1, u64::saturating_mul);
+        let Job { length, width, .. } = self.basis.job;
+        states <= MOST_STATES && states * u64::from(length) * u64::from(width) <= MOST_CELLS
+    }
+
+    /// The most that a plan of the model within the order earns.
+    pub fn exact(&self) -> Option<u64> {
+        Some(self.basis.planner(self.memory).exact().ok()?.0.optimum)
     }
 
     /// The least number of boards that hold the whole order beside others that hold no more than `other`, and the

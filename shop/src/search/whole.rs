@@ -7,7 +7,7 @@ use super::dice::Dice;
 use super::model::Problem;
 use super::pack::{Packer, Packing, Run};
 use super::proof::Modelled;
-use super::task::Task;
+use super::task::{Stock, Task};
 use super::{Progress, Seen};
 use std::sync::atomic::AtomicU64;
 use std::thread;
@@ -35,6 +35,10 @@ const HALVINGS: usize = 7;
 
 /// A last board is not packed closer than this, in thousandths of a millimetre.
 const CLOSE: i32 = 5_000;
+
+/// Sets of boards of several sizes that are looked at, and that are tried in a round.
+const MOST_SETS: usize = 100_000;
+const TRIED_SETS: usize = 4;
 
 /// The share of a time after which the last board is packed closer.
 const LAST_BOARD: f64 = 0.85;
@@ -73,6 +77,9 @@ struct Search<'a> {
 pub fn whole(task: &Task, clock: Clock, memory: u64, progress: &Progress) -> Whole {
     let values = areas(task);
     let best = Packing { boards: Vec::new(), left: task.counts() };
+    if task.kinds.is_empty() {
+        return Whole { packing: best, proof: None };
+    }
     let mut search = Search { task, values, clock, memory, progress, best, proof: None, seed: 0 };
     search.fill();
     search.climb();
@@ -116,10 +123,14 @@ impl Search<'_> {
         holds && self.cost(&self.best) <= self.floor() || self.clock.is_past(LAST_BOARD)
     }
 
-    /// Keeps a packing that misses less, or as much at less cost.
+    /// What is missing, what the boards cost, and how many they are: the less the better.
+    fn key(&self, packing: &Packing) -> (i64, u64, usize) {
+        (self.missing(packing), self.cost(packing), packing.boards.len())
+    }
+
+    /// Keeps a packing that is better.
     fn offer(&mut self, packing: Packing) {
-        let key = |packing: &Packing| (self.missing(packing), self.cost(packing), packing.boards.len());
-        if key(&packing) < key(&self.best) {
+        if self.key(&packing) < self.key(&self.best) {
             self.best = packing;
         }
         let boards = self.best.boards.len();
@@ -149,12 +160,8 @@ impl Search<'_> {
 
     /// Whether so much area takes as many boards, where all are of one size: then no filling has fewer.
     fn fills_area(&self) -> bool {
-        let [stock] = &self.task.stock[..] else { return false };
-        let area = |[length, width]: [i32; 2]| i128::from(length) * i128::from(width);
-        let kinds = self.task.kinds.iter().enumerate();
-        let all: i128 = kinds.map(|(index, kind)| i128::from(kind.count) * area(self.task.wide(index, false))).sum();
-        let board = area(self.task.room(stock.sides));
-        self.missing(&self.best) == 0 && (self.best.boards.len() as i128 - 1) * board < all
+        let one_size = self.task.stock.len() == 1 && self.missing(&self.best) == 0;
+        one_size && !self.has_area(&vec![0; self.best.boards.len() - 1])
     }
 
     /// A board for each offcut.
@@ -185,9 +192,11 @@ impl Search<'_> {
                 return;
             }
             let cost = if self.missing(&self.best) == 0 { self.cost(&self.best) } else { u64::MAX - 1 };
+            let start = self.starts().into_iter().next();
             let (proof, packing) = thread::scope(|scope| {
                 let proof = scope.spawn(|| self.prove(rung, cost));
-                let packing = self.packed(rung.steps, self.seed + 1, &AtomicU64::new(u64::MAX));
+                let won = AtomicU64::new(u64::MAX);
+                let packing = start.map(|start| self.packed(&start, rung.steps, self.seed + 1, &won));
                 (proof.join().expect("a bound that ends"), packing)
             });
             self.seed += 1;
@@ -199,48 +208,92 @@ impl Search<'_> {
         }
     }
 
-    /// Rounds of packing towards fewer boards, with a seed on each core.
+    /// Rounds of packing towards less cost, with a seed on each core.
     fn pack_on(&mut self) {
-        let mut steps = 0;
-        for round in 0.. {
+        let (mut round, mut steps) = (0, ROUNDS[0]);
+        while !self.is_done() && (round < ROUNDS.len() || self.clock.is_timed()) {
             steps = ROUNDS.get(round).copied().unwrap_or(steps + steps / 2);
-            if self.is_done() || round >= ROUNDS.len() && !self.clock.is_timed() {
-                return;
+            let before = self.key(&self.best);
+            for start in self.starts() {
+                let won = AtomicU64::new(u64::MAX);
+                let packings = thread::scope(|scope| {
+                    let beside = scope.spawn(|| self.packed(&start, steps, self.seed + 2, &won));
+                    [self.packed(&start, steps, self.seed + 1, &won), beside.join().expect("a search that ends")]
+                });
+                self.seed += 2;
+                packings.into_iter().for_each(|packing| self.offer(packing));
+                if self.key(&self.best) < before {
+                    break;
+                }
             }
-            let won = AtomicU64::new(u64::MAX);
-            let before = self.cost(&self.best);
-            let packings = thread::scope(|scope| {
-                let beside = scope.spawn(|| self.packed(steps, self.seed + 2, &won));
-                [self.packed(steps, self.seed + 1, &won), beside.join().expect("a search that ends")]
-            });
-            self.seed += 2;
-            packings.into_iter().flatten().for_each(|packing| self.offer(packing));
-            if self.cost(&self.best) < before {
-                return self.pack_on();
-            }
+            round = if self.key(&self.best) < before { 0 } else { round + 1 };
         }
     }
 
-    /// Boards of less cost, packed in so many steps.
-    fn packed(&self, steps: u64, seed: u64, won: &AtomicU64) -> Option<Packing> {
-        let mut packer = Packer::new(self.task, &self.values, seed);
-        let start = self.smaller(&mut packer)?;
+    /// A packing of so many steps from a start.
+    fn packed(&self, start: &Packing, steps: u64, seed: u64, won: &AtomicU64) -> Packing {
         let run = Run { steps, enough: 0, clock: self.clock, won };
-        Some(packer.improve(&start, &run))
+        let mut packing = Packer::new(self.task, &self.values, seed).improve(start, &run);
+        packing.boards.retain(|board| !board.is_empty());
+        packing
     }
 
-    /// The best packing with a board of the greatest cost taken away, the emptiest of those.
-    fn smaller(&self, packer: &mut Packer) -> Option<Packing> {
-        let mut packing = self.best.clone();
-        if self.missing(&packing) > 0 {
-            return Some(packing);
+    /// Boards to start from that cost less than the best packing, the cheapest first.
+    fn starts(&self) -> Vec<Packing> {
+        if self.missing(&self.best) > 0 {
+            return vec![self.best.clone()];
         }
+        let sizes = self.task.stock.iter().filter(|stock| stock.cost > 0).count();
+        if sizes == 1 { self.fewer().into_iter().collect() } else { self.cheaper() }
+    }
+
+    /// The best packing without the emptiest board that was bought, and with every offcut.
+    fn fewer(&self) -> Option<Packing> {
+        let mut packing = self.best.clone();
         let bought = |board: &Board| self.task.stock[board.stock].cost > 0;
-        let filled = |board: &Board| board.filled as f64 / board.area() as f64;
-        let (index, _) = packing.boards.iter().enumerate().filter(|(_, board)| bought(board)).min_by(|a, b| filled(a.1).total_cmp(&filled(b.1)))?;
-        packer.empty(&mut packing, index);
+        let boards = packing.boards.iter().enumerate().filter(|(_, board)| bought(board));
+        let (index, _) = boards.min_by_key(|(_, board)| board.filled)?;
+        Packer::new(self.task, &self.values, 0).empty(&mut packing, index);
         packing.boards.remove(index);
+        for offcut in self.offcuts() {
+            let of_size = |boards: &[Board]| boards.iter().filter(|board| board.stock == offcut.stock).count();
+            if of_size(&packing.boards) < of_size(&self.offcuts()) {
+                packing.boards.push(offcut);
+            }
+        }
         (!packing.boards.is_empty()).then_some(packing)
+    }
+
+    /// Empty boards of every set that costs less than the best packing, no less than must be, and has the area.
+    fn cheaper(&self) -> Vec<Packing> {
+        let bought: Vec<usize> = (0..self.task.stock.len()).filter(|index| self.task.stock[*index].cost > 0).collect();
+        let mut sets: Vec<(u64, Vec<usize>)> = vec![(0, Vec::new())];
+        for index in bought {
+            let Stock { cost, count, .. } = self.task.stock[index];
+            let with = |(before, set): &(u64, Vec<usize>)| {
+                let most = (self.cost(&self.best).saturating_sub(*before) / cost).min(count.unwrap_or(u32::MAX).into());
+                let longer = |number: u64| [&set[..], &vec![index; number as usize]].concat();
+                (0..=most).map(|number| (before + number * cost, longer(number))).collect::<Vec<_>>()
+            };
+            sets = sets.iter().flat_map(with).collect();
+            sets.truncate(MOST_SETS);
+        }
+        sets.retain(|(cost, set)| (self.floor()..self.cost(&self.best)).contains(cost) && self.has_area(set));
+        sets.sort();
+        let packing = |(_, set): &(u64, Vec<usize>)| {
+            let boards = self.offcuts().into_iter().chain(set.iter().map(|index| self.board(*index)));
+            Packing { boards: boards.collect(), left: self.task.counts() }
+        };
+        sets.iter().take(TRIED_SETS).map(packing).collect()
+    }
+
+    fn has_area(&self, set: &[usize]) -> bool {
+        let area = |[length, width]: [i32; 2]| i128::from(length) * i128::from(width);
+        let kinds = self.task.kinds.iter().enumerate();
+        let need: i128 = kinds.map(|(index, kind)| i128::from(kind.count) * area(self.task.wide(index, false))).sum();
+        let offcuts: i128 = self.offcuts().iter().map(|board| i128::from(board.area())).sum();
+        let have: i128 = set.iter().map(|index| area(self.task.room(self.task.stock[*index].sides))).sum();
+        have + offcuts >= need
     }
 
     /// A floor on models of this size; `enough` ends it early.
