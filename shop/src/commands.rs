@@ -16,6 +16,7 @@ use crate::verdict::Verdict;
 use std::fs;
 use std::io::{stderr, IsTerminal};
 use std::path::Path;
+use std::thread;
 
 /// What a command gives: the text to print, and what could not be written.
 #[derive(Debug, Default)]
@@ -25,7 +26,18 @@ pub struct Done {
     pub wrong: Vec<Error>,
 }
 
+/// The stack of the thread that runs a command: deep plans are walked on it.
+const STACK: usize = 256 << 20;
+
+/// Runs a command, on a stack of its own.
 pub fn run(options: &Options) -> Result<Done, Error> {
+    thread::scope(|scope| {
+        let running = thread::Builder::new().stack_size(STACK).spawn_scoped(scope, || run_here(options));
+        running.expect("a thread for the command").join().expect("a command that ends")
+    })
+}
+
+fn run_here(options: &Options) -> Result<Done, Error> {
     let said = |text: String| Ok(Done { text, ..Done::default() });
     match &options.command {
         Command::Plan { order } => plan(order, options),

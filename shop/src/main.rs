@@ -6,10 +6,6 @@ use shop::interrupt;
 use shop::options::{Options, USAGE};
 use std::io::{stdout, ErrorKind, Write};
 use std::process::ExitCode;
-use std::thread;
-
-/// The stack of the thread that runs the command: deep plans are walked on it.
-const STACK: usize = 256 << 20;
 
 fn main() -> ExitCode {
     let options = match Options::read(std::env::args_os().skip(1).map(|word| word.to_string_lossy().into_owned())) {
@@ -20,9 +16,7 @@ fn main() -> ExitCode {
         }
     };
     interrupt::catch();
-    let running = thread::Builder::new().stack_size(STACK).spawn(move || run(&options));
-    let ended = running.expect("a thread for the command").join();
-    match ended.expect("a command that ends") {
+    match run(&options) {
         Ok(Done { text, notices, wrong }) => {
             notices.iter().for_each(|notice| eprintln!("{notice}"));
             let printed = print(&text);

@@ -4,6 +4,9 @@ use crate::millimetres::Millimetres;
 use crate::outcome::{is_kept, Board, Outcome};
 use std::fmt::Write;
 
+/// Columns are no wider than this, whatever names they hold.
+const WIDEST: usize = 100;
+
 pub fn summary(outcome: &Outcome) -> String {
     let mut text = String::new();
     heading(outcome, &mut text);
@@ -29,7 +32,7 @@ fn heading(outcome: &Outcome, text: &mut String) {
 
 fn panels(outcome: &Outcome, text: &mut String) {
     let (panels, copies) = (&outcome.order.panels, outcome.copies());
-    let widest = panels.iter().map(|panel| panel.name.chars().count()).max().unwrap_or(0).max(5);
+    let widest = panels.iter().map(|panel| panel.name.chars().count()).max().unwrap_or(0).clamp(5, WIDEST);
     line(text, format!("\n{:widest$}  {:>15}  cut  ordered", "panel", "size in mm"));
     for (panel, cut) in panels.iter().zip(&copies) {
         let (size, ordered) = (size(panel.sides()), panel.count);
@@ -63,7 +66,7 @@ fn list(outcome: &Outcome, index: usize, board: &Board, text: &mut String) {
     }
     line(text, "cuts in the order of sawing");
     let rows: Vec<_> = board.layout.cuts.iter().map(|cut| described(outcome, cut)).collect();
-    let wide = |column: usize| rows.iter().map(|row| row[column].chars().count()).max().unwrap_or(0);
+    let wide = |column: usize| rows.iter().map(|row| row[column].chars().count()).max().unwrap_or(0).min(WIDEST);
     let (a, b, c) = (wide(0), wide(1), wide(2));
     for (index, [of, at, first, second]) in rows.iter().enumerate() {
         line(text, format!("{:>4}  {of:a$}  {at:b$}  {first:c$}  {second}", index + 1));

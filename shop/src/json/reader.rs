@@ -2,7 +2,7 @@
 use super::Value;
 
 /// The deepest nesting that is read: no plan of a board is deeper.
-const DEEPEST: usize = 20_000;
+const DEEPEST: usize = 40_000;
 
 /// The text of a file, without the mark that some programs put before it.
 pub fn text_of(bytes: &[u8]) -> Result<String, String> {

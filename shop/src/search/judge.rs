@@ -4,7 +4,7 @@
 use super::board::Board;
 use super::proof::Entries;
 use super::task::Task;
-use planner::{Choices, Error, Job, Kind, Plate, Planner, Tree, TrueSizes};
+use planner::{Error, Job, Kind, Plate, Planner, Tree, TrueSizes};
 
 /// The plate of the model; more panels than this never lie in a row of a plan that the calls take.
 const SIDE: u16 = 1_000;
@@ -60,15 +60,9 @@ pub fn judge(task: &Task, boards: &[Board]) -> Result<(), Error> {
     check_rack(task, &demands, &mut rack)
 }
 
-fn choices(task: &Task) -> Choices {
-    let turning = task.kinds.iter().any(|kind| kind.turns);
-    let grain = turning && task.kinds.iter().any(|kind| !kind.turns);
-    Choices { turning, grain, ..Choices::default() }
-}
-
 fn job(task: &Task, entries: &[(usize, u16)]) -> Job {
     let kind = |(kind, demand): &(usize, u16)| {
-        Kind { length: 1, width: 1, price: 1, demand: *demand, grain: !task.kinds[*kind].turns }
+        Kind { length: 1, width: 1, price: 1, demand: *demand, grain: task.kinds[*kind].keeps_grain() }
     };
     Job { length: SIDE, width: SIDE, kerf: 0, kinds: entries.iter().map(kind).collect() }
 }
@@ -86,7 +80,7 @@ fn judge_board(task: &Task, board: &Board) -> Result<(), Error> {
     let sizes = TrueSizes { length, width, kerf: task.kerf, kinds };
     let mut numbers = Numbers { left: entries.entries };
     let tree = board.model_tree(&|_| [1, 1], &mut |kind| numbers.next(kind));
-    Planner::new(&job, choices(task), NO_TABLE).true_plan(&sizes, &tree.plan())?;
+    Planner::new(&job, task.choices(), NO_TABLE).true_plan(&sizes, &tree.plan())?;
     Ok(())
 }
 
@@ -97,6 +91,6 @@ fn check_rack(task: &Task, demands: &[(usize, u16)], rack: &mut Vec<Tree>) -> Re
     }
     let plates: Vec<Plate> =
         rack.drain(..).map(|tree| Plate { length: SIDE, width: SIDE, tree }).collect();
-    Planner::new(&job(task, demands), choices(task), NO_TABLE).check_rack(&plates)?;
+    Planner::new(&job(task, demands), task.choices(), NO_TABLE).check_rack(&plates)?;
     Ok(())
 }

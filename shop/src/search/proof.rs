@@ -94,17 +94,15 @@ impl Priced {
     /// A model of a board that passes its check; none where it does not stand for the true sizes.
     pub fn new(task: &Task, counts: &[u32], board: Sides, model: &Model, memory: u64) -> Option<Priced> {
         let entries = Entries::new(counts);
-        let turning = task.kinds.iter().any(|kind| kind.turns);
-        let grain = turning && task.kinds.iter().any(|kind| !kind.turns);
         let kind = |(kind, demand): &(usize, u16)| {
             let [length, width] = model.sides[*kind];
-            Kind { length, width, price: 0, demand: *demand, grain: !task.kinds[*kind].turns }
+            Kind { length, width, price: 0, demand: *demand, grain: task.kinds[*kind].keeps_grain() }
         };
         let kinds = entries.entries.iter().map(kind).collect();
         let job = Job { length: model.plate[0], width: model.plate[1], kerf: 0, kinds };
         let sides = entries.entries.iter().map(|(kind, _)| task.kinds[*kind].sides).collect();
         let sizes = TrueSizes { length: board[0], width: board[1], kerf: task.kerf, kinds: sides };
-        let basis = Basis { job, choices: Choices { turning, grain, ..Choices::default() }, sizes };
+        let basis = Basis { job, choices: task.choices(), sizes };
         basis.planner(memory).check_model(&basis.sizes).ok()?;
         Some(Priced { basis, entries, memory })
     }

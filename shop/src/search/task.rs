@@ -2,6 +2,7 @@
 // and grain are one kind.
 use crate::order::{Order, Panel};
 use crate::plan::{lying, Sides};
+use planner::Choices;
 
 /// A kind of panel and the lines of the order that have it.
 #[derive(Clone, Debug)]
@@ -11,6 +12,13 @@ pub struct Kind {
     pub price: Option<u32>,
     pub count: u32,
     pub panels: Vec<usize>,
+}
+
+impl Kind {
+    /// A square has no grain to keep.
+    pub fn keeps_grain(&self) -> bool {
+        !self.turns && self.sides[0] != self.sides[1]
+    }
 }
 
 /// Boards of one size: the part of the plate that may be used.
@@ -84,6 +92,13 @@ impl Task {
             let Stock { sides, count, .. } = self.stock[*stock];
             count != Some(0) && (0..self.kinds.len()).any(|kind| self.ways(kind, sides).next().is_some())
         })
+    }
+
+    /// Whether panels may be turned, and whether some may not.
+    pub fn choices(&self) -> Choices {
+        let turning = self.kinds.iter().any(|kind| kind.turns);
+        let grain = turning && self.kinds.iter().any(Kind::keeps_grain);
+        Choices { turning, grain, ..Choices::default() }
     }
 
     pub fn counts(&self) -> Vec<u32> {

@@ -31,7 +31,7 @@ fn plans_of_others_are_judged() {
 #[test]
 fn what_cannot_be_sawn_is_said_in_words() {
     for (index, (from, to, words)) in [
-        ("\"c\"", "\"a\"", "node 5, a: a panel of 20 x 30 does not fit a part of 30 x 20"),
+        ("\"c\"", "\"a\"", "node 4, a: a panel of 20 x 30 does not fit a part of 30 x 20"),
         ("\"at\": 20", "\"at\": 50", "node 0, the cut of the length at 50: it is not within the side of 50"),
         ("\"at\": 10", "\"at\": 9990", "the cut of the width at 9990: it is not within the side of 30"),
         ("{\"piece\": \"a\"}", "{\"piece\": \"c\"}", "c is cut 2 times, and 1 are ordered"),
