@@ -22,11 +22,17 @@ const SHOWN: usize = 20;
 
 impl Error {
     pub fn file(file: &Path, error: io::Error) -> Error {
-        Error::File { file: file.to_path_buf(), error }
+        Error::File {
+            file: file.to_path_buf(),
+            error,
+        }
     }
 
     pub fn wrong(file: &Path, wrong: impl ToString) -> Error {
-        Error::Wrong { file: file.to_path_buf(), wrong: wrong.to_string() }
+        Error::Wrong {
+            file: file.to_path_buf(),
+            wrong: wrong.to_string(),
+        }
     }
 }
 
@@ -34,7 +40,11 @@ impl fmt::Display for Error {
     fn fmt(&self, f: &mut fmt::Formatter) -> fmt::Result {
         match self {
             Error::Faults { file, faults } => {
-                let shown: Vec<String> = faults.iter().take(SHOWN).map(|fault| format!("{}: {fault}", file.display())).collect();
+                let shown: Vec<String> = faults
+                    .iter()
+                    .take(SHOWN)
+                    .map(|fault| format!("{}: {fault}", file.display()))
+                    .collect();
                 write!(f, "{}", shown.join("\n"))?;
                 match faults.len().checked_sub(SHOWN) {
                     Some(more @ 1..) => write!(f, "\n{}: {more} more faults", file.display()),
@@ -43,7 +53,9 @@ impl fmt::Display for Error {
             }
             Error::File { file, error } => write!(f, "{}: {error}", file.display()),
             Error::Wrong { file, wrong } => write!(f, "{}: {wrong}", file.display()),
-            Error::Clash { file, with } => write!(f, "{}: an output may not be {with}", file.display()),
+            Error::Clash { file, with } => {
+                write!(f, "{}: an output may not be {with}", file.display())
+            }
             Error::Call(error) => write!(f, "the plan was found and does not pass: {error}"),
         }
     }

@@ -33,8 +33,13 @@ pub enum Form {
     Stamp,
 }
 
-const FORMS: [(&str, Form); 5] =
-    [("svg", Form::Svg), ("json", Form::Json), ("csv", Form::Csv), ("rest", Form::Rest), ("stamp", Form::Stamp)];
+const FORMS: [(&str, Form); 5] = [
+    ("svg", Form::Svg),
+    ("json", Form::Json),
+    ("csv", Form::Csv),
+    ("rest", Form::Rest),
+    ("stamp", Form::Stamp),
+];
 
 /// The options that each command uses beside the files that a plan is written to.
 const CHECK: [&str; 4] = ["svg", "seconds", "memory", "turning"];
@@ -53,14 +58,35 @@ pub struct Options {
 impl Options {
     /// Reads the words of a command line, or says what is wrong with them.
     pub fn read(words: impl Iterator<Item = String>) -> Result<Options, String> {
-        let limits = Limits { seconds: None, memory: 1 << 30 };
-        let command = Command::Plan { order: PathBuf::new() };
-        let mut options = Options { command, one: false, outputs: Vec::new(), turning: None, limits };
+        let limits = Limits {
+            seconds: None,
+            memory: 1 << 30,
+        };
+        let command = Command::Plan {
+            order: PathBuf::new(),
+        };
+        let mut options = Options {
+            command,
+            one: false,
+            outputs: Vec::new(),
+            turning: None,
+            limits,
+        };
         let (mut files, mut named, mut words) = (Vec::new(), Vec::new(), words);
         while let Some(word) = words.next() {
             match word.strip_prefix("--") {
-                Some("help") => return Ok(Options { command: Command::Help, ..options }),
-                Some("version") => return Ok(Options { command: Command::Version, ..options }),
+                Some("help") => {
+                    return Ok(Options {
+                        command: Command::Help,
+                        ..options
+                    })
+                }
+                Some("version") => {
+                    return Ok(Options {
+                        command: Command::Version,
+                        ..options
+                    })
+                }
                 Some(option) => {
                     let (name, value) = match option.split_once('=') {
                         Some((name, value)) => (name.to_string(), Some(value.to_string())),
@@ -69,8 +95,15 @@ impl Options {
                     options.set(&name, value, &mut words)?;
                     named.push(name);
                 }
-                None if word == "-h" => return Ok(Options { command: Command::Help, ..options }),
-                None if word.starts_with('-') && word.len() > 1 => return Err(format!("there is no option {word}")),
+                None if word == "-h" => {
+                    return Ok(Options {
+                        command: Command::Help,
+                        ..options
+                    })
+                }
+                None if word.starts_with('-') && word.len() > 1 => {
+                    return Err(format!("there is no option {word}"))
+                }
                 None => files.push(word),
             }
         }
@@ -89,7 +122,12 @@ impl Options {
             self.one = true;
             return value.map_or(Ok(()), |_| Err("--one takes no value".to_string()));
         }
-        let mut needed = || value.clone().or_else(|| words.next()).ok_or(format!("--{name} needs a value"));
+        let mut needed = || {
+            value
+                .clone()
+                .or_else(|| words.next())
+                .ok_or(format!("--{name} needs a value"))
+        };
         if let Some((_, form)) = FORMS.iter().find(|(form, _)| *form == name) {
             let path = needed()?;
             if self.outputs.iter().any(|(other, _)| other == form) {
@@ -123,16 +161,26 @@ impl Options {
 fn command_of(files: &[String]) -> Result<Command, String> {
     let files: Vec<&str> = files.iter().map(String::as_str).collect();
     match files[..] {
-        ["check", order, plan] => Ok(Command::Check { order: order.into(), plan: plan.into() }),
-        ["recheck", stamp] => Ok(Command::Recheck { stamp: stamp.into() }),
+        ["check", order, plan] => Ok(Command::Check {
+            order: order.into(),
+            plan: plan.into(),
+        }),
+        ["recheck", stamp] => Ok(Command::Recheck {
+            stamp: stamp.into(),
+        }),
         ["check" | "recheck", ..] => Err(format!("{} has other files than it needs", files[0])),
-        [order] => Ok(Command::Plan { order: order.into() }),
+        [order] => Ok(Command::Plan {
+            order: order.into(),
+        }),
         _ => Err("one order is needed".to_string()),
     }
 }
 
 fn seconds(value: &str) -> Result<Duration, String> {
-    let seconds = value.parse().ok().and_then(|seconds| Duration::try_from_secs_f64(seconds).ok());
+    let seconds = value
+        .parse()
+        .ok()
+        .and_then(|seconds| Duration::try_from_secs_f64(seconds).ok());
     seconds.ok_or(format!("--seconds needs a number, and {value} is none"))
 }
 
@@ -143,9 +191,14 @@ fn memory(value: &str) -> Result<u64, String> {
         Some(digits) => (digits, 30),
         None => (value, 0),
     };
-    let bytes = digits.parse::<u64>().ok().and_then(|number| number.checked_mul(1 << shift));
+    let bytes = digits
+        .parse::<u64>()
+        .ok()
+        .and_then(|number| number.checked_mul(1 << shift));
     let bytes = bytes.filter(|bytes| *bytes >= LEAST_MEMORY);
-    bytes.ok_or(format!("--memory needs a size of at least 16M, as 512M or 2G, and not {value}"))
+    bytes.ok_or(format!(
+        "--memory needs a size of at least 16M, as 512M or 2G, and not {value}"
+    ))
 }
 
 fn turning(value: &str) -> Result<bool, String> {

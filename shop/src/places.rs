@@ -40,16 +40,27 @@ impl Places {
     /// where there is none, the one where it shares least.
     pub fn take_along(&mut self, [from, to]: [[f64; 2]; 2], sides: [f64; 2]) -> [f64; 2] {
         let line = [to[0] - from[0], to[1] - from[1]];
-        let (length, own) = if line[0] > line[1] { (line[0], sides[0]) } else { (line[1], sides[1]) };
+        let (length, own) = if line[0] > line[1] {
+            (line[0], sides[0])
+        } else {
+            (line[1], sides[1])
+        };
         let (first, last) = (own.min(length) / 2.0, length - own.min(length) / 2.0);
         let step = (own / 4.0).max((last - first) / TRIED as f64);
         let spot = |index: usize| {
             let share = (first + step * index as f64).min(last) / length;
-            Spot { middle: [0, 1].map(|side| from[side] + share * line[side]), sides }
+            Spot {
+                middle: [0, 1].map(|side| from[side] + share * line[side]),
+                sides,
+            }
         };
         let mut best = (f64::INFINITY, spot(0));
         for spot in (0..=TRIED).map(spot) {
-            let shared = self.0.iter().map(|(taken, counts)| counts * taken.shared(&spot)).sum();
+            let shared = self
+                .0
+                .iter()
+                .map(|(taken, counts)| counts * taken.shared(&spot))
+                .sum();
             if shared < best.0 {
                 best = (shared, spot);
             }

@@ -13,7 +13,12 @@ pub enum Tree {
     /// It is a panel of the order, by its line. In a sawn tree the rectangle is exactly the panel's.
     Panel { panel: usize, turned: bool },
     /// It is cut. There is no second part where setting and kerf reach the end of the side: the blade only shaves.
-    Cut { direction: Direction, at: u32, first: Box<Tree>, second: Option<Box<Tree>> },
+    Cut {
+        direction: Direction,
+        at: u32,
+        first: Box<Tree>,
+        second: Option<Box<Tree>>,
+    },
 }
 
 /// The number of a direction in `Sides`.
@@ -30,7 +35,11 @@ pub fn direction(axis: usize) -> Direction {
 
 /// The sides of a panel as it lies.
 pub fn lying([length, width]: Sides, turned: bool) -> Sides {
-    if turned { [width, length] } else { [length, width] }
+    if turned {
+        [width, length]
+    } else {
+        [length, width]
+    }
 }
 
 /// The sizes of both parts of a side that is cut: the second is none where the blade reaches the end, and the whole
@@ -64,7 +73,12 @@ impl Saw<'_> {
             return tree;
         }
         let second = (from - to > self.kerf).then(|| Box::new(Tree::Rest));
-        Tree::Cut { direction: direction(axis), at: to, first: Box::new(tree), second }
+        Tree::Cut {
+            direction: direction(axis),
+            at: to,
+            first: Box::new(tree),
+            second,
+        }
     }
 
     /// The tree with every cut that brings a panel to its size; panels that do not fit their rectangle stay as they
@@ -73,15 +87,32 @@ impl Saw<'_> {
         match tree {
             Tree::Rest => Tree::Rest,
             Tree::Panel { panel, turned } => {
-                let own = self.panels.get(panel).map_or(sides, |own| lying(*own, turned));
+                let own = self
+                    .panels
+                    .get(panel)
+                    .map_or(sides, |own| lying(*own, turned));
                 let fits = own[0] <= sides[0] && own[1] <= sides[1];
                 let leaf = Tree::Panel { panel, turned };
-                if fits { self.trimmed(sides, own, leaf) } else { leaf }
+                if fits {
+                    self.trimmed(sides, own, leaf)
+                } else {
+                    leaf
+                }
             }
-            Tree::Cut { direction, at, first, second } => {
+            Tree::Cut {
+                direction,
+                at,
+                first,
+                second,
+            } => {
                 let axis = axis(direction);
                 let Some((_, rest)) = parts(sides[axis], at, self.kerf) else {
-                    return Tree::Cut { direction, at, first, second };
+                    return Tree::Cut {
+                        direction,
+                        at,
+                        first,
+                        second,
+                    };
                 };
                 let part = |size: u32| {
                     let mut part = sides;
@@ -93,7 +124,12 @@ impl Saw<'_> {
                     (Some(second), Some(size)) => Some(Box::new(self.sawn(*second, part(size)))),
                     (second, _) => second,
                 };
-                Tree::Cut { direction, at, first, second }
+                Tree::Cut {
+                    direction,
+                    at,
+                    first,
+                    second,
+                }
             }
         }
     }
@@ -101,16 +137,29 @@ impl Saw<'_> {
 
 impl Tree {
     pub fn cut(direction: Direction, at: u32, first: Tree, second: Option<Tree>) -> Tree {
-        Tree::Cut { direction, at, first: Box::new(first), second: second.map(Box::new) }
+        Tree::Cut {
+            direction,
+            at,
+            first: Box::new(first),
+            second: second.map(Box::new),
+        }
     }
 
     /// How often the direction of sawing changes on the longest path, counting the first as one.
     pub fn stages(&self) -> u32 {
         fn below(tree: &Tree, above: Option<Direction>) -> u32 {
             match tree {
-                Tree::Cut { direction, first, second, .. } => {
-                    let second = second.as_ref().map_or(0, |second| below(second, Some(*direction)));
-                    u32::from(above != Some(*direction)) + second.max(below(first, Some(*direction)))
+                Tree::Cut {
+                    direction,
+                    first,
+                    second,
+                    ..
+                } => {
+                    let second = second
+                        .as_ref()
+                        .map_or(0, |second| below(second, Some(*direction)));
+                    u32::from(above != Some(*direction))
+                        + second.max(below(first, Some(*direction)))
                 }
                 _ => 0,
             }

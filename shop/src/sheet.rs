@@ -35,18 +35,32 @@ impl Sheet {
     /// A sheet for a plate and so many kinds, of which the legend's words are so wide: across for a long plate,
     /// upright for a wide one.
     pub fn new([length, width]: [f64; 2], kinds: usize, widest: f64) -> Sheet {
-        let page = if length >= width { [297.0, 210.0] } else { [210.0, 297.0] };
+        let page = if length >= width {
+            [297.0, 210.0]
+        } else {
+            [210.0, 297.0]
+        };
         let (columns, row) = if kinds <= 24 { (3, 4.4) } else { (4, 3.2) };
         let narrow = entry_room(page[0], columns, row) < widest;
         let columns = if narrow && kinds <= 16 { 2 } else { columns };
         let rows = kinds.div_ceil(columns) + 1;
         let below = rows as f64 * row + 3.0;
-        let room = [page[0] - 2.0 * MARGIN, page[1] - 2.0 * MARGIN - HEADING - below];
+        let room = [
+            page[0] - 2.0 * MARGIN,
+            page[1] - 2.0 * MARGIN - HEADING - below,
+        ];
         let scale = (room[0] / length).min(room[1] / width);
         let left = (page[0] - scale * length) / 2.0;
         let top = MARGIN + HEADING;
         let legend = top + scale * width + row + 3.0;
-        Sheet { page, scale, plate: [left / scale, top / scale], columns, row, legend }
+        Sheet {
+            page,
+            scale,
+            plate: [left / scale, top / scale],
+            columns,
+            row,
+            legend,
+        }
     }
 
     pub fn heading(&self) -> [f64; 2] {
@@ -85,19 +99,32 @@ impl Sheet {
 
     /// The greatest height of text at which lines fit a rectangle, and how they lie.
     pub fn fitted(&self, lines: &[&str], length: f64, width: f64) -> (f64, Turn) {
-        let widest = lines.iter().map(|line| text_width(line)).fold(1.0, f64::max);
+        let widest = lines
+            .iter()
+            .map(|line| text_width(line))
+            .fold(1.0, f64::max);
         let high = 1.2 * lines.len() as f64 + 0.4;
         let height = |along: f64, across: f64| {
-            (self.scale * along / (widest + 1.0)).min(self.scale * across / high).min(MOST)
+            (self.scale * along / (widest + 1.0))
+                .min(self.scale * across / high)
+                .min(MOST)
         };
         let (upright, quarter) = (height(length, width), height(width, length));
-        if upright >= quarter { (upright, Turn::Upright) } else { (quarter, Turn::Quarter) }
+        if upright >= quarter {
+            (upright, Turn::Upright)
+        } else {
+            (quarter, Turn::Quarter)
+        }
     }
 }
 
 /// The height of the numbers of so many cuts.
 pub fn number_text(cuts: usize) -> f64 {
-    if cuts <= MANY_CUTS { 2.6 } else { 2.0 }
+    if cuts <= MANY_CUTS {
+        2.6
+    } else {
+        2.0
+    }
 }
 
 fn column_width(page: f64, columns: usize) -> f64 {
@@ -114,5 +141,7 @@ fn entry_room(page: f64, columns: usize, row: f64) -> f64 {
 
 /// The width of text in heights of its letters, as sans-serif letters have it at most.
 pub fn text_width(text: &str) -> f64 {
-    text.chars().map(|letter| if letter >= '\u{2e80}' { 1.0 } else { 0.58 }).sum()
+    text.chars()
+        .map(|letter| if letter >= '\u{2e80}' { 1.0 } else { 0.58 })
+        .sum()
 }

@@ -10,19 +10,32 @@ use std::fmt::Write;
 
 /// The drawing of all boards, one below the other.
 pub fn svg(outcome: &Outcome) -> String {
-    let sheets: Vec<(Sheet, String)> = (0..outcome.boards.len()).map(|index| drawn(outcome, index)).collect();
-    let wide = sheets.iter().map(|(sheet, _)| sheet.page[0]).fold(0.0, f64::max);
+    let sheets: Vec<(Sheet, String)> = (0..outcome.boards.len())
+        .map(|index| drawn(outcome, index))
+        .collect();
+    let wide = sheets
+        .iter()
+        .map(|(sheet, _)| sheet.page[0])
+        .fold(0.0, f64::max);
     let high: f64 = sheets.iter().map(|(sheet, _)| sheet.page[1]).sum();
     let mut text = format!(
         "<svg xmlns=\"http://www.w3.org/2000/svg\" width=\"{wide}mm\" height=\"{high}mm\" viewBox=\"0 0 {wide} {high}\">\n"
     );
     if let [(sheet, _)] = &sheets[..] {
         let [wide, high] = sheet.page;
-        writeln!(text, "<style>@page {{ size: {wide}mm {high}mm; margin: 0 }}</style>").expect("a string takes all text");
+        writeln!(
+            text,
+            "<style>@page {{ size: {wide}mm {high}mm; margin: 0 }}</style>"
+        )
+        .expect("a string takes all text");
     }
     let mut below = 0.0;
     for (sheet, drawing) in &sheets {
-        writeln!(text, "<g transform=\"translate(0 {below})\">\n{drawing}</g>").expect("a string takes all text");
+        writeln!(
+            text,
+            "<g transform=\"translate(0 {below})\">\n{drawing}</g>"
+        )
+        .expect("a string takes all text");
         below += sheet.page[1];
     }
     text + "</svg>\n"
@@ -31,12 +44,24 @@ pub fn svg(outcome: &Outcome) -> String {
 /// The sheet of a board and its drawing, in millimetres of the sheet.
 pub fn drawn(outcome: &Outcome, index: usize) -> (Sheet, String) {
     let board = &outcome.boards[index];
-    let plate = board.layout.board.rect.sides().map(Millimetres::of_thousandths);
+    let plate = board
+        .layout
+        .board
+        .rect
+        .sides()
+        .map(Millimetres::of_thousandths);
     let panels = board.panels();
     let entry_width = |panel: &usize| text_width(&entry(outcome, board, *panel, f64::INFINITY));
     let widest = panels.iter().map(entry_width).fold(0.0, f64::max);
     let sheet = Sheet::new(plate.map(Millimetres::as_f64), panels.len(), widest);
-    let mut drawing = Drawing { outcome, board, index, sheet, text: String::new(), places: Places::default() };
+    let mut drawing = Drawing {
+        outcome,
+        board,
+        index,
+        sheet,
+        text: String::new(),
+        places: Places::default(),
+    };
     drawing.open(plate);
     drawing.heading(plate);
     drawing.plate(plate);
@@ -60,7 +85,11 @@ impl Drawing<'_> {
     }
 
     fn open(&mut self, plate: [Millimetres; 2]) {
-        let Sheet { page: [wide, high], scale, .. } = self.sheet;
+        let Sheet {
+            page: [wide, high],
+            scale,
+            ..
+        } = self.sheet;
         let kerf = self.outcome.order.kerf;
         self.put(format!(
             "<svg class=\"board\" width=\"{wide}\" height=\"{high}\" \
@@ -83,15 +112,19 @@ impl Drawing<'_> {
         let (number, all) = (self.index + 1, self.outcome.boards.len());
         let title = format!(
             "Board {number} of {all}, {length} x {width} mm, kerf {} mm, scale 1 : {:.1}",
-            self.outcome.order.kerf, 1.0 / self.sheet.scale,
+            self.outcome.order.kerf,
+            1.0 / self.sheet.scale,
         );
-        let shares = self.outcome.shares().map(|(name, tenths)| {
-            format!("{name} {}.{} %", tenths / 10, tenths % 10)
-        });
+        let shares = self
+            .outcome
+            .shares()
+            .map(|(name, tenths)| format!("{name} {}.{} %", tenths / 10, tenths % 10));
         let [x, y] = self.sheet.heading();
-        for (below, height, line) in
-            [(0.0, 4.2, title), (5.2, 3.2, shares.join(", ")), (9.8, 3.2, self.outcome.sentence())]
-        {
+        for (below, height, line) in [
+            (0.0, 4.2, title),
+            (5.2, 3.2, shares.join(", ")),
+            (9.8, 3.2, self.outcome.sentence()),
+        ] {
             let height = self.sheet.heading_text(&line).min(height);
             self.words(x, y + below / self.sheet.scale, height, "start", &line);
         }
@@ -110,9 +143,18 @@ impl Drawing<'_> {
         let [x, y] = self.sheet.plate;
         let gap = 1.2 / self.sheet.scale;
         self.put(format!("<g transform=\"translate({x:.3} {y:.3})\">"));
-        self.words(length.as_f64() / 2.0, -gap, 3.0, "middle", &format!("{length}"));
+        self.words(
+            length.as_f64() / 2.0,
+            -gap,
+            3.0,
+            "middle",
+            &format!("{length}"),
+        );
         let across = width.as_f64() / 2.0;
-        self.put(format!("<g transform=\"translate({:.3} {across:.3}) rotate(-90)\">", -gap));
+        self.put(format!(
+            "<g transform=\"translate({:.3} {across:.3}) rotate(-90)\">",
+            -gap
+        ));
         self.words(0.0, 0.0, 3.0, "middle", &format!("{width}"));
         self.put("</g>");
         let thin = 0.3 / self.sheet.scale;
@@ -130,7 +172,9 @@ impl Drawing<'_> {
             Direction::Length => cut.of.width,
             Direction::Width => cut.of.length,
         });
-        numbered.iter().for_each(|(index, cut)| self.number(index + 1, cut));
+        numbered
+            .iter()
+            .for_each(|(index, cut)| self.number(index + 1, cut));
         self.put("</g>");
     }
 
@@ -143,7 +187,9 @@ impl Drawing<'_> {
 
     fn rest(&mut self, rect: Rect) {
         let (place, index) = (self.place(rect), self.index);
-        self.put(format!("<rect class=\"rest\" {place} fill=\"url(#rest{index})\"/>"));
+        self.put(format!(
+            "<rect class=\"rest\" {place} fill=\"url(#rest{index})\"/>"
+        ));
     }
 
     fn panel(&mut self, laid: &Laid) {
@@ -159,7 +205,12 @@ impl Drawing<'_> {
         let in_line = format!("{size}{}", if laid.turned { " turned" } else { "" });
         let (name, number) = (ordered.name.as_str(), (laid.panel + 1).to_string());
         let below: &[&str] = if laid.turned { &["turned"] } else { &[] };
-        let of = |first| [vec![first, in_line.as_str()], [&[first, size.as_str()], below].concat()];
+        let of = |first| {
+            [
+                vec![first, in_line.as_str()],
+                [&[first, size.as_str()], below].concat(),
+            ]
+        };
         let [named, numbered] = [of(name), of(number.as_str())];
         let alone = [vec![name], vec![number.as_str()]];
         self.label(laid, &[&named[..], &numbered, &alone].concat());
@@ -168,21 +219,35 @@ impl Drawing<'_> {
     /// The first words that fit a piece and are not too low, or else the last of them, upright or along its width.
     fn label(&mut self, laid: &Laid, choices: &[Vec<&str>]) {
         let of = |length| Millimetres::of_thousandths(length).as_f64();
-        let Rect { x, y, length, width } = laid.rect;
+        let Rect {
+            x,
+            y,
+            length,
+            width,
+        } = laid.rect;
         let (length, width) = (of(length), of(width));
         let middle = [of(x) + length / 2.0, of(y) + width / 2.0];
-        let fitted = choices.iter().map(|lines| (lines, self.sheet.fitted(lines, length, width)));
+        let fitted = choices
+            .iter()
+            .map(|lines| (lines, self.sheet.fitted(lines, length, width)));
         let high = fitted.clone().find(|(_, (height, _))| *height >= LEAST);
         let (lines, (height, turn)) = high.or(fitted.last()).expect("words of a piece");
         let text = height / self.sheet.scale;
-        let wide = lines.iter().map(|line| text_width(line)).fold(0.0, f64::max) * text;
+        let wide = lines
+            .iter()
+            .map(|line| text_width(line))
+            .fold(0.0, f64::max)
+            * text;
         let high = 1.2 * lines.len() as f64 * text;
         let (sides, turned) = match turn {
             Turn::Upright => ([wide, high], ""),
             Turn::Quarter => ([high, wide], " rotate(-90)"),
         };
         self.places.take(Spot { middle, sides });
-        self.put(format!("<g transform=\"translate({:.3} {:.3}){turned}\">", middle[0], middle[1]));
+        self.put(format!(
+            "<g transform=\"translate({:.3} {:.3}){turned}\">",
+            middle[0], middle[1]
+        ));
         let line = 1.2 * height / self.sheet.scale;
         let top = line * (0.8 - lines.len() as f64 / 2.0);
         for (row, words) in lines.iter().enumerate() {
@@ -194,7 +259,11 @@ impl Drawing<'_> {
     /// A cut as the rectangle that the blade takes; a hair line where that is none.
     fn cut(&mut self, cut: &Cut) {
         let place = self.place(cut.blade());
-        let thin = if self.board.layout.kerf == 0 { 0.3 / self.sheet.scale } else { 0.0 };
+        let thin = if self.board.layout.kerf == 0 {
+            0.3 / self.sheet.scale
+        } else {
+            0.0
+        };
         self.put(format!(
             "<rect class=\"cut\" {place} fill=\"#222\" stroke=\"#222\" stroke-width=\"{thin:.3}\"/>"
         ));
@@ -203,7 +272,12 @@ impl Drawing<'_> {
     /// Where the middle of the blade enters and leaves.
     fn ends(&self, cut: &Cut) -> [[f64; 2]; 2] {
         let of = |length: u32| f64::from(length) / 1000.0;
-        let Rect { x, y, length, width } = cut.blade();
+        let Rect {
+            x,
+            y,
+            length,
+            width,
+        } = cut.blade();
         match cut.direction {
             Direction::Length => {
                 let x = of(x) + of(length) / 2.0;
@@ -234,7 +308,10 @@ impl Drawing<'_> {
 
     fn legend(&mut self, panels: &[usize]) {
         let rest = format!("url(#rest{})", self.index);
-        let key = [(rest.as_str(), "rest"), ("#222", "kerf; cuts are numbered in order")];
+        let key = [
+            (rest.as_str(), "rest"),
+            ("#222", "kerf; cuts are numbered in order"),
+        ];
         for (column, (fill, words)) in key.into_iter().enumerate() {
             let [x, y] = self.sheet.key(column);
             self.entry(x, y, fill, words);
@@ -261,7 +338,12 @@ impl Drawing<'_> {
 /// A panel in the legend, in so much room: its number, its name, its size and how many are on the board.
 fn entry(outcome: &Outcome, board: &Board, number: usize, room: f64) -> String {
     let panel = &outcome.order.panels[number];
-    let copies = board.layout.panels.iter().filter(|laid| laid.panel == number).count();
+    let copies = board
+        .layout
+        .panels
+        .iter()
+        .filter(|laid| laid.panel == number)
+        .count();
     let before = format!("{} ", number + 1);
     let after = format!(" {}, {copies} of {}", size(panel.sides()), panel.count);
     let left = room - text_width(&before) - text_width(&after);

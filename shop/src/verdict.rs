@@ -1,6 +1,6 @@
 // What the proved calls say of a plan, in one plain sentence: of one board the most that any plan of it is worth, of a
 // whole order how few boards hold it. Nothing of the search is believed: models are checked and bounds computed anew.
-use crate::search::{held, Floor, Modelled, Offer, Prices, Priced, Task};
+use crate::search::{held, Floor, Modelled, Offer, Priced, Prices, Task};
 
 /// A judged plan.
 #[derive(Clone, Debug, PartialEq, Eq)]
@@ -9,32 +9,67 @@ pub enum Verdict {
     /// thousandths of a millimetre.
     Board { worth: u128, most: u128 },
     /// A whole order: its boards without offcuts, what they cost, and what any plan must at least have of both.
-    Order { boards: u64, cost: u64, least_boards: u64, least_cost: u64, costs_differ: bool },
+    Order {
+        boards: u64,
+        cost: u64,
+        least_boards: u64,
+        least_cost: u64,
+        costs_differ: bool,
+    },
     /// The stock does not suffice: so many panels are left over.
     Short { left: u64 },
 }
 
 impl Verdict {
     /// The verdict on one board that cuts so many copies of each kind.
-    pub fn of_board(task: &Task, stock: usize, copies: &[u32], evidence: &[Modelled], memory: u64) -> Verdict {
+    pub fn of_board(
+        task: &Task,
+        stock: usize,
+        copies: &[u32],
+        evidence: &[Modelled],
+        memory: u64,
+    ) -> Verdict {
         let worth = |copies: &[u32]| -> u128 {
-            copies.iter().zip(&task.worths).map(|(copies, worth)| u128::from(*copies) * u128::from(*worth)).sum()
+            copies
+                .iter()
+                .zip(&task.worths)
+                .map(|(copies, worth)| u128::from(*copies) * u128::from(*worth))
+                .sum()
         };
         let all = worth(&task.counts());
         let bounds = evidence.iter().filter(|part| part.stock == stock);
         let bounds = bounds.filter_map(|part| most_worth(task, part, memory));
-        Verdict::Board { worth: worth(copies), most: bounds.fold(all, u128::min) }
+        Verdict::Board {
+            worth: worth(copies),
+            most: bounds.fold(all, u128::min),
+        }
     }
 
     /// The verdict on a whole order whose boards are so many of each line of the stock.
     pub fn of_order(task: &Task, boards: &[u64], evidence: &[Modelled], memory: u64) -> Verdict {
-        let bought = || task.stock.iter().zip(boards).filter(|(stock, _)| stock.cost > 0);
+        let bought = || {
+            task.stock
+                .iter()
+                .zip(boards)
+                .filter(|(stock, _)| stock.cost > 0)
+        };
         let cost = bought().map(|(stock, boards)| stock.cost * boards).sum();
-        let costs: Vec<u64> = task.stock.iter().map(|stock| stock.cost).filter(|cost| *cost > 0).collect();
+        let costs: Vec<u64> = task
+            .stock
+            .iter()
+            .map(|stock| stock.cost)
+            .filter(|cost| *cost > 0)
+            .collect();
         let costs_differ = costs.windows(2).any(|two| two[0] != two[1]);
         let (least_cost, least_boards) = least(task, evidence, memory).unwrap_or((0, 0));
         let boards = bought().map(|(_, boards)| boards).sum();
-        Verdict::Order { boards, cost, least_boards, least_cost, costs_differ }
+        Verdict::Order {
+            boards,
+            cost,
+            least_boards,
+            least_cost,
+            costs_differ,
+        }
     }
 
     /// Lower is better, of verdicts on one plan.
@@ -49,7 +84,9 @@ impl Verdict {
     pub fn is_best(&self) -> bool {
         match *self {
             Verdict::Board { worth, most } => worth >= most,
-            Verdict::Order { cost, least_cost, .. } => cost <= least_cost,
+            Verdict::Order {
+                cost, least_cost, ..
+            } => cost <= least_cost,
             Verdict::Short { .. } => false,
         }
     }
@@ -64,17 +101,31 @@ impl Verdict {
                 let tenths = (1000 * (most - worth)).div_ceil(worth);
                 format!("at most {}.{} % more is possible", tenths / 10, tenths % 10)
             }
-            Verdict::Order { boards, cost, least_boards, least_cost, costs_differ } => {
+            Verdict::Order {
+                boards,
+                cost,
+                least_boards,
+                least_cost,
+                costs_differ,
+            } => {
                 let noun = if boards == 1 { "board" } else { "boards" };
                 match (self.is_best(), costs_differ) {
                     (true, false) => format!("{boards} {noun}: no plan needs fewer"),
-                    (false, false) => format!("{boards} {noun}, at least {least_boards} are needed"),
+                    (false, false) => {
+                        format!("{boards} {noun}, at least {least_boards} are needed")
+                    }
                     (true, true) => format!("{boards} {noun} for {cost}: no plan costs less"),
-                    (false, true) => format!("{boards} {noun} for {cost}, every plan costs at least {least_cost}"),
+                    (false, true) => format!(
+                        "{boards} {noun} for {cost}, every plan costs at least {least_cost}"
+                    ),
                 }
             }
-            Verdict::Short { left: 1 } => "the stock does not suffice: 1 panel is left over".to_string(),
-            Verdict::Short { left } => format!("the stock does not suffice: {left} panels are left over"),
+            Verdict::Short { left: 1 } => {
+                "the stock does not suffice: 1 panel is left over".to_string()
+            }
+            Verdict::Short { left } => {
+                format!("the stock does not suffice: {left} panels are left over")
+            }
         }
     }
 }
@@ -106,13 +157,21 @@ fn least(task: &Task, evidence: &[Modelled], memory: u64) -> Option<(u64, u64)> 
         offer.priced.set_prices(&prices);
         offers.push(offer);
     }
-    let all_offered = task.usable_stock().all(|stock| evidence.iter().any(|part| part.stock == stock));
-    let bounds = offers.iter().map(|offer| Some(offer.priced.plates_needed(0)?.1)).collect::<Option<Vec<u64>>>()?;
+    let all_offered = task
+        .usable_stock()
+        .all(|stock| evidence.iter().any(|part| part.stock == stock));
+    let bounds = offers
+        .iter()
+        .map(|offer| Some(offer.priced.plates_needed(0)?.1))
+        .collect::<Option<Vec<u64>>>()?;
     let floor = Floor::new(prices, bounds, &offers);
     if !all_offered {
         return None;
     }
-    let bought: Vec<&Offer> = offers.iter().filter(|offer| offer.count.is_none()).collect();
+    let bought: Vec<&Offer> = offers
+        .iter()
+        .filter(|offer| offer.count.is_none())
+        .collect();
     if let [only] = bought[..] {
         let (plates, _) = only.priced.plates_needed(floor.other(&offers))?;
         return Some((plates.saturating_mul(only.cost), plates));

@@ -16,12 +16,22 @@ fn refused(scratch: &Scratch, words: &[&str], wrong: &str) {
 fn outputs_may_not_clash() {
     let scratch = Scratch::new("clash");
     let order = scratch.write("order.csv", ORDER);
-    refused(&scratch, &[&order, "--svg", &order], "an output may not be what is read");
+    refused(
+        &scratch,
+        &[&order, "--svg", &order],
+        "an output may not be what is read",
+    );
     let file = scratch.path("plan");
-    refused(&scratch, &[&order, "--svg", &file, "--json", &file], "an output may not be named twice");
+    refused(
+        &scratch,
+        &[&order, "--svg", &file, "--json", &file],
+        "an output may not be named twice",
+    );
     let beside = scratch.path("none/plan.svg");
     refused(&scratch, &[&order, "--svg", &beside], "No such file");
-    let left = std::fs::read_dir(scratch.path("")).expect("a folder").count();
+    let left = std::fs::read_dir(scratch.path(""))
+        .expect("a folder")
+        .count();
     assert_eq!(left, 1, "nothing is left behind");
 }
 
@@ -29,7 +39,9 @@ fn outputs_may_not_clash() {
 fn a_full_disk_does_not_keep_the_plan_back() {
     let scratch = Scratch::new("full");
     let order = scratch.write("order.csv", ORDER);
-    let output = Command::new(env!("CARGO_BIN_EXE_shop")).args([&order, "--json", "/dev/full"]).output();
+    let output = Command::new(env!("CARGO_BIN_EXE_shop"))
+        .args([&order, "--json", "/dev/full"])
+        .output();
     let output = output.expect("the program runs");
     assert_eq!(output.status.code(), Some(1));
     assert!(String::from_utf8_lossy(&output.stdout).contains("1 board: no plan needs fewer"));
@@ -40,7 +52,11 @@ fn a_full_disk_does_not_keep_the_plan_back() {
 fn a_closed_pipe_ends_without_a_word() {
     let scratch = Scratch::new("pipe");
     let order = scratch.write("order.csv", ORDER);
-    let program = Command::new(env!("CARGO_BIN_EXE_shop")).arg(&order).stdout(Stdio::piped()).stderr(Stdio::piped()).spawn();
+    let program = Command::new(env!("CARGO_BIN_EXE_shop"))
+        .arg(&order)
+        .stdout(Stdio::piped())
+        .stderr(Stdio::piped())
+        .spawn();
     let mut program = program.expect("the program runs");
     drop(program.stdout.take());
     let output = program.wait_with_output().expect("it ends");

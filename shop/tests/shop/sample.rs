@@ -35,7 +35,10 @@ fn the_sample_is_planned_in_time() {
     }
     assert!(took < LIMIT, "{took:?}");
     let same = scratch.read("svg") == stored("../docs/pictures/wardrobe.svg");
-    assert!(same, "docs/pictures/wardrobe.svg is not the sample's drawing");
+    assert!(
+        same,
+        "docs/pictures/wardrobe.svg is not the sample's drawing"
+    );
     shown(&scratch.read("svg")).iter().for_each(Shown::replay);
     assert_eq!(shop(&["recheck", &stamp]).expect("a stamp"), text);
     println!("the sample took {took:?}");
