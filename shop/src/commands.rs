@@ -166,7 +166,11 @@ fn verdict(
         .map(|(kind, cut)| u64::from(kind.count.saturating_sub(*cut)))
         .sum();
     if left > 0 {
-        return Verdict::Short { left };
+        let stock_is_limited = task.stock.iter().all(|stock| stock.count.is_some());
+        return Verdict::Short {
+            left,
+            stock_is_limited,
+        };
     }
     let mut used = vec![0; task.stock.len()];
     boards.iter().for_each(|board| used[board.plate] += 1);

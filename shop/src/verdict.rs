@@ -16,8 +16,8 @@ pub enum Verdict {
         least_cost: u64,
         costs_differ: bool,
     },
-    /// The stock does not suffice: so many panels are left over.
-    Short { left: u64 },
+    /// So many panels are left over: the stock does not suffice, unless boards could be had.
+    Short { left: u64, stock_is_limited: bool },
 }
 
 impl Verdict {
@@ -77,7 +77,7 @@ impl Verdict {
         match *self {
             Verdict::Board { most, .. } => most,
             Verdict::Order { least_cost, .. } => u128::from(u64::MAX - least_cost),
-            Verdict::Short { left } => u128::from(left),
+            Verdict::Short { left, .. } => u128::from(left),
         }
     }
 
@@ -120,11 +120,20 @@ impl Verdict {
                     ),
                 }
             }
-            Verdict::Short { left: 1 } => {
-                "the stock does not suffice: 1 panel is left over".to_string()
-            }
-            Verdict::Short { left } => {
-                format!("the stock does not suffice: {left} panels are left over")
+            Verdict::Short {
+                left,
+                stock_is_limited,
+            } => {
+                let panels = if left == 1 {
+                    "1 panel is".to_string()
+                } else {
+                    format!("{left} panels are")
+                };
+                if stock_is_limited {
+                    format!("the stock does not suffice: {panels} left over")
+                } else {
+                    format!("{panels} not cut")
+                }
             }
         }
     }

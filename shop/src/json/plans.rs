@@ -52,7 +52,7 @@ pub fn document(outcome: &Outcome) -> Value {
             members.push(("cost", Value::number(cost)));
             members.push(("cost_needed", Value::number(least_cost)));
         }
-        Verdict::Short { left } => members.push(("left_over", Value::number(left))),
+        Verdict::Short { left, .. } => members.push(("left_over", Value::number(left))),
     }
     members.push((
         "boards",

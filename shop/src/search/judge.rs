@@ -53,6 +53,7 @@ pub fn judge(task: &Task, boards: &[Board]) -> Result<(), Error> {
     let mut rack: Vec<Tree> = Vec::new();
     let mut demands = numbers.left.clone();
     for board in short {
+        let before = numbers.left.clone();
         let tree = board.model_tree(&|_| [1, 1], &mut |kind| numbers.next(kind));
         let nodes: usize = rack
             .iter()
@@ -61,7 +62,7 @@ pub fn judge(task: &Task, boards: &[Board]) -> Result<(), Error> {
             .sum();
         if rack.len() == RACK || nodes > NODES {
             check_rack(task, &demands, &mut rack)?;
-            demands.clone_from(&numbers.left);
+            demands = before;
         }
         rack.push(tree);
     }

@@ -80,3 +80,29 @@ fn a_very_long_name_is_planned() {
     let summary = scratch.plan(&order, &[]).expect("an order without fault");
     assert!(summary.contains(&name));
 }
+
+#[test]
+fn an_interrupt_gives_the_best_plan_so_far() {
+    let scratch = Scratch::new("interrupt");
+    let panel = |i: usize| format!("p{i}, {}, {}, 3\n", 101 + 37 * i, 53 + 29 * i);
+    let panels: String = (0..20).map(panel).collect();
+    let head = "plate, 2440 x 1220\nsaw, kerf 3.2\nturning, yes\nname, length, width, count\n";
+    let order = scratch.write("order.csv", format!("{head}{panels}"));
+    let json = scratch.path("plan.json");
+    let program = Command::new(env!("CARGO_BIN_EXE_shop"))
+        .args([&order, "--one", "--seconds", "100", "--json", &json])
+        .stdout(Stdio::piped())
+        .spawn()
+        .expect("the program runs");
+    std::thread::sleep(std::time::Duration::from_secs(2));
+    let number = program.id().to_string();
+    assert!(Command::new("kill")
+        .args(["-INT", &number])
+        .status()
+        .expect("kill")
+        .success());
+    let output = program.wait_with_output().expect("it ends");
+    assert!(output.status.success());
+    assert!(String::from_utf8_lossy(&output.stdout).contains("more is possible"));
+    assert!(scratch.document().get("plan").is_some());
+}

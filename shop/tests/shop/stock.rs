@@ -124,3 +124,15 @@ fn stages_are_limited() {
         }
     }
 }
+
+#[test]
+fn more_boards_than_a_rack_has_are_judged() {
+    let scratch = Scratch::new("racks");
+    let order =
+        "plate, 100 x 100\nsaw, kerf 3\nname, length, width, count\na, 90, 80, 40\nb, 90, 10, 9\n";
+    let summary = scratch.planned(order, &["--seconds", "1"]);
+    assert!(
+        summary.contains("40 boards: no plan needs fewer"),
+        "{summary}"
+    );
+}
