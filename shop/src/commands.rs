@@ -17,6 +17,7 @@ use std::fs;
 use std::io::{stderr, IsTerminal};
 use std::path::Path;
 use std::thread;
+use std::time::Duration;
 
 /// What a command gives: the text to print, and what could not be written.
 #[derive(Debug, Default)]
@@ -166,11 +167,7 @@ fn verdict(
         .map(|(kind, cut)| u64::from(kind.count.saturating_sub(*cut)))
         .sum();
     if left > 0 {
-        let stock_is_limited = task.stock.iter().all(|stock| stock.count.is_some());
-        return Verdict::Short {
-            left,
-            stock_is_limited,
-        };
+        return Verdict::of_part(task, left, &evidence, memory);
     }
     let mut used = vec![0; task.stock.len()];
     boards.iter().for_each(|board| used[board.plate] += 1);
@@ -235,7 +232,7 @@ fn check(file: &Path, plan: &Path, options: &Options) -> Result<Done, Error> {
 }
 
 /// Saws filed plans again, counts their panels and judges them, with what was filed and with what a search for bounds
-/// finds.
+/// finds, unless it has no time.
 pub fn replayed(order: Order, filed: Filed, limits: Limits) -> Result<Outcome, String> {
     let panels = order.panel_sides();
     let saw = Saw {
@@ -252,16 +249,14 @@ pub fn replayed(order: Order, filed: Filed, limits: Limits) -> Result<Outcome, S
     within_order(&order, &boards)?;
     let mut evidence = filed.evidence;
     let one = filed.one;
-    if !verdict(&task, &boards, one, &evidence, limits.memory).is_best() {
+    let now = verdict(&task, &boards, one, &evidence, limits.memory);
+    if !now.is_best() && limits.seconds != Some(Duration::ZERO) {
         let clock = Clock::new(limits.seconds);
         let found = match (one, &boards[..]) {
             (true, [board]) => search::bounds_of_board(&task, board.plate, clock, limits.memory),
             _ => search::bounds_of_order(&task, clock, limits.memory),
         };
-        let better = |verdict: Verdict| verdict.key();
-        let key =
-            |evidence: &[Modelled]| better(verdict(&task, &boards, one, evidence, limits.memory));
-        if key(&found) < key(&evidence) {
+        if verdict(&task, &boards, one, &found, limits.memory).key() < now.key() {
             evidence = found;
         }
     }
@@ -275,18 +270,37 @@ pub fn replayed(order: Order, filed: Filed, limits: Limits) -> Result<Outcome, S
     })
 }
 
-/// No panel is cut more often than it is ordered, none is turned against its grain, and no more plates are used than
-/// there are.
+/// No panel is cut more often than it is ordered, none is turned against its grain or lies on a raw edge, no plan has
+/// too many stages, and no more plates are used than there are.
 fn within_order(order: &Order, boards: &[Board]) -> Result<(), String> {
     let mut copies = vec![0; order.panels.len()];
     let mut plates = vec![0; order.plates.len()];
     for board in boards {
+        let plate = &order.plates[board.plate];
+        let trim = if plate.offcut {
+            0
+        } else {
+            order.trim.thousandths()
+        };
+        let of_edges = if trim > 0 { 2 } else { 0 };
+        if order
+            .stages
+            .is_some_and(|limit| board.tree.stages() > limit + of_edges)
+        {
+            return Err(format!(
+                "a plan has more stages than {}",
+                order.stages.unwrap_or(0)
+            ));
+        }
         plates[board.plate] += 1;
         for laid in &board.layout.panels {
             copies[laid.panel] += 1;
             let panel = &order.panels[laid.panel];
             if laid.turned && !panel.turns && panel.sides[0] != panel.sides[1] {
                 return Err(format!("{} is turned and may not be", panel.name));
+            }
+            if !laid.rect.is_within(plate.sides(), trim) {
+                return Err(format!("{} lies on a raw edge", panel.name));
             }
         }
     }

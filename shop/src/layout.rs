@@ -237,6 +237,12 @@ impl Rect {
         u64::from(self.length) * u64::from(self.width)
     }
 
+    /// Whether it lies on a board of these sides, so far from every edge.
+    pub fn is_within(&self, [length, width]: Sides, edge: u32) -> bool {
+        let far = [self.x + self.length + edge, self.y + self.width + edge];
+        self.x >= edge && self.y >= edge && far[0] <= length && far[1] <= width
+    }
+
     /// The part from so far along a direction, of this size.
     fn part(self, direction: Direction, from: u32, size: u32) -> Rect {
         match direction {

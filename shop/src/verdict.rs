@@ -16,11 +16,32 @@ pub enum Verdict {
         least_cost: u64,
         costs_differ: bool,
     },
-    /// So many panels are left over: the stock does not suffice, unless boards could be had.
-    Short { left: u64, stock_is_limited: bool },
+    /// So many panels are left over. `stock` says what is known of it.
+    Short { left: u64, stock: Suffices },
+}
+
+/// Whether the stock suffices for the order.
+#[derive(Clone, Copy, Debug, PartialEq, Eq)]
+pub enum Suffices {
+    /// It does: there are as many boards as are needed.
+    Yes,
+    /// It does not: its boards together hold less than the order is worth.
+    No,
+    Unknown,
 }
 
 impl Verdict {
+    /// The verdict on a plan that leaves so many panels over.
+    pub fn of_part(task: &Task, left: u64, evidence: &[Modelled], memory: u64) -> Verdict {
+        let limited = task.stock.iter().all(|stock| stock.count.is_some());
+        let stock = match limited.then(|| holds_less(task, evidence, memory)) {
+            None => Suffices::Yes,
+            Some(Some(true)) => Suffices::No,
+            _ => Suffices::Unknown,
+        };
+        Verdict::Short { left, stock }
+    }
+
     /// The verdict on one board that cuts so many copies of each kind.
     pub fn of_board(
         task: &Task,
@@ -120,19 +141,17 @@ impl Verdict {
                     ),
                 }
             }
-            Verdict::Short {
-                left,
-                stock_is_limited,
-            } => {
-                let panels = if left == 1 {
-                    "1 panel is".to_string()
-                } else {
-                    format!("{left} panels are")
+            Verdict::Short { left, stock } => {
+                let panels = match left {
+                    1 => "1 panel is".to_string(),
+                    left => format!("{left} panels are"),
                 };
-                if stock_is_limited {
-                    format!("the stock does not suffice: {panels} left over")
-                } else {
-                    format!("{panels} not cut")
+                match stock {
+                    Suffices::Yes => format!("{panels} not cut"),
+                    Suffices::No => format!("the stock does not suffice: {panels} left over"),
+                    Suffices::Unknown => {
+                        format!("{panels} left over; whether the stock suffices is not known")
+                    }
                 }
             }
         }
@@ -154,10 +173,11 @@ fn most_worth(task: &Task, part: &Modelled, memory: u64) -> Option<u128> {
     Some(prices.worth(bound?))
 }
 
-/// The least cost and the fewest boards that any plan has, by the bounds of all boards of the stock.
-fn least(task: &Task, evidence: &[Modelled], memory: u64) -> Option<(u64, u64)> {
+/// The boards of the stock under evidence that is of every line of it, and the floor that its bounds make.
+fn bounded(task: &Task, evidence: &[Modelled], memory: u64) -> Option<(Vec<Offer>, Floor)> {
     let prices = evidence.first()?.prices.clone();
-    if prices.is_empty() {
+    let is_of = |stock: usize| evidence.iter().any(|part| part.stock == stock);
+    if prices.is_empty() || !task.usable_stock().all(is_of) {
         return None;
     }
     let mut offers = Vec::new();
@@ -166,17 +186,15 @@ fn least(task: &Task, evidence: &[Modelled], memory: u64) -> Option<(u64, u64)> 
         offer.priced.set_prices(&prices);
         offers.push(offer);
     }
-    let all_offered = task
-        .usable_stock()
-        .all(|stock| evidence.iter().any(|part| part.stock == stock));
-    let bounds = offers
-        .iter()
-        .map(|offer| Some(offer.priced.plates_needed(0)?.1))
-        .collect::<Option<Vec<u64>>>()?;
+    let bound = |offer: &Offer| Some(offer.priced.plates_needed(0)?.1);
+    let bounds = offers.iter().map(bound).collect::<Option<Vec<u64>>>()?;
     let floor = Floor::new(prices, bounds, &offers);
-    if !all_offered {
-        return None;
-    }
+    Some((offers, floor))
+}
+
+/// The least cost and the fewest boards that any plan has, by the bounds of all boards of the stock.
+fn least(task: &Task, evidence: &[Modelled], memory: u64) -> Option<(u64, u64)> {
+    let (offers, floor) = bounded(task, evidence, memory)?;
     let bought: Vec<&Offer> = offers
         .iter()
         .filter(|offer| offer.count.is_none())
@@ -186,4 +204,12 @@ fn least(task: &Task, evidence: &[Modelled], memory: u64) -> Option<(u64, u64)> 
         return Some((plates.saturating_mul(only.cost), plates));
     }
     Some((floor.cost, floor.least_boards(&offers)))
+}
+
+/// Whether all boards of the stock together hold less than the order is worth.
+fn holds_less(task: &Task, evidence: &[Modelled], memory: u64) -> Option<bool> {
+    let (_, floor) = bounded(task, evidence, memory)?;
+    let boards = evidence.iter().zip(&floor.bounds);
+    let held = boards.map(|(part, bound)| Some(u64::from(task.stock[part.stock].count?) * bound));
+    Some(held.sum::<Option<u64>>()? < floor.worth)
 }

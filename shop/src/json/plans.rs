@@ -169,33 +169,52 @@ impl Filed {
     /// the list `boards`.
     pub fn new(document: &Value, order: &Order) -> Result<Filed, String> {
         let evidence = evidence_of(document)?;
-        if let (Some(Value::List(boards)), None) = (document.get("boards"), document.get("plan")) {
-            let boards = boards.iter().enumerate().map(|(index, board)| {
-                let place = format!("board {}", index + 1);
-                let plan = board
-                    .get("plan")
-                    .ok_or_else(|| format!("{place}: expected a plan"))?;
-                Ok((stock_of(board, order, &place)?, tree(plan, &place, order)?))
-            });
+        let boards = document.get("boards").and_then(list).unwrap_or_default();
+        let one = document.get("plan").is_some() || document.get("boards").is_none();
+        if one {
+            let stock = boards.first().map_or(Ok(first_plate(order)), |board| {
+                stock_of(board, order, "the plan")
+            })?;
+            let tree = tree(document.get("plan").unwrap_or(document), "the plan", order)?;
             return Ok(Filed {
-                boards: boards.collect::<Result<_, String>>()?,
-                one: false,
+                boards: vec![(stock, tree)],
+                one,
                 evidence,
             });
         }
-        let tree = tree(document.get("plan").unwrap_or(document), "the plan", order)?;
+        let board = |(index, board): (usize, &Value)| {
+            let place = format!("board {}", index + 1);
+            let plan = board
+                .get("plan")
+                .ok_or_else(|| format!("{place}: expected a plan"))?;
+            Ok((stock_of(board, order, &place)?, tree(plan, &place, order)?))
+        };
+        let boards = boards
+            .iter()
+            .enumerate()
+            .map(board)
+            .collect::<Result<_, String>>()?;
         Ok(Filed {
-            boards: vec![(0, tree)],
-            one: true,
+            boards,
+            one,
             evidence,
         })
     }
 }
 
-/// The line of the stock with the sides that a board says; the first where it says none.
+/// The first line of the stock that is no offcut.
+fn first_plate(order: &Order) -> usize {
+    order
+        .plates
+        .iter()
+        .position(|plate| !plate.offcut)
+        .unwrap_or(0)
+}
+
+/// The line of the stock with the sides that a board says; the first plate where it says none.
 fn stock_of(board: &Value, order: &Order, place: &str) -> Result<usize, String> {
     let Some(plate) = board.get("plate") else {
-        return Ok(0);
+        return Ok(first_plate(order));
     };
     let side = |name: &str| {
         plate

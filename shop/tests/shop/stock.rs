@@ -136,3 +136,17 @@ fn more_boards_than_a_rack_has_are_judged() {
         "{summary}"
     );
 }
+
+#[test]
+fn raw_edges_and_stages_are_checked() {
+    let scratch = Scratch::new("edges");
+    let head =
+        "plate, 520 x 420\ntrim, 10\nsaw, kerf 3\nname, length, width, count\na, 500, 400, 2\n";
+    let order = scratch.write("order.csv", head);
+    let plan = scratch.write("plan.json", "{\"piece\": \"a\"}");
+    let wrong = shop(&["check", &order, &plan]).expect_err("a panel on the edge");
+    assert!(wrong.contains("a lies on a raw edge"), "{wrong}");
+    let order = scratch.write("order.csv", head.replace("trim, 10", "stages, 1"));
+    let wrong = shop(&["check", &order, &plan]).expect_err("two stages");
+    assert!(wrong.contains("a plan has more stages than 1"), "{wrong}");
+}
