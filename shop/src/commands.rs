@@ -1,7 +1,9 @@
 // The commands: plan an order, check a plan that somebody has drawn, certify a filed stamp again, say the usage.
 // Each gives the text to print and what went wrong beside; an error is all that it gives where there is no plan.
 use crate::csv::{cut_list, offcuts};
+use crate::date::today;
 use crate::error::Error;
+use crate::html::{html, Heading};
 use crate::json::{self, Filed};
 use crate::options::{Command, Form, Options, USAGE};
 use crate::order::{self, Order};
@@ -55,7 +57,7 @@ fn plan(file: &Path, options: &Options) -> Result<Done, Error> {
     progress.clear();
     judge(&task, &packing.boards).map_err(Error::Call)?;
     let outcome = judged(order, &task, &packing, evidence, options);
-    Ok(given(outcome, outputs))
+    Ok(given(outcome, file, outputs))
 }
 
 /// The line of the stock that one board is planned on: the first that is no offcut.
@@ -107,19 +109,40 @@ fn open(options: &Options, inputs: &[&Path]) -> Result<Vec<(Form, Output)>, Erro
 }
 
 /// Everything that is given of an outcome; what cannot be written does not keep the rest back.
-fn given(outcome: Outcome, outputs: Vec<(Form, Output)>) -> Done {
+fn given(outcome: Outcome, file: &Path, outputs: Vec<(Form, Output)>) -> Done {
     let mut done = Done { text: summary(&outcome), notices: outcome.order.notices.clone(), wrong: Vec::new() };
+    let order = file.file_stem().unwrap_or_default().to_string_lossy().into_owned();
     for (form, output) in outputs {
-        let bytes = match form {
-            Form::Svg => svg(&outcome),
+        let text = match form {
+            Form::Svg => {
+                done.wrong.extend(draw(&outcome, output));
+                continue;
+            }
+            Form::Html => html(&outcome, &Heading { order: order.clone(), date: today() }),
             Form::Json => format!("{}\n", json::document(&outcome)),
             Form::Csv => cut_list(&outcome),
             Form::Rest => offcuts(&outcome),
             Form::Stamp => stamp::text(&outcome),
         };
-        done.wrong.extend(output.write(bytes.as_bytes()).err());
+        done.wrong.extend(output.write(text.as_bytes()).err());
     }
     done
+}
+
+/// Writes the drawings: of one board to the file named, of several each to a file with its number before the ending.
+fn draw(outcome: &Outcome, output: Output) -> Vec<Error> {
+    if outcome.boards.len() == 1 {
+        return output.write(svg(outcome, 0).as_bytes()).err().into_iter().collect();
+    }
+    let path = output.path().to_path_buf();
+    drop(output);
+    let numbered = |index: usize| {
+        let stem = path.file_stem().unwrap_or_default().to_string_lossy();
+        let ending = path.extension().map_or(String::new(), |ending| format!(".{}", ending.to_string_lossy()));
+        path.with_file_name(format!("{stem}-{}{ending}", index + 1))
+    };
+    let write = |index: usize| Output::open(&numbered(index))?.write(svg(outcome, index).as_bytes());
+    (0..outcome.boards.len()).filter_map(|index| write(index).err()).collect()
 }
 
 fn check(file: &Path, plan: &Path, options: &Options) -> Result<Done, Error> {
@@ -129,7 +152,7 @@ fn check(file: &Path, plan: &Path, options: &Options) -> Result<Done, Error> {
     let filed = Filed::new(&document, &order).map_err(|wrong| Error::wrong(plan, wrong))?;
     let outputs = open(options, &[file, plan])?;
     let outcome = replayed(order, filed, options.limits).map_err(|wrong| Error::wrong(plan, wrong))?;
-    Ok(given(outcome, outputs))
+    Ok(given(outcome, file, outputs))
 }
 
 /// Saws filed plans again, counts their panels and judges them, with what was filed and with what a search for bounds

@@ -4,9 +4,9 @@ use std::path::PathBuf;
 use std::time::Duration;
 
 pub const USAGE: &str = "\
-usage: plan ORDER [--one] [--svg FILE] [--json FILE] [--csv FILE] [--rest FILE] [--stamp FILE]
+usage: plan ORDER [--one] [--html FILE] [--svg FILE] [--json FILE] [--csv FILE] [--rest FILE] [--stamp FILE]
             [--seconds N] [--memory SIZE] [--turning yes|no]
-       plan check ORDER PLAN.json [--svg FILE] [--seconds N] [--memory SIZE] [--turning yes|no]
+       plan check ORDER PLAN.json [--html FILE] [--svg FILE] [--seconds N] [--memory SIZE] [--turning yes|no]
        plan recheck STAMP [--memory SIZE]
        plan --help | --version
 SIZE is the greatest table, as 512M or 2G; 1G if it is not said.";
@@ -26,6 +26,7 @@ pub enum Command {
 /// What may be written, by the name of its option.
 #[derive(Clone, Copy, Debug, PartialEq, Eq)]
 pub enum Form {
+    Html,
     Svg,
     Json,
     Csv,
@@ -33,11 +34,17 @@ pub enum Form {
     Stamp,
 }
 
-const FORMS: [(&str, Form); 5] =
-    [("svg", Form::Svg), ("json", Form::Json), ("csv", Form::Csv), ("rest", Form::Rest), ("stamp", Form::Stamp)];
+const FORMS: [(&str, Form); 6] = [
+    ("html", Form::Html),
+    ("svg", Form::Svg),
+    ("json", Form::Json),
+    ("csv", Form::Csv),
+    ("rest", Form::Rest),
+    ("stamp", Form::Stamp),
+];
 
 /// The options that each command uses beside the files that a plan is written to.
-const CHECK: [&str; 4] = ["svg", "seconds", "memory", "turning"];
+const CHECK: [&str; 5] = ["html", "svg", "seconds", "memory", "turning"];
 const RECHECK: [&str; 1] = ["memory"];
 
 #[derive(Clone, Debug)]

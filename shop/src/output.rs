@@ -36,6 +36,10 @@ impl Output {
         unreachable!("some name is free")
     }
 
+    pub fn path(&self) -> &Path {
+        &self.path
+    }
+
     /// Writes the file and gives it its name.
     pub fn write(mut self, bytes: &[u8]) -> Result<(), Error> {
         let written = self.file.write_all(bytes).and_then(|()| match &self.temporary {
