@@ -56,8 +56,12 @@ fn area(rect: &Element) -> Area {
     Area { x: [x, x + length], y: [y, y + width] }
 }
 
-/// The boards of a drawing.
-pub fn shown(svg: &str) -> Vec<Shown> {
+/// The boards of drawings.
+pub fn shown(drawings: &[String]) -> Vec<Shown> {
+    drawings.iter().flat_map(|svg| boards(svg)).collect()
+}
+
+fn boards(svg: &str) -> Vec<Shown> {
     let elements = elements(svg).unwrap_or_else(|wrong| panic!("{wrong}\n{svg}"));
     let boards = elements.split(|element| element.get("class") == Some("board"));
     let kerfs = elements.iter().filter(|element| element.get("class") == Some("board")).map(|e| attribute(e, "data-kerf"));
@@ -78,8 +82,8 @@ fn board(elements: &[Element], kerf: i64) -> Shown {
     }
 }
 
-/// Replays every board of a drawing and gives the copies on each.
-pub fn replayed(svg: &str, ordered: &Ordered) -> Cut {
+/// Replays every board that is drawn and gives the copies on each.
+pub fn replayed(drawings: &[String], ordered: &Ordered) -> Cut {
     let copies = |shown: &Shown| {
         shown.replay();
         let mut copies = BTreeMap::new();
@@ -91,7 +95,7 @@ pub fn replayed(svg: &str, ordered: &Ordered) -> Cut {
         }
         copies
     };
-    let cut = shown(svg).iter().map(copies).collect();
+    let cut = shown(drawings).iter().map(copies).collect();
     ordered.keeps(&cut);
     cut
 }
@@ -163,49 +167,9 @@ fn drawings_can_be_cut() {
     {
         let order = scratch.write(&format!("{index}.csv"), format!("{head}{heading}{panels}"));
         scratch.plan(&order, &["--seconds", "0.3"]).expect("an order without fault");
-        let shown = shown(&scratch.read("plan.svg"));
+        let shown = shown(&scratch.drawings());
         shown.iter().for_each(Shown::replay);
         assert!(shown.iter().flat_map(|board| &board.pieces).any(|(name, _)| name == "A & B"));
-    }
-}
-
-/// The boxes of the cuts' numbers.
-fn numbers(svg: &str) -> Vec<Area> {
-    let elements = elements(svg).expect("a drawing");
-    elements.iter().filter(|element| element.get("class") == Some("number")).map(area).collect()
-}
-
-/// Heights of text in millimetres on paper.
-fn heights_on_paper(svg: &str) -> Vec<f64> {
-    let elements = elements(svg).expect("a drawing");
-    let board = elements.iter().find(|element| element.get("class") == Some("board")).expect("a board");
-    let page: f64 = board.get("width").and_then(|width| width.parse().ok()).expect("a width");
-    let drawn = board.get("viewBox").expect("a view").split(' ').nth(2).expect("four numbers");
-    let scale = page / drawn.parse::<f64>().expect("a width");
-    let size = |element: &Element| element.get("font-size").map(|size| size.parse::<f64>().expect("a size"));
-    elements.iter().filter_map(size).map(|size| size * scale).collect()
-}
-
-#[test]
-fn a_printed_sheet_is_a4_and_can_be_read() {
-    let scratch = Scratch::new("printed");
-    let sample = concat!(env!("CARGO_MANIFEST_DIR"), "/../samples/wardrobe.csv");
-    let sample = std::fs::read_to_string(sample).expect("the sample");
-    let wide = "plate, 1222 x 2444\nsaw, kerf 3.2\nname, length, width, count\nwide shelf, 588, 478, 11\n";
-    for (file, order, page) in [
-        ("long.csv", sample.as_str(), "@page { size: 297mm 210mm; margin: 0 }"),
-        ("wide.csv", wide, "@page { size: 210mm 297mm; margin: 0 }"),
-    ] {
-        let order = scratch.write(file, order);
-        scratch.plan(&order, &["--one", "--seconds", "1"]).expect("an order without fault");
-        let svg = scratch.read("plan.svg");
-        assert!(svg.contains(page));
-        let numbers = numbers(&svg);
-        assert_eq!(numbers.len(), shown(&svg)[0].cuts.len());
-        for (index, number) in numbers.iter().enumerate() {
-            assert!(numbers[..index].iter().all(|other| !number.meets(other)), "{file} {number:?}");
-        }
-        assert!(heights_on_paper(&svg).iter().all(|&height| height > 2.09), "{file}");
     }
 }
 
@@ -214,7 +178,7 @@ fn planned_in_time(name: &str, head: &str, panels: &str) -> Vec<Shown> {
     let scratch = Scratch::new(name);
     let order = scratch.write("order.csv", format!("{head}name, length, width, count\n{panels}"));
     program(&[&order, "--svg", &scratch.path("plan.svg"), "--seconds", "2"]);
-    let shown = shown(&scratch.read("plan.svg"));
+    let shown = shown(&scratch.drawings());
     shown.iter().for_each(Shown::replay);
     shown
 }

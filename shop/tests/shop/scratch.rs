@@ -36,8 +36,29 @@ impl Scratch {
         read(&self.read("plan.json")).expect("JSON")
     }
 
+    /// The drawings of the last plan: `plan.svg` of one board, and else one for each, numbered.
+    pub fn drawings(&self) -> Vec<String> {
+        let numbered = (1..).map(|number| format!("plan-{number}.svg"));
+        let files = ["plan.svg".to_string()].into_iter().filter(|file| self.has(file));
+        files.chain(numbered.take_while(|file| self.has(file))).map(|file| self.read(&file)).collect()
+    }
+
+    fn has(&self, file: &str) -> bool {
+        Path::new(&self.path(file)).exists()
+    }
+
+    /// Takes the drawings of an earlier plan away.
+    fn clear(&self) {
+        for entry in fs::read_dir(&self.0).expect("the test's folder").flatten() {
+            if entry.path().extension().is_some_and(|ending| ending == "svg") {
+                fs::remove_file(entry.path()).expect("a drawing");
+            }
+        }
+    }
+
     /// Plans an order and files everything as `plan.svg`, `plan.json` and `plan.stamp`.
     pub fn plan(&self, order: &str, words: &[&str]) -> Result<String, String> {
+        self.clear();
         let files = ["svg", "json", "stamp"].map(|kind| self.path(&format!("plan.{kind}")));
         let [svg, json, stamp] = &files;
         shop(&[&[order, "--svg", svg, "--json", json, "--stamp", stamp], words].concat())
@@ -52,7 +73,7 @@ impl Scratch {
         let document = from_document(&self.document(), &ordered);
         let list = from_list(&summary, &ordered);
         assert_eq!(document, list, "{text}\n{summary}");
-        assert_eq!(document, drawings::replayed(&self.read("plan.svg"), &ordered), "{text}\n{summary}");
+        assert_eq!(document, drawings::replayed(&self.drawings(), &ordered), "{text}\n{summary}");
         let checked = shop(&["check", &order, &self.path("plan.json"), "--seconds", "0"]).expect("it passes");
         assert_eq!(checked, summary);
         let again = shop(&["recheck", &self.path("plan.stamp")]).expect("a stamp");
