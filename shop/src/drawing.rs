@@ -17,8 +17,10 @@ const LEAST: f64 = 1.7;
 const MOST: f64 = 4.0;
 const DIMENSION: f64 = 3.0;
 
-/// The heights of marks at cuts that are tried one after another.
+/// The heights of marks at cuts that are tried one after another, on boards of few cuts and of many.
 const MARKS: [f64; 3] = [2.6, 2.1, 1.7];
+const MANY_MARKS: [f64; 2] = [1.7, 1.4];
+const MANY_CUTS: usize = 80;
 
 /// Words that find no place are tried again so much lower.
 const LOWER: f64 = 0.85;
@@ -251,6 +253,7 @@ impl<'a> Drawing<'a> {
     /// The marks of all cuts; short cuts have the least room and come first.
     fn marks(&mut self) {
         let board = self.board;
+        let heights = if board.layout.cuts.len() > MANY_CUTS { &MANY_MARKS[..] } else { &MARKS };
         let mut numbered: Vec<(usize, &Cut)> = board.layout.cuts.iter().enumerate().collect();
         numbered.sort_by_key(|(_, cut)| match cut.direction {
             Direction::Length => cut.of.width,
@@ -259,7 +262,7 @@ impl<'a> Drawing<'a> {
         for (index, cut) in numbered {
             let number = (index + 1).to_string();
             let whole = format!("{number}: {}", Millimetres::of_thousandths(cut.at));
-            let tried = MARKS.iter().flat_map(|height| [(&whole, *height)]).chain(MARKS.iter().map(|height| (&number, *height)));
+            let tried = heights.iter().map(|height| (&whole, *height)).chain(heights.iter().map(|height| (&number, *height)));
             for (words, height) in tried {
                 if self.mark(words, height, cut) {
                     break;

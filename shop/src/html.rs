@@ -10,8 +10,12 @@ use std::fmt::Write;
 /// Room for a drawing on its sheet, in millimetres.
 const DRAWING: [f64; 2] = [190.0, 150.0];
 
-/// Lists of more cuts stand in two columns.
-const ONE_COLUMN: usize = 26;
+/// Longer lists stand in two columns.
+const FEW_CUTS: usize = 26;
+const FEW_PANELS: usize = 10;
+
+/// Labels on a sheet, 3 by 8.
+const LABELS: usize = 24;
 
 const STYLE: &str = include_str!("sheet.css");
 
@@ -102,7 +106,9 @@ impl Page<'_> {
             let ordered = &outcome.order.panels[*panel];
             vec![letter(*panel), ordered.name.clone(), size(ordered.sides()), copies.to_string(), grain(ordered.turns)]
         });
-        self.table("panels", &["", "panel", "size in mm", "here", "grain"], rows);
+        self.in_columns(panels.len() > FEW_PANELS, |page| {
+            page.table("panels", &["", "panel", "size in mm", "here", "grain"], rows);
+        });
         self.cuts(board);
         self.put("</section>");
     }
@@ -112,10 +118,17 @@ impl Page<'_> {
         if cuts.is_empty() {
             return self.paragraph("cuts", "No cut.");
         }
-        let columns = if cuts.len() > ONE_COLUMN { "cuts many" } else { "cuts" };
-        self.put(format!("<div class=\"{columns}\">"));
-        let rows = cuts.iter().enumerate().map(|(index, cut)| cut_row(self.outcome, index + 1, cut)).collect::<Vec<_>>();
-        self.table("list", &["cut", "of", "side", "fence", "first part", "second part"], rows.into_iter());
+        let outcome = self.outcome;
+        let rows = cuts.iter().enumerate().map(|(index, cut)| cut_row(outcome, index + 1, cut));
+        self.in_columns(cuts.len() > FEW_CUTS, |page| {
+            page.table("list", &["cut", "of", "side", "fence", "first part", "second part"], rows);
+        });
+    }
+
+    /// What is put stands in two columns where there is much of it.
+    fn in_columns(&mut self, many: bool, put: impl FnOnce(&mut Self)) {
+        self.put(if many { "<div class=\"many\">" } else { "<div>" });
+        put(self);
         self.put("</div>");
     }
 
@@ -126,7 +139,7 @@ impl Page<'_> {
         for (index, board) in outcome.boards.iter().enumerate() {
             labels.extend(board.layout.panels.iter().map(|laid| (index + 1, laid)));
         }
-        for sheet in labels.chunks(24) {
+        for sheet in labels.chunks(LABELS) {
             self.put("<section class=\"labels\">");
             for (board, laid) in sheet {
                 let panel = &outcome.order.panels[laid.panel];
