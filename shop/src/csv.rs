@@ -14,11 +14,8 @@ pub fn cut_list(outcome: &Outcome) -> String {
             let first = part(outcome, Some(&cut.first));
             let second = part(outcome, cut.second.as_ref());
             let (board, number, side) = (index + 1, number + 1, side_word(cut.direction));
-            writeln!(
-                text,
-                "{board},{number},{length},{width},{side},{at},{first},{second}"
-            )
-            .expect("a string takes all text");
+            writeln!(text, "{board},{number},{length},{width},{side},{at},{first},{second}")
+                .expect("a string takes all text");
         }
     }
     text
@@ -32,14 +29,8 @@ fn part(outcome: &Outcome, part: Option<&Part>) -> String {
     let becomes = match part.becomes {
         Use::Cut(number) => format!("cut {number}"),
         Use::Rest => "rest".to_string(),
-        Use::Panel {
-            panel,
-            turned: false,
-        } => outcome.order.panels[panel].name.clone(),
-        Use::Panel {
-            panel,
-            turned: true,
-        } => format!("{} (turned)", outcome.order.panels[panel].name),
+        Use::Panel { panel, turned: false } => outcome.order.panels[panel].name.clone(),
+        Use::Panel { panel, turned: true } => format!("{} (turned)", outcome.order.panels[panel].name),
     };
     format!("{length},{width},{}", quoted(&becomes))
 }
@@ -56,20 +47,14 @@ pub fn quoted(cell: &str) -> String {
 /// The rests worth keeping, largest first, as offcuts of the next order.
 pub fn offcuts(outcome: &Outcome) -> String {
     let rests = outcome.boards.iter().flat_map(|board| &board.layout.rests);
-    let mut kept: Vec<_> = rests
-        .filter(|rest| is_kept(rest))
-        .map(|rest| (rest.area(), rest.sides()))
-        .collect();
+    let mut kept: Vec<_> =
+        rests.filter(|rest| is_kept(rest)).map(|rest| (rest.area(), rest.sides())).collect();
     kept.sort_unstable();
     kept.reverse();
     let mut text = String::new();
     for group in kept.chunk_by(|a, b| a == b) {
         let (size, count) = (crate::layout::size(group[0].1), group.len());
-        let count = if count == 1 {
-            String::new()
-        } else {
-            format!(", {count}")
-        };
+        let count = if count == 1 { String::new() } else { format!(", {count}") };
         writeln!(text, "offcut, {size}{count}").expect("a string takes all text");
     }
     text

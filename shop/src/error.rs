@@ -22,17 +22,11 @@ const SHOWN: usize = 20;
 
 impl Error {
     pub fn file(file: &Path, error: io::Error) -> Error {
-        Error::File {
-            file: file.to_path_buf(),
-            error,
-        }
+        Error::File { file: file.to_path_buf(), error }
     }
 
     pub fn wrong(file: &Path, wrong: impl ToString) -> Error {
-        Error::Wrong {
-            file: file.to_path_buf(),
-            wrong: wrong.to_string(),
-        }
+        Error::Wrong { file: file.to_path_buf(), wrong: wrong.to_string() }
     }
 }
 
@@ -40,11 +34,8 @@ impl fmt::Display for Error {
     fn fmt(&self, f: &mut fmt::Formatter) -> fmt::Result {
         match self {
             Error::Faults { file, faults } => {
-                let shown: Vec<String> = faults
-                    .iter()
-                    .take(SHOWN)
-                    .map(|fault| format!("{}: {fault}", file.display()))
-                    .collect();
+                let shown: Vec<String> =
+                    faults.iter().take(SHOWN).map(|fault| format!("{}: {fault}", file.display())).collect();
                 write!(f, "{}", shown.join("\n"))?;
                 match faults.len().checked_sub(SHOWN) {
                     Some(more @ 1..) => write!(f, "\n{}: {more} more faults", file.display()),

@@ -73,52 +73,22 @@ pub struct Misfit {
 #[derive(Clone, Copy, Debug, PartialEq, Eq)]
 pub enum Why {
     /// The setting is 0 or not below the side.
-    OffTheSide {
-        direction: Direction,
-        at: u32,
-        side: u32,
-    },
+    OffTheSide { direction: Direction, at: u32, side: u32 },
     /// A second part is named, and the blade reaches the end of the side.
-    NoSecond {
-        direction: Direction,
-        at: u32,
-        side: u32,
-    },
+    NoSecond { direction: Direction, at: u32, side: u32 },
     /// No second part is named, and so much is left.
-    SecondLeft {
-        direction: Direction,
-        at: u32,
-        left: u32,
-    },
+    SecondLeft { direction: Direction, at: u32, left: u32 },
     /// The panel's rectangle is not its size.
-    WrongSize {
-        panel: usize,
-        is: Sides,
-        wanted: Sides,
-    },
+    WrongSize { panel: usize, is: Sides, wanted: Sides },
 }
 
 impl Layout {
     /// Replays a tree on a board.
     pub fn new(saw: &Saw, sides: Sides, tree: &Tree) -> Result<Layout, Misfit> {
-        let rect = Rect {
-            x: 0,
-            y: 0,
-            length: sides[0],
-            width: sides[1],
-        };
-        let board = Part {
-            rect,
-            becomes: Use::Rest,
-        };
+        let rect = Rect { x: 0, y: 0, length: sides[0], width: sides[1] };
+        let board = Part { rect, becomes: Use::Rest };
         let (cuts, panels, rests) = (Vec::new(), Vec::new(), Vec::new());
-        let mut layout = Layout {
-            board,
-            kerf: saw.kerf,
-            cuts,
-            panels,
-            rests,
-        };
+        let mut layout = Layout { board, kerf: saw.kerf, cuts, panels, rests };
         let becomes = layout.put(saw, tree, rect, &mut 0)?;
         layout.board.becomes = becomes;
         Ok(layout)
@@ -136,67 +106,27 @@ impl Layout {
             Tree::Panel { panel, turned } => {
                 let wanted = lying(saw.panels[panel], turned);
                 if rect.sides() != wanted {
-                    return misfit(Why::WrongSize {
-                        panel,
-                        is: rect.sides(),
-                        wanted,
-                    });
+                    return misfit(Why::WrongSize { panel, is: rect.sides(), wanted });
                 }
-                self.panels.push(Laid {
-                    panel,
-                    turned,
-                    rect,
-                });
+                self.panels.push(Laid { panel, turned, rect });
                 Ok(Use::Panel { panel, turned })
             }
-            Tree::Cut {
-                direction,
-                at,
-                ref first,
-                ref second,
-            } => {
+            Tree::Cut { direction, at, ref first, ref second } => {
                 let side = rect.sides()[axis(direction)];
                 let Some((_, left)) = parts(side, at, saw.kerf) else {
-                    return misfit(Why::OffTheSide {
-                        direction,
-                        at,
-                        side,
-                    });
+                    return misfit(Why::OffTheSide { direction, at, side });
                 };
                 let rests = match (second, left) {
-                    (Some(_), None) => {
-                        return misfit(Why::NoSecond {
-                            direction,
-                            at,
-                            side,
-                        })
-                    }
-                    (None, Some(left)) => {
-                        return misfit(Why::SecondLeft {
-                            direction,
-                            at,
-                            left,
-                        })
-                    }
+                    (Some(_), None) => return misfit(Why::NoSecond { direction, at, side }),
+                    (None, Some(left)) => return misfit(Why::SecondLeft { direction, at, left }),
                     (None, None) => None,
-                    (Some(second), Some(left)) => {
-                        Some((second, rect.part(direction, at + saw.kerf, left)))
-                    }
+                    (Some(second), Some(left)) => Some((second, rect.part(direction, at + saw.kerf, left))),
                 };
                 let number = self.cuts.len() + 1;
-                let part = |rect| Part {
-                    rect,
-                    becomes: Use::Rest,
-                };
+                let part = |rect| Part { rect, becomes: Use::Rest };
                 let first_rect = rect.part(direction, 0, at);
                 let second_part = rests.as_ref().map(|(_, rect)| part(*rect));
-                let cut = Cut {
-                    of: rect,
-                    direction,
-                    at,
-                    first: part(first_rect),
-                    second: second_part,
-                };
+                let cut = Cut { of: rect, direction, at, first: part(first_rect), second: second_part };
                 self.cuts.push(cut);
                 self.cuts[number - 1].first.becomes = self.put(saw, first, first_rect, next)?;
                 if let Some((second, rect)) = rests {
@@ -246,16 +176,8 @@ impl Rect {
     /// The part from so far along a direction, of this size.
     fn part(self, direction: Direction, from: u32, size: u32) -> Rect {
         match direction {
-            Direction::Length => Rect {
-                x: self.x + from,
-                length: size,
-                ..self
-            },
-            Direction::Width => Rect {
-                y: self.y + from,
-                width: size,
-                ..self
-            },
+            Direction::Length => Rect { x: self.x + from, length: size, ..self },
+            Direction::Width => Rect { y: self.y + from, width: size, ..self },
         }
     }
 
@@ -269,20 +191,14 @@ impl Cut {
     /// What the blade takes.
     pub fn blade(&self) -> Rect {
         let side = self.of.sides()[axis(self.direction)];
-        let end = self.second.map_or(side, |second| {
-            side - second.rect.sides()[axis(self.direction)]
-        });
+        let end = self.second.map_or(side, |second| side - second.rect.sides()[axis(self.direction)]);
         self.of.part(self.direction, self.at, end - self.at)
     }
 }
 
 /// Sides as `1200 x 600`, in millimetres.
 pub fn size([length, width]: Sides) -> String {
-    format!(
-        "{} x {}",
-        Millimetres::of_thousandths(length),
-        Millimetres::of_thousandths(width)
-    )
+    format!("{} x {}", Millimetres::of_thousandths(length), Millimetres::of_thousandths(width))
 }
 
 /// The word for a direction.
@@ -299,10 +215,7 @@ impl Misfit {
         match self.why {
             Why::WrongSize { panel, is, wanted } => {
                 let (name, wanted, is) = (&order.panels[panel].name, size(wanted), size(is));
-                format!(
-                    "node {}, {name}: a panel of {wanted} does not fit a part of {is}",
-                    self.node
-                )
+                format!("node {}, {name}: a panel of {wanted} does not fit a part of {is}", self.node)
             }
             _ => self.to_string(),
         }
@@ -314,43 +227,20 @@ impl fmt::Display for Misfit {
         let mm = Millimetres::of_thousandths;
         write!(f, "node {}, ", self.node)?;
         match self.why {
-            Why::OffTheSide {
-                direction,
-                at,
-                side,
-            } => {
+            Why::OffTheSide { direction, at, side } => {
                 let (word, at, side) = (side_word(direction), mm(at), mm(side));
-                write!(
-                    f,
-                    "the cut of the {word} at {at}: it is not within the side of {side}"
-                )
+                write!(f, "the cut of the {word} at {at}: it is not within the side of {side}")
             }
-            Why::NoSecond {
-                direction,
-                at,
-                side,
-            } => {
+            Why::NoSecond { direction, at, side } => {
                 let (word, at, side) = (side_word(direction), mm(at), mm(side));
-                write!(
-                    f,
-                    "the cut of the {word} at {at}: the blade leaves no second part of {side}"
-                )
+                write!(f, "the cut of the {word} at {at}: the blade leaves no second part of {side}")
             }
-            Why::SecondLeft {
-                direction,
-                at,
-                left,
-            } => {
+            Why::SecondLeft { direction, at, left } => {
                 let (word, at, left) = (side_word(direction), mm(at), mm(left));
                 write!(f, "the cut of the {word} at {at}: a second part of {left} is left, and none is named")
             }
             Why::WrongSize { is, wanted, .. } => {
-                write!(
-                    f,
-                    "a panel of {} does not fit a part of {}",
-                    size(wanted),
-                    size(is)
-                )
+                write!(f, "a panel of {} does not fit a part of {}", size(wanted), size(is))
             }
         }
     }

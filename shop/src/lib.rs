@@ -2,7 +2,10 @@
 // given of a plan.
 pub mod commands;
 pub mod csv;
+mod date;
+pub mod drawing;
 pub mod error;
+pub mod html;
 pub mod interrupt;
 pub mod json;
 pub mod layout;
@@ -14,8 +17,8 @@ mod output;
 mod places;
 pub mod plan;
 pub mod search;
-mod sheet;
 pub mod stamp;
 pub mod summary;
 pub mod svg;
+pub mod text;
 pub mod verdict;

@@ -8,24 +8,17 @@ use std::io::{stdout, ErrorKind, Write};
 use std::process::ExitCode;
 
 fn main() -> ExitCode {
-    let options = match Options::read(
-        std::env::args_os()
-            .skip(1)
-            .map(|word| word.to_string_lossy().into_owned()),
-    ) {
-        Ok(options) => options,
-        Err(wrong) => {
-            eprintln!("{wrong}\n{USAGE}");
-            return ExitCode::from(2);
-        }
-    };
+    let options =
+        match Options::read(std::env::args_os().skip(1).map(|word| word.to_string_lossy().into_owned())) {
+            Ok(options) => options,
+            Err(wrong) => {
+                eprintln!("{wrong}\n{USAGE}");
+                return ExitCode::from(2);
+            }
+        };
     interrupt::catch();
     match run(&options) {
-        Ok(Done {
-            text,
-            notices,
-            wrong,
-        }) => {
+        Ok(Done { text, notices, wrong }) => {
             notices.iter().for_each(|notice| eprintln!("{notice}"));
             let printed = print(&text);
             wrong.iter().for_each(|wrong| eprintln!("{wrong}"));
@@ -44,10 +37,7 @@ fn main() -> ExitCode {
 
 /// Prints text. A reader that has gone away has read enough.
 fn print(text: &str) -> bool {
-    match stdout()
-        .write_all(text.as_bytes())
-        .and_then(|()| stdout().flush())
-    {
+    match stdout().write_all(text.as_bytes()).and_then(|()| stdout().flush()) {
         Err(error) if error.kind() != ErrorKind::BrokenPipe => {
             eprintln!("the plan could not be printed: {error}");
             false

@@ -4,9 +4,9 @@ use std::path::PathBuf;
 use std::time::Duration;
 
 pub const USAGE: &str = "\
-usage: plan ORDER [--one] [--svg FILE] [--json FILE] [--csv FILE] [--rest FILE] [--stamp FILE]
+usage: plan ORDER [--one] [--html FILE] [--svg FILE] [--json FILE] [--csv FILE] [--rest FILE] [--stamp FILE]
             [--seconds N] [--memory SIZE] [--turning yes|no]
-       plan check ORDER PLAN.json [--svg FILE] [--seconds N] [--memory SIZE] [--turning yes|no]
+       plan check ORDER PLAN.json [--html FILE] [--svg FILE] [--seconds N] [--memory SIZE] [--turning yes|no]
        plan recheck STAMP [--memory SIZE]
        plan --help | --version
 SIZE is the greatest table, as 512M or 2G; 1G if it is not said.";
@@ -26,6 +26,7 @@ pub enum Command {
 /// What may be written, by the name of its option.
 #[derive(Clone, Copy, Debug, PartialEq, Eq)]
 pub enum Form {
+    Html,
     Svg,
     Json,
     Csv,
@@ -33,7 +34,8 @@ pub enum Form {
     Stamp,
 }
 
-const FORMS: [(&str, Form); 5] = [
+const FORMS: [(&str, Form); 6] = [
+    ("html", Form::Html),
     ("svg", Form::Svg),
     ("json", Form::Json),
     ("csv", Form::Csv),
@@ -42,7 +44,7 @@ const FORMS: [(&str, Form); 5] = [
 ];
 
 /// The options that each command uses beside the files that a plan is written to.
-const CHECK: [&str; 4] = ["svg", "seconds", "memory", "turning"];
+const CHECK: [&str; 5] = ["html", "svg", "seconds", "memory", "turning"];
 const RECHECK: [&str; 1] = ["memory"];
 
 #[derive(Clone, Debug)]
@@ -58,35 +60,14 @@ pub struct Options {
 impl Options {
     /// Reads the words of a command line, or says what is wrong with them.
     pub fn read(words: impl Iterator<Item = String>) -> Result<Options, String> {
-        let limits = Limits {
-            seconds: None,
-            memory: 1 << 30,
-        };
-        let command = Command::Plan {
-            order: PathBuf::new(),
-        };
-        let mut options = Options {
-            command,
-            one: false,
-            outputs: Vec::new(),
-            turning: None,
-            limits,
-        };
+        let limits = Limits { seconds: None, memory: 1 << 30 };
+        let command = Command::Plan { order: PathBuf::new() };
+        let mut options = Options { command, one: false, outputs: Vec::new(), turning: None, limits };
         let (mut files, mut named, mut words) = (Vec::new(), Vec::new(), words);
         while let Some(word) = words.next() {
             match word.strip_prefix("--") {
-                Some("help") => {
-                    return Ok(Options {
-                        command: Command::Help,
-                        ..options
-                    })
-                }
-                Some("version") => {
-                    return Ok(Options {
-                        command: Command::Version,
-                        ..options
-                    })
-                }
+                Some("help") => return Ok(Options { command: Command::Help, ..options }),
+                Some("version") => return Ok(Options { command: Command::Version, ..options }),
                 Some(option) => {
                     let (name, value) = match option.split_once('=') {
                         Some((name, value)) => (name.to_string(), Some(value.to_string())),
@@ -95,12 +76,7 @@ impl Options {
                     options.set(&name, value, &mut words)?;
                     named.push(name);
                 }
-                None if word == "-h" => {
-                    return Ok(Options {
-                        command: Command::Help,
-                        ..options
-                    })
-                }
+                None if word == "-h" => return Ok(Options { command: Command::Help, ..options }),
                 None if word.starts_with('-') && word.len() > 1 => {
                     return Err(format!("there is no option {word}"))
                 }
@@ -122,12 +98,7 @@ impl Options {
             self.one = true;
             return value.map_or(Ok(()), |_| Err("--one takes no value".to_string()));
         }
-        let mut needed = || {
-            value
-                .clone()
-                .or_else(|| words.next())
-                .ok_or(format!("--{name} needs a value"))
-        };
+        let mut needed = || value.clone().or_else(|| words.next()).ok_or(format!("--{name} needs a value"));
         if let Some((_, form)) = FORMS.iter().find(|(form, _)| *form == name) {
             let path = needed()?;
             if self.outputs.iter().any(|(other, _)| other == form) {
@@ -161,26 +132,16 @@ impl Options {
 fn command_of(files: &[String]) -> Result<Command, String> {
     let files: Vec<&str> = files.iter().map(String::as_str).collect();
     match files[..] {
-        ["check", order, plan] => Ok(Command::Check {
-            order: order.into(),
-            plan: plan.into(),
-        }),
-        ["recheck", stamp] => Ok(Command::Recheck {
-            stamp: stamp.into(),
-        }),
+        ["check", order, plan] => Ok(Command::Check { order: order.into(), plan: plan.into() }),
+        ["recheck", stamp] => Ok(Command::Recheck { stamp: stamp.into() }),
         ["check" | "recheck", ..] => Err(format!("{} has other files than it needs", files[0])),
-        [order] => Ok(Command::Plan {
-            order: order.into(),
-        }),
+        [order] => Ok(Command::Plan { order: order.into() }),
         _ => Err("one order is needed".to_string()),
     }
 }
 
 fn seconds(value: &str) -> Result<Duration, String> {
-    let seconds = value
-        .parse()
-        .ok()
-        .and_then(|seconds| Duration::try_from_secs_f64(seconds).ok());
+    let seconds = value.parse().ok().and_then(|seconds| Duration::try_from_secs_f64(seconds).ok());
     seconds.ok_or(format!("--seconds needs a number, and {value} is none"))
 }
 
@@ -191,14 +152,9 @@ fn memory(value: &str) -> Result<u64, String> {
         Some(digits) => (digits, 30),
         None => (value, 0),
     };
-    let bytes = digits
-        .parse::<u64>()
-        .ok()
-        .and_then(|number| number.checked_mul(1 << shift));
+    let bytes = digits.parse::<u64>().ok().and_then(|number| number.checked_mul(1 << shift));
     let bytes = bytes.filter(|bytes| *bytes >= LEAST_MEMORY);
-    bytes.ok_or(format!(
-        "--memory needs a size of at least 16M, as 512M or 2G, and not {value}"
-    ))
+    bytes.ok_or(format!("--memory needs a size of at least 16M, as 512M or 2G, and not {value}"))
 }
 
 fn turning(value: &str) -> Result<bool, String> {

@@ -33,16 +33,9 @@ impl Board {
     /// The board of a tree, if every panel comes off at its size.
     pub fn new(order: &Order, plate: usize, tree: Tree) -> Result<Board, Misfit> {
         let panels = order.panel_sides();
-        let saw = Saw {
-            kerf: order.kerf(),
-            panels: &panels,
-        };
+        let saw = Saw { kerf: order.kerf(), panels: &panels };
         let layout = Layout::new(&saw, order.plates[plate].sides(), &tree)?;
-        Ok(Board {
-            plate,
-            tree,
-            layout,
-        })
+        Ok(Board { plate, tree, layout })
     }
 
     /// The panels on the board, each once, in the order of their lines.
@@ -59,31 +52,18 @@ pub fn boards(order: &Order, task: &Task, packing: &Packing) -> Vec<Board> {
     let mut left: Vec<u32> = order.panels.iter().map(|panel| panel.count).collect();
     let mut next = |kind: usize| {
         let lines = &task.kinds[kind].panels;
-        let line = lines
-            .iter()
-            .copied()
-            .find(|line| left[*line] > 0)
-            .unwrap_or(lines[0]);
+        let line = lines.iter().copied().find(|line| left[*line] > 0).unwrap_or(lines[0]);
         left[line] = left[line].saturating_sub(1);
         line
     };
     let panels = order.panel_sides();
-    let saw = Saw {
-        kerf: order.kerf(),
-        panels: &panels,
-    };
+    let saw = Saw { kerf: order.kerf(), panels: &panels };
     let board = |board: &crate::search::Board| {
         let plate = &order.plates[board.stock];
         let tree = board.tree(&saw, order.usable(plate), &mut next);
-        Board::new(order, board.stock, edged(order, plate, tree))
-            .expect("a packing that can be sawn")
+        Board::new(order, board.stock, edged(order, plate, tree)).expect("a packing that can be sawn")
     };
-    packing
-        .boards
-        .iter()
-        .filter(|board| !board.is_empty())
-        .map(board)
-        .collect()
+    packing.boards.iter().filter(|board| !board.is_empty()).map(board).collect()
 }
 
 /// The tree with the raw edges of its plate taken off first.
@@ -95,14 +75,8 @@ fn edged(order: &Order, plate: &Plate, tree: Tree) -> Tree {
     let [length, width] = order.usable(plate);
     let near = trim - order.kerf();
     let far = |direction, at, tree| Tree::cut(direction, at, tree, Some(Tree::Rest));
-    let whole = |direction, at, tree| {
-        Tree::cut(direction, near, Tree::Rest, Some(far(direction, at, tree)))
-    };
-    whole(
-        Direction::Length,
-        length,
-        whole(Direction::Width, width, tree),
-    )
+    let whole = |direction, at, tree| Tree::cut(direction, near, Tree::Rest, Some(far(direction, at, tree)));
+    whole(Direction::Length, length, whole(Direction::Width, width, tree))
 }
 
 impl Outcome {
@@ -128,18 +102,11 @@ impl Outcome {
     pub fn shares(&self) -> [(&'static str, u128); 3] {
         let mut areas = [0u128; 3];
         for board in &self.boards {
-            areas
-                .iter_mut()
-                .zip(board.layout.areas())
-                .for_each(|(all, area)| *all += u128::from(area));
+            areas.iter_mut().zip(board.layout.areas()).for_each(|(all, area)| *all += u128::from(area));
         }
         let all = areas.iter().sum::<u128>().max(1);
         let share = |area: u128| (1000 * area + all / 2) / all;
-        [
-            ("used", share(areas[0])),
-            ("rests", share(areas[1])),
-            ("sawdust", share(areas[2])),
-        ]
+        [("used", share(areas[0])), ("rests", share(areas[1])), ("sawdust", share(areas[2]))]
     }
 
     /// What the panels that are cut are worth: their prices, or their area.
@@ -151,11 +118,7 @@ impl Outcome {
             .iter()
             .zip(&task.worths)
             .map(|(kind, worth)| {
-                let cut: u128 = kind
-                    .panels
-                    .iter()
-                    .map(|panel| u128::from(copies[*panel]))
-                    .sum();
+                let cut: u128 = kind.panels.iter().map(|panel| u128::from(copies[*panel])).sum();
                 cut * u128::from(*worth)
             })
             .sum();
@@ -169,11 +132,7 @@ pub fn worth_in_words(order: &Order, worth: u128) -> String {
         return worth.to_string();
     }
     let thousandths = (worth + 500_000_000) / 1_000_000_000;
-    format!(
-        "{}.{:03} square metres",
-        thousandths / 1000,
-        thousandths % 1000
-    )
+    format!("{}.{:03} square metres", thousandths / 1000, thousandths % 1000)
 }
 
 /// Whether a rest is worth keeping.

@@ -18,11 +18,7 @@ impl Output {
         let wrong = |error| Error::file(path, error);
         if fs::metadata(path).is_ok_and(|data| !data.is_file()) {
             let file = OpenOptions::new().write(true).open(path).map_err(wrong)?;
-            return Ok(Output {
-                path: path.to_path_buf(),
-                temporary: None,
-                file,
-            });
+            return Ok(Output { path: path.to_path_buf(), temporary: None, file });
         }
         let path = fs::canonicalize(path).unwrap_or_else(|_| path.to_path_buf());
         if path.is_file() {
@@ -31,18 +27,8 @@ impl Output {
         let temporary = path.with_file_name(format!(".{}.part", std::process::id()));
         let temporary = (0..).map(|number| temporary.with_extension(format!("{number}.part")));
         for temporary in temporary {
-            match OpenOptions::new()
-                .write(true)
-                .create_new(true)
-                .open(&temporary)
-            {
-                Ok(file) => {
-                    return Ok(Output {
-                        path,
-                        temporary: Some(temporary),
-                        file,
-                    })
-                }
+            match OpenOptions::new().write(true).create_new(true).open(&temporary) {
+                Ok(file) => return Ok(Output { path, temporary: Some(temporary), file }),
                 Err(error) if error.kind() == std::io::ErrorKind::AlreadyExists => {}
                 Err(error) => return Err(wrong(error)),
             }
@@ -50,18 +36,16 @@ impl Output {
         unreachable!("some name is free")
     }
 
+    pub fn path(&self) -> &Path {
+        &self.path
+    }
+
     /// Writes the file and gives it its name.
     pub fn write(mut self, bytes: &[u8]) -> Result<(), Error> {
-        let written = self
-            .file
-            .write_all(bytes)
-            .and_then(|()| match &self.temporary {
-                Some(temporary) => self
-                    .file
-                    .sync_all()
-                    .and_then(|()| fs::rename(temporary, &self.path)),
-                None => Ok(()),
-            });
+        let written = self.file.write_all(bytes).and_then(|()| match &self.temporary {
+            Some(temporary) => self.file.sync_all().and_then(|()| fs::rename(temporary, &self.path)),
+            None => Ok(()),
+        });
         let path = self.path.clone();
         if written.is_ok() {
             self.temporary = None;
@@ -82,13 +66,10 @@ impl Drop for Output {
 pub fn is_same(first: &Path, second: &Path) -> bool {
     let whole = |path: &Path| {
         fs::canonicalize(path).unwrap_or_else(|_| {
-            let folder = path
-                .parent()
-                .filter(|folder| !folder.as_os_str().is_empty())
-                .unwrap_or(Path::new("."));
+            let folder =
+                path.parent().filter(|folder| !folder.as_os_str().is_empty()).unwrap_or(Path::new("."));
             let folder = fs::canonicalize(folder).unwrap_or_else(|_| folder.to_path_buf());
-            path.file_name()
-                .map_or(folder.clone(), |name| folder.join(name))
+            path.file_name().map_or(folder.clone(), |name| folder.join(name))
         })
     };
     let plain = |path: &Path| fs::metadata(path).map_or(true, |data| data.is_file());

@@ -13,12 +13,7 @@ pub enum Tree {
     /// It is a panel of the order, by its line. In a sawn tree the rectangle is exactly the panel's.
     Panel { panel: usize, turned: bool },
     /// It is cut. There is no second part where setting and kerf reach the end of the side: the blade only shaves.
-    Cut {
-        direction: Direction,
-        at: u32,
-        first: Box<Tree>,
-        second: Option<Box<Tree>>,
-    },
+    Cut { direction: Direction, at: u32, first: Box<Tree>, second: Option<Box<Tree>> },
 }
 
 /// The number of a direction in `Sides`.
@@ -73,12 +68,7 @@ impl Saw<'_> {
             return tree;
         }
         let second = (from - to > self.kerf).then(|| Box::new(Tree::Rest));
-        Tree::Cut {
-            direction: direction(axis),
-            at: to,
-            first: Box::new(tree),
-            second,
-        }
+        Tree::Cut { direction: direction(axis), at: to, first: Box::new(tree), second }
     }
 
     /// The tree with every cut that brings a panel to its size; panels that do not fit their rectangle stay as they
@@ -87,10 +77,7 @@ impl Saw<'_> {
         match tree {
             Tree::Rest => Tree::Rest,
             Tree::Panel { panel, turned } => {
-                let own = self
-                    .panels
-                    .get(panel)
-                    .map_or(sides, |own| lying(*own, turned));
+                let own = self.panels.get(panel).map_or(sides, |own| lying(*own, turned));
                 let fits = own[0] <= sides[0] && own[1] <= sides[1];
                 let leaf = Tree::Panel { panel, turned };
                 if fits {
@@ -99,20 +86,10 @@ impl Saw<'_> {
                     leaf
                 }
             }
-            Tree::Cut {
-                direction,
-                at,
-                first,
-                second,
-            } => {
+            Tree::Cut { direction, at, first, second } => {
                 let axis = axis(direction);
                 let Some((_, rest)) = parts(sides[axis], at, self.kerf) else {
-                    return Tree::Cut {
-                        direction,
-                        at,
-                        first,
-                        second,
-                    };
+                    return Tree::Cut { direction, at, first, second };
                 };
                 let part = |size: u32| {
                     let mut part = sides;
@@ -124,12 +101,7 @@ impl Saw<'_> {
                     (Some(second), Some(size)) => Some(Box::new(self.sawn(*second, part(size)))),
                     (second, _) => second,
                 };
-                Tree::Cut {
-                    direction,
-                    at,
-                    first,
-                    second,
-                }
+                Tree::Cut { direction, at, first, second }
             }
         }
     }
@@ -137,29 +109,16 @@ impl Saw<'_> {
 
 impl Tree {
     pub fn cut(direction: Direction, at: u32, first: Tree, second: Option<Tree>) -> Tree {
-        Tree::Cut {
-            direction,
-            at,
-            first: Box::new(first),
-            second: second.map(Box::new),
-        }
+        Tree::Cut { direction, at, first: Box::new(first), second: second.map(Box::new) }
     }
 
     /// How often the direction of sawing changes on the longest path, counting the first as one.
     pub fn stages(&self) -> u32 {
         fn below(tree: &Tree, above: Option<Direction>) -> u32 {
             match tree {
-                Tree::Cut {
-                    direction,
-                    first,
-                    second,
-                    ..
-                } => {
-                    let second = second
-                        .as_ref()
-                        .map_or(0, |second| below(second, Some(*direction)));
-                    u32::from(above != Some(*direction))
-                        + second.max(below(first, Some(*direction)))
+                Tree::Cut { direction, first, second, .. } => {
+                    let second = second.as_ref().map_or(0, |second| below(second, Some(*direction)));
+                    u32::from(above != Some(*direction)) + second.max(below(first, Some(*direction)))
                 }
                 _ => 0,
             }

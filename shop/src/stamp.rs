@@ -14,20 +14,13 @@ const OLD_MARK: &[u8; 8] = b"CUTSTAMP";
 
 /// A stamp of today: its document.
 pub fn text(outcome: &Outcome) -> String {
-    let boards = outcome
-        .boards
-        .iter()
-        .map(|board| tree_document(outcome, board))
-        .collect();
+    let boards = outcome.boards.iter().map(|board| tree_document(outcome, board)).collect();
     let document = Value::object([
         ("stamp", Value::text(MARK)),
         ("one", Value::Truth(outcome.one)),
         ("order", Value::text(outcome.order.text())),
         ("boards", Value::List(boards)),
-        (
-            "evidence",
-            Value::List(outcome.evidence.iter().map(evidence).collect()),
-        ),
+        ("evidence", Value::List(outcome.evidence.iter().map(evidence).collect())),
     ]);
     format!("{document}\n")
 }
@@ -68,29 +61,23 @@ impl Stamp {
         let Some(Value::Text(text)) = document.get("order") else {
             return Err("expected an order in the stamp".to_string());
         };
-        let order = order::read(text.as_bytes(), None)
-            .map_err(|faults| format!("the order: {}", faults[0]))?;
+        let order =
+            order::read(text.as_bytes(), None).map_err(|faults| format!("the order: {}", faults[0]))?;
         let mut filed = Filed::new(document, &order)?;
         filed.one = document.get("one") == Some(&Value::Truth(true));
         if filed.one && filed.boards.len() != 1 {
             return Err("expected one board".to_string());
         }
-        let limits = Limits {
-            seconds: Some(std::time::Duration::ZERO),
-            memory,
-        };
+        let limits = Limits { seconds: Some(std::time::Duration::ZERO), memory };
         Ok(summary(&replayed(order, filed, limits)?))
     }
 }
 
 impl OldStamp {
     fn read(rest: &[u8]) -> Result<OldStamp, String> {
-        let (fields, mut rest) = rest
-            .split_at_checked(20)
-            .ok_or("expected a header of 28 bytes")?;
-        let mut numbers = fields
-            .chunks_exact(4)
-            .map(|four| u32::from_le_bytes([four[0], four[1], four[2], four[3]]));
+        let (fields, mut rest) = rest.split_at_checked(20).ok_or("expected a header of 28 bytes")?;
+        let mut numbers =
+            fields.chunks_exact(4).map(|four| u32::from_le_bytes([four[0], four[1], four[2], four[3]]));
         let choices = numbers.next().unwrap_or(0);
         let mut sections = Vec::new();
         for length in numbers {
@@ -103,12 +90,7 @@ impl OldStamp {
         if !rest.is_empty() {
             return Err("expected no bytes after the plan block".to_string());
         }
-        Ok(OldStamp {
-            choices,
-            job,
-            weights: [first, second],
-            plan,
-        })
+        Ok(OldStamp { choices, job, weights: [first, second], plan })
     }
 
     fn recheck(&self, memory: u64) -> Result<String, String> {
@@ -124,11 +106,7 @@ impl OldStamp {
             (false, true) => planner.certify(first, &plan).map_err(words)?.bound,
             _ => planner.bound_two(first, second).map_err(words)?.bound,
         };
-        let worth: u64 = job
-            .kinds
-            .iter()
-            .map(|kind| u64::from(kind.price) * u64::from(kind.demand))
-            .sum();
+        let worth: u64 = job.kinds.iter().map(|kind| u64::from(kind.price) * u64::from(kind.demand)).sum();
         let (earned, most) = (report.profit, bound.min(worth));
         let sentence = match most - earned {
             0 => "best: no guillotine plan of this plate in whole units earns more".to_string(),

@@ -9,13 +9,7 @@ pub enum Verdict {
     /// thousandths of a millimetre.
     Board { worth: u128, most: u128 },
     /// A whole order: its boards without offcuts, what they cost, and what any plan must at least have of both.
-    Order {
-        boards: u64,
-        cost: u64,
-        least_boards: u64,
-        least_cost: u64,
-        costs_differ: bool,
-    },
+    Order { boards: u64, cost: u64, least_boards: u64, least_cost: u64, costs_differ: bool },
     /// So many panels are left over. `stock` says what is known of it.
     Short { left: u64, stock: Suffices },
 }
@@ -60,37 +54,18 @@ impl Verdict {
         let all = worth(&task.counts());
         let bounds = evidence.iter().filter(|part| part.stock == stock);
         let bounds = bounds.filter_map(|part| most_worth(task, part, memory));
-        Verdict::Board {
-            worth: worth(copies),
-            most: bounds.fold(all, u128::min),
-        }
+        Verdict::Board { worth: worth(copies), most: bounds.fold(all, u128::min) }
     }
 
     /// The verdict on a whole order whose boards are so many of each line of the stock.
     pub fn of_order(task: &Task, boards: &[u64], evidence: &[Modelled], memory: u64) -> Verdict {
-        let bought = || {
-            task.stock
-                .iter()
-                .zip(boards)
-                .filter(|(stock, _)| stock.cost > 0)
-        };
+        let bought = || task.stock.iter().zip(boards).filter(|(stock, _)| stock.cost > 0);
         let cost = bought().map(|(stock, boards)| stock.cost * boards).sum();
-        let costs: Vec<u64> = task
-            .stock
-            .iter()
-            .map(|stock| stock.cost)
-            .filter(|cost| *cost > 0)
-            .collect();
+        let costs: Vec<u64> = task.stock.iter().map(|stock| stock.cost).filter(|cost| *cost > 0).collect();
         let costs_differ = costs.windows(2).any(|two| two[0] != two[1]);
         let (least_cost, least_boards) = least(task, evidence, memory).unwrap_or((0, 0));
         let boards = bought().map(|(_, boards)| boards).sum();
-        Verdict::Order {
-            boards,
-            cost,
-            least_boards,
-            least_cost,
-            costs_differ,
-        }
+        Verdict::Order { boards, cost, least_boards, least_cost, costs_differ }
     }
 
     /// Lower is better, of verdicts on one plan.
@@ -105,9 +80,7 @@ impl Verdict {
     pub fn is_best(&self) -> bool {
         match *self {
             Verdict::Board { worth, most } => worth >= most,
-            Verdict::Order {
-                cost, least_cost, ..
-            } => cost <= least_cost,
+            Verdict::Order { cost, least_cost, .. } => cost <= least_cost,
             Verdict::Short { .. } => false,
         }
     }
@@ -122,13 +95,7 @@ impl Verdict {
                 let tenths = (1000 * (most - worth)).div_ceil(worth);
                 format!("at most {}.{} % more is possible", tenths / 10, tenths % 10)
             }
-            Verdict::Order {
-                boards,
-                cost,
-                least_boards,
-                least_cost,
-                costs_differ,
-            } => {
+            Verdict::Order { boards, cost, least_boards, least_cost, costs_differ } => {
                 let noun = if boards == 1 { "board" } else { "boards" };
                 match (self.is_best(), costs_differ) {
                     (true, false) => format!("{boards} {noun}: no plan needs fewer"),
@@ -136,9 +103,9 @@ impl Verdict {
                         format!("{boards} {noun}, at least {least_boards} are needed")
                     }
                     (true, true) => format!("{boards} {noun} for {cost}: no plan costs less"),
-                    (false, true) => format!(
-                        "{boards} {noun} for {cost}, every plan costs at least {least_cost}"
-                    ),
+                    (false, true) => {
+                        format!("{boards} {noun} for {cost}, every plan costs at least {least_cost}")
+                    }
                 }
             }
             Verdict::Short { left, stock } => {
@@ -195,10 +162,7 @@ fn bounded(task: &Task, evidence: &[Modelled], memory: u64) -> Option<(Vec<Offer
 /// The least cost and the fewest boards that any plan has, by the bounds of all boards of the stock.
 fn least(task: &Task, evidence: &[Modelled], memory: u64) -> Option<(u64, u64)> {
     let (offers, floor) = bounded(task, evidence, memory)?;
-    let bought: Vec<&Offer> = offers
-        .iter()
-        .filter(|offer| offer.count.is_none())
-        .collect();
+    let bought: Vec<&Offer> = offers.iter().filter(|offer| offer.count.is_none()).collect();
     if let [only] = bought[..] {
         let (plates, _) = only.priced.plates_needed(floor.other(&offers))?;
         return Some((plates.saturating_mul(only.cost), plates));

@@ -28,21 +28,13 @@ impl Value {
     }
 
     pub fn object<const N: usize>(members: [(&str, Value); N]) -> Value {
-        Value::Object(
-            members
-                .into_iter()
-                .map(|(name, value)| (name.to_string(), value))
-                .collect(),
-        )
+        Value::Object(members.into_iter().map(|(name, value)| (name.to_string(), value)).collect())
     }
 
     /// A member of an object.
     pub fn get(&self, name: &str) -> Option<&Value> {
         match self {
-            Value::Object(members) => members
-                .iter()
-                .find(|(n, _)| n == name)
-                .map(|(_, value)| value),
+            Value::Object(members) => members.iter().find(|(n, _)| n == name).map(|(_, value)| value),
             _ => None,
         }
     }
@@ -64,21 +56,15 @@ impl Value {
             Value::Number(number) => write!(f, "{number}"),
             Value::Text(text) => write_text(f, text),
             Value::List(values) => {
-                self.write_all(f, indent, ['[', ']'], values, |f, value, indent| {
-                    value.write(f, indent)
-                })
+                self.write_all(f, indent, ['[', ']'], values, |f, value, indent| value.write(f, indent))
             }
-            Value::Object(members) => self.write_all(
-                f,
-                indent,
-                ['{', '}'],
-                members,
-                |f, (name, value), indent| {
+            Value::Object(members) => {
+                self.write_all(f, indent, ['{', '}'], members, |f, (name, value), indent| {
                     write_text(f, name)?;
                     write!(f, ": ")?;
                     value.write(f, indent)
-                },
-            ),
+                })
+            }
         }
     }
 
@@ -92,20 +78,12 @@ impl Value {
     ) -> fmt::Result {
         let (gap, end, inner) = match self.is_flat() {
             true => (" ".to_string(), String::new(), indent),
-            false => (
-                format!("\n{:1$}", "", indent + 1),
-                format!("\n{:1$}", "", indent),
-                indent + 1,
-            ),
+            false => (format!("\n{:1$}", "", indent + 1), format!("\n{:1$}", "", indent), indent + 1),
         };
         write!(f, "{open}")?;
         for (index, value) in items.iter().enumerate() {
             let before = if index > 0 { "," } else { "" };
-            let gap = if index == 0 && self.is_flat() {
-                ""
-            } else {
-                gap.as_str()
-            };
+            let gap = if index == 0 && self.is_flat() { "" } else { gap.as_str() };
             write!(f, "{before}{gap}")?;
             item(f, value, inner)?;
         }

@@ -40,13 +40,7 @@ pub fn document(outcome: &Outcome) -> Value {
         Verdict::Board { most, .. } => {
             members.push(("most_possible", Value::text(worth_in_words(order, most))));
         }
-        Verdict::Order {
-            boards,
-            cost,
-            least_boards,
-            least_cost,
-            ..
-        } => {
+        Verdict::Order { boards, cost, least_boards, least_cost, .. } => {
             members.push(("boards_planned", Value::number(boards)));
             members.push(("boards_needed", Value::number(least_boards)));
             members.push(("cost", Value::number(cost)));
@@ -54,29 +48,12 @@ pub fn document(outcome: &Outcome) -> Value {
         }
         Verdict::Short { left, .. } => members.push(("left_over", Value::number(left))),
     }
-    members.push((
-        "boards",
-        Value::List(
-            outcome
-                .boards
-                .iter()
-                .map(|one| board(outcome, one))
-                .collect(),
-        ),
-    ));
+    members.push(("boards", Value::List(outcome.boards.iter().map(|one| board(outcome, one)).collect())));
     if let (true, [board]) = (outcome.one, &outcome.boards[..]) {
         members.push(("plan", node(outcome, board, &board.layout.board)));
     }
-    members.push((
-        "evidence",
-        Value::List(outcome.evidence.iter().map(evidence).collect()),
-    ));
-    Value::Object(
-        members
-            .into_iter()
-            .map(|(name, value)| (name.to_string(), value))
-            .collect(),
-    )
+    members.push(("evidence", Value::List(outcome.evidence.iter().map(evidence).collect())));
+    Value::Object(members.into_iter().map(|(name, value)| (name.to_string(), value)).collect())
 }
 
 fn pieces(outcome: &Outcome) -> Vec<Value> {
@@ -99,20 +76,14 @@ fn board(outcome: &Outcome, board: &Board) -> Value {
     let rests = board.layout.rests.iter().map(|rest| sides(*rest)).collect();
     Value::object([
         ("plate", sides(board.layout.board.rect)),
-        (
-            "offcut",
-            Value::Truth(outcome.order.plates[board.plate].offcut),
-        ),
+        ("offcut", Value::Truth(outcome.order.plates[board.plate].offcut)),
         ("plan", node(outcome, board, &board.layout.board)),
         ("rests", Value::List(rests)),
     ])
 }
 
 fn node(outcome: &Outcome, board: &Board, part: &Part) -> Value {
-    let size = (
-        "size",
-        Value::List(vec![mm(part.rect.length), mm(part.rect.width)]),
-    );
+    let size = ("size", Value::List(vec![mm(part.rect.length), mm(part.rect.width)]));
     match part.becomes {
         Use::Rest => Value::object([("waste", Value::Truth(true)), size]),
         Use::Panel { panel, turned } => Value::object([
@@ -122,9 +93,7 @@ fn node(outcome: &Outcome, board: &Board, part: &Part) -> Value {
         ]),
         Use::Cut(number) => {
             let cut = &board.layout.cuts[number - 1];
-            let second = cut
-                .second
-                .map_or(Value::Null, |second| node(outcome, board, &second));
+            let second = cut.second.map_or(Value::Null, |second| node(outcome, board, &second));
             Value::object([
                 ("cut", Value::text(side_word(cut.direction))),
                 ("at", mm(cut.at)),
@@ -141,10 +110,7 @@ fn node(outcome: &Outcome, board: &Board, part: &Part) -> Value {
 pub fn tree_document(outcome: &Outcome, board: &Board) -> Value {
     Value::object([
         ("plate", sides(board.layout.board.rect)),
-        (
-            "offcut",
-            Value::Truth(outcome.order.plates[board.plate].offcut),
-        ),
+        ("offcut", Value::Truth(outcome.order.plates[board.plate].offcut)),
         ("plan", node(outcome, board, &board.layout.board)),
     ])
 }
@@ -155,10 +121,7 @@ pub fn evidence(part: &Modelled) -> Value {
     Value::object([
         ("stock", Value::number(part.stock)),
         ("plate", pair(part.model.plate)),
-        (
-            "sides",
-            Value::List(part.model.sides.iter().map(|sides| pair(*sides)).collect()),
-        ),
+        ("sides", Value::List(part.model.sides.iter().map(|sides| pair(*sides)).collect())),
         ("prices", numbers(&part.prices)),
         ("multipliers", numbers(&part.multipliers)),
     ])
@@ -172,43 +135,24 @@ impl Filed {
         let boards = document.get("boards").and_then(list).unwrap_or_default();
         let one = document.get("plan").is_some() || document.get("boards").is_none();
         if one {
-            let stock = boards.first().map_or(Ok(first_plate(order)), |board| {
-                stock_of(board, order, "the plan")
-            })?;
+            let stock =
+                boards.first().map_or(Ok(first_plate(order)), |board| stock_of(board, order, "the plan"))?;
             let tree = tree(document.get("plan").unwrap_or(document), "the plan", order)?;
-            return Ok(Filed {
-                boards: vec![(stock, tree)],
-                one,
-                evidence,
-            });
+            return Ok(Filed { boards: vec![(stock, tree)], one, evidence });
         }
         let board = |(index, board): (usize, &Value)| {
             let place = format!("board {}", index + 1);
-            let plan = board
-                .get("plan")
-                .ok_or_else(|| format!("{place}: expected a plan"))?;
+            let plan = board.get("plan").ok_or_else(|| format!("{place}: expected a plan"))?;
             Ok((stock_of(board, order, &place)?, tree(plan, &place, order)?))
         };
-        let boards = boards
-            .iter()
-            .enumerate()
-            .map(board)
-            .collect::<Result<_, String>>()?;
-        Ok(Filed {
-            boards,
-            one,
-            evidence,
-        })
+        let boards = boards.iter().enumerate().map(board).collect::<Result<_, String>>()?;
+        Ok(Filed { boards, one, evidence })
     }
 }
 
 /// The first line of the stock that is no offcut.
 fn first_plate(order: &Order) -> usize {
-    order
-        .plates
-        .iter()
-        .position(|plate| !plate.offcut)
-        .unwrap_or(0)
+    order.plates.iter().position(|plate| !plate.offcut).unwrap_or(0)
 }
 
 /// The line of the stock with the sides that a board says; the first plate where it says none.
@@ -216,20 +160,12 @@ fn stock_of(board: &Value, order: &Order, place: &str) -> Result<usize, String> 
     let Some(plate) = board.get("plate") else {
         return Ok(first_plate(order));
     };
-    let side = |name: &str| {
-        plate
-            .get(name)
-            .and_then(length)
-            .ok_or_else(|| format!("{place}: expected a {name}"))
-    };
+    let side =
+        |name: &str| plate.get(name).and_then(length).ok_or_else(|| format!("{place}: expected a {name}"));
     let sides = [side("length")?, side("width")?];
     let offcut = board.get("offcut") == Some(&Value::Truth(true));
     let same = |plate: &crate::order::Plate| plate.sides() == sides && plate.offcut == offcut;
-    order
-        .plates
-        .iter()
-        .position(same)
-        .ok_or_else(|| format!("{place}: expected a plate of the stock"))
+    order.plates.iter().position(same).ok_or_else(|| format!("{place}: expected a plate of the stock"))
 }
 
 fn length(value: &Value) -> Option<u32> {
@@ -281,35 +217,17 @@ fn evidence_of(document: &Value) -> Result<Vec<Modelled>, String> {
         None | Some(Value::Null) => return Ok(Vec::new()),
         Some(_) => return Err("evidence: expected a list".to_string()),
     };
-    let wrong = || {
-        "evidence: expected stock, plate, sides, prices and multipliers in whole numbers"
-            .to_string()
-    };
+    let wrong =
+        || "evidence: expected stock, plate, sides, prices and multipliers in whole numbers".to_string();
     let part = |part: &Value| {
         let stock = usize::try_from(number(part.get("stock")?)?).ok()?;
         let plate = pair(part.get("plate")?)?;
-        let sides = list(part.get("sides")?)?
-            .iter()
-            .map(pair)
-            .collect::<Option<_>>()?;
-        let numbers = |name: &str| {
-            list(part.get(name)?)?
-                .iter()
-                .map(number)
-                .collect::<Option<Vec<u32>>>()
-        };
+        let sides = list(part.get("sides")?)?.iter().map(pair).collect::<Option<_>>()?;
+        let numbers = |name: &str| list(part.get(name)?)?.iter().map(number).collect::<Option<Vec<u32>>>();
         let (prices, multipliers) = (numbers("prices")?, numbers("multipliers")?);
-        Some(Modelled {
-            stock,
-            model: Model { plate, sides },
-            prices,
-            multipliers,
-        })
+        Some(Modelled { stock, model: Model { plate, sides }, prices, multipliers })
     };
-    parts
-        .iter()
-        .map(|value| part(value).ok_or_else(wrong))
-        .collect()
+    parts.iter().map(|value| part(value).ok_or_else(wrong)).collect()
 }
 
 fn list(value: &Value) -> Option<&[Value]> {
@@ -328,10 +246,7 @@ fn number(value: &Value) -> Option<u32> {
 
 fn pair(value: &Value) -> Option<[u16; 2]> {
     match list(value)? {
-        [first, second] => Some([
-            u16::try_from(number(first)?).ok()?,
-            u16::try_from(number(second)?).ok()?,
-        ]),
+        [first, second] => Some([u16::try_from(number(first)?).ok()?, u16::try_from(number(second)?).ok()?]),
         _ => None,
     }
 }

@@ -19,11 +19,7 @@ struct Reader<'a> {
 type Read<T> = Result<T, String>;
 
 pub fn read(text: &str) -> Read<Value> {
-    let mut reader = Reader {
-        text,
-        at: 0,
-        depth: 0,
-    };
+    let mut reader = Reader { text, at: 0, depth: 0 };
     let value = reader.value()?;
     reader.skip_blanks();
     if reader.at < text.len() {
@@ -36,11 +32,7 @@ impl Reader<'_> {
     fn expected(&self, what: &str) -> String {
         let before = &self.text[..self.at];
         let line = before.split('\n').count();
-        let column = before
-            .rsplit('\n')
-            .next()
-            .map_or(0, |last| last.chars().count())
-            + 1;
+        let column = before.rsplit('\n').next().map_or(0, |last| last.chars().count()) + 1;
         format!("line {line}, column {column}: expected {what}")
     }
 
@@ -49,11 +41,7 @@ impl Reader<'_> {
     }
 
     fn skip_blanks(&mut self) {
-        self.at = self.text.len()
-            - self
-                .rest()
-                .trim_start_matches([' ', '\t', '\n', '\r'])
-                .len();
+        self.at = self.text.len() - self.rest().trim_start_matches([' ', '\t', '\n', '\r']).len();
     }
 
     /// Passes a word, if it stands here.
@@ -142,11 +130,7 @@ impl Reader<'_> {
         self.at += 1;
         let mut text = String::new();
         loop {
-            let letter = self
-                .rest()
-                .chars()
-                .next()
-                .ok_or_else(|| self.expected("a closing quote"))?;
+            let letter = self.rest().chars().next().ok_or_else(|| self.expected("a closing quote"))?;
             self.at += letter.len_utf8();
             match letter {
                 '"' => return Ok(text),
@@ -185,10 +169,7 @@ impl Reader<'_> {
     }
 
     fn code(&mut self) -> Read<u32> {
-        let digits = self
-            .rest()
-            .get(..4)
-            .and_then(|four| u32::from_str_radix(four, 16).ok());
+        let digits = self.rest().get(..4).and_then(|four| u32::from_str_radix(four, 16).ok());
         let code = digits.ok_or_else(|| self.expected("four hexadecimal digits"))?;
         self.at += 4;
         Ok(code)

@@ -18,11 +18,7 @@ struct Line {
 /// The cells of a line up to the last that is not empty.
 pub fn cells(line: &str) -> Result<Vec<Cell>, Expected> {
     let separator = if line.contains('\t') { '\t' } else { ',' };
-    let mut line = Line {
-        chars: line.chars().collect(),
-        at: 0,
-        separator,
-    };
+    let mut line = Line { chars: line.chars().collect(), at: 0, separator };
     let mut cells = Vec::new();
     loop {
         line.skip_blanks();
@@ -50,21 +46,14 @@ impl Line {
     }
 
     fn skip_blanks(&mut self) {
-        while self
-            .next()
-            .is_some_and(|next| next.is_whitespace() && next != self.separator)
-        {
+        while self.next().is_some_and(|next| next.is_whitespace() && next != self.separator) {
             self.at += 1;
         }
     }
 
     fn cell(&mut self) -> Result<Cell, Expected> {
         let column = self.at + 1;
-        let text = if self.next() == Some('"') {
-            self.quoted()?
-        } else {
-            self.bare()
-        };
+        let text = if self.next() == Some('"') { self.quoted()? } else { self.bare() };
         Ok(Cell { text, column })
     }
 
@@ -83,13 +72,7 @@ impl Line {
         self.at += 1;
         loop {
             match (self.next(), self.chars.get(self.at + 1)) {
-                (None, _) => {
-                    return Err(Expected::at(
-                        self.at + 1,
-                        "a closing quote",
-                        "the line's end",
-                    ))
-                }
+                (None, _) => return Err(Expected::at(self.at + 1, "a closing quote", "the line's end")),
                 (Some('"'), Some('"')) => self.at += 1,
                 (Some('"'), _) => break,
                 _ => {}
@@ -102,11 +85,7 @@ impl Line {
         if self.ends_cell() {
             Ok(text.trim().to_string())
         } else {
-            Err(Expected::at(
-                self.at + 1,
-                "the cell's end after the closing quote",
-                "more text",
-            ))
+            Err(Expected::at(self.at + 1, "the cell's end after the closing quote", "more text"))
         }
     }
 }

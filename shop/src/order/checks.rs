@@ -15,9 +15,7 @@ const MOST_KERF: Millimetres = Millimetres::of_thousandths(1_000_000);
 impl Draft {
     /// The order, or the first fault of the whole and then those of each panel.
     pub fn order(self) -> Result<Order, Vec<Fault>> {
-        let end = |expected: &str| {
-            vec![Expected::at(1, expected, "the end of the file").on(self.lines + 1)]
-        };
+        let end = |expected: &str| vec![Expected::at(1, expected, "the end of the file").on(self.lines + 1)];
         if self.plates.is_empty() {
             return Err(end("a line plate, LENGTH x WIDTH"));
         }
@@ -41,20 +39,10 @@ impl Draft {
             panels: Vec::new(),
             notices,
         };
-        let panels: Vec<Placed<Panel>> = self
-            .panels
-            .into_iter()
-            .map(|panel| panel.turning(turning))
-            .collect();
-        let usable: Vec<Sides> = order
-            .plates
-            .iter()
-            .map(|plate| order.usable(plate))
-            .collect();
-        let mut faults: Vec<Fault> = panels
-            .iter()
-            .filter_map(|panel| misfit(panel, &usable))
-            .collect();
+        let panels: Vec<Placed<Panel>> =
+            self.panels.into_iter().map(|panel| panel.turning(turning)).collect();
+        let usable: Vec<Sides> = order.plates.iter().map(|plate| order.usable(plate)).collect();
+        let mut faults: Vec<Fault> = panels.iter().filter_map(|panel| misfit(panel, &usable)).collect();
         faults.extend(one_too_many(&panels));
         faults.extend(too_many_copies(&panels));
         if !faults.is_empty() {
@@ -67,16 +55,10 @@ impl Draft {
     fn saw_fault(&self) -> Option<Fault> {
         let kerf = self.kerf.as_ref()?;
         if kerf.value > MOST_KERF {
-            return Some(kerf.fault(
-                format!("a kerf of at most {MOST_KERF} mm"),
-                kerf.value.to_string(),
-            ));
+            return Some(kerf.fault(format!("a kerf of at most {MOST_KERF} mm"), kerf.value.to_string()));
         }
         let trim = self.trim.as_ref().filter(|trim| trim.value <= kerf.value)?;
-        Some(trim.fault(
-            format!("a trim wider than the kerf, {} mm", kerf.value),
-            trim.value.to_string(),
-        ))
+        Some(trim.fault(format!("a trim wider than the kerf, {} mm", kerf.value), trim.value.to_string()))
     }
 }
 
@@ -87,16 +69,10 @@ fn misfit(panel: &Placed<Panel>, usable: &[Sides]) -> Option<Fault> {
         let own = lying(sides, turned);
         own[0] <= plate[0] && own[1] <= plate[1]
     };
-    if usable
-        .iter()
-        .any(|plate| fits(plate, false) || panel.value.turns && fits(plate, true))
-    {
+    if usable.iter().any(|plate| fits(plate, false) || panel.value.turns && fits(plate, true)) {
         return None;
     }
-    let plates: Vec<String> = usable
-        .iter()
-        .map(|plate| crate::layout::size(*plate))
-        .collect();
+    let plates: Vec<String> = usable.iter().map(|plate| crate::layout::size(*plate)).collect();
     let expected = format!("a panel that fits a plate of {}", plates.join(" or "));
     Some(panel.fault(expected, crate::layout::size(sides)))
 }
@@ -105,12 +81,7 @@ fn misfit(panel: &Placed<Panel>, usable: &[Sides]) -> Option<Fault> {
 fn one_too_many(panels: &[Placed<Panel>]) -> Option<Fault> {
     let mut sizes = HashSet::new();
     let wanted = panels.iter().filter(|panel| panel.value.count > 0);
-    let mut kinds = wanted.map(|panel| {
-        (
-            panel,
-            (panel.value.sides, panel.value.price, panel.value.turns),
-        )
-    });
+    let mut kinds = wanted.map(|panel| (panel, (panel.value.sides, panel.value.price, panel.value.turns)));
     let (panel, _) = kinds.find(|(_, size)| sizes.insert(*size) && sizes.len() > MOST_SIZES)?;
     let found = crate::layout::size(panel.value.sides());
     Some(panel.fault(format!("no more than {MOST_SIZES} sizes of panels"), found))
@@ -123,8 +94,5 @@ fn too_many_copies(panels: &[Placed<Panel>]) -> Option<Fault> {
         all += panel.value.count;
         all > MOST_PANELS
     })?;
-    Some(panel.fault(
-        format!("no more than {MOST_PANELS} panels in all"),
-        all.to_string(),
-    ))
+    Some(panel.fault(format!("no more than {MOST_PANELS} panels in all"), all.to_string()))
 }

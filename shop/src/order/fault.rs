@@ -21,11 +21,7 @@ pub struct Fault {
 
 impl Expected {
     pub fn at(column: usize, expected: impl Into<String>, found: impl Into<String>) -> Expected {
-        Expected {
-            column,
-            expected: expected.into(),
-            found: found.into(),
-        }
+        Expected { column, expected: expected.into(), found: found.into() }
     }
 
     /// A cell that should have held something else.
@@ -38,31 +34,14 @@ impl Expected {
     }
 
     pub fn on(self, line: usize) -> Fault {
-        let Expected {
-            column,
-            expected,
-            found,
-        } = self;
-        Fault {
-            line,
-            column,
-            expected,
-            found,
-        }
+        let Expected { column, expected, found } = self;
+        Fault { line, column, expected, found }
     }
 }
 
 impl fmt::Display for Fault {
     fn fmt(&self, f: &mut fmt::Formatter) -> fmt::Result {
-        let Fault {
-            line,
-            column,
-            expected,
-            found,
-        } = self;
-        write!(
-            f,
-            "line {line}, column {column}: expected {expected}, found {found}"
-        )
+        let Fault { line, column, expected, found } = self;
+        write!(f, "line {line}, column {column}: expected {expected}, found {found}")
     }
 }

@@ -72,11 +72,7 @@ impl Order {
 
     /// The part of a plate within its trimmed edges. An offcut has no raw edges.
     pub fn usable(&self, plate: &Plate) -> Sides {
-        let off = if plate.offcut {
-            0
-        } else {
-            2 * self.trim.thousandths()
-        };
+        let off = if plate.offcut { 0 } else { 2 * self.trim.thousandths() };
         plate.sides().map(|side| side.saturating_sub(off))
     }
 

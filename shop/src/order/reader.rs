@@ -42,25 +42,9 @@ pub struct PanelLine {
 impl Placed<PanelLine> {
     /// The panel in an order whose panels may be turned, or may not, where they do not say.
     pub fn turning(self, turning: bool) -> Placed<Panel> {
-        let PanelLine {
-            name,
-            sides,
-            count,
-            price,
-            turns,
-        } = self.value;
-        let value = Panel {
-            name,
-            sides,
-            count,
-            price,
-            turns: turns.unwrap_or(turning),
-        };
-        Placed {
-            value,
-            line: self.line,
-            column: self.column,
-        }
+        let PanelLine { name, sides, count, price, turns } = self.value;
+        let value = Panel { name, sides, count, price, turns: turns.unwrap_or(turning) };
+        Placed { value, line: self.line, column: self.column }
     }
 }
 
@@ -108,11 +92,7 @@ fn text_of(bytes: &[u8]) -> Result<&str, Fault> {
     let text = std::str::from_utf8(bytes).map_err(|error| {
         let before = String::from_utf8_lossy(&bytes[..error.valid_up_to()]);
         let line = before.split('\n').count();
-        let column = before
-            .split('\n')
-            .next_back()
-            .map_or(0, |last| last.chars().count())
-            + 1;
+        let column = before.split('\n').next_back().map_or(0, |last| last.chars().count()) + 1;
         Expected::at(column, "text in UTF-8", "a byte of another code").on(line)
     })?;
     Ok(text.strip_prefix('\u{feff}').unwrap_or(text))
@@ -144,47 +124,24 @@ impl Draft {
     }
 
     fn placed<T>(&self, cell: &Cell, value: T) -> Placed<T> {
-        Placed {
-            value,
-            line: self.lines,
-            column: cell.column,
-        }
+        Placed { value, line: self.lines, column: cell.column }
     }
 
     /// A size of the stock: sides, then how many there are and what each costs, if that is said.
     fn plate(&mut self, first: &Cell, rest: &[Cell], offcut: bool) -> Result<(), Expected> {
         let expected = "LENGTH x WIDTH in millimetres, as 2440 x 1220";
-        let (cell, rest) = rest
-            .split_first()
-            .ok_or_else(|| after(std::slice::from_ref(first), expected))?;
+        let (cell, rest) = rest.split_first().ok_or_else(|| after(std::slice::from_ref(first), expected))?;
         let sides = cell.text.split_once(['x', 'X', '×']);
         let sides = sides.and_then(|(length, width)| Some([length_in(length)?, length_in(width)?]));
         let sides = sides.ok_or_else(|| Expected::in_cell(cell, expected))?;
-        let mut plate = Plate {
-            sides,
-            count: offcut.then_some(1),
-            cost: u32::from(!offcut),
-            offcut,
-        };
+        let mut plate = Plate { sides, count: offcut.then_some(1), cost: u32::from(!offcut), offcut };
         let (mut counted, mut costed) = (false, offcut);
         for cell in rest.iter().filter(|cell| !cell.text.is_empty()) {
-            match cell
-                .text
-                .to_lowercase()
-                .strip_prefix("cost")
-                .map(|cost| cost.trim().to_string())
-            {
+            match cell.text.to_lowercase().strip_prefix("cost").map(|cost| cost.trim().to_string()) {
                 Some(text) => {
                     once(!costed, cell)?;
                     costed = true;
-                    plate.cost = whole(
-                        &Cell {
-                            text,
-                            ..cell.clone()
-                        },
-                        "a cost",
-                        MOST_PRICE,
-                    )?;
+                    plate.cost = whole(&Cell { text, ..cell.clone() }, "a cost", MOST_PRICE)?;
                     if plate.cost == 0 {
                         return Err(Expected::in_cell(cell, "a cost above 0"));
                     }
@@ -192,11 +149,8 @@ impl Draft {
                 None => {
                     once(!counted, cell)?;
                     counted = true;
-                    plate.count = Some(whole(
-                        cell,
-                        "how many there are, or a cost as cost 100",
-                        MOST_COPIES,
-                    )?);
+                    plate.count =
+                        Some(whole(cell, "how many there are, or a cost as cost 100", MOST_COPIES)?);
                 }
             }
         }
@@ -216,11 +170,7 @@ impl Draft {
     fn stages(&mut self, first: &Cell, rest: &[Cell]) -> Result<(), Expected> {
         let expected = format!("a number of stages from 1 to {MOST_STAGES}");
         let cell = only(first, rest, &expected)?;
-        let stages = cell
-            .text
-            .parse()
-            .ok()
-            .filter(|stages| (1..=MOST_STAGES).contains(stages));
+        let stages = cell.text.parse().ok().filter(|stages| (1..=MOST_STAGES).contains(stages));
         once(self.stages.is_none(), first)?;
         self.stages = Some(stages.ok_or_else(|| Expected::in_cell(cell, expected))?);
         Ok(())
@@ -229,10 +179,7 @@ impl Draft {
     fn saw(&mut self, rest: &[Cell]) -> Result<(), Expected> {
         for cell in rest {
             let expected = || Expected::in_cell(cell, "kerf or unit with millimetres, as kerf 3.2");
-            let (word, length) = cell
-                .text
-                .split_once(char::is_whitespace)
-                .ok_or_else(expected)?;
+            let (word, length) = cell.text.split_once(char::is_whitespace).ok_or_else(expected)?;
             let length = Millimetres::read(length.trim()).ok_or_else(expected)?;
             match word.to_lowercase().as_str() {
                 "kerf" if self.kerf.is_none() => self.kerf = Some(self.placed(cell, length)),
@@ -259,15 +206,9 @@ impl Draft {
         self.heading = Some(Heading::Faulty);
         let mut columns = [None; COLUMNS.len()];
         for (index, cell) in cells.iter().enumerate() {
-            let column = COLUMNS
-                .iter()
-                .position(|name| is_named(cell, name))
-                .ok_or_else(|| {
-                    Expected::in_cell(
-                        cell,
-                        "one of the columns name, length, width, count, price, turn",
-                    )
-                })?;
+            let column = COLUMNS.iter().position(|name| is_named(cell, name)).ok_or_else(|| {
+                Expected::in_cell(cell, "one of the columns name, length, width, count, price, turn")
+            })?;
             once(columns[column].is_none(), cell)?;
             columns[column] = Some(index);
         }
@@ -278,17 +219,10 @@ impl Draft {
         Ok(())
     }
 
-    fn panel(
-        &mut self,
-        cells: &[Cell],
-        columns: [Option<usize>; COLUMNS.len()],
-    ) -> Result<(), Expected> {
+    fn panel(&mut self, cells: &[Cell], columns: [Option<usize>; COLUMNS.len()]) -> Result<(), Expected> {
         let headed = columns.iter().flatten().count();
         if let Some(cell) = cells.get(headed) {
-            return Err(Expected::in_cell(
-                cell,
-                format!("no more than {headed} cells"),
-            ));
+            return Err(Expected::in_cell(cell, format!("no more than {headed} cells")));
         }
         let cell = |column: usize, expected: &str| {
             let cell = columns[column].and_then(|index| cells.get(index));
@@ -307,13 +241,7 @@ impl Draft {
             Ok(cell) if !cell.text.is_empty() => Some(yes_or_no(cell)?),
             _ => None,
         };
-        let panel = PanelLine {
-            name: name.text.clone(),
-            sides,
-            count,
-            price,
-            turns,
-        };
+        let panel = PanelLine { name: name.text.clone(), sides, count, price, turns };
         self.panels.push(self.placed(length, panel));
         Ok(())
     }
@@ -322,17 +250,10 @@ impl Draft {
         if cell.text.is_empty() {
             return Err(Expected::in_cell(cell, "a name"));
         }
-        match self
-            .panels
-            .iter()
-            .find(|panel| panel.value.name == cell.text)
-        {
+        match self.panels.iter().find(|panel| panel.value.name == cell.text) {
             Some(other) => Err(Expected::in_cell(
                 cell,
-                format!(
-                    "a name that no other panel has, and line {} has it",
-                    other.line
-                ),
+                format!("a name that no other panel has, and line {} has it", other.line),
             )),
             None => Ok(()),
         }
@@ -354,9 +275,7 @@ fn only<'a>(first: &Cell, rest: &'a [Cell], expected: &str) -> Result<&'a Cell, 
 
 /// Something is missing after the last cell of a line.
 fn after(cells: &[Cell], expected: impl Into<String>) -> Expected {
-    let column = cells
-        .last()
-        .map_or(1, |last| last.column + last.text.chars().count());
+    let column = cells.last().map_or(1, |last| last.column + last.text.chars().count());
     Expected::at(column, expected, "the line's end")
 }
 
@@ -383,6 +302,5 @@ fn side(cell: &Cell) -> Result<Millimetres, Expected> {
 
 fn whole(cell: &Cell, what: &str, most: u32) -> Result<u32, Expected> {
     let number = cell.text.parse().ok().filter(|number| *number <= most);
-    number
-        .ok_or_else(|| Expected::in_cell(cell, format!("{what}, a whole number from 0 to {most}")))
+    number.ok_or_else(|| Expected::in_cell(cell, format!("{what}, a whole number from 0 to {most}")))
 }

@@ -10,14 +10,8 @@ impl Order {
         let mut text = String::new();
         let mut line = |line: String| writeln!(text, "{line}").expect("a string takes all text");
         for plate in &self.plates {
-            let count = plate
-                .count
-                .map_or(String::new(), |count| format!(", {count}"));
-            let cost = if plate.offcut {
-                String::new()
-            } else {
-                format!(", cost {}", plate.cost)
-            };
+            let count = plate.count.map_or(String::new(), |count| format!(", {count}"));
+            let cost = if plate.offcut { String::new() } else { format!(", cost {}", plate.cost) };
             let word = if plate.offcut { "offcut" } else { "plate" };
             line(format!("{word}, {}{count}{cost}", size(plate.sides())));
         }
@@ -33,11 +27,7 @@ impl Order {
             let price = panel.price.map_or(String::new(), |price| price.to_string());
             let turn = if panel.turns { "yes" } else { "no" };
             let [length, width] = panel.sides;
-            line(format!(
-                "{}, {length}, {width}, {}, {price}, {turn}",
-                quoted(&panel.name),
-                panel.count
-            ));
+            line(format!("{}, {length}, {width}, {}, {price}, {turn}", quoted(&panel.name), panel.count));
         }
         text
     }

@@ -55,11 +55,7 @@ pub enum Score {
 }
 
 impl Place {
-    pub const NOWHERE: Place = Place {
-        score: i64::MAX,
-        beside: NONE,
-        cut: 0,
-    };
+    pub const NOWHERE: Place = Place { score: i64::MAX, beside: NONE, cut: 0 };
 }
 
 impl Score {
@@ -85,14 +81,7 @@ impl Score {
 impl Board {
     pub fn new(stock: usize, room: [i32; 2], limit: Option<u32>) -> Board {
         let limit = limit.map(|limit| limit as u8);
-        Board {
-            stock,
-            room,
-            limit,
-            nodes: Vec::new(),
-            root: NONE,
-            filled: 0,
-        }
+        Board { stock, room, limit, nodes: Vec::new(), root: NONE, filled: 0 }
     }
 
     pub fn is_empty(&self) -> bool {
@@ -144,20 +133,12 @@ impl Board {
             let scores = [0, 1].map(|cut| score.of(self.room, panel, cut, [0; 2]));
             let score = scores[0].min(scores[1]);
             if score < best.score && self.single_stages(panel) <= self.most_stages() {
-                *best = Place {
-                    score,
-                    beside: 0,
-                    cut: 0,
-                };
+                *best = Place { score, beside: 0, cut: 0 };
                 found = true;
             }
         }
         for (index, node) in self.nodes.iter().enumerate() {
-            let up = if node.up == NONE {
-                PANEL
-            } else {
-                self.nodes[node.up as usize].cut
-            };
+            let up = if node.up == NONE { PANEL } else { self.nodes[node.up as usize].cut };
             for cut in 0..2 {
                 let across = 1 - cut;
                 if up == cut as u8
@@ -167,15 +148,8 @@ impl Board {
                     continue;
                 }
                 let score = score.of(node.room, panel, cut, node.used);
-                if score < best.score
-                    && dice.next() & 127 != 0
-                    && self.keeps_stages(node, panel, cut)
-                {
-                    *best = Place {
-                        score,
-                        beside: index as u32,
-                        cut: cut as u8,
-                    };
+                if score < best.score && dice.next() & 127 != 0 && self.keeps_stages(node, panel, cut) {
+                    *best = Place { score, beside: index as u32, cut: cut as u8 };
                     found = true;
                 }
             }
@@ -197,11 +171,7 @@ impl Board {
     fn keeps_stages(&self, node: &Node, panel: [i32; 2], cut: usize) -> bool {
         let Some(limit) = self.limit else { return true };
         let across = 1 - cut;
-        let wide = if node.up == NONE {
-            self.room[across]
-        } else {
-            node.used[across].max(panel[across])
-        };
+        let wide = if node.up == NONE { self.room[across] } else { node.used[across].max(panel[across]) };
         let here = node.above + 1;
         let own = here + u8::from(panel[across] < wide);
         let beside = match node.cut {
@@ -214,26 +184,9 @@ impl Board {
         own.max(beside) <= limit
     }
 
-    pub fn put(
-        &mut self,
-        kind: usize,
-        turned: bool,
-        used: [i32; 2],
-        place: Place,
-        spare: &mut Vec<Node>,
-    ) {
+    pub fn put(&mut self, kind: usize, turned: bool, used: [i32; 2], place: Place, spare: &mut Vec<Node>) {
         let (parts, up, room) = ([NONE; 2], NONE, [0; 2]);
-        let leaf = Node {
-            cut: PANEL,
-            turned,
-            kind: kind as u16,
-            above: 0,
-            stages: 0,
-            parts,
-            up,
-            used,
-            room,
-        };
+        let leaf = Node { cut: PANEL, turned, kind: kind as u16, above: 0, stages: 0, parts, up, used, room };
         self.rebuild(NONE, Some((place, leaf)), spare);
     }
 
@@ -262,13 +215,7 @@ impl Board {
     }
 
     /// Copies a node and all below it, parts before what they are parts of.
-    fn copy(
-        &self,
-        node: u32,
-        without: u32,
-        with: &Option<(Place, Node)>,
-        to: &mut Vec<Node>,
-    ) -> u32 {
+    fn copy(&self, node: u32, without: u32, with: &Option<(Place, Node)>, to: &mut Vec<Node>) -> u32 {
         if node == without {
             return NONE;
         }
@@ -328,9 +275,7 @@ impl Board {
                 _ => node.used[side],
             };
             let above = self.nodes[index].above + u8::from(!same);
-            node.parts
-                .iter()
-                .for_each(|part| self.nodes[*part as usize].above = above);
+            node.parts.iter().for_each(|part| self.nodes[*part as usize].above = above);
         }
         for index in 0..self.nodes.len() {
             let node = self.nodes[index];
@@ -359,20 +304,8 @@ impl Board {
         }
     }
 
-    fn tree_at(
-        &self,
-        node: u32,
-        saw: &Saw,
-        sides: Sides,
-        panel: &mut impl FnMut(usize) -> usize,
-    ) -> Tree {
-        let Node {
-            cut,
-            kind,
-            turned,
-            used,
-            ..
-        } = self.nodes[node as usize];
+    fn tree_at(&self, node: u32, saw: &Saw, sides: Sides, panel: &mut impl FnMut(usize) -> usize) -> Tree {
+        let Node { cut, kind, turned, used, .. } = self.nodes[node as usize];
         let own = used.map(|side| side as u32 - saw.kerf);
         if cut == PANEL {
             let panel = panel(usize::from(kind));
@@ -384,8 +317,7 @@ impl Board {
         row.sort_by_key(|node| std::cmp::Reverse(self.nodes[*node as usize].used[axis]));
         let mut kept = sides;
         if self.limit.is_none() && own[across] < sides[across] {
-            let rest =
-                |axis: usize| u64::from(sides[axis] - own[axis]) * u64::from(sides[1 - axis]);
+            let rest = |axis: usize| u64::from(sides[axis] - own[axis]) * u64::from(sides[1 - axis]);
             kept[across] = own[across];
             if rest(axis) > rest(across) {
                 kept[axis] = own[axis];
@@ -397,9 +329,7 @@ impl Board {
 
     /// The parts that lie in a row, cut in one direction.
     fn row(&self, node: u32, cut: u8, row: &mut Vec<u32>) {
-        let Node {
-            cut: own, parts, ..
-        } = self.nodes[node as usize];
+        let Node { cut: own, parts, .. } = self.nodes[node as usize];
         if own == cut {
             parts.iter().for_each(|part| self.row(*part, cut, row));
         } else {
@@ -445,38 +375,19 @@ impl Board {
         sides: &dyn Fn(usize) -> [u16; 2],
         number: &mut dyn FnMut(usize) -> u16,
     ) -> (planner::Tree, [u16; 2]) {
-        let Node {
-            cut,
-            kind,
-            turned,
-            parts,
-            ..
-        } = self.nodes[node as usize];
+        let Node { cut, kind, turned, parts, .. } = self.nodes[node as usize];
         let kind = usize::from(kind);
         if cut == PANEL {
             let [length, width] = sides(kind);
-            let used = if turned {
-                [width, length]
-            } else {
-                [length, width]
-            };
-            return (
-                planner::Tree::Piece {
-                    kind: number(kind),
-                    turned,
-                },
-                used,
-            );
+            let used = if turned { [width, length] } else { [length, width] };
+            return (planner::Tree::Piece { kind: number(kind), turned }, used);
         }
         let (first, a) = self.model_at(parts[0], sides, number);
         let (second, b) = self.model_at(parts[1], sides, number);
         let axis = usize::from(cut);
         let mut used = [a[0].max(b[0]), a[1].max(b[1])];
         used[axis] = a[axis] + b[axis];
-        (
-            planner::Tree::cut(direction(axis), a[axis], first, second),
-            used,
-        )
+        (planner::Tree::cut(direction(axis), a[axis], first, second), used)
     }
 }
 
@@ -491,20 +402,7 @@ fn join(cut: u8, parts: [u32; 2], to: &mut Vec<Node>) -> u32 {
     let mut used = [a[0].max(b[0]), a[1].max(b[1])];
     used[usize::from(cut)] = a[usize::from(cut)] + b[usize::from(cut)];
     let (above, stages, up, room) = (0, 0, NONE, [0; 2]);
-    let joined = push(
-        Node {
-            cut,
-            turned: false,
-            kind: 0,
-            above,
-            stages,
-            parts,
-            up,
-            used,
-            room,
-        },
-        to,
-    );
+    let joined = push(Node { cut, turned: false, kind: 0, above, stages, parts, up, used, room }, to);
     parts.iter().for_each(|part| to[*part as usize].up = joined);
     joined
 }

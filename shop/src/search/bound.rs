@@ -41,59 +41,37 @@ pub fn lagrange(
         let duals: Vec<f64> = simplex.duals().iter().map(|dual| -dual).collect();
         let mut gained = false;
         for share in [STEADY, 0.0] {
-            let at: Vec<f64> = (0..kinds)
-                .map(|kind| share * steady[kind] + (1.0 - share) * duals[kind])
-                .collect();
+            let at: Vec<f64> =
+                (0..kinds).map(|kind| share * steady[kind] + (1.0 - share) * duals[kind]).collect();
             let multipliers: Vec<u32> = at
                 .iter()
                 .zip(prices)
                 .map(|(at, price)| at.round().clamp(0.0, f64::from(*price)) as u32)
                 .collect();
-            let left: Vec<u32> = prices
-                .iter()
-                .zip(&multipliers)
-                .map(|(price, less)| price - less)
-                .collect();
+            let left: Vec<u32> = prices.iter().zip(&multipliers).map(|(price, less)| price - less).collect();
             lowered.set_prices(&left);
             let Answer { bound, copies } = lowered.price(kinds)?;
             calls += 1;
-            let charge =
-                |(kind, copies): &(usize, u16)| u64::from(multipliers[*kind]) * u64::from(*copies);
+            let charge = |(kind, copies): &(usize, u16)| u64::from(multipliers[*kind]) * u64::from(*copies);
             let charged: u64 = board.entries.entries.iter().map(charge).sum();
-            if best
-                .as_ref()
-                .is_none_or(|best| bound + charged < best.bound)
-            {
-                best = Some(Lagrange {
-                    bound: bound + charged,
-                    multipliers,
-                });
+            if best.as_ref().is_none_or(|best| bound + charged < best.bound) {
+                best = Some(Lagrange { bound: bound + charged, multipliers });
                 steady = at;
             }
             let Some(mut column) = copies else {
                 return best;
             };
-            let cost = -column
-                .iter()
-                .zip(prices)
-                .map(|(copies, price)| copies * f64::from(*price))
-                .sum::<f64>();
+            let cost =
+                -column.iter().zip(prices).map(|(copies, price)| copies * f64::from(*price)).sum::<f64>();
             column.push(1.0);
-            let reduced = cost
-                + column
-                    .iter()
-                    .zip(&duals)
-                    .map(|(copies, dual)| copies * dual)
-                    .sum::<f64>();
+            let reduced = cost + column.iter().zip(&duals).map(|(copies, dual)| copies * dual).sum::<f64>();
             if reduced < -0.5 {
                 gained = true;
                 columns.push((column, cost));
                 break;
             }
         }
-        let reached = best
-            .as_ref()
-            .is_some_and(|best| (best.bound as f64) < value + 1.0);
+        let reached = best.as_ref().is_some_and(|best| (best.bound as f64) < value + 1.0);
         if !gained || reached || calls >= most_calls || clock.is_over() {
             return best;
         }
@@ -125,12 +103,7 @@ impl Offer {
     pub fn new(task: &Task, stock: usize, model: &Model, memory: u64) -> Option<Offer> {
         let Stock { sides, count, cost } = task.stock[stock];
         let priced = Priced::new(task, &task.counts(), sides, model, memory)?;
-        Some(Offer {
-            priced,
-            cost,
-            count: if cost == 0 { count } else { None },
-            sides,
-        })
+        Some(Offer { priced, cost, count: if cost == 0 { count } else { None }, sides })
     }
 }
 
@@ -158,10 +131,7 @@ pub fn floor(
             gained |= copies.is_some_and(|copies| master.add(index, offer.cost, copies, &duals));
         }
         let floor = Floor::new(prices, bounds, offers);
-        if best
-            .as_ref()
-            .is_none_or(|best| floor.ratio(offers) > best.ratio(offers))
-        {
+        if best.as_ref().is_none_or(|best| floor.ratio(offers) > best.ratio(offers)) {
             best = Some(floor);
         }
         let reached = best.as_ref().is_some_and(|best| best.cost >= enough);
@@ -176,25 +146,14 @@ pub fn floor(
 
 fn whole_prices(duals: &[f64]) -> Vec<u32> {
     let scale = MOST_PRICE as f64 / duals.iter().copied().fold(1e-9, f64::max);
-    duals
-        .iter()
-        .map(|dual| (dual * scale).clamp(0.0, MOST_PRICE as f64) as u32)
-        .collect()
+    duals.iter().map(|dual| (dual * scale).clamp(0.0, MOST_PRICE as f64) as u32).collect()
 }
 
 impl Floor {
     pub fn new(prices: Vec<u32>, bounds: Vec<u64>, offers: &[Offer]) -> Floor {
         let entries = &offers[0].priced.entries.entries;
-        let worth = entries
-            .iter()
-            .map(|(kind, copies)| u64::from(prices[*kind]) * u64::from(*copies))
-            .sum();
-        let mut floor = Floor {
-            prices,
-            bounds,
-            worth,
-            cost: 0,
-        };
+        let worth = entries.iter().map(|(kind, copies)| u64::from(prices[*kind]) * u64::from(*copies)).sum();
+        let mut floor = Floor { prices, bounds, worth, cost: 0 };
         floor.cost = floor.least_cost(offers);
         floor
     }
@@ -220,10 +179,7 @@ impl Floor {
 
     fn least(&self, offers: &[Offer], cost: impl Fn(&Offer) -> u64) -> u64 {
         let need = self.worth.saturating_sub(self.other(offers));
-        let bought = offers
-            .iter()
-            .zip(&self.bounds)
-            .filter(|(offer, _)| offer.count.is_none());
+        let bought = offers.iter().zip(&self.bounds).filter(|(offer, _)| offer.count.is_none());
         let boards: Vec<(u64, u64)> = bought.map(|(offer, bound)| (cost(offer), *bound)).collect();
         least_cost(&boards, need)
     }
@@ -231,13 +187,9 @@ impl Floor {
     /// The cost that linear prices give, for telling close floors apart.
     fn ratio(&self, offers: &[Offer]) -> f64 {
         let need = self.worth.saturating_sub(self.other(offers)) as f64;
-        let bought = offers
-            .iter()
-            .zip(&self.bounds)
-            .filter(|(offer, _)| offer.count.is_none());
-        let each = bought
-            .map(|(offer, bound)| *bound as f64 / (offer.cost as f64).max(1e-9))
-            .fold(0.0, f64::max);
+        let bought = offers.iter().zip(&self.bounds).filter(|(offer, _)| offer.count.is_none());
+        let each =
+            bought.map(|(offer, bound)| *bound as f64 / (offer.cost as f64).max(1e-9)).fold(0.0, f64::max);
         if each > 0.0 {
             need / each
         } else {
@@ -249,19 +201,14 @@ impl Floor {
 /// The least cost of boards, each with its cost and what it holds at most, that hold so much together. Of more than
 /// three sizes the best ratio is taken for all.
 fn least_cost(boards: &[(u64, u64)], need: u64) -> u64 {
-    let holding: Vec<(u64, u64)> = boards
-        .iter()
-        .copied()
-        .filter(|(_, bound)| *bound > 0)
-        .collect();
+    let holding: Vec<(u64, u64)> = boards.iter().copied().filter(|(_, bound)| *bound > 0).collect();
     match holding[..] {
         _ if need == 0 => 0,
         [] => u64::MAX,
         [(cost, bound)] => cost * need.div_ceil(bound),
         [(cost, bound), ref rest @ ..] if rest.len() < 3 => {
             let most = need.div_ceil(bound);
-            let with =
-                |number: u64| cost * number + least_cost(rest, need.saturating_sub(number * bound));
+            let with = |number: u64| cost * number + least_cost(rest, need.saturating_sub(number * bound));
             (0..=most).map(with).min().unwrap_or(0)
         }
         _ => holding
@@ -289,11 +236,7 @@ impl Master {
     /// From boards that hold copies of one kind alone.
     fn new(task: &Task, offers: &[Offer]) -> Master {
         let kinds = task.kinds.len();
-        let mut right: Vec<f64> = task
-            .counts()
-            .iter()
-            .map(|count| f64::from(*count))
-            .collect();
+        let mut right: Vec<f64> = task.counts().iter().map(|count| f64::from(*count)).collect();
         let (mut diagonal, mut costs) = (vec![1.0; kinds], vec![DEAR; kinds]);
         for offer in offers.iter().filter(|offer| offer.count.is_none()) {
             for kind in 0..kinds {
@@ -322,12 +265,7 @@ impl Master {
             (column, costs[kind])
         };
         let columns = (0..kinds).map(unit).collect();
-        Master {
-            simplex: Simplex::new(&diagonal, &costs, &right),
-            columns,
-            kinds,
-            rows,
-        }
+        Master { simplex: Simplex::new(&diagonal, &costs, &right), columns, kinds, rows }
     }
 
     /// Adds the plan of a board, if that can lower the cost.
@@ -337,11 +275,7 @@ impl Master {
             column[row] = -1.0;
         }
         debug_assert!(self.kinds <= column.len());
-        let worth: f64 = column
-            .iter()
-            .zip(duals)
-            .map(|(copies, dual)| copies * dual)
-            .sum();
+        let worth: f64 = column.iter().zip(duals).map(|(copies, dual)| copies * dual).sum();
         let gains = worth > cost as f64 + 1e-6;
         if gains {
             self.columns.push((column, cost as f64));

@@ -19,10 +19,7 @@ pub struct Clock {
 
 impl Clock {
     pub fn new(limit: Option<Duration>) -> Clock {
-        Clock {
-            start: Instant::now(),
-            limit,
-        }
+        Clock { start: Instant::now(), limit }
     }
 
     pub fn is_timed(&self) -> bool {

@@ -40,26 +40,18 @@ fn is_short(board: &Board) -> bool {
 /// Passes every board through the proved calls. Boards with more panels than the calls take are passed over.
 pub fn judge(task: &Task, boards: &[Board]) -> Result<(), Error> {
     let short: Vec<&Board> = boards.iter().filter(|board| is_short(board)).collect();
-    short
-        .iter()
-        .try_for_each(|board| judge_board(task, board))?;
+    short.iter().try_for_each(|board| judge_board(task, board))?;
     let entries = Entries::new(&task.counts());
     if !entries.whole {
         return Ok(());
     }
-    let mut numbers = Numbers {
-        left: entries.entries,
-    };
+    let mut numbers = Numbers { left: entries.entries };
     let mut rack: Vec<Tree> = Vec::new();
     let mut demands = numbers.left.clone();
     for board in short {
         let before = numbers.left.clone();
         let tree = board.model_tree(&|_| [1, 1], &mut |kind| numbers.next(kind));
-        let nodes: usize = rack
-            .iter()
-            .chain([&tree])
-            .map(|tree| tree.nodes().len())
-            .sum();
+        let nodes: usize = rack.iter().chain([&tree]).map(|tree| tree.nodes().len()).sum();
         if rack.len() == RACK || nodes > NODES {
             check_rack(task, &demands, &mut rack)?;
             demands = before;
@@ -77,12 +69,7 @@ fn job(task: &Task, entries: &[(usize, u16)]) -> Job {
         demand: *demand,
         grain: task.kinds[*kind].keeps_grain(),
     };
-    Job {
-        length: SIDE,
-        width: SIDE,
-        kerf: 0,
-        kinds: entries.iter().map(kind).collect(),
-    }
+    Job { length: SIDE, width: SIDE, kerf: 0, kinds: entries.iter().map(kind).collect() }
 }
 
 fn judge_board(task: &Task, board: &Board) -> Result<(), Error> {
@@ -93,21 +80,10 @@ fn judge_board(task: &Task, board: &Board) -> Result<(), Error> {
         return Ok(());
     }
     let job = job(task, &entries.entries);
-    let kinds = entries
-        .entries
-        .iter()
-        .map(|(kind, _)| task.kinds[*kind].sides)
-        .collect();
+    let kinds = entries.entries.iter().map(|(kind, _)| task.kinds[*kind].sides).collect();
     let [length, width] = task.stock[board.stock].sides;
-    let sizes = TrueSizes {
-        length,
-        width,
-        kerf: task.kerf,
-        kinds,
-    };
-    let mut numbers = Numbers {
-        left: entries.entries,
-    };
+    let sizes = TrueSizes { length, width, kerf: task.kerf, kinds };
+    let mut numbers = Numbers { left: entries.entries };
     let tree = board.model_tree(&|_| [1, 1], &mut |kind| numbers.next(kind));
     Planner::new(&job, task.choices(), NO_TABLE).true_plan(&sizes, &tree.plan())?;
     Ok(())
@@ -118,14 +94,7 @@ fn check_rack(task: &Task, demands: &[(usize, u16)], rack: &mut Vec<Tree>) -> Re
     if rack.is_empty() {
         return Ok(());
     }
-    let plates: Vec<Plate> = rack
-        .drain(..)
-        .map(|tree| Plate {
-            length: SIDE,
-            width: SIDE,
-            tree,
-        })
-        .collect();
+    let plates: Vec<Plate> = rack.drain(..).map(|tree| Plate { length: SIDE, width: SIDE, tree }).collect();
     Planner::new(&job(task, demands), task.choices(), NO_TABLE).check_rack(&plates)?;
     Ok(())
 }

@@ -40,11 +40,7 @@ pub enum Seen {
     /// One board: what it is worth and the most possible, in prices.
     Worth { worth: i64, most: i64 },
     /// A whole order: its boards and cost, and the least possible cost.
-    Cost {
-        boards: usize,
-        cost: u64,
-        least: u64,
-    },
+    Cost { boards: usize, cost: u64, least: u64 },
 }
 
 /// Shows how a search goes on, in one line.
@@ -63,11 +59,7 @@ impl Progress {
                 let gap = 100.0 * (most - worth) as f64 / worth.max(1) as f64;
                 eprint!("\r\x1b[K{seconds} s: at most {gap:.2} % more is possible");
             }
-            Seen::Cost {
-                boards,
-                cost,
-                least,
-            } if cost > least => {
+            Seen::Cost { boards, cost, least } if cost > least => {
                 let gap = 100.0 * (cost - least) as f64 / least.max(1) as f64;
                 eprint!("\r\x1b[K{seconds} s: {boards} boards, at most {gap:.1} % too many");
             }

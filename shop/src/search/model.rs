@@ -68,9 +68,7 @@ impl Sums {
         for &(value, size) in ways {
             let size = size as usize;
             let ends = (self.least.len() - size).min(room + 1);
-            let sums = self.spare[size..size + ends]
-                .iter_mut()
-                .zip(&self.least[..ends]);
+            let sums = self.spare[size..size + ends].iter_mut().zip(&self.least[..ends]);
             sums.for_each(|(sum, before)| *sum = (*sum).min(*before + value));
         }
         let mut changed = self.spare != self.least;
@@ -78,9 +76,7 @@ impl Sums {
         self.spare.clone_from(&self.most);
         for &(value, size) in ways.iter().filter(|way| way.1 as usize <= room) {
             let size = size as usize;
-            let sums = self.spare[size..=room]
-                .iter_mut()
-                .zip(&self.most[..=room - size]);
+            let sums = self.spare[size..=room].iter_mut().zip(&self.most[..=room - size]);
             sums.for_each(|(sum, before)| *sum = (*sum).max((*before + value).min(FAR)));
         }
         changed |= self.spare != self.most;
@@ -94,13 +90,9 @@ impl Chains {
     fn sum(&self, map: &Map, axis: usize, sums: &mut Sums, work: &mut Work) {
         let (items, true_room) = (&self.axes[axis].items, self.axes[axis].room);
         let room = map.rooms[axis];
-        let sizes =
-            |item: &Item| map.sizes[item.value].max(item.other.map_or(0, |other| map.sizes[other]));
+        let sizes = |item: &Item| map.sizes[item.value].max(item.other.map_or(0, |other| map.sizes[other]));
         let top = (room + 1 + items.iter().map(sizes).max().unwrap_or(0)) as usize;
-        for (list, length, far) in [
-            (&mut sums.least, top, FAR),
-            (&mut sums.most, room as usize + 1, -FAR),
-        ] {
+        for (list, length, far) in [(&mut sums.least, top, FAR), (&mut sums.most, room as usize + 1, -FAR)] {
             list.clear();
             list.resize(length, far);
             list[0] = 0;
@@ -120,8 +112,7 @@ impl Chains {
             } else {
                 for copies in halves(item.count.min(most_of(value, size))) {
                     if i64::from(copies) * i64::from(size) < top as i64 {
-                        let value =
-                            (i64::from(copies) * i64::from(value)).min(i64::from(FAR)) as i32;
+                        let value = (i64::from(copies) * i64::from(value)).min(i64::from(FAR)) as i32;
                         sums.pass(room as usize, &[(value, copies as i32 * size)], work);
                     }
                 }
@@ -133,19 +124,15 @@ impl Chains {
         let (mut broken, mut greatest, mut all) = (0, 0, 0);
         for (axis, room) in self.axes.iter().map(|axis| axis.room).enumerate() {
             self.sum(map, axis, sums, work);
-            for over in sums
-                .most
-                .iter()
-                .map(|most| i64::from(*most) - i64::from(room))
-                .filter(|over| *over > 0)
+            for over in
+                sums.most.iter().map(|most| i64::from(*most) - i64::from(room)).filter(|over| *over > 0)
             {
                 all += over;
                 greatest = greatest.max(over);
             }
             let beyond = sums.least[map.rooms[axis] as usize + 1..].iter();
-            let under = beyond
-                .map(|least| i64::from(room) - i64::from(*least) + 1)
-                .filter(|under| *under > 0);
+            let under =
+                beyond.map(|least| i64::from(room) - i64::from(*least) + 1).filter(|under| *under > 0);
             broken += under.sum::<i64>();
         }
         (broken, greatest, all)
@@ -199,14 +186,8 @@ impl Chains {
             let scale = (goal + 0.5) / (rooms[0] + 0.5);
             for rounding in [0.5, 0.4, 0.6] {
                 let mut map = Map {
-                    sizes: sizes
-                        .iter()
-                        .map(|size| whole(size * scale + rounding))
-                        .collect(),
-                    rooms: rooms
-                        .iter()
-                        .map(|room| whole((room + 0.5) * scale))
-                        .collect(),
+                    sizes: sizes.iter().map(|size| whole(size * scale + rounding)).collect(),
+                    rooms: rooms.iter().map(|room| whole((room + 0.5) * scale)).collect(),
                 };
                 let score = |(broken, _, all)| (broken + all, 0, 0);
                 if self.mend(&mut map, score, 3, dice, work) == (0, 0, 0) {
@@ -229,16 +210,8 @@ impl Chains {
                 for rounding in [0.5, 1e-9] {
                     let scale = (f64::from(room) + part) / f64::from(self.axes[0].room);
                     let map = Map {
-                        sizes: self
-                            .values
-                            .iter()
-                            .map(|v| whole(f64::from(*v) * scale + rounding))
-                            .collect(),
-                        rooms: self
-                            .axes
-                            .iter()
-                            .map(|a| whole(f64::from(a.room) * scale + 1e-9))
-                            .collect(),
+                        sizes: self.values.iter().map(|v| whole(f64::from(*v) * scale + rounding)).collect(),
+                        rooms: self.axes.iter().map(|a| whole(f64::from(a.room) * scale + 1e-9)).collect(),
                     };
                     tried.push((self.misses(&map, &mut sums, work), map));
                 }
@@ -252,9 +225,7 @@ impl Chains {
             if best.as_ref().is_none_or(|(least, _)| misses < *least) {
                 best = Some((misses, map));
             }
-            let done = best
-                .as_ref()
-                .is_some_and(|(least, _)| least.0 == 0 && (least.1 == 0 || work.0 < 0));
+            let done = best.as_ref().is_some_and(|(least, _)| least.0 == 0 && (least.1 == 0 || work.0 < 0));
             if done {
                 break;
             }
@@ -286,12 +257,8 @@ impl Chains {
     /// Real sizes of the least room that part what fits from what does not by 1, by cutting planes; none where the
     /// room passes the limit: then no exact map is as small.
     fn fair(&self, limit: f64, work: &mut Work) -> Option<(Vec<f64>, Vec<f64>)> {
-        let unit = self
-            .values
-            .iter()
-            .chain(self.axes.iter().map(|axis| &axis.room))
-            .copied()
-            .fold(0, divisor);
+        let unit =
+            self.values.iter().chain(self.axes.iter().map(|axis| &axis.room)).copied().fold(0, divisor);
         let (values, axes) = (self.values.len(), self.axes.len());
         // A little on the right side of the sizes' rows keeps the simplex from standing still.
         let right = |row: usize| {
@@ -302,8 +269,7 @@ impl Chains {
             }
         };
         let right: Vec<f64> = (0..values + axes).map(right).collect();
-        let mut simplex =
-            Simplex::new(&vec![1.0; values + axes], &vec![0.0; values + axes], &right);
+        let mut simplex = Simplex::new(&vec![1.0; values + axes], &vec![0.0; values + axes], &right);
         let mut planes = self.first_planes();
         loop {
             if !simplex.solve(&planes, 1.0) || work.0 < 0 {
@@ -353,10 +319,7 @@ impl Chains {
 
     fn add_plane(&self, planes: &mut Vec<Column>, axis: usize, chain: &[u32], fits: bool) {
         let sign = if fits { -1.0 } else { 1.0 };
-        let mut column: Vec<f64> = chain
-            .iter()
-            .map(|copies| sign * f64::from(*copies))
-            .collect();
+        let mut column: Vec<f64> = chain.iter().map(|copies| sign * f64::from(*copies)).collect();
         column.extend((0..self.axes.len()).map(|other| if other == axis { -sign } else { 0.0 }));
         let plane = (column, if fits { 0.0 } else { -1.0 });
         if !planes.contains(&plane) {
@@ -377,25 +340,14 @@ impl Chains {
     ) -> Option<Vec<Vec<u32>>> {
         let steps = self.steps(axis);
         let room = (self.axes[axis].room / unit) as usize;
-        let longest = if fits {
-            0
-        } else {
-            (self.values.iter().max()? / unit) as usize
-        };
+        let longest = if fits { 0 } else { (self.values.iter().max()? / unit) as usize };
         let length = room + 1 + longest;
         if length * steps.len() > MOST_CELLS {
             return None;
         }
         work.0 -= 3 * (length * steps.len()) as i64;
         let better = |new: f32, old: f32| if fits { new > old } else { new < old };
-        let mut figures = vec![
-            if fits {
-                f32::NEG_INFINITY
-            } else {
-                f32::INFINITY
-            };
-            length
-        ];
+        let mut figures = vec![if fits { f32::NEG_INFINITY } else { f32::INFINITY }; length];
         figures[0] = 0.0;
         let mut taken = vec![0u8; steps.len() * length];
         for (step, ways) in steps.iter().enumerate() {
@@ -413,9 +365,7 @@ impl Chains {
             }
         }
         let first = if fits { 0 } else { room + 1 };
-        let mut broken: Vec<usize> = (first..length)
-            .filter(|sum| better(figures[*sum], goal))
-            .collect();
+        let mut broken: Vec<usize> = (first..length).filter(|sum| better(figures[*sum], goal)).collect();
         broken.sort_by(|a, b| {
             if fits {
                 figures[*b].total_cmp(&figures[*a])
@@ -443,18 +393,11 @@ impl Chains {
         let Axis { room, items } = &self.axes[axis];
         let mut steps = Vec::new();
         for item in items {
-            let least = item
-                .other
-                .map_or(i32::MAX, |other| self.values[other])
-                .min(self.values[item.value]);
+            let least = item.other.map_or(i32::MAX, |other| self.values[other]).min(self.values[item.value]);
             let count = item.count.min((room / least) as u32 + 1);
             match item.other {
                 Some(other) => steps.extend((0..count).map(|_| vec![(item.value, 1), (other, 1)])),
-                None => steps.extend(
-                    halves(count)
-                        .into_iter()
-                        .map(|copies| vec![(item.value, copies)]),
-                ),
+                None => steps.extend(halves(count).into_iter().map(|copies| vec![(item.value, copies)])),
             }
         }
         steps
@@ -478,14 +421,10 @@ pub struct Problem {
 
 impl Problem {
     pub fn new(task: &Task, board: Sides) -> Problem {
-        let fitting: Vec<usize> = (0..task.kinds.len())
-            .filter(|kind| task.ways(*kind, board).next().is_some())
-            .collect();
+        let fitting: Vec<usize> =
+            (0..task.kinds.len()).filter(|kind| task.ways(*kind, board).next().is_some()).collect();
         let shared = fitting.iter().any(|kind| task.kinds[*kind].turns);
-        let mut problem = Problem {
-            parts: Vec::new(),
-            places: vec![None; task.kinds.len()],
-        };
+        let mut problem = Problem { parts: Vec::new(), places: vec![None; task.kinds.len()] };
         // A value of a panel that turns is one for both directions; any other is one for its own.
         let mut keys: [Vec<(i32, Option<usize>)>; 2] = [Vec::new(), Vec::new()];
         let mut place = |part: usize, key: (i32, Option<usize>)| {
@@ -495,10 +434,7 @@ impl Problem {
                 keys.len() - 1
             })
         };
-        let mut axes = [0, 1].map(|axis| Axis {
-            room: task.room(board)[axis],
-            items: Vec::new(),
-        });
+        let mut axes = [0, 1].map(|axis| Axis { room: task.room(board)[axis], items: Vec::new() });
         for kind in fitting {
             let turns = task.kinds[kind].turns;
             let sides = task.wide(kind, false);
@@ -513,30 +449,17 @@ impl Problem {
                     .map(|turned| values[if turned { 1 - side } else { side }])
                     .collect();
                 ways.dedup();
-                axis.add(Item {
-                    value: ways[0],
-                    other: ways.get(1).copied(),
-                    count: task.kinds[kind].count,
-                });
+                axis.add(Item { value: ways[0], other: ways.get(1).copied(), count: task.kinds[kind].count });
             }
         }
         let values = keys.map(|keys| keys.into_iter().map(|(value, _)| value).collect::<Vec<_>>());
         let [length, width] = axes;
         problem.parts = match (shared, values) {
-            (true, [values, _]) => vec![Chains {
-                values,
-                axes: vec![length, width],
-            }],
+            (true, [values, _]) => vec![Chains { values, axes: vec![length, width] }],
             (false, [lengths, widths]) => {
                 vec![
-                    Chains {
-                        values: lengths,
-                        axes: vec![length],
-                    },
-                    Chains {
-                        values: widths,
-                        axes: vec![width],
-                    },
+                    Chains { values: lengths, axes: vec![length] },
+                    Chains { values: widths, axes: vec![width] },
                 ]
             }
         };
@@ -563,10 +486,7 @@ impl Problem {
             Some(values) => [0, 1].map(|side| of(side).sizes[values[side]] as u16),
             None => [MOST_SIZE as u16; 2],
         };
-        Model {
-            plate: [0, 1].map(|side| room(side) as u16),
-            sides: self.places.iter().map(sides).collect(),
-        }
+        Model { plate: [0, 1].map(|side| room(side) as u16), sides: self.places.iter().map(sides).collect() }
     }
 }
 

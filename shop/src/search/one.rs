@@ -44,19 +44,8 @@ impl Prices {
     pub fn new(worths: &[u64]) -> Prices {
         let most = worths.iter().copied().max().unwrap_or(0);
         let step = worths.iter().copied().fold(0, divisor).max(1);
-        let unit = if most / step <= MOST_PRICE {
-            step
-        } else {
-            most.div_ceil(MOST_PRICE)
-        };
-        Prices {
-            prices: worths
-                .iter()
-                .map(|worth| worth.div_ceil(unit) as u32)
-                .collect(),
-            unit,
-            step,
-        }
+        let unit = if most / step <= MOST_PRICE { step } else { most.div_ceil(MOST_PRICE) };
+        Prices { prices: worths.iter().map(|worth| worth.div_ceil(unit) as u32).collect(), unit, step }
     }
 
     /// The most worth that so much in prices can be.
@@ -76,47 +65,23 @@ fn divisor(a: u64, b: u64) -> u64 {
 
 pub fn one(task: &Task, board: usize, clock: Clock, memory: u64, progress: &Progress) -> One {
     let prices = Prices::new(&task.worths);
-    let values: Vec<i64> = prices
-        .prices
-        .iter()
-        .map(|price| i64::from(*price))
-        .collect();
+    let values: Vec<i64> = prices.prices.iter().map(|price| i64::from(*price)).collect();
     let stock = task.stock[board];
-    let empty = Packing {
-        boards: vec![Board::new(board, task.room(stock.sides), task.stages)],
-        left: task.counts(),
-    };
+    let empty =
+        Packing { boards: vec![Board::new(board, task.room(stock.sides), task.stages)], left: task.counts() };
     if task.kinds.is_empty() {
-        return One {
-            packing: empty,
-            ceiling: None,
-        };
+        return One { packing: empty, ceiling: None };
     }
-    let all: i64 = values
-        .iter()
-        .zip(&empty.left)
-        .map(|(value, left)| value * i64::from(*left))
-        .sum();
-    let mut one = One {
-        packing: empty.clone(),
-        ceiling: None,
-    };
+    let all: i64 = values.iter().zip(&empty.left).map(|(value, left)| value * i64::from(*left)).sum();
+    let mut one = One { packing: empty.clone(), ceiling: None };
     let mut seed = 0;
     let (mut steps, last) = (task.steps(FIRST), task.steps(LAST));
     let mut rungs = RUNGS.iter();
     loop {
         let rung = rungs.next();
-        let least = one
-            .ceiling
-            .as_ref()
-            .map_or(0, |ceiling| all - (ceiling.bound as i64).min(all));
+        let least = one.ceiling.as_ref().map_or(0, |ceiling| all - (ceiling.bound as i64).min(all));
         let won = AtomicU64::new(u64::MAX);
-        let run = Run {
-            steps,
-            enough: least,
-            clock,
-            won: &won,
-        };
+        let run = Run { steps, enough: least, clock, won: &won };
         let pack = |seed: u64| Packer::new(task, &values, seed).improve(&empty, &run);
         let packed = thread::scope(|scope| {
             let beside = scope.spawn(|| match rung {
@@ -131,22 +96,14 @@ pub fn one(task: &Task, board: usize, clock: Clock, memory: u64, progress: &Prog
             first(packed)
         });
         let missing = |packing: &Packing| -> i64 {
-            packing
-                .left
-                .iter()
-                .zip(&values)
-                .map(|(left, value)| i64::from(*left) * value)
-                .sum()
+            packing.left.iter().zip(&values).map(|(left, value)| i64::from(*left) * value).sum()
         };
         for packing in packed {
             if missing(&packing) < missing(&one.packing) {
                 one.packing = packing;
             }
         }
-        let bound = one
-            .ceiling
-            .as_ref()
-            .map_or(all, |ceiling| (ceiling.bound as i64).min(all));
+        let bound = one.ceiling.as_ref().map_or(all, |ceiling| (ceiling.bound as i64).min(all));
         let worth = all - missing(&one.packing);
         progress.show(Seen::Worth { worth, most: bound }, clock);
         let done = worth >= bound || clock.is_over();
@@ -191,12 +148,7 @@ fn ceiling(
             (priced.lagrangian(&multipliers)?, multipliers)
         }
     };
-    let modelled = Modelled {
-        stock: board,
-        model,
-        prices: prices.prices.clone(),
-        multipliers,
-    };
+    let modelled = Modelled { stock: board, model, prices: prices.prices.clone(), multipliers };
     Some(Ceiling { bound, modelled })
 }
 
@@ -219,12 +171,6 @@ pub fn held(task: &Task, board: crate::plan::Sides) -> Vec<u32> {
 /// What bounds the worth of a board, without a search for plans.
 pub fn bounds_of_board(task: &Task, board: usize, clock: Clock, memory: u64) -> Vec<Modelled> {
     let prices = Prices::new(&task.worths);
-    let ceilings = RUNGS
-        .iter()
-        .map(|rung| ceiling(task, board, &prices, *rung, clock, memory));
-    ceilings
-        .fold(None, better)
-        .map(|ceiling| ceiling.modelled)
-        .into_iter()
-        .collect()
+    let ceilings = RUNGS.iter().map(|rung| ceiling(task, board, &prices, *rung, clock, memory));
+    ceilings.fold(None, better).map(|ceiling| ceiling.modelled).into_iter().collect()
 }

@@ -44,22 +44,12 @@ type Touched = Vec<(usize, Board)>;
 
 impl<'a> Packer<'a> {
     pub fn new(task: &'a Task, values: &'a [i64], seed: u64) -> Packer<'a> {
-        Packer {
-            task,
-            values,
-            dice: Dice::new(seed),
-            spare: Vec::new(),
-        }
+        Packer { task, values, dice: Dice::new(seed), spare: Vec::new() }
     }
 
     /// The value of what is missing.
     pub fn missing(&self, packing: &Packing) -> i64 {
-        packing
-            .left
-            .iter()
-            .zip(self.values)
-            .map(|(left, value)| i64::from(*left) * value)
-            .sum()
+        packing.left.iter().zip(self.values).map(|(left, value)| i64::from(*left) * value).sum()
     }
 
     /// Fills boards one after another; where nothing fits, `fresh` opens another.
@@ -69,12 +59,7 @@ impl<'a> Packer<'a> {
 
     /// Takes everything off a board.
     pub fn empty(&mut self, packing: &mut Packing, board: usize) {
-        self.take(
-            packing,
-            board,
-            packing.boards[board].root(),
-            &mut Vec::new(),
-        );
+        self.take(packing, board, packing.boards[board].root(), &mut Vec::new());
     }
 
     /// Runs from a packing and gives the best that is met, with the steps that it took where so little is missing.
@@ -104,9 +89,7 @@ impl<'a> Packer<'a> {
                     (least, best) = (new, now.clone());
                 }
             } else {
-                touched
-                    .into_iter()
-                    .for_each(|(index, board)| now.boards[index] = board);
+                touched.into_iter().for_each(|(index, board)| now.boards[index] = board);
                 now.left = left;
             }
         }
@@ -115,12 +98,8 @@ impl<'a> Packer<'a> {
 
     fn mean_value(&self) -> f64 {
         let counts = self.task.kinds.iter().map(|kind| f64::from(kind.count));
-        let worth: f64 = self
-            .values
-            .iter()
-            .zip(counts.clone())
-            .map(|(value, count)| *value as f64 * count)
-            .sum();
+        let worth: f64 =
+            self.values.iter().zip(counts.clone()).map(|(value, count)| *value as f64 * count).sum();
         worth / counts.sum::<f64>()
     }
 
@@ -148,10 +127,7 @@ impl<'a> Packer<'a> {
             return;
         }
         keep(touched, index, board);
-        board
-            .kinds_at(node)
-            .into_iter()
-            .for_each(|kind| packing.left[kind] += 1);
+        board.kinds_at(node).into_iter().for_each(|kind| packing.left[kind] += 1);
         board.take(node, &mut self.spare);
     }
 
@@ -163,16 +139,11 @@ impl<'a> Packer<'a> {
         touched: &mut Touched,
     ) {
         let queue = self.queue(&packing.left);
-        let score = [
-            Score::LeastSlack,
-            Score::LeastSlack,
-            Score::LeastVoid,
-            Score::EqualWidth,
-        ][self.dice.below(4)];
+        let score =
+            [Score::LeastSlack, Score::LeastSlack, Score::LeastVoid, Score::EqualWidth][self.dice.below(4)];
         for kind in queue {
             while packing.left[kind] > 0 {
-                if let Some((board, turned, place)) = self.best_place(&packing.boards, kind, score)
-                {
+                if let Some((board, turned, place)) = self.best_place(&packing.boards, kind, score) {
                     keep(touched, board, &packing.boards[board]);
                     let used = self.task.wide(kind, turned);
                     packing.boards[board].put(kind, turned, used, place, &mut self.spare);
@@ -186,25 +157,17 @@ impl<'a> Packer<'a> {
         }
     }
 
-    fn best_place(
-        &mut self,
-        boards: &[Board],
-        kind: usize,
-        score: Score,
-    ) -> Option<(usize, bool, Place)> {
+    fn best_place(&mut self, boards: &[Board], kind: usize, score: Score) -> Option<(usize, bool, Place)> {
         let [upright, turned] = [false, true].map(|turned| self.task.wide(kind, turned));
         let area = i64::from(upright[0]) * i64::from(upright[1]);
         let (mut best, mut found) = (Place::NOWHERE, None);
-        for (index, board) in boards
-            .iter()
-            .enumerate()
-            .filter(|(_, board)| board.filled + area <= board.area())
+        for (index, board) in
+            boards.iter().enumerate().filter(|(_, board)| board.filled + area <= board.area())
         {
             if board.place(upright, score, &mut self.dice, &mut best) {
                 found = Some((index, false));
             }
-            if self.task.kinds[kind].turns && board.place(turned, score, &mut self.dice, &mut best)
-            {
+            if self.task.kinds[kind].turns && board.place(turned, score, &mut self.dice, &mut best) {
                 found = Some((index, true));
             }
         }
@@ -236,10 +199,7 @@ impl<'a> Packer<'a> {
 /// The packings of runs side by side: of those that came far enough the one in the fewest steps, or else all.
 pub fn first(packings: Vec<(Packing, Option<u64>)>) -> Vec<Packing> {
     let least = packings.iter().filter_map(|(_, steps)| *steps).min();
-    let kept = packings
-        .into_iter()
-        .filter(|(_, steps)| *steps == least)
-        .map(|(packing, _)| packing);
+    let kept = packings.into_iter().filter(|(_, steps)| *steps == least).map(|(packing, _)| packing);
     if least.is_some() {
         kept.take(1).collect()
     } else {

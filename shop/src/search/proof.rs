@@ -30,12 +30,7 @@ impl Entries {
     pub fn new(counts: &[u32]) -> Entries {
         let mut entries = Vec::new();
         // Round by round, so that every kind has an entry before any has two.
-        for round in 0..counts
-            .iter()
-            .map(|count| count.div_ceil(MOST_COPIES))
-            .max()
-            .unwrap_or(0)
-        {
+        for round in 0..counts.iter().map(|count| count.div_ceil(MOST_COPIES)).max().unwrap_or(0) {
             for (kind, count) in counts.iter().enumerate() {
                 let left = count.saturating_sub(round * MOST_COPIES).min(MOST_COPIES);
                 if left > 0 {
@@ -97,53 +92,19 @@ pub struct Answer {
 
 impl Priced {
     /// A model of a board that passes its check; none where it does not stand for the true sizes.
-    pub fn new(
-        task: &Task,
-        counts: &[u32],
-        board: Sides,
-        model: &Model,
-        memory: u64,
-    ) -> Option<Priced> {
+    pub fn new(task: &Task, counts: &[u32], board: Sides, model: &Model, memory: u64) -> Option<Priced> {
         let entries = Entries::new(counts);
         let kind = |(kind, demand): &(usize, u16)| {
             let [length, width] = model.sides[*kind];
-            Kind {
-                length,
-                width,
-                price: 0,
-                demand: *demand,
-                grain: task.kinds[*kind].keeps_grain(),
-            }
+            Kind { length, width, price: 0, demand: *demand, grain: task.kinds[*kind].keeps_grain() }
         };
         let kinds = entries.entries.iter().map(kind).collect();
-        let job = Job {
-            length: model.plate[0],
-            width: model.plate[1],
-            kerf: 0,
-            kinds,
-        };
-        let sides = entries
-            .entries
-            .iter()
-            .map(|(kind, _)| task.kinds[*kind].sides)
-            .collect();
-        let sizes = TrueSizes {
-            length: board[0],
-            width: board[1],
-            kerf: task.kerf,
-            kinds: sides,
-        };
-        let basis = Basis {
-            job,
-            choices: task.choices(),
-            sizes,
-        };
+        let job = Job { length: model.plate[0], width: model.plate[1], kerf: 0, kinds };
+        let sides = entries.entries.iter().map(|(kind, _)| task.kinds[*kind].sides).collect();
+        let sizes = TrueSizes { length: board[0], width: board[1], kerf: task.kerf, kinds: sides };
+        let basis = Basis { job, choices: task.choices(), sizes };
         basis.planner(memory).check_model(&basis.sizes).ok()?;
-        Some(Priced {
-            basis,
-            entries,
-            memory,
-        })
+        Some(Priced { basis, entries, memory })
     }
 
     /// Whether every copy stands in the block.
@@ -170,15 +131,9 @@ impl Priced {
                         copies[self.entries.entries[usize::from(*operand)].0] += 1.0;
                     }
                 }
-                Some(Answer {
-                    bound: bound.bound,
-                    copies: Some(copies),
-                })
+                Some(Answer { bound: bound.bound, copies: Some(copies) })
             }
-            Err(_) => Some(Answer {
-                bound: planner.bound(&weights).ok()?.bound,
-                copies: None,
-            }),
+            Err(_) => Some(Answer { bound: planner.bound(&weights).ok()?.bound, copies: None }),
         }
     }
 
@@ -186,12 +141,7 @@ impl Priced {
     pub fn lagrangian(&self, multipliers: &[u32]) -> Option<u64> {
         let multipliers = self.multipliers(multipliers);
         let mut planner = self.basis.planner(self.memory);
-        Some(
-            planner
-                .bound_lagrangian(&self.basis.no_weights(), &multipliers)
-                .ok()?
-                .bound,
-        )
+        Some(planner.bound_lagrangian(&self.basis.no_weights(), &multipliers).ok()?.bound)
     }
 
     /// Whether the exact call is quick: few ways to take copies, on a small model.
@@ -214,20 +164,12 @@ impl Priced {
     /// The least number of boards that hold the whole order beside others that hold no more than `other`, and the
     /// bound of one.
     pub fn plates_needed(&self, other: u64) -> Option<(u64, u64)> {
-        let needed = self
-            .basis
-            .planner(self.memory)
-            .plates_needed(&self.basis.no_weights(), other)
-            .ok()?;
+        let needed = self.basis.planner(self.memory).plates_needed(&self.basis.no_weights(), other).ok()?;
         Some((needed.plates, needed.bound))
     }
 
     fn multipliers(&self, multipliers: &[u32]) -> Vec<u32> {
-        self.entries
-            .entries
-            .iter()
-            .map(|(kind, _)| multipliers[*kind])
-            .collect()
+        self.entries.entries.iter().map(|(kind, _)| multipliers[*kind]).collect()
     }
 }
 

@@ -49,12 +49,7 @@ const SQUARE_CENTIMETRE: u64 = 100_000_000;
 impl Task {
     pub fn new(order: &Order) -> Task {
         let mut kinds: Vec<Kind> = Vec::new();
-        for (number, panel) in order
-            .panels
-            .iter()
-            .enumerate()
-            .filter(|(_, panel)| panel.count > 0)
-        {
+        for (number, panel) in order.panels.iter().enumerate().filter(|(_, panel)| panel.count > 0) {
             let same = |kind: &&mut Kind| {
                 (kind.sides, kind.turns, kind.price) == (panel.sides(), turns(panel), panel.price)
             };
@@ -63,13 +58,7 @@ impl Task {
                 kind.panels.push(number);
             } else {
                 let (sides, price, count) = (panel.sides(), panel.price, panel.count);
-                kinds.push(Kind {
-                    sides,
-                    turns: turns(panel),
-                    price,
-                    count,
-                    panels: vec![number],
-                });
+                kinds.push(Kind { sides, turns: turns(panel), price, count, panels: vec![number] });
             }
         }
         let stock = order.plates.iter().map(|plate| Stock {
@@ -77,17 +66,8 @@ impl Task {
             count: plate.count,
             cost: if plate.offcut { 0 } else { plate.cost.into() },
         });
-        let worths = kinds
-            .iter()
-            .map(|kind| worth(kind, order.is_priced()))
-            .collect();
-        Task {
-            stock: stock.collect(),
-            kerf: order.kerf(),
-            stages: order.stages,
-            worths,
-            kinds,
-        }
+        let worths = kinds.iter().map(|kind| worth(kind, order.is_priced())).collect();
+        Task { stock: stock.collect(), kerf: order.kerf(), stages: order.stages, worths, kinds }
     }
 
     /// The ways in which a kind may lie on a board.
@@ -113,8 +93,7 @@ impl Task {
     pub fn usable_stock(&self) -> impl Iterator<Item = usize> + '_ {
         (0..self.stock.len()).filter(|stock| {
             let Stock { sides, count, .. } = self.stock[*stock];
-            count != Some(0)
-                && (0..self.kinds.len()).any(|kind| self.ways(kind, sides).next().is_some())
+            count != Some(0) && (0..self.kinds.len()).any(|kind| self.ways(kind, sides).next().is_some())
         })
     }
 
@@ -128,11 +107,7 @@ impl Task {
     pub fn choices(&self) -> Choices {
         let turning = self.kinds.iter().any(|kind| kind.turns);
         let grain = turning && self.kinds.iter().any(Kind::keeps_grain);
-        Choices {
-            turning,
-            grain,
-            ..Choices::default()
-        }
+        Choices { turning, grain, ..Choices::default() }
     }
 
     pub fn counts(&self) -> Vec<u32> {

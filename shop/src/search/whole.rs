@@ -18,30 +18,10 @@ const FILLINGS: u64 = 200;
 /// The sides of the models; for each the calls of the bound, the work that finding it may take, and the steps of
 /// packing beside it.
 const RUNGS: [Rung; 4] = [
-    Rung {
-        side: 100,
-        calls: 400,
-        work: 50_000_000,
-        steps: 2_000,
-    },
-    Rung {
-        side: 250,
-        calls: 300,
-        work: 150_000_000,
-        steps: 50_000,
-    },
-    Rung {
-        side: 500,
-        calls: 200,
-        work: 300_000_000,
-        steps: 100_000,
-    },
-    Rung {
-        side: 999,
-        calls: 200,
-        work: 300_000_000,
-        steps: 200_000,
-    },
+    Rung { side: 100, calls: 400, work: 50_000_000, steps: 2_000 },
+    Rung { side: 250, calls: 300, work: 150_000_000, steps: 50_000 },
+    Rung { side: 500, calls: 200, work: 300_000_000, steps: 100_000 },
+    Rung { side: 999, calls: 200, work: 300_000_000, steps: 200_000 },
 ];
 
 /// Steps of the rounds of packing after the bounds, on both cores; where there is a time, rounds go on until it is up,
@@ -96,34 +76,16 @@ struct Search<'a> {
 
 pub fn whole(task: &Task, clock: Clock, memory: u64, progress: &Progress) -> Whole {
     let values = areas(task);
-    let best = Packing {
-        boards: Vec::new(),
-        left: task.counts(),
-    };
+    let best = Packing { boards: Vec::new(), left: task.counts() };
     if task.kinds.is_empty() {
-        return Whole {
-            packing: best,
-            proof: None,
-        };
+        return Whole { packing: best, proof: None };
     }
-    let mut search = Search {
-        task,
-        values,
-        clock,
-        memory,
-        progress,
-        best,
-        proof: None,
-        seed: 0,
-    };
+    let mut search = Search { task, values, clock, memory, progress, best, proof: None, seed: 0 };
     search.fill();
     search.climb();
     search.pack_on();
     search.close_up();
-    Whole {
-        packing: search.best,
-        proof: search.proof,
-    }
+    Whole { packing: search.best, proof: search.proof }
 }
 
 /// Areas in a unit in which they add up within 63 bits.
@@ -134,9 +96,7 @@ fn areas(task: &Task) -> Vec<i64> {
     };
     let most = (0..task.kinds.len()).map(area).max().unwrap_or(1);
     let shift = (64 - most.leading_zeros()).saturating_sub(40);
-    (0..task.kinds.len())
-        .map(|kind| (area(kind) >> shift).max(1))
-        .collect()
+    (0..task.kinds.len()).map(|kind| (area(kind) >> shift).max(1)).collect()
 }
 
 impl Search<'_> {
@@ -146,20 +106,11 @@ impl Search<'_> {
     }
 
     fn missing(&self, packing: &Packing) -> i64 {
-        packing
-            .left
-            .iter()
-            .zip(&self.values)
-            .map(|(left, value)| i64::from(*left) * value)
-            .sum()
+        packing.left.iter().zip(&self.values).map(|(left, value)| i64::from(*left) * value).sum()
     }
 
     fn board(&self, stock: usize) -> Board {
-        Board::new(
-            stock,
-            self.task.room(self.task.stock[stock].sides),
-            self.task.stages,
-        )
+        Board::new(stock, self.task.room(self.task.stock[stock].sides), self.task.stages)
     }
 
     /// What a plan must at least cost, as far as that is proved.
@@ -174,11 +125,7 @@ impl Search<'_> {
 
     /// What is missing, what the boards cost, and how many they are: the less the better.
     fn key(&self, packing: &Packing) -> (i64, u64, usize) {
-        (
-            self.missing(packing),
-            self.cost(packing),
-            packing.boards.len(),
-        )
+        (self.missing(packing), self.cost(packing), packing.boards.len())
     }
 
     /// Keeps a packing that is better.
@@ -187,23 +134,14 @@ impl Search<'_> {
             self.best = packing;
         }
         let boards = self.best.boards.len();
-        self.progress.show(
-            Seen::Cost {
-                boards,
-                cost: self.cost(&self.best),
-                least: self.floor(),
-            },
-            self.clock,
-        );
+        self.progress
+            .show(Seen::Cost { boards, cost: self.cost(&self.best), least: self.floor() }, self.clock);
     }
 
     /// The best of many fillings: the offcuts first, then boards as they are needed.
     fn fill(&mut self) {
         for _ in 0..=self.task.steps(FILLINGS) {
-            let mut packing = Packing {
-                boards: self.offcuts(),
-                left: self.task.counts(),
-            };
+            let mut packing = Packing { boards: self.offcuts(), left: self.task.counts() };
             let mut opened = vec![0; self.task.stock.len()];
             let mut fresh = |kind: usize| {
                 let stock = self.cheapest(kind, &opened)?;
@@ -229,14 +167,8 @@ impl Search<'_> {
 
     /// A board for each offcut.
     fn offcuts(&self) -> Vec<Board> {
-        let free = self
-            .task
-            .stock
-            .iter()
-            .enumerate()
-            .filter(|(_, stock)| stock.cost == 0);
-        free.flat_map(|(index, stock)| vec![self.board(index); stock.count.unwrap_or(0) as usize])
-            .collect()
+        let free = self.task.stock.iter().enumerate().filter(|(_, stock)| stock.cost == 0);
+        free.flat_map(|(index, stock)| vec![self.board(index); stock.count.unwrap_or(0) as usize]).collect()
     }
 
     /// The board of least cost for its area that takes a kind, of those that are left.
@@ -245,12 +177,7 @@ impl Search<'_> {
             let stock = &self.task.stock[index];
             stock.cost > 0 && stock.count.is_none_or(|count| opened[index] < count)
         };
-        let takes = |index: usize| {
-            self.task
-                .ways(kind, self.task.stock[index].sides)
-                .next()
-                .is_some()
-        };
+        let takes = |index: usize| self.task.ways(kind, self.task.stock[index].sides).next().is_some();
         let each = |index: usize| {
             let [length, width] = self.task.stock[index].sides.map(f64::from);
             self.task.stock[index].cost as f64 / (length * width)
@@ -265,17 +192,12 @@ impl Search<'_> {
             if self.is_done() {
                 return;
             }
-            let cost = if self.missing(&self.best) == 0 {
-                self.cost(&self.best)
-            } else {
-                u64::MAX - 1
-            };
+            let cost = if self.missing(&self.best) == 0 { self.cost(&self.best) } else { u64::MAX - 1 };
             let start = self.starts().into_iter().next();
             let (proof, packing) = thread::scope(|scope| {
                 let proof = scope.spawn(|| self.prove(rung, cost));
                 let won = AtomicU64::new(u64::MAX);
-                let packing =
-                    start.map(|start| self.packed(&start, rung.steps, self.seed + 1, &won));
+                let packing = start.map(|start| self.packed(&start, rung.steps, self.seed + 1, &won));
                 (proof.join().expect("a bound that ends"), packing)
             });
             self.seed += 1;
@@ -283,9 +205,7 @@ impl Search<'_> {
             if cost(&proof) > cost(&self.proof) {
                 self.proof = proof;
             }
-            packing
-                .into_iter()
-                .for_each(|(packing, _)| self.offer(packing));
+            packing.into_iter().for_each(|(packing, _)| self.offer(packing));
         }
     }
 
@@ -305,35 +225,18 @@ impl Search<'_> {
                     ]
                 });
                 self.seed += 2;
-                first(packings)
-                    .into_iter()
-                    .for_each(|packing| self.offer(packing));
+                first(packings).into_iter().for_each(|packing| self.offer(packing));
                 if self.key(&self.best) < before {
                     break;
                 }
             }
-            round = if self.key(&self.best) < before {
-                0
-            } else {
-                round + 1
-            };
+            round = if self.key(&self.best) < before { 0 } else { round + 1 };
         }
     }
 
     /// A packing of so many steps from a start.
-    fn packed(
-        &self,
-        start: &Packing,
-        steps: u64,
-        seed: u64,
-        won: &AtomicU64,
-    ) -> (Packing, Option<u64>) {
-        let run = Run {
-            steps: self.task.steps(steps),
-            enough: 0,
-            clock: self.clock,
-            won,
-        };
+    fn packed(&self, start: &Packing, steps: u64, seed: u64, won: &AtomicU64) -> (Packing, Option<u64>) {
+        let run = Run { steps: self.task.steps(steps), enough: 0, clock: self.clock, won };
         let (mut packing, taken) = Packer::new(self.task, &self.values, seed).improve(start, &run);
         packing.boards.retain(|board| !board.is_empty());
         (packing, taken)
@@ -344,12 +247,7 @@ impl Search<'_> {
         if self.missing(&self.best) > 0 {
             return vec![self.best.clone()];
         }
-        let sizes = self
-            .task
-            .stock
-            .iter()
-            .filter(|stock| stock.cost > 0)
-            .count();
+        let sizes = self.task.stock.iter().filter(|stock| stock.cost > 0).count();
         if sizes == 1 {
             self.fewer().into_iter().collect()
         } else {
@@ -361,21 +259,13 @@ impl Search<'_> {
     fn fewer(&self) -> Option<Packing> {
         let mut packing = self.best.clone();
         let bought = |board: &Board| self.task.stock[board.stock].cost > 0;
-        let boards = packing
-            .boards
-            .iter()
-            .enumerate()
-            .filter(|(_, board)| bought(board));
+        let boards = packing.boards.iter().enumerate().filter(|(_, board)| bought(board));
         let (index, _) = boards.min_by_key(|(_, board)| board.filled)?;
         Packer::new(self.task, &self.values, 0).empty(&mut packing, index);
         packing.boards.remove(index);
         for offcut in self.offcuts() {
-            let of_size = |boards: &[Board]| {
-                boards
-                    .iter()
-                    .filter(|board| board.stock == offcut.stock)
-                    .count()
-            };
+            let of_size =
+                |boards: &[Board]| boards.iter().filter(|board| board.stock == offcut.stock).count();
             if of_size(&packing.boards) < of_size(&self.offcuts()) {
                 packing.boards.push(offcut);
             }
@@ -385,9 +275,8 @@ impl Search<'_> {
 
     /// Empty boards of every set that costs less than the best packing, no less than must be, and has the area.
     fn cheaper(&self) -> Vec<Packing> {
-        let bought: Vec<usize> = (0..self.task.stock.len())
-            .filter(|index| self.task.stock[*index].cost > 0)
-            .collect();
+        let bought: Vec<usize> =
+            (0..self.task.stock.len()).filter(|index| self.task.stock[*index].cost > 0).collect();
         let mut sets: Vec<(u64, Vec<usize>)> = vec![(0, Vec::new())];
         for index in bought {
             let Stock { cost, count, .. } = self.task.stock[index];
@@ -395,26 +284,16 @@ impl Search<'_> {
                 let most = (self.cost(&self.best).saturating_sub(*before) / cost)
                     .min(count.unwrap_or(u32::MAX).into());
                 let longer = |number: u64| [&set[..], &vec![index; number as usize]].concat();
-                (0..=most)
-                    .map(|number| (before + number * cost, longer(number)))
-                    .collect::<Vec<_>>()
+                (0..=most).map(|number| (before + number * cost, longer(number))).collect::<Vec<_>>()
             };
             sets = sets.iter().flat_map(with).collect();
             sets.truncate(MOST_SETS);
         }
-        sets.retain(|(cost, set)| {
-            (self.floor()..self.cost(&self.best)).contains(cost) && self.has_area(set)
-        });
+        sets.retain(|(cost, set)| (self.floor()..self.cost(&self.best)).contains(cost) && self.has_area(set));
         sets.sort();
         let packing = |(_, set): &(u64, Vec<usize>)| {
-            let boards = self
-                .offcuts()
-                .into_iter()
-                .chain(set.iter().map(|index| self.board(*index)));
-            Packing {
-                boards: boards.collect(),
-                left: self.task.counts(),
-            }
+            let boards = self.offcuts().into_iter().chain(set.iter().map(|index| self.board(*index)));
+            Packing { boards: boards.collect(), left: self.task.counts() }
         };
         sets.iter().take(TRIED_SETS).map(packing).collect()
     }
@@ -422,18 +301,10 @@ impl Search<'_> {
     fn has_area(&self, set: &[usize]) -> bool {
         let area = |[length, width]: [i32; 2]| i128::from(length) * i128::from(width);
         let kinds = self.task.kinds.iter().enumerate();
-        let need: i128 = kinds
-            .map(|(index, kind)| i128::from(kind.count) * area(self.task.wide(index, false)))
-            .sum();
-        let offcuts: i128 = self
-            .offcuts()
-            .iter()
-            .map(|board| i128::from(board.area()))
-            .sum();
-        let have: i128 = set
-            .iter()
-            .map(|index| area(self.task.room(self.task.stock[*index].sides)))
-            .sum();
+        let need: i128 =
+            kinds.map(|(index, kind)| i128::from(kind.count) * area(self.task.wide(index, false))).sum();
+        let offcuts: i128 = self.offcuts().iter().map(|board| i128::from(board.area())).sum();
+        let have: i128 = set.iter().map(|index| area(self.task.room(self.task.stock[*index].sides))).sum();
         have + offcuts >= need
     }
 
@@ -444,17 +315,10 @@ impl Search<'_> {
             let problem = Problem::new(self.task, self.task.stock[index].sides);
             let model = problem.model(rung.side, rung.work, &mut Dice::new(rung.side as u64));
             offers.push(Offer::new(self.task, index, &model, self.memory)?);
-            modelled.push(Modelled {
-                stock: index,
-                model,
-                prices: Vec::new(),
-                multipliers: Vec::new(),
-            });
+            modelled.push(Modelled { stock: index, model, prices: Vec::new(), multipliers: Vec::new() });
         }
         let floor = floor(self.task, &mut offers, enough, rung.calls, self.clock)?;
-        modelled
-            .iter_mut()
-            .for_each(|part| part.prices.clone_from(&floor.prices));
+        modelled.iter_mut().for_each(|part| part.prices.clone_from(&floor.prices));
         Some(Proof { modelled, floor })
     }
 
@@ -465,18 +329,12 @@ impl Search<'_> {
         }
         let filled = |index: &usize| self.best.boards[*index].filled;
         let bought = |index: &usize| self.task.stock[self.best.boards[*index].stock].cost > 0;
-        let Some(last) = (0..self.best.boards.len())
-            .filter(bought)
-            .min_by_key(filled)
-        else {
+        let Some(last) = (0..self.best.boards.len()).filter(bought).min_by_key(filled) else {
             return;
         };
         let closer = thread::scope(|scope| {
             let beside = scope.spawn(|| self.closer(last, 1));
-            [
-                self.closer(last, 0),
-                beside.join().expect("a search that ends"),
-            ]
+            [self.closer(last, 0), beside.join().expect("a search that ends")]
         });
         let rest = |packing: &Packing| {
             let (room, used) = (packing.boards[last].room, packing.boards[last].used());
@@ -507,15 +365,7 @@ impl Search<'_> {
             let middle = most - (most - least) / 2;
             next.boards[last].room[axis] = middle;
             let (steps, won) = (self.task.steps(CLOSER), &AtomicU64::new(u64::MAX));
-            let (next, _) = packer.improve(
-                &next,
-                &Run {
-                    steps,
-                    enough: 0,
-                    clock: self.clock,
-                    won,
-                },
-            );
+            let (next, _) = packer.improve(&next, &Run { steps, enough: 0, clock: self.clock, won });
             if self.missing(&next) == 0 {
                 now = next;
             } else {
@@ -528,27 +378,13 @@ impl Search<'_> {
 
 /// What bounds the cost of a whole order, without a search for plans.
 pub fn bounds_of_order(task: &Task, clock: Clock, memory: u64) -> Vec<Modelled> {
-    let best = Packing {
-        boards: Vec::new(),
-        left: task.counts(),
-    };
+    let best = Packing { boards: Vec::new(), left: task.counts() };
     let progress = &Progress { shown: false };
-    let search = Search {
-        task,
-        values: areas(task),
-        clock,
-        memory,
-        progress,
-        best,
-        proof: None,
-        seed: 0,
-    };
+    let search = Search { task, values: areas(task), clock, memory, progress, best, proof: None, seed: 0 };
     let mut best: Option<Proof> = None;
     for rung in &RUNGS {
         let proof = search.prove(rung, u64::MAX - 1);
-        if proof.as_ref().map(|proof| proof.floor.cost)
-            > best.as_ref().map(|proof| proof.floor.cost)
-        {
+        if proof.as_ref().map(|proof| proof.floor.cost) > best.as_ref().map(|proof| proof.floor.cost) {
             best = proof;
         }
         if clock.is_over() {

@@ -24,11 +24,7 @@ impl Small {
     pub fn most(&self) -> u64 {
         let area = self.plate[0] * self.plate[1];
         let held = |panel: &Panel| panel.count.min(area / (panel.sides[0] * panel.sides[1]));
-        self.most_on(
-            self.plate,
-            self.panels.iter().map(held).collect(),
-            &mut Known::new(),
-        )
+        self.most_on(self.plate, self.panels.iter().map(held).collect(), &mut Known::new())
     }
 
     fn most_on(&self, sides: [usize; 2], left: Vec<usize>, known: &mut Known) -> u64 {
@@ -44,13 +40,8 @@ impl Small {
                 let (mut first, mut second) = (sides, sides);
                 (first[side], second[side]) = (at, sides[side] - at - self.kerf);
                 for share in shares(&left) {
-                    let rest = left
-                        .iter()
-                        .zip(&share)
-                        .map(|(left, share)| left - share)
-                        .collect();
-                    let earned =
-                        self.most_on(first, share, known) + self.most_on(second, rest, known);
+                    let rest = left.iter().zip(&share).map(|(left, share)| left - share).collect();
+                    let earned = self.most_on(first, share, known) + self.most_on(second, rest, known);
                     most = most.max(earned);
                 }
             }
@@ -64,11 +55,7 @@ impl Small {
             let [a, b] = panel.sides;
             a <= length && b <= width || self.turning && b <= length && a <= width
         };
-        let open = self
-            .panels
-            .iter()
-            .zip(left)
-            .filter(|(panel, left)| **left > 0 && fits(panel));
+        let open = self.panels.iter().zip(left).filter(|(panel, left)| **left > 0 && fits(panel));
         open.map(|(panel, _)| panel.price).max().unwrap_or(0)
     }
 }
@@ -78,9 +65,7 @@ fn shares(left: &[usize]) -> Vec<Vec<usize>> {
     let mut shares = vec![Vec::new()];
     for copies in left {
         let longer = |share: &Vec<usize>| {
-            (0..=*copies)
-                .map(|taken| [&share[..], &[taken]].concat())
-                .collect::<Vec<_>>()
+            (0..=*copies).map(|taken| [&share[..], &[taken]].concat()).collect::<Vec<_>>()
         };
         shares = shares.iter().flat_map(longer).collect();
     }
@@ -89,31 +74,14 @@ fn shares(left: &[usize]) -> Vec<Vec<usize>> {
 
 #[test]
 fn job_s_is_searched() {
-    let panel = |sides, price, count| Panel {
-        sides,
-        price,
-        count,
-    };
-    let panels = vec![
-        panel([2, 3], 7, 1),
-        panel([3, 1], 4, 2),
-        panel([2, 2], 5, 1),
-    ];
-    let mut small = Small {
-        plate: [5, 3],
-        kerf: 0,
-        turning: false,
-        panels,
-    };
+    let panel = |sides, price, count| Panel { sides, price, count };
+    let panels = vec![panel([2, 3], 7, 1), panel([3, 1], 4, 2), panel([2, 2], 5, 1)];
+    let mut small = Small { plate: [5, 3], kerf: 0, turning: false, panels };
     assert_eq!(small.most(), 16);
     small.panels.iter_mut().for_each(|panel| panel.count = 9);
     assert_eq!(small.most(), 19);
     small.turning = true;
-    small
-        .panels
-        .iter_mut()
-        .zip([2, 2, 1])
-        .for_each(|(panel, count)| panel.count = count);
+    small.panels.iter_mut().zip([2, 2, 1]).for_each(|(panel, count)| panel.count = count);
     assert_eq!(small.most(), 18);
 }
 
@@ -124,12 +92,7 @@ impl Small {
         self.fewest_for(&all, &mut HashMap::new(), &mut Known::new())
     }
 
-    fn fewest_for(
-        &self,
-        left: &[usize],
-        known: &mut HashMap<Vec<usize>, usize>,
-        held: &mut Known,
-    ) -> usize {
+    fn fewest_for(&self, left: &[usize], known: &mut HashMap<Vec<usize>, usize>, held: &mut Known) -> usize {
         if left.iter().all(|copies| *copies == 0) {
             return 0;
         }
@@ -140,11 +103,7 @@ impl Small {
         for share in shares(left) {
             let count: usize = share.iter().sum();
             if count > 0 && self.copies_on(self.plate, share.clone(), held) == count as u64 {
-                let rest: Vec<usize> = left
-                    .iter()
-                    .zip(&share)
-                    .map(|(left, share)| left - share)
-                    .collect();
+                let rest: Vec<usize> = left.iter().zip(&share).map(|(left, share)| left - share).collect();
                 fewest = fewest.min(self.fewest_for(&rest, known, held).saturating_add(1));
             }
         }
@@ -155,34 +114,16 @@ impl Small {
     /// The most copies of these that a rectangle holds.
     fn copies_on(&self, sides: [usize; 2], left: Vec<usize>, known: &mut Known) -> u64 {
         let priced = |panel: &Panel| Panel { price: 1, ..*panel };
-        let counted = Small {
-            panels: self.panels.iter().map(priced).collect(),
-            ..*self
-        };
+        let counted = Small { panels: self.panels.iter().map(priced).collect(), ..*self };
         counted.most_on(sides, left, known)
     }
 }
 
 #[test]
 fn the_fewest_plates_are_found() {
-    let panels = vec![
-        Panel {
-            sides: [3, 2],
-            price: 1,
-            count: 3,
-        },
-        Panel {
-            sides: [2, 2],
-            price: 1,
-            count: 1,
-        },
-    ];
-    let mut small = Small {
-        plate: [5, 4],
-        kerf: 0,
-        turning: false,
-        panels,
-    };
+    let panels =
+        vec![Panel { sides: [3, 2], price: 1, count: 3 }, Panel { sides: [2, 2], price: 1, count: 1 }];
+    let mut small = Small { plate: [5, 4], kerf: 0, turning: false, panels };
     assert_eq!(small.fewest(), 2);
     small.turning = true;
     small.plate = [6, 4];

@@ -10,11 +10,7 @@ const HEAD: &str = "plate, 2440 x 1220\nname, length, width, count, price\n";
 fn fault(text: &str, line: usize, column: usize, expected: &str) {
     let faults = read(text.as_bytes(), None).expect_err(text);
     let first = &faults[0];
-    assert_eq!(
-        (first.line, first.column),
-        (line, column),
-        "{first}\n{text}"
-    );
+    assert_eq!((first.line, first.column), (line, column), "{first}\n{text}");
     assert!(first.expected.contains(expected), "{first}\n{text}");
 }
 
@@ -32,12 +28,7 @@ fn panel(line: &str, column: usize, expected: &str) {
 fn something_is_missing() {
     fault("", 1, 1, "a line plate");
     fault("# only a comment\n", 2, 1, "a line plate");
-    fault(
-        "name, length, width, count\na, 1, 1, 1\n",
-        3,
-        1,
-        "a line plate",
-    );
+    fault("name, length, width, count\na, 1, 1, 1\n", 3, 1, "a line plate");
     fault(PLATE, 2, 1, "a heading");
     fault(HEAD, 3, 1, "a line for each panel");
 }
@@ -46,17 +37,7 @@ fn something_is_missing() {
 fn lines_before_the_heading() {
     fault("table, 1 x 1", 1, 1, "saw, turning or the heading");
     fault("plate", 1, 6, "LENGTH x WIDTH");
-    for plate in [
-        "2440",
-        "2440 1220",
-        "2440 x",
-        "x 5",
-        "0 x 5",
-        "5 x 0",
-        "-5 x 5",
-        "a x b",
-        "1 x 2 x 3",
-    ] {
+    for plate in ["2440", "2440 1220", "2440 x", "x 5", "0 x 5", "5 x 0", "-5 x 5", "a x b", "1 x 2 x 3"] {
         fault(&format!("plate, {plate}"), 1, 8, "LENGTH x WIDTH");
     }
     fault("plate, 5 x 5, some", 1, 15, "how many there are");
@@ -84,12 +65,7 @@ fn headings() {
     after_plate("name, length, width", 20, "a column count");
     after_plate("name, length, , width, count", 15, "one of the columns");
     let skipped = format!("{PLATE}name, length\na, 1\n");
-    assert_eq!(
-        read(skipped.as_bytes(), None)
-            .expect_err("two columns are missing")
-            .len(),
-        1
-    );
+    assert_eq!(read(skipped.as_bytes(), None).expect_err("two columns are missing").len(), 1);
 }
 
 #[test]
@@ -99,9 +75,7 @@ fn panels() {
     panel("b", 2, "a length");
     panel("b, 1", 5, "a length");
     panel("b, 1, 1", 8, "a count");
-    for length in [
-        "", "x", "0", "-1", "1.2345", "1.", ".5", "1e3", "99999999", "1 2",
-    ] {
+    for length in ["", "x", "0", "-1", "1.2345", "1.", ".5", "1e3", "99999999", "1 2"] {
         panel(&format!("b, {length}, 1, 1"), 4, "a length");
         panel(&format!("b, 1, {length}, 1"), 7, "a length");
     }
@@ -132,12 +106,7 @@ fn sizes_together() {
     let with = |saw: &str, piece: &str| {
         format!("plate, 2440 x 1220\nsaw, {saw}\nname, length, width, count\n{piece}\n")
     };
-    fault(
-        &with("kerf 1000.001", "a, 1, 1, 1"),
-        2,
-        6,
-        "at most 1000 mm",
-    );
+    fault(&with("kerf 1000.001", "a, 1, 1, 1"), 2, 6, "at most 1000 mm");
     fault(&with("kerf 3", "a, 2440.1, 1, 1"), 4, 4, "fits a plate");
     fault(&with("kerf 3", "a, 1, 1220.1, 1"), 4, 4, "fits a plate");
     fault(&with("kerf 3", "a, 1000, 1300, 1"), 4, 4, "2440 x 1220");
@@ -155,19 +124,11 @@ fn sizes_together() {
 #[test]
 fn every_faulty_line_is_named_and_nothing_is_written() {
     let scratch = Scratch::new("faults");
-    let order = scratch.write(
-        "order.csv",
-        format!("{HEAD}a, x, 1, 1\nb, 1, 1, 1\nc, 1, 1, 99999\n"),
-    );
+    let order = scratch.write("order.csv", format!("{HEAD}a, x, 1, 1\nb, 1, 1, 1\nc, 1, 1, 99999\n"));
     let faults = scratch.plan(&order, &[]).expect_err("two faults");
     let lines: Vec<_> = faults.lines().collect();
-    assert!(
-        lines.len() == 2 && lines[0].contains("line 3, column 4: expected a length"),
-        "{faults}"
-    );
-    assert!(
-        lines[1].contains("line 5, column 10: expected a count, a whole number from 0 to 10000")
-    );
+    assert!(lines.len() == 2 && lines[0].contains("line 3, column 4: expected a length"), "{faults}");
+    assert!(lines[1].contains("line 5, column 10: expected a count, a whole number from 0 to 10000"));
     assert!(lines[1].ends_with("found \"99999\""), "{faults}");
     for file in ["plan.svg", "plan.json", "plan.stamp"] {
         assert!(!Path::new(&scratch.path(file)).exists());

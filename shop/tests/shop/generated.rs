@@ -13,10 +13,7 @@ struct Dice(u64);
 
 impl Dice {
     fn from(&mut self, low: usize, high: usize) -> usize {
-        self.0 = self
-            .0
-            .wrapping_mul(6_364_136_223_846_793_005)
-            .wrapping_add(1_442_695_040_888_963_407);
+        self.0 = self.0.wrapping_mul(6_364_136_223_846_793_005).wrapping_add(1_442_695_040_888_963_407);
         low + (self.0 >> 33) as usize % (high - low + 1)
     }
 }
@@ -28,48 +25,23 @@ fn generated(seed: u64, most_kinds: usize, most_copies: usize, priced: bool) -> 
     let plate = [dice.from(3, 7), dice.from(2, 6)];
     let (kerf, turning) = (dice.from(0, 1), dice.from(0, 1) == 1);
     let tenths = |steps: usize| format!("{}.{}", steps * step / 10, steps * step % 10);
-    let mut text = format!(
-        "plate, {} x {}\nsaw, kerf {}\n",
-        tenths(plate[0]),
-        tenths(plate[1]),
-        tenths(kerf)
-    );
+    let mut text =
+        format!("plate, {} x {}\nsaw, kerf {}\n", tenths(plate[0]), tenths(plate[1]), tenths(kerf));
     let turns = if turning { "yes" } else { "no" };
-    writeln!(text, "turning, {turns}\nname, length, width, count, price")
-        .expect("a string takes all text");
+    writeln!(text, "turning, {turns}\nname, length, width, count, price").expect("a string takes all text");
     let mut panels: Vec<Panel> = Vec::new();
     for number in 0..dice.from(1, most_kinds) {
         let sides = plate.map(|most| dice.from(1, most));
         let left = most_copies - panels.iter().map(|panel| panel.count).sum::<usize>();
         let count = dice.from(1, 3).min(left);
-        let price = if priced {
-            dice.from(1, 20)
-        } else {
-            sides[0] * sides[1]
-        };
-        let cell = if priced {
-            price.to_string()
-        } else {
-            String::new()
-        };
+        let price = if priced { dice.from(1, 20) } else { sides[0] * sides[1] };
+        let cell = if priced { price.to_string() } else { String::new() };
         let [length, width] = sides.map(tenths);
         writeln!(text, "panel {number}, {length}, {width}, {count}, {cell}")
             .expect("a string takes all text");
-        panels.push(Panel {
-            sides,
-            price: price as u64,
-            count,
-        });
+        panels.push(Panel { sides, price: price as u64, count });
     }
-    (
-        text,
-        Small {
-            plate,
-            kerf,
-            turning,
-            panels,
-        },
-    )
+    (text, Small { plate, kerf, turning, panels })
 }
 
 fn number(document: &Value, name: &str) -> u64 {
@@ -96,16 +68,10 @@ fn one_board_is_planned_as_well_as_the_verdict_says() {
         let document = scratch.document();
         let (worth, ceiling) = (text(&document, "worth"), text(&document, "most_possible"));
         let most = small.most();
-        assert!(
-            worth <= most && most <= ceiling,
-            "{worth} {most} {ceiling}\n{order}\n{summary}"
-        );
+        assert!(worth <= most && most <= ceiling, "{worth} {most} {ceiling}\n{order}\n{summary}");
         let says_best = summary.contains("\nbest: ");
         assert_eq!(says_best, document.get("best") == Some(&Value::Truth(true)));
-        assert!(
-            !says_best || worth == most,
-            "{worth} {most}\n{order}\n{summary}"
-        );
+        assert!(!says_best || worth == most, "{worth} {most}\n{order}\n{summary}");
         no_other_plan_is_best(&scratch, most);
         best += u64::from(says_best);
     }
@@ -115,16 +81,9 @@ fn one_board_is_planned_as_well_as_the_verdict_says() {
 
 /// The plan that cuts nothing is best only where nothing can be cut.
 fn no_other_plan_is_best(scratch: &Scratch, most: u64) {
-    let evidence = scratch
-        .document()
-        .get("evidence")
-        .cloned()
-        .unwrap_or(Value::Null);
+    let evidence = scratch.document().get("evidence").cloned().unwrap_or(Value::Null);
     let waste = ("plan", Value::object([("waste", Value::Truth(true))]));
-    let file = scratch.write(
-        "waste.json",
-        Value::object([waste, ("evidence", evidence)]).to_string(),
-    );
+    let file = scratch.write("waste.json", Value::object([waste, ("evidence", evidence)]).to_string());
     let judged = shop(&["check", &scratch.path("order.csv"), &file, "--seconds", "0"]);
     let judged = judged.expect("a plan that cuts nothing passes");
     assert_eq!(judged.contains("\nbest: "), most == 0, "{judged}");
@@ -145,14 +104,8 @@ fn whole_orders_take_as_few_boards_as_the_verdict_says() {
         let summary = scratch.planned(&order, &["--seconds", "0.5"]);
         let document = scratch.document();
         let fewest = small.fewest() as u64;
-        let (boards, needed) = (
-            number(&document, "boards_planned"),
-            number(&document, "boards_needed"),
-        );
-        assert!(
-            needed <= fewest && fewest <= boards,
-            "{needed} {fewest} {boards}\n{order}\n{summary}"
-        );
+        let (boards, needed) = (number(&document, "boards_planned"), number(&document, "boards_needed"));
+        assert!(needed <= fewest && fewest <= boards, "{needed} {fewest} {boards}\n{order}\n{summary}");
         let says_best = summary.contains("no plan needs fewer");
         assert_eq!(says_best, boards == needed, "{summary}");
         assert_eq!(boards, fewest, "{order}\n{summary}");

@@ -10,6 +10,7 @@ mod outputs;
 mod replay;
 mod sample;
 mod scratch;
+mod sheets;
 mod stock;
 mod usage;
 mod verdicts;

@@ -31,14 +31,8 @@ fn an_order_may_be_written_in_many_ways() {
 
 #[test]
 fn names_are_kept() {
-    let named = order(&format!(
-        "{HEAD}\"a, \"\"b\"\"\", 1, 1, 1\n棚 #2, 1, 1, 1\nplate, 1, 1, 1\n"
-    ));
-    let names: Vec<_> = named
-        .panels
-        .iter()
-        .map(|piece| piece.name.as_str())
-        .collect();
+    let named = order(&format!("{HEAD}\"a, \"\"b\"\"\", 1, 1, 1\n棚 #2, 1, 1, 1\nplate, 1, 1, 1\n"));
+    let names: Vec<_> = named.panels.iter().map(|piece| piece.name.as_str()).collect();
     assert_eq!(names, ["a, \"b\"", "棚 #2", "plate"]);
 }
 
@@ -48,26 +42,10 @@ fn lengths_are_read_as_written() {
         "plate, 2444.9 x 1220\nsaw, kerf 3.2, unit 5\nturning, yes\nname, length, width, count, price\n\
          a, 720.001, 560, 2\nb, 720, 564.9, 255, 9\n",
     );
-    assert_eq!(
-        (exact.plates[0].sides(), exact.kerf()),
-        ([2_444_900, 1_220_000], 3_200)
-    );
-    let panels: Vec<_> = exact
-        .panels
-        .iter()
-        .map(|p| (p.sides(), p.count, p.price, p.turns))
-        .collect();
-    assert_eq!(
-        panels,
-        [
-            ([720_001, 560_000], 2, None, true),
-            ([720_000, 564_900], 255, Some(9), true)
-        ]
-    );
-    let kept = read(
-        b"plate, 9 x 9\nturning, yes\nname, length, width, count\na, 1, 1, 1",
-        Some(false),
-    );
+    assert_eq!((exact.plates[0].sides(), exact.kerf()), ([2_444_900, 1_220_000], 3_200));
+    let panels: Vec<_> = exact.panels.iter().map(|p| (p.sides(), p.count, p.price, p.turns)).collect();
+    assert_eq!(panels, [([720_001, 560_000], 2, None, true), ([720_000, 564_900], 255, Some(9), true)]);
+    let kept = read(b"plate, 9 x 9\nturning, yes\nname, length, width, count\na, 1, 1, 1", Some(false));
     assert!(!kept.expect("no fault").panels[0].turns);
 }
 
@@ -78,11 +56,7 @@ fn the_stock_is_read() {
          trim, 10\nstages, 3\nsaw, kerf 4\nname, length, width, count, turn\na, 100, 90, 1, yes\nb, 100, 90, 1, no\n\
          c, 100, 90, 1\n",
     );
-    let plates: Vec<_> = stock
-        .plates
-        .iter()
-        .map(|p| (p.sides(), p.count, p.cost, p.offcut))
-        .collect();
+    let plates: Vec<_> = stock.plates.iter().map(|p| (p.sides(), p.count, p.cost, p.offcut)).collect();
     assert_eq!(
         plates,
         [

@@ -16,22 +16,12 @@ fn refused(scratch: &Scratch, words: &[&str], wrong: &str) {
 fn outputs_may_not_clash() {
     let scratch = Scratch::new("clash");
     let order = scratch.write("order.csv", ORDER);
-    refused(
-        &scratch,
-        &[&order, "--svg", &order],
-        "an output may not be what is read",
-    );
+    refused(&scratch, &[&order, "--svg", &order], "an output may not be what is read");
     let file = scratch.path("plan");
-    refused(
-        &scratch,
-        &[&order, "--svg", &file, "--json", &file],
-        "an output may not be named twice",
-    );
+    refused(&scratch, &[&order, "--svg", &file, "--json", &file], "an output may not be named twice");
     let beside = scratch.path("none/plan.svg");
     refused(&scratch, &[&order, "--svg", &beside], "No such file");
-    let left = std::fs::read_dir(scratch.path(""))
-        .expect("a folder")
-        .count();
+    let left = std::fs::read_dir(scratch.path("")).expect("a folder").count();
     assert_eq!(left, 1, "nothing is left behind");
 }
 
@@ -39,9 +29,7 @@ fn outputs_may_not_clash() {
 fn a_full_disk_does_not_keep_the_plan_back() {
     let scratch = Scratch::new("full");
     let order = scratch.write("order.csv", ORDER);
-    let output = Command::new(env!("CARGO_BIN_EXE_shop"))
-        .args([&order, "--json", "/dev/full"])
-        .output();
+    let output = Command::new(env!("CARGO_BIN_EXE_shop")).args([&order, "--json", "/dev/full"]).output();
     let output = output.expect("the program runs");
     assert_eq!(output.status.code(), Some(1));
     assert!(String::from_utf8_lossy(&output.stdout).contains("1 board: no plan needs fewer"));
@@ -96,11 +84,7 @@ fn an_interrupt_gives_the_best_plan_so_far() {
         .expect("the program runs");
     std::thread::sleep(std::time::Duration::from_secs(2));
     let number = program.id().to_string();
-    assert!(Command::new("kill")
-        .args(["-INT", &number])
-        .status()
-        .expect("kill")
-        .success());
+    assert!(Command::new("kill").args(["-INT", &number]).status().expect("kill").success());
     let output = program.wait_with_output().expect("it ends");
     assert!(output.status.success());
     assert!(String::from_utf8_lossy(&output.stdout).contains("more is possible"));

@@ -17,24 +17,14 @@ pub type Cut = Vec<BTreeMap<String, usize>>;
 pub fn thousandths(text: &str) -> i64 {
     let (whole, decimals) = text.trim().split_once('.').unwrap_or((text.trim(), ""));
     assert!(decimals.len() <= 3, "{text}");
-    format!("{whole}{decimals:0<3}")
-        .parse()
-        .unwrap_or_else(|_| panic!("{text} is no length"))
+    format!("{whole}{decimals:0<3}").parse().unwrap_or_else(|_| panic!("{text} is no length"))
 }
 
 impl Ordered {
     pub fn read(text: &str) -> Ordered {
-        let mut ordered = Ordered {
-            kerf: 0,
-            trim: 0,
-            panels: BTreeMap::new(),
-            turning: false,
-        };
+        let mut ordered = Ordered { kerf: 0, trim: 0, panels: BTreeMap::new(), turning: false };
         let mut headed = false;
-        for line in text
-            .lines()
-            .filter(|line| !line.trim().is_empty() && !line.starts_with('#'))
-        {
+        for line in text.lines().filter(|line| !line.trim().is_empty() && !line.starts_with('#')) {
             let cells: Vec<&str> = line.split(',').map(str::trim).collect();
             match cells[0] {
                 _ if headed => {
@@ -58,15 +48,8 @@ impl Ordered {
     /// Expects a part to be exactly a panel.
     pub fn expect(&self, name: &str, turned: bool, sides: [i64; 2]) {
         let (length, width, _) = self.panels[name];
-        let wanted = if turned {
-            [width, length]
-        } else {
-            [length, width]
-        };
-        assert!(
-            !turned || self.turning || length == width,
-            "{name} is turned"
-        );
+        let wanted = if turned { [width, length] } else { [length, width] };
+        assert!(!turned || self.turning || length == width, "{name} is turned");
         assert_eq!(sides, wanted, "{name}");
     }
 
@@ -94,9 +77,7 @@ fn length(value: &Value, name: &str) -> i64 {
 }
 
 pub fn from_document(document: &Value, ordered: &Ordered) -> Cut {
-    let Some(Value::List(boards)) = document.get("boards") else {
-        panic!("no boards")
-    };
+    let Some(Value::List(boards)) = document.get("boards") else { panic!("no boards") };
     let board = |board: &Value| {
         let plate = board.get("plate").expect("a plate");
         let mut cut = BTreeMap::new();
@@ -120,12 +101,7 @@ fn saw(node: &Value, sides: [i64; 2], ordered: &Ordered, cut: &mut BTreeMap<Stri
                 [sides[0], size]
             }
         };
-        saw(
-            node.get("first").expect("a first part"),
-            part(first),
-            ordered,
-            cut,
-        );
+        saw(node.get("first").expect("a first part"), part(first), ordered, cut);
         match (second, node.get("second").expect("a second part, or null")) {
             (None, Value::Null) => {}
             (Some(size), second) => saw(second, part(size), ordered, cut),
@@ -140,10 +116,7 @@ fn saw(node: &Value, sides: [i64; 2], ordered: &Ordered, cut: &mut BTreeMap<Stri
 }
 
 fn sides(text: &str) -> [i64; 2] {
-    let (length, width) = text
-        .trim()
-        .split_once(" x ")
-        .unwrap_or_else(|| panic!("{text} is no size"));
+    let (length, width) = text.trim().split_once(" x ").unwrap_or_else(|| panic!("{text} is no size"));
     [thousandths(length), thousandths(width)]
 }
 
@@ -158,33 +131,20 @@ impl Sawn<'_> {
     fn part(&mut self, words: &str, sides_now: [i64; 2]) {
         let (size, becomes) = words.split_once(": ").expect("a size and what it becomes");
         assert_eq!(sides(size), sides_now, "{words}");
-        if let Some(number) = becomes
-            .strip_prefix("cut ")
-            .and_then(|number| number.parse().ok())
-        {
+        if let Some(number) = becomes.strip_prefix("cut ").and_then(|number| number.parse().ok()) {
             self.waiting.insert(number, sides_now);
         } else if becomes != "rest" {
-            let (name, turned) = becomes
-                .strip_suffix(" turned")
-                .map_or((becomes, false), |name| (name, true));
+            let (name, turned) =
+                becomes.strip_suffix(" turned").map_or((becomes, false), |name| (name, true));
             self.ordered.expect(name, turned, sides_now);
             *self.cut.entry(name.to_string()).or_default() += 1;
         }
     }
 
     fn row(&mut self, row: &str) {
-        let cells: Vec<&str> = row
-            .split("  ")
-            .map(str::trim)
-            .filter(|cell| !cell.is_empty())
-            .collect();
-        let [number, of, at, first, second] = cells[..] else {
-            panic!("{row}")
-        };
-        let now = self
-            .waiting
-            .remove(&number.parse().expect("a number"))
-            .expect("a part that waits");
+        let cells: Vec<&str> = row.split("  ").map(str::trim).filter(|cell| !cell.is_empty()).collect();
+        let [number, of, at, first, second] = cells[..] else { panic!("{row}") };
+        let now = self.waiting.remove(&number.parse().expect("a number")).expect("a part that waits");
         assert_eq!(sides(of), now, "{row}");
         let (side, at) = at.split_once(" at ").expect("a side and a setting");
         let axis = usize::from(side == "width");
@@ -207,21 +167,12 @@ impl Sawn<'_> {
 /// Follows the list of every board.
 pub fn from_list(summary: &str, ordered: &Ordered) -> Cut {
     let mut boards = Vec::new();
-    let blocks = summary
-        .split("\n\n")
-        .filter(|block| block.starts_with("board ") || block.starts_with("offcut "));
+    let blocks =
+        summary.split("\n\n").filter(|block| block.starts_with("board ") || block.starts_with("offcut "));
     for block in blocks {
         let (head, rest) = block.split_once('\n').unwrap_or((block, ""));
-        let size = head
-            .split_once(", ")
-            .expect("a size")
-            .1
-            .trim_end_matches(" mm");
-        let mut sawn = Sawn {
-            ordered,
-            waiting: BTreeMap::from([(1, sides(size))]),
-            cut: BTreeMap::new(),
-        };
+        let size = head.split_once(", ").expect("a size").1.trim_end_matches(" mm");
+        let mut sawn = Sawn { ordered, waiting: BTreeMap::from([(1, sides(size))]), cut: BTreeMap::new() };
         for line in rest.lines() {
             if let Some(whole) = line.strip_prefix("no cuts, ") {
                 sawn.waiting.clear();

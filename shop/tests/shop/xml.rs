@@ -10,10 +10,7 @@ pub struct Element {
 
 impl Element {
     pub fn get(&self, name: &str) -> Option<&str> {
-        self.attributes
-            .iter()
-            .find(|(n, _)| n == name)
-            .map(|(_, value)| value.as_str())
+        self.attributes.iter().find(|(n, _)| n == name).map(|(_, value)| value.as_str())
     }
 }
 
@@ -57,12 +54,8 @@ fn element(tag: &str) -> Result<Element, String> {
     }
     let mut attributes = Vec::<(String, String)>::new();
     while !rest.trim().is_empty() {
-        let (name, after) = rest
-            .split_once("=\"")
-            .ok_or(format!("no attribute: {rest}"))?;
-        let (value, after) = after
-            .split_once('"')
-            .ok_or(format!("no closing quote: {after}"))?;
+        let (name, after) = rest.split_once("=\"").ok_or(format!("no attribute: {rest}"))?;
+        let (value, after) = after.split_once('"').ok_or(format!("no closing quote: {after}"))?;
         let name = name.trim().to_string();
         if name.is_empty() || name.contains(char::is_whitespace) {
             return Err(format!("no name of an attribute: {name}"));
@@ -76,18 +69,12 @@ fn element(tag: &str) -> Result<Element, String> {
         attributes.push((name, unescaped(value)?));
         rest = after;
     }
-    Ok(Element {
-        name: name.to_string(),
-        attributes,
-    })
+    Ok(Element { name: name.to_string(), attributes })
 }
 
 /// Text with its entities resolved.
 fn unescaped(text: &str) -> Result<String, String> {
-    if let Some(control) = text
-        .chars()
-        .find(|c| c.is_control() && !"\n\t\r".contains(*c))
-    {
+    if let Some(control) = text.chars().find(|c| c.is_control() && !"\n\t\r".contains(*c)) {
         return Err(format!("{control:?} has no place in XML"));
     }
     let mut parts = text.split('&');
@@ -112,25 +99,8 @@ fn only_what_is_well_formed_is_read() {
     let names: Vec<_> = read.iter().map(|element| element.name.as_str()).collect();
     assert_eq!(names, ["a", "b", "c"]);
     assert_eq!(read[0].get("y"), Some("<&"));
-    let wrong = [
-        "",
-        "a",
-        "<a>",
-        "<a></b>",
-        "<a/><b/>",
-        "<a/>b",
-        "<a x=1/>",
-        "<a x=\"1/>",
-        "<a>&</a>",
-    ];
-    let also = [
-        "<a x=\"1\" x=\"2\"/>",
-        "<a>&nbsp;</a>",
-        "<a",
-        "<a x=\"1\"y=\"2\"/>",
-        "<a>\u{1}</a>",
-        "</a>",
-    ];
+    let wrong = ["", "a", "<a>", "<a></b>", "<a/><b/>", "<a/>b", "<a x=1/>", "<a x=\"1/>", "<a>&</a>"];
+    let also = ["<a x=\"1\" x=\"2\"/>", "<a>&nbsp;</a>", "<a", "<a x=\"1\"y=\"2\"/>", "<a>\u{1}</a>", "</a>"];
     for text in wrong.into_iter().chain(also) {
         assert!(elements(text).is_err(), "{text}");
     }
