@@ -33,6 +33,8 @@ pub struct Board {
     nodes: Vec<Node>,
     root: u32,
     pub filled: i64,
+    /// The most that any node may grow along the length and along the width.
+    free: [i32; 2],
 }
 
 /// A place for a panel: beside a node, in a direction. The least score is best.
@@ -81,7 +83,7 @@ impl Score {
 impl Board {
     pub fn new(stock: usize, room: [i32; 2], limit: Option<u32>) -> Board {
         let limit = limit.map(|limit| limit as u8);
-        Board { stock, room, limit, nodes: Vec::new(), root: NONE, filled: 0 }
+        Board { stock, room, limit, nodes: Vec::new(), root: NONE, filled: 0, free: [0; 2] }
     }
 
     pub fn is_empty(&self) -> bool {
@@ -136,6 +138,9 @@ impl Board {
                 *best = Place { score, beside: 0, cut: 0 };
                 found = true;
             }
+        }
+        if panel[0] > self.free[0] && panel[1] > self.free[1] {
+            return found;
         }
         for (index, node) in self.nodes.iter().enumerate() {
             let up = if node.up == NONE { PANEL } else { self.nodes[node.up as usize].cut };
@@ -240,8 +245,12 @@ impl Board {
         let root = self.root as usize;
         self.nodes[root].up = NONE;
         self.nodes[root].room = self.room;
+        self.free = [0; 2];
         for index in (0..self.nodes.len()).rev() {
             let node = self.nodes[index];
+            for (axis, free) in self.free.iter_mut().enumerate() {
+                *free = (*free).max(node.room[axis] - node.used[axis]);
+            }
             if node.cut == PANEL {
                 self.filled += i64::from(node.used[0]) * i64::from(node.used[1]);
                 continue;

@@ -41,7 +41,7 @@ pub struct Task {
 }
 
 /// Orders of more panels get fewer steps.
-const MANY_PANELS: u64 = 400;
+const MANY_PANELS: u64 = 100;
 
 /// Where an order has prices, an area without one counts in square centimetres.
 const SQUARE_CENTIMETRE: u64 = 100_000_000;
