@@ -16,66 +16,85 @@ pub struct Lagrange {
 /// The share of the best multipliers so far in those that are tried first.
 const STEADY: f64 = 0.6;
 
+/// A board whose prices are lowered by multipliers.
+struct Lowered<'a> {
+    board: Priced,
+    prices: &'a [u32],
+    best: Option<Lagrange>,
+    /// The best multipliers, before they were rounded.
+    steady: Vec<f64>,
+    calls: usize,
+}
+
+impl Lowered<'_> {
+    /// Tries multipliers, keeps the least bound, and gives the plan behind it as a column, if it is not too long.
+    fn try_out(&mut self, at: Vec<f64>) -> Option<Option<Column>> {
+        let whole = |(at, price): (&f64, &u32)| at.round().clamp(0.0, f64::from(*price)) as u32;
+        let multipliers: Vec<u32> = at.iter().zip(self.prices).map(whole).collect();
+        let left: Vec<u32> = self.prices.iter().zip(&multipliers).map(|(price, less)| price - less).collect();
+        self.board.set_prices(&left);
+        let Answer { bound, copies } = self.board.price(self.prices.len())?;
+        self.calls += 1;
+        let charge = |(kind, copies): &(usize, u16)| u64::from(multipliers[*kind]) * u64::from(*copies);
+        let bound = bound + self.board.entries.entries.iter().map(charge).sum::<u64>();
+        if self.best.as_ref().is_none_or(|best| bound < best.bound) {
+            self.best = Some(Lagrange { bound, multipliers });
+            self.steady = at;
+        }
+        Some(copies.map(|mut column| {
+            let earned = column.iter().zip(self.prices).map(|(copies, price)| copies * f64::from(*price));
+            let cost = -earned.sum::<f64>();
+            column.push(1.0);
+            (column, cost)
+        }))
+    }
+}
+
 /// The least Lagrangian bound of a board under its prices: for all multipliers m, no plan within the order earns more
-/// than the bound at prices less m, and m for every copy ordered.
+/// than the bound at prices less m, and m for every copy ordered. It starts from multipliers of another model.
 pub fn lagrange(
-    task: &Task,
     counts: &[u32],
     board: &Priced,
     prices: &[u32],
+    start: &[u32],
     most_calls: usize,
     clock: Clock,
 ) -> Option<Lagrange> {
-    let kinds = task.kinds.len();
+    let kinds = prices.len();
     let mut right: Vec<f64> = counts.iter().map(|count| f64::from(*count)).collect();
     right.push(1.0);
     let mut simplex = Simplex::new(&vec![1.0; kinds + 1], &vec![0.0; kinds + 1], &right);
+    let mut lowered =
+        Lowered { board: board.clone(), prices, best: None, steady: vec![0.0; kinds], calls: 0 };
     let mut columns: Vec<Column> = Vec::new();
-    let mut best: Option<Lagrange> = None;
-    let mut steady = vec![0.0; kinds];
-    let mut lowered = board.clone();
-    let mut calls = 0;
+    if start.len() == kinds {
+        columns.extend(lowered.try_out(start.iter().map(|at| f64::from(*at)).collect())?);
+    }
     loop {
         simplex.solve(&columns, 1.0);
         let value = -simplex.value();
         let duals: Vec<f64> = simplex.duals().iter().map(|dual| -dual).collect();
         let mut gained = false;
         for share in [STEADY, 0.0] {
-            let at: Vec<f64> =
-                (0..kinds).map(|kind| share * steady[kind] + (1.0 - share) * duals[kind]).collect();
-            let multipliers: Vec<u32> = at
-                .iter()
-                .zip(prices)
-                .map(|(at, price)| at.round().clamp(0.0, f64::from(*price)) as u32)
-                .collect();
-            let left: Vec<u32> = prices.iter().zip(&multipliers).map(|(price, less)| price - less).collect();
-            lowered.set_prices(&left);
-            let Answer { bound, copies } = lowered.price(kinds)?;
-            calls += 1;
-            let charge = |(kind, copies): &(usize, u16)| u64::from(multipliers[*kind]) * u64::from(*copies);
-            let charged: u64 = board.entries.entries.iter().map(charge).sum();
-            if best.as_ref().is_none_or(|best| bound + charged < best.bound) {
-                best = Some(Lagrange { bound: bound + charged, multipliers });
-                steady = at;
-            }
-            let Some(mut column) = copies else {
-                return best;
+            let Some((column, cost)) = lowered.try_out(mixed(share, &lowered.steady, &duals))? else {
+                return lowered.best;
             };
-            let cost =
-                -column.iter().zip(prices).map(|(copies, price)| copies * f64::from(*price)).sum::<f64>();
-            column.push(1.0);
-            let reduced = cost + column.iter().zip(&duals).map(|(copies, dual)| copies * dual).sum::<f64>();
-            if reduced < -0.5 {
+            if cost + column.iter().zip(&duals).map(|(copies, dual)| copies * dual).sum::<f64>() < -0.5 {
                 gained = true;
                 columns.push((column, cost));
                 break;
             }
         }
-        let reached = best.as_ref().is_some_and(|best| (best.bound as f64) < value + 1.0);
-        if !gained || reached || calls >= most_calls || clock.is_over() {
-            return best;
+        let reached = lowered.best.as_ref().is_some_and(|best| (best.bound as f64) < value + 1.0);
+        if !gained || reached || lowered.calls >= most_calls || clock.is_over() {
+            return lowered.best;
         }
     }
+}
+
+/// So large a share of the first numbers, and the rest of the second.
+fn mixed(share: f64, first: &[f64], second: &[f64]) -> Vec<f64> {
+    first.iter().zip(second).map(|(first, second)| share * first + (1.0 - share) * second).collect()
 }
 
 /// Prices under which whole orders are bounded, and the bound of every board of the stock under them.
@@ -107,41 +126,67 @@ impl Offer {
     }
 }
 
-/// The best floor that is found under what a plan costs.
+/// The best floor that is found, up to what a plan costs. It starts from prices of other models.
 pub fn floor(
     task: &Task,
     offers: &mut [Offer],
+    start: &[u32],
     enough: u64,
     most_calls: usize,
     clock: Clock,
 ) -> Option<Floor> {
+    let kinds = task.kinds.len();
     let mut master = Master::new(task, offers);
     let mut best: Option<Floor> = None;
+    let mut steady: Option<Vec<f64>> = None;
+    if start.len() == kinds {
+        let (floor, plans) = priced(offers, start.to_vec())?;
+        plans.into_iter().enumerate().for_each(|(index, plan)| master.add(index, offers[index].cost, plan));
+        steady = Some(floor.duals(offers));
+        best = Some(floor);
+    }
     for _ in 0..most_calls {
         master.simplex.solve(&master.columns, -1.0);
         let duals = master.simplex.duals();
         let value = master.simplex.value();
-        let prices = whole_prices(&duals[..task.kinds.len()]);
-        let (mut bounds, mut gained, mut long) = (Vec::new(), false, false);
-        for (index, offer) in offers.iter_mut().enumerate() {
-            offer.priced.set_prices(&prices);
-            let Answer { bound, copies } = offer.priced.price(task.kinds.len())?;
-            bounds.push(bound);
-            long |= copies.is_none();
-            gained |= copies.is_some_and(|copies| master.add(index, offer.cost, copies, &duals));
+        let (mut gained, mut long) = (false, false);
+        for share in [STEADY, 0.0] {
+            let at = steady.as_ref().map_or(duals[..kinds].to_vec(), |steady| mixed(share, steady, &duals));
+            let (floor, plans) = priced(offers, whole_prices(&at))?;
+            for (index, plan) in plans.into_iter().enumerate() {
+                long |= plan.is_empty();
+                if master.gains(index, offers[index].cost, &plan, &duals) {
+                    gained = true;
+                    master.add(index, offers[index].cost, plan);
+                }
+            }
+            if best.as_ref().is_none_or(|best| floor.ratio(offers) > best.ratio(offers)) {
+                steady = Some(floor.duals(offers));
+                best = Some(floor);
+            }
+            if gained || long {
+                break;
+            }
         }
-        let floor = Floor::new(prices, bounds, offers);
-        if best.as_ref().is_none_or(|best| floor.ratio(offers) > best.ratio(offers)) {
-            best = Some(floor);
-        }
-        let reached = best.as_ref().is_some_and(|best| best.cost >= enough);
-        let goal = (value - 1e-6).ceil() as u64;
-        let closed = enough < u64::MAX && best.as_ref().is_some_and(|best| best.cost >= goal);
-        if !gained || long || reached || closed || clock.is_over() {
+        let cost = best.as_ref().map_or(0, |best| best.cost);
+        let closed = enough < u64::MAX && cost >= (value - 1e-6).ceil() as u64;
+        if !gained || long || cost >= enough || closed || clock.is_over() {
             break;
         }
     }
     best
+}
+
+/// The floor under prices, and for each board the plan behind its bound, empty where that is too long.
+fn priced(offers: &mut [Offer], prices: Vec<u32>) -> Option<(Floor, Vec<Vec<f64>>)> {
+    let (mut bounds, mut plans) = (Vec::new(), Vec::new());
+    for offer in offers.iter_mut() {
+        offer.priced.set_prices(&prices);
+        let Answer { bound, copies } = offer.priced.price(prices.len())?;
+        bounds.push(bound);
+        plans.push(copies.unwrap_or_default());
+    }
+    Some((Floor::new(prices, bounds, offers), plans))
 }
 
 fn whole_prices(duals: &[f64]) -> Vec<u32> {
@@ -184,12 +229,21 @@ impl Floor {
         least_cost(&boards, need)
     }
 
+    /// The prices as duals: scaled so that no board that is bought holds more than it costs.
+    fn duals(&self, offers: &[Offer]) -> Vec<f64> {
+        let each = self.each(offers);
+        self.prices.iter().map(|price| if each > 0.0 { f64::from(*price) / each } else { 0.0 }).collect()
+    }
+
+    /// The most that a board that is bought holds for its cost.
+    fn each(&self, offers: &[Offer]) -> f64 {
+        let bought = offers.iter().zip(&self.bounds).filter(|(offer, _)| offer.count.is_none());
+        bought.map(|(offer, bound)| *bound as f64 / (offer.cost as f64).max(1e-9)).fold(0.0, f64::max)
+    }
+
     /// The cost that linear prices give, for telling close floors apart.
     fn ratio(&self, offers: &[Offer]) -> f64 {
-        let need = self.worth.saturating_sub(self.other(offers)) as f64;
-        let bought = offers.iter().zip(&self.bounds).filter(|(offer, _)| offer.count.is_none());
-        let each =
-            bought.map(|(offer, bound)| *bound as f64 / (offer.cost as f64).max(1e-9)).fold(0.0, f64::max);
+        let (need, each) = (self.worth.saturating_sub(self.other(offers)) as f64, self.each(offers));
         if each > 0.0 {
             need / each
         } else {
@@ -224,9 +278,9 @@ fn least_cost(boards: &[(u64, u64)], need: u64) -> u64 {
 struct Master {
     simplex: Simplex,
     columns: Vec<Column>,
-    kinds: usize,
     /// The row of each free board.
     rows: Vec<Option<usize>>,
+    rows_in_all: usize,
 }
 
 /// The cost of a board for kinds that fit none that is bought.
@@ -265,21 +319,27 @@ impl Master {
             (column, costs[kind])
         };
         let columns = (0..kinds).map(unit).collect();
-        Master { simplex: Simplex::new(&diagonal, &costs, &right), columns, kinds, rows }
+        Master { simplex: Simplex::new(&diagonal, &costs, &right), columns, rows, rows_in_all: right.len() }
     }
 
-    /// Adds the plan of a board, if that can lower the cost.
-    fn add(&mut self, offer: usize, cost: u64, mut column: Vec<f64>, duals: &[f64]) -> bool {
-        column.resize(duals.len(), 0.0);
+    /// The plan of a board as a column.
+    fn column(&self, offer: usize, plan: &[f64]) -> Vec<f64> {
+        let mut column = plan.to_vec();
+        column.resize(self.rows_in_all, 0.0);
         if let Some(row) = self.rows[offer] {
             column[row] = -1.0;
         }
-        debug_assert!(self.kinds <= column.len());
+        column
+    }
+
+    /// Whether the plan of a board can lower the cost.
+    fn gains(&self, offer: usize, cost: u64, plan: &[f64], duals: &[f64]) -> bool {
+        let column = self.column(offer, plan);
         let worth: f64 = column.iter().zip(duals).map(|(copies, dual)| copies * dual).sum();
-        let gains = worth > cost as f64 + 1e-6;
-        if gains {
-            self.columns.push((column, cost as f64));
-        }
-        gains
+        worth > cost as f64 + 1e-6
+    }
+
+    fn add(&mut self, offer: usize, cost: u64, plan: Vec<f64>) {
+        self.columns.push((self.column(offer, &plan), cost as f64));
     }
 }

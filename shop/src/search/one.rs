@@ -75,7 +75,7 @@ pub fn one(task: &Task, board: usize, clock: Clock, memory: u64, progress: &Prog
     let all: i64 = values.iter().zip(&empty.left).map(|(value, left)| value * i64::from(*left)).sum();
     let mut one = One { packing: empty.clone(), ceiling: None };
     let mut seed = 0;
-    let (mut steps, last) = (task.steps(FIRST), task.steps(LAST));
+    let [mut steps, last] = [FIRST, LAST].map(|steps| task.steps(4 * steps).min(steps));
     let mut rungs = RUNGS.iter();
     loop {
         let rung = rungs.next();
@@ -83,9 +83,10 @@ pub fn one(task: &Task, board: usize, clock: Clock, memory: u64, progress: &Prog
         let won = AtomicU64::new(u64::MAX);
         let run = Run { steps, enough: least, clock, won: &won };
         let pack = |seed: u64| Packer::new(task, &values, seed).improve(&empty, &run);
+        let before = one.ceiling.clone();
         let packed = thread::scope(|scope| {
             let beside = scope.spawn(|| match rung {
-                Some(rung) => Err(ceiling(task, board, &prices, *rung, clock, memory)),
+                Some(rung) => Err(ceiling(task, board, &prices, before.as_ref(), *rung, clock, memory)),
                 None => Ok(pack(seed + 1)),
             });
             let mut packed = vec![pack(seed)];
@@ -122,17 +123,19 @@ fn better(old: Option<Ceiling>, new: Option<Ceiling>) -> Option<Ceiling> {
     }
 }
 
-/// The bound on a model of this size.
+/// The bound on a model of this size, from the multipliers of one before it.
 fn ceiling(
     task: &Task,
     board: usize,
     prices: &Prices,
+    before: Option<&Ceiling>,
     (side, calls, work): (i32, usize, i64),
     clock: Clock,
     memory: u64,
 ) -> Option<Ceiling> {
     let sides = task.stock[board].sides;
     let counts = held(task, sides);
+    let start = before.map_or(&[][..], |before| &before.modelled.multipliers);
     let model = Problem::new(task, sides).model(side, work, &mut Dice::new(side as u64));
     let mut priced = Priced::new(task, &counts, sides, &model, memory)?;
     if !priced.is_whole() {
@@ -144,7 +147,7 @@ fn ceiling(
         Some(optimum) => (optimum, Vec::new()),
         None => {
             let Lagrange { multipliers, .. } =
-                lagrange(task, &counts, &priced, &prices.prices, calls, clock)?;
+                lagrange(&counts, &priced, &prices.prices, start, calls, clock)?;
             (priced.lagrangian(&multipliers)?, multipliers)
         }
     };
@@ -171,6 +174,9 @@ pub fn held(task: &Task, board: crate::plan::Sides) -> Vec<u32> {
 /// What bounds the worth of a board, without a search for plans.
 pub fn bounds_of_board(task: &Task, board: usize, clock: Clock, memory: u64) -> Vec<Modelled> {
     let prices = Prices::new(&task.worths);
-    let ceilings = RUNGS.iter().map(|rung| ceiling(task, board, &prices, *rung, clock, memory));
-    ceilings.fold(None, better).map(|ceiling| ceiling.modelled).into_iter().collect()
+    let next = |before: Option<Ceiling>, rung: &(i32, usize, i64)| {
+        let ceiling = ceiling(task, board, &prices, before.as_ref(), *rung, clock, memory);
+        better(before, ceiling)
+    };
+    RUNGS.iter().fold(None, next).map(|ceiling| ceiling.modelled).into_iter().collect()
 }

@@ -71,6 +71,8 @@ struct Search<'a> {
     progress: &'a Progress,
     best: Packing,
     proof: Option<Proof>,
+    /// Prices of the last floor, from which the next starts.
+    prices: Vec<u32>,
     seed: u64,
 }
 
@@ -80,7 +82,8 @@ pub fn whole(task: &Task, clock: Clock, memory: u64, progress: &Progress) -> Who
     if task.kinds.is_empty() {
         return Whole { packing: best, proof: None };
     }
-    let mut search = Search { task, values, clock, memory, progress, best, proof: None, seed: 0 };
+    let mut search =
+        Search { task, values, clock, memory, progress, best, proof: None, prices: Vec::new(), seed: 0 };
     search.fill();
     search.climb();
     search.pack_on();
@@ -201,11 +204,19 @@ impl Search<'_> {
                 (proof.join().expect("a bound that ends"), packing)
             });
             self.seed += 1;
-            let cost = |proof: &Option<Proof>| proof.as_ref().map(|proof| proof.floor.cost);
-            if cost(&proof) > cost(&self.proof) {
-                self.proof = proof;
-            }
+            self.keep(proof);
             packing.into_iter().for_each(|(packing, _)| self.offer(packing));
+        }
+    }
+
+    /// Keeps a proof of a greater floor, and in any case its prices.
+    fn keep(&mut self, proof: Option<Proof>) {
+        let cost = |proof: &Option<Proof>| proof.as_ref().map(|proof| proof.floor.cost);
+        if let Some(proof) = &proof {
+            self.prices.clone_from(&proof.floor.prices);
+        }
+        if cost(&proof) > cost(&self.proof) {
+            self.proof = proof;
         }
     }
 
@@ -317,7 +328,7 @@ impl Search<'_> {
             offers.push(Offer::new(self.task, index, &model, self.memory)?);
             modelled.push(Modelled { stock: index, model, prices: Vec::new(), multipliers: Vec::new() });
         }
-        let floor = floor(self.task, &mut offers, enough, rung.calls, self.clock)?;
+        let floor = floor(self.task, &mut offers, &self.prices, enough, rung.calls, self.clock)?;
         modelled.iter_mut().for_each(|part| part.prices.clone_from(&floor.prices));
         Some(Proof { modelled, floor })
     }
@@ -380,16 +391,14 @@ impl Search<'_> {
 pub fn bounds_of_order(task: &Task, clock: Clock, memory: u64) -> Vec<Modelled> {
     let best = Packing { boards: Vec::new(), left: task.counts() };
     let progress = &Progress { shown: false };
-    let search = Search { task, values: areas(task), clock, memory, progress, best, proof: None, seed: 0 };
-    let mut best: Option<Proof> = None;
+    let values = areas(task);
+    let (proof, prices, seed) = (None, Vec::new(), 0);
+    let mut search = Search { task, values, clock, memory, progress, best, proof, prices, seed };
     for rung in &RUNGS {
-        let proof = search.prove(rung, u64::MAX - 1);
-        if proof.as_ref().map(|proof| proof.floor.cost) > best.as_ref().map(|proof| proof.floor.cost) {
-            best = proof;
-        }
+        search.keep(search.prove(rung, u64::MAX - 1));
         if clock.is_over() {
             break;
         }
     }
-    best.map(|proof| proof.modelled).unwrap_or_default()
+    search.proof.map(|proof| proof.modelled).unwrap_or_default()
 }
