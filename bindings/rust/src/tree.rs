@@ -180,7 +180,9 @@ impl<P: Operand> PartialEq for TreeOf<P> {
             if tree.node() != other.node() {
                 return false;
             }
-            if let (TreeOf::Cut { first, second, .. }, TreeOf::Cut { first: f, second: s, .. }) = (tree, other) {
+            if let (TreeOf::Cut { first, second, .. }, TreeOf::Cut { first: f, second: s, .. }) =
+                (tree, other)
+            {
                 waiting.extend([(&**second, &**s), (&**first, &**f)]);
             }
             next = waiting.pop();

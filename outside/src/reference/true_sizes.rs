@@ -50,12 +50,7 @@ pub fn true_job(model: &Job, sizes: &[u8]) -> Result<Job, Refusal> {
 
 /// Whether every chain of pieces along a side that fits the true plate fits the model's. Each piece takes
 /// its side and a kerf, and the plate has room for its own side and a kerf.
-fn chains_fit(
-    job: &Job,
-    model: &Job,
-    side: fn(&Piece) -> usize,
-    plate: fn(&Job) -> usize,
-) -> bool {
+fn chains_fit(job: &Job, model: &Job, side: fn(&Piece) -> usize, plate: fn(&Job) -> usize) -> bool {
     let mut chains = BTreeSet::from([(0, 0)]);
     for kind in 0..job.kinds.len() {
         let ways = job.pieces().filter(|piece| piece.kind == kind);

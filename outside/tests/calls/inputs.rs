@@ -75,20 +75,21 @@ fn draw_grains(random: &mut Random, n: usize) -> Vec<u8> {
     (0..n).map(|_| random.from(0, 1) as u8).collect()
 }
 
-/// True sizes for which a job often stands: some number of true units to each of its own, more or less, or
-/// the job's own. Now and then a side is at an edge of its range.
-pub fn draw_true_sizes(random: &mut Random, plate: Rectangle, kinds: &[Kind]) -> Vec<u8> {
+/// True sizes for which a job mostly stands: some number of true units to each of its own, and some more.
+/// One draw in three has pieces that may take less than that, so that more of them may fit.
+fn draw_true_sizes(random: &mut Random, plate: Rectangle, kinds: &[Kind]) -> Vec<u8> {
     let units = random.from(1, 4);
-    let spread = if random.one_in(4) { 0 } else { units - 1 };
-    let mut side = |side: usize, kerf: usize| {
-        let taken = units * (side + plate.kerf) + random.from(0, spread);
-        taken.saturating_sub(kerf).max(1) as u32
+    let more = random.from(0, units - 1);
+    let less = if random.one_in(3) { units } else { 0 };
+    let kerf = units * plate.kerf + random.from(0, more);
+    let mut side = |side: usize, less: usize| {
+        let taken = units * (side + plate.kerf) + random.from(0, more);
+        taken.saturating_sub(kerf + random.from(0, less)).max(1) as u32
     };
-    let kerf = units * plate.kerf + usize::from(spread > 0);
-    let sides = [side(plate.length, kerf), side(plate.width, kerf)];
-    let kinds = kinds.iter().map(|kind| [kind.0, kind.1].map(|own| side(own.into(), kerf)));
+    let [length, width] = [plate.length, plate.width].map(|own| side(own, 0));
+    let kinds = kinds.iter().map(|kind| [kind.0, kind.1].map(|own| side(own.into(), less)));
     let kinds: Vec<[u32; 2]> = kinds.collect();
-    sizes_block(sides[0], sides[1], kerf as u32, &kinds)
+    sizes_block(length, width, kerf as u32, &kinds)
 }
 
 /// Multipliers of 0, up to about the prices, or whatever is accepted.

@@ -62,10 +62,11 @@ fn noise(random: &mut Random, how: Noise) -> Input {
     let (limit, plan) = (random.word() as u32, bytes(random, 60));
     let limit = if any { limit } else { limit % 10 };
     let other = random.word();
-    let (sizes, multipliers) = if any {
-        (bytes(random, 90), vec![random.word() as u32; n])
-    } else {
-        (passing.sizes, passing.multipliers)
+    let sizes = if any { bytes(random, 90) } else { passing.sizes };
+    let multipliers = match random.from(0, 3) {
+        0 => vec![random.word() as u32; n],
+        1 => vec![0; random.from(0, 5)],
+        _ => passing.multipliers,
     };
     let weights = first;
     let plans = Input { limit, kinds, operands, plan, ..Input::default() };
@@ -134,8 +135,8 @@ fn random_arrays_behind_a_header_agree() {
 #[test]
 fn random_weights_and_plans_agree() {
     let met = agree(133, Noise::BesideTheJob);
-    let orders = [31, 32, 33, 34, 36, 37, 38];
+    let orders = [31, 32, 33, 36, 37, 38];
     let expected = [0, 8, 10, 11, 12, 13, 14, 15, 16, 17, 18, 19, 20, 21, 22, 24, 25, 28, 100, 101];
     let expected = [&expected[..], &orders].concat();
-    assert!(expected.iter().all(|code| met.get(code).is_some_and(|&times| times >= 20)), "{met:?}");
+    assert!(expected.iter().all(|code| met.get(code).is_some_and(|&times| times >= 10)), "{met:?}");
 }

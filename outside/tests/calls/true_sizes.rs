@@ -1,5 +1,6 @@
 // True sizes: the examples of the interface, each refusal with its place and in its order, and the greatest
 // sizes. What a check of a model and a true plan promise is tried on generated jobs elsewhere.
+use crate::deep::{agrees, deep_plans, longest_plan_of_waste, LARGE};
 use crate::examples::{answers, input, refuses, Node};
 use crate::lent::{Lent, Sizes, AMPLE};
 use crate::run::{compare, Call, Input};
@@ -87,7 +88,8 @@ fn the_last_piece_needs_no_kerf() {
 #[test]
 fn only_pieces_that_may_lie_on_the_true_plate_are_tried() {
     let sizes = sizes_block(10, 5, 0, &[[10, 2]]);
-    let model = |length, width| modelled(job_block(1, 2, &[(length, width, 1, 9)]), sizes.clone(), &[]);
+    let model =
+        |length, width| modelled(job_block(1, 2, &[(length, width, 1, 9)]), sizes.clone(), &[]);
     for choices in [0, TURNING] {
         stands(&model(1, 1).with(choices));
         refuses(Call::CheckModel, &model(1, 2).with(choices), 33, 1);
@@ -203,4 +205,49 @@ fn plans_are_neat_at_the_true_sizes() {
     assert_eq!(lent.positions.words()[..5], [10, 0, 10, 0, 1]);
     let waste = modelled(model, sizes, &[(0, 0)]);
     answers(Call::TruePlan, &waste, &[1, 0, 0]);
+}
+
+/// 999 strips of the whole width and 1,000 units of the last one, each cut inside the second part of the
+/// one before: the deepest plan all of whose cuts remain.
+fn deepest() -> (Vec<u8>, Vec<Node>) {
+    let kinds = [[(1, 1000, 1, 255); 4], [(1, 1, 1, 255); 4]].concat();
+    let strips = (0..999).flat_map(|i| [(2, 1), (1, i / 250)]);
+    let units = (0..999).flat_map(|i| [(3, 1), (1, 4 + i / 250)]);
+    (job_block(1000, 1000, &kinds), strips.chain(units).chain([(1, 7)]).collect())
+}
+
+/// On a small stack, at the greatest sizes: plans of which nothing remains but a piece or two, and the deepest.
+#[test]
+fn deepest_plans_are_written() {
+    let (model, nodes) = deepest();
+    let strips = [[[100_000, 100_000_000]; 4], [[100_000, 100_000]; 4]].concat();
+    let sizes = sizes_block(100_000_000, 100_000_000, 0, &strips);
+    let deepest = modelled(model.clone(), sizes, &nodes);
+    let (code, lent) = agrees(Call::TruePlan, &deepest, LARGE);
+    let used = [3997, 100_000_000, 100_000_000];
+    assert_eq!((code, &lent.answer.words()[..3]), (0, &used[..]));
+    let sizes = sizes_block(100_000_000, 100_000_000, 1, &strips);
+    let (code, lent) = agrees(Call::TruePlan, &modelled(model, sizes, &nodes), LARGE);
+    assert_eq!((code, lent.answer.words()[0]), (34, 0));
+    let unit = kerf_block(1000, 1000, 0, &[(1, 1, 7, 2)]);
+    let sizes = sizes_block(100_000_000, 100_000_000, 1_000_000, &[[40_000_000, 40_000_000]]);
+    for nodes in deep_plans(0).iter().chain([&longest_plan_of_waste()]) {
+        let plan = modelled(unit.clone(), sizes.clone(), nodes);
+        assert_eq!(agrees(Call::TruePlan, &plan, LARGE).0, 0);
+    }
+}
+
+/// On a small stack: 64 kinds, 255 copies of each, both ways, the largest plate and kerf.
+#[test]
+fn the_longest_chains_are_tried() {
+    for kerf in [0, 20] {
+        let model = kerf_block(1000, 1000, kerf, &[(1, 1, 1, 255); 64]);
+        let own = input(model.clone(), &[0; 64], &[]).with(TURNING);
+        assert_eq!(agrees(Call::CheckModel, &own, LARGE).0, 0);
+        let unit = 1 + u32::from(kerf);
+        let plate = 1020 / unit * unit;
+        let wide = sizes_block(plate * 60_000, plate * 60_000, 0, &[[unit * 60_000; 2]; 64]);
+        let fits = agrees(Call::CheckModel, &own.at(wide), LARGE).0;
+        assert_eq!(fits, if kerf == 0 { 33 } else { 0 });
+    }
 }

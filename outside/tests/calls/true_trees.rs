@@ -1,6 +1,6 @@
 // Generated models and true sizes: the check against every multiset of pieces, what every tree at the true
 // sizes earns against the bounds of a model that passes, and true plans replayed on the true plate.
-use crate::capacity::words;
+use crate::capacity::{done, words};
 use crate::exact::optimum;
 use crate::finer::{finer, most_within};
 use crate::inputs::{draw, Scale, SMALL};
@@ -11,7 +11,8 @@ use outside::random::Random;
 use outside::reference::{true_job, Job};
 
 const TINY: Scale = Scale { plate: 4, kerf: 1, side: 3, kinds: 3, demand: 2, ..SMALL };
-const ROOM: Sizes = Sizes { table: 1 << 17, ..AMPLE };
+const ROOM: Sizes =
+    Sizes { lengths: 30, widths: 30, table: 1 << 13, kinds: 300, operands: 300, ..AMPLE };
 
 /// Generated inputs, their jobs and their true jobs, the words of choices taking turns.
 fn generated(
@@ -83,7 +84,7 @@ fn models_agree(seed: u64, grain: u32) {
         seen[refused.map_or(2, |place| place)] += 1;
     }
     println!("{seen:?} models are refused along the length, along the width, and pass");
-    assert!(seen.iter().all(|&times| times >= 100), "{seen:?}");
+    assert!(seen.iter().all(|&times| times >= 40), "{seen:?}");
 }
 
 #[test]
@@ -119,7 +120,9 @@ fn no_true_tree_earns_more(seed: u64, grain: u32) {
         passed += 1;
         earned += usize::from(most == bound);
     }
-    println!("{earned} of {passed} bounds are earned; {below} are too low where the model is refused");
+    println!(
+        "{earned} of {passed} bounds are earned; {below} are too low where the model is refused"
+    );
     assert!(passed >= 300 && earned >= 100 && below >= 10);
 }
 
@@ -157,40 +160,39 @@ struct Replay<'a> {
 }
 
 impl Replay<'_> {
-    /// Saws a rectangle; its piece must have the rectangle's own side along the cut that made it.
-    fn saw(&mut self, sides: [usize; 2], cut: Option<usize>) {
+    /// Saws a rectangle and gives what it uses of it: at each cut the first part is used up to the blade.
+    fn saw(&mut self, sides: [usize; 2]) -> [usize; 2] {
         let (&kind, &operand) = self.nodes.next().expect("a node");
         let operand = operand as usize;
-        match kind {
-            0 => assert!(cut.is_none(), "waste below a cut"),
-            2 | 3 => {
-                let direction = usize::from(kind == 3);
-                let mut parts = [sides; 2];
-                parts[0][direction] = operand;
-                parts[1][direction] = self.job.second(sides[direction], operand).expect("two parts");
-                parts.into_iter().for_each(|part| self.saw(part, Some(direction)));
-            }
-            _ => {
-                let piece = self.job.piece(operand, kind == 4);
-                assert!(kind == 1 || self.job.turns(operand));
-                let size = [piece.length, piece.width];
-                assert!(size[0] <= sides[0] && size[1] <= sides[1], "{size:?} from {sides:?}");
-                assert!(cut.is_none_or(|cut| size[cut] == sides[cut]), "{size:?} from {sides:?}");
-                self.copies[operand] += 1;
-            }
+        if matches!(kind, 2 | 3) {
+            let (along, across) = if kind == 2 { (0, 1) } else { (1, 0) };
+            let mut parts = [sides; 2];
+            parts[0][along] = operand;
+            parts[1][along] = self.job.second(sides[along], operand).expect("two parts");
+            let [mut used, second] = parts.map(|part| self.saw(part));
+            assert!(used[along] == operand && second[along] > 0, "{used:?} before {operand}");
+            used[along] += self.job.kerf + second[along];
+            used[across] = used[across].max(second[across]);
+            return used;
         }
+        if kind == 0 {
+            return [0; 2];
+        }
+        let piece = self.job.piece(operand, kind == 4);
+        assert!(piece.fits(sides[0], sides[1]) && (kind == 1 || self.job.turns(operand)));
+        self.copies[operand] += 1;
+        [piece.length, piece.width]
     }
 }
 
-/// Replays a true plan on what it uses of the plate; the copies are those of the model's plan.
+/// Replays a true plan on the true plate; the copies are those of the model's plan.
 fn is_sawn(input: &Input, job: &Job, lent: &Lent) {
     let &[nodes, length, width, ..] = lent.answer.words() else { panic!("three words") };
-    let sides = [length as usize, width as usize];
-    assert!(sides[0] <= job.length && sides[1] <= job.width);
     let (kinds, positions) = (lent.kinds.words(), lent.positions.words());
     let nodes = kinds[..nodes as usize].iter().zip(&positions[..nodes as usize]);
     let mut replay = Replay { job, nodes, copies: vec![0; job.kinds.len()] };
-    replay.saw(sides, None);
+    let used = replay.saw([job.length, job.width]);
+    assert_eq!(used, [length as usize, width as usize], "{input:?}");
     assert!(replay.nodes.next().is_none());
     let report = words(Call::CheckPlan, input, ROOM);
     assert_eq!(replay.copies, report[4..4 + job.kinds.len()], "{input:?}");
@@ -198,11 +200,13 @@ fn is_sawn(input: &Input, job: &Job, lent: &Lent) {
     assert_eq!(profit.sum::<u64>(), report[0], "{input:?}");
 }
 
-/// Where the model stands for the true sizes and where it does not.
+/// The best plans of the model, where it stands for the true sizes and where it does not.
 fn true_plans_are_sawn(seed: u64, grain: u32) {
+    let scale = Scale { plate: 8, kerf: 1, side: 4, kinds: 3, demand: 2, ..SMALL };
     let (random, mut seen) = (&mut Random::new(seed), [0; 3]);
-    for i in 0..6000 {
-        let input = draw(random, Scale { plate: 12, ..SMALL }, ALL_CHOICES[i % 4] | grain);
+    for i in 0..2000 {
+        let order = draw(random, scale, ALL_CHOICES[i % 4] | grain);
+        let input = order.with_written_plan(&done(Call::Exact, &order, ROOM));
         let model = Job::read(&input.job, input.choices).expect("a job");
         let job = true_job(&model, &input.sizes).expect("true sizes");
         let (code, lent) = compare(Call::TruePlan, &input, ROOM);
@@ -214,7 +218,7 @@ fn true_plans_are_sawn(seed: u64, grain: u32) {
         seen[2] += usize::from(code == 34);
     }
     println!("{seen:?} true plans, those of more than four nodes, and those that do not fit");
-    assert!(seen[0] >= 2000 && seen[1] >= 300 && seen[2] >= 100, "{seen:?}");
+    assert!(seen[0] >= 1000 && seen[1] >= 100 && seen[2] >= 40, "{seen:?}");
 }
 
 #[test]
