@@ -63,7 +63,7 @@ impl Verdict {
         let cost = bought().map(|(stock, boards)| stock.cost * boards).sum();
         let costs: Vec<u64> = task.stock.iter().map(|stock| stock.cost).filter(|cost| *cost > 0).collect();
         let costs_differ = costs.windows(2).any(|two| two[0] != two[1]);
-        let (least_cost, least_boards) = least(task, evidence, memory).unwrap_or((0, 0));
+        let (least_cost, least_boards) = least(task, evidence, memory).unwrap_or_else(|| at_least_one(task));
         let boards = bought().map(|(_, boards)| boards).sum();
         Verdict::Order { boards, cost, least_boards, least_cost, costs_differ }
     }
@@ -99,9 +99,8 @@ impl Verdict {
                 let noun = if boards == 1 { "board" } else { "boards" };
                 match (self.is_best(), costs_differ) {
                     (true, false) => format!("{boards} {noun}: no plan needs fewer"),
-                    (false, false) => {
-                        format!("{boards} {noun}, at least {least_boards} are needed")
-                    }
+                    (false, false) if least_boards == 1 => format!("{boards} {noun}, at least 1 is needed"),
+                    (false, false) => format!("{boards} {noun}, at least {least_boards} are needed"),
                     (true, true) => format!("{boards} {noun} for {cost}: no plan costs less"),
                     (false, true) => {
                         format!("{boards} {noun} for {cost}, every plan costs at least {least_cost}")
@@ -168,6 +167,13 @@ fn least(task: &Task, evidence: &[Modelled], memory: u64) -> Option<(u64, u64)> 
         return Some((plates.saturating_mul(only.cost), plates));
     }
     Some((floor.cost, floor.least_boards(&offers)))
+}
+
+/// Where there are no offcuts, something needs a board: the cheapest.
+fn at_least_one(task: &Task) -> (u64, u64) {
+    let cheapest = task.stock.iter().map(|stock| stock.cost).min().unwrap_or(0);
+    let needed = u64::from(!task.kinds.is_empty() && cheapest > 0);
+    (needed * cheapest, needed)
 }
 
 /// Whether all boards of the stock together hold less than the order is worth.

@@ -26,7 +26,7 @@ const RUNGS: [Rung; 4] = [
 
 /// Steps of the rounds of packing after the bounds, on both cores; where there is a time, rounds go on until it is up,
 /// each with half as many again.
-const ROUNDS: [u64; 2] = [400_000, 800_000];
+const ROUNDS: [u64; 3] = [400_000, 800_000, 1_200_000];
 
 /// Steps of each try to pack the last board closer, and how often its length and its width are halved towards the
 /// least.
