@@ -1,10 +1,13 @@
 /* The guillotine cutting planner from C: one plate, up to 64 kinds of piece, edge-to-edge cuts.
- * Link the static library that `rt staticlib planner_c` writes (target/staticlib/libplanner_c.a). */
+ * `make install` installs it; `pkg-config --cflags --libs planner` says how to build with it. */
 #ifndef PLANNER_H
 #define PLANNER_H
 
 #include <stddef.h>
 #include <stdint.h>
+
+/* The version of the interface: a second number rises with each new function, a first one where an old one changes. */
+#define PLANNER_VERSION "2.0.0"
 
 #ifdef __cplusplus
 extern "C" {
@@ -13,6 +16,14 @@ extern "C" {
 /* Slices. Each is a pointer, then the number of its elements. The pointer is never NULL and is
  * aligned for its element, also where the number is 0. A slice that a call writes must not overlap
  * any other slice of that call. The library keeps no pointer and allocates nothing.
+ *
+ * Threads. The library has no state of its own, so any number of threads may call it at a time, each with slices that
+ * no other thread writes.
+ *
+ * Sizes that suffice. Plan arrays of 4095 entries hold every plan; lists of 1021 words hold every list. A table of one
+ * word draws refusal 20 with the words needed; lend these and call again. planner_find_weights needs more in later
+ * rounds and ends its run where the table is too short: lend it p * r * 4096 words, or as many as there is memory for.
+ * planner_blocks.h packs the byte blocks.
  *
  * Stack. Every function runs on a thread with a stack of 128 KiB, whatever it is given. The proof
  * does not see the stack: this is an assumption, tested from outside on the deepest and longest
