@@ -31,7 +31,7 @@ use Rattle.planner_c.proofs.Exports.{stops, going, enough}
 
 module _ (s : List ℕ) (choices limit : ℕ) (kinds operands old : List ℕ) where
   -- a plan checked within a limit: 0 is returned exactly where the verdict is that it passes
-  within-given : {n : ℕ} {new : List ℕ} (a : StagedAnswer) → ChecksStaged (LimitPasses s (choices-of choices) limit) (job-with s choices) limit kinds operands a → Gives (staged-check-outcome a) n old new → StagedChecked s choices limit kinds operands old new n
+  within-given : {n : ℕ} {new : List ℕ} {idle : StagedAnswer} (a : StagedAnswer) → ChecksStaged (LimitPasses s (choices-of choices) limit) (job-with s choices) limit kinds operands idle a → Gives (staged-check-outcome a) n old new → StagedChecked s choices limit kinds operands old new n
   within-given {n} a checks g = record {
     tree = λ e. (let p = passed (a .verdict) refl e in let t = checks .tree p in (t .0, t .1, g .1 ∙ ap (λ v. over (outcome-by v (staged-values (a .report) (a .stages)) .1) old) p ∙ ap₂ (λ r k. over (staged-values r k) old) (t .2 .own) (t .3), subst (λ r. Reports (job-with s choices) (t .0) r) (t .2 .own) (t .2)));
     paths-most = checks .paths-most;
@@ -66,7 +66,7 @@ module _ (s : List ℕ) (choices limit : ℕ) (kinds operands old : List ℕ) wh
           ),
         )
 
-    pub staged-check-called : {n : ℕ} {new : List ℕ} {r : StagedAnswer} → before ≤ 0 → staged-check-outcome r ≡ said → ChecksStaged (LimitPasses s (choices-of choices) limit) (job-with s choices) limit kinds operands r → Gives (staged-check-outcome r) n old new → StagedChecksAnswer n new
+    pub staged-check-called : {n : ℕ} {new : List ℕ} {idle r : StagedAnswer} → before ≤ 0 → staged-check-outcome r ≡ said → ChecksStaged (LimitPasses s (choices-of choices) limit) (job-with s choices) limit kinds operands idle r → Gives (staged-check-outcome r) n old new → StagedChecksAnswer n new
     staged-check-called {r = r} h o checks g =
         let a = enough 70 choices old e said h o g in
         (a .0, (a .1, within-given r checks g))

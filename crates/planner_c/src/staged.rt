@@ -5,7 +5,7 @@ ghost use mathlib.Core.Path.{_≡_};
 ghost use Rattle.cutting.specs.Staged.{StagedFiguresMost};
 ghost use Rattle.job.specs.Weights.{weight-in, Accepted};
 ghost use Rattle.bound.specs.Bound.{lent};
-ghost use Rattle.staged_plan.specs.Check.{LimitPasses, staged-check-answer, staged-check-said, ChecksStaged};
+ghost use Rattle.staged_plan.specs.Check.{LimitPasses, staged-check-answer, staged-before-idle, staged-check-said, ChecksStaged};
 ghost use Rattle.staged_bound.specs.Staged.{staged-said};
 ghost use Rattle.staged_certificate.specs.Certificate.{staged-certificate-said};
 ghost use Rattle.planner_c.specs.Exports.{choices-of, job-with, returned, answered, Left};
@@ -85,7 +85,7 @@ pub extern "C" fn planner_certify_staged(
         (StagedCertificateLeaves (now (block .entry)) (choices-of choices) (now (weights .entry)) limit (now (kinds .entry)) (now (operands .entry)))
         (lent (now (lengths .entry)) (now (widths .entry)) (now (table .entry))) (lent (now (lengths .exit)) (now (widths .exit)) (now (table .exit))) ⌝ }
     ensures trees { λ n. ⌜ StagedCertificateGiven (job-with (now (block .entry)) choices) (weight-in (now (weights .entry))) limit (now (kinds .entry)) (now (operands .entry)) (now (answer .exit)) n ⌝ }
-    ensures judged { λ _. ⌜ ChecksStaged (LimitPasses (now (block .entry)) (choices-of choices) limit) (job-with (now (block .entry)) choices) limit (now (kinds .entry)) (now (operands .entry)) (staged-check-answer (now (block .entry)) (choices-of choices) limit (now (kinds .entry)) (now (operands .entry))) ⌝ }
+    ensures judged { λ _. ⌜ ChecksStaged (LimitPasses (now (block .entry)) (choices-of choices) limit) (job-with (now (block .entry)) choices) limit (now (kinds .entry)) (now (operands .entry)) (staged-before-idle (now (block .entry)) (choices-of choices) limit (now (kinds .entry)) (now (operands .entry))) (staged-check-answer (now (block .entry)) (choices-of choices) limit (now (kinds .entry)) (now (operands .entry))) ⌝ }
 {
     let stop = choices::early(answer.len(), 3, choices);
     if 0 < stop {
