@@ -8,6 +8,8 @@ use certificate::Certificate;
 use exact::ExactAnswer;
 use exact::ExactReport;
 use neat::NeatAnswer;
+use plates_needed::PlatesAnswer;
+use refusal::Checked;
 use refusal::Refusal;
 pub use reports::put_found;
 pub use reports::put_plan;
@@ -15,6 +17,7 @@ pub use reports::put_profits;
 pub use reports::put_saw;
 pub use reports::put_staged;
 use saw::Part;
+use true_plan::TruePlanAnswer;
 use two_bound::TwoAnswer;
 use two_bound::TwoReport;
 use writer::WriteAnswer;
@@ -24,13 +27,15 @@ ghost use mathlib.Core.List.{[], _∷_};
 ghost use Prim.Native.Nat.{_≤_, _<_};
 ghost use lib.ListN.{length};
 ghost use lib.Seq.{sets};
-ghost use Rattle.refusal.specs.Refusals.{refused-as};
+ghost use Rattle.refusal.specs.Refusals.{refused-as, outcome-by};
 ghost use Rattle.bound.specs.Bound.{bound-outcome};
 ghost use Rattle.neat.specs.Neat.{neat-outcome};
+ghost use Rattle.true_plan.specs.TruePlan.{true-outcome};
 ghost use Rattle.certificate.specs.Certificate.{certificate-outcome};
 ghost use Rattle.writer.specs.Write.{write-values, write-outcome};
 ghost use Rattle.saw.specs.Parts.{part-said};
 ghost use Rattle.two_bound.specs.Two.{two-values, two-outcome};
+ghost use Rattle.plates_needed.specs.Plates.{plates-outcome};
 ghost use Rattle.exact.specs.Exact.{exact-values, exact-outcome};
 ghost use Rattle.answer_words.specs.Words.{Gives, GapWithin};
 
@@ -41,6 +46,17 @@ pub fn refuse(r: Refusal, answer: &mut [u64]) -> u32
 {
     answer[0] = refusal::place(r);
     refusal::number(r) as u32
+}
+
+// What a check without values answers: nothing where it passes.
+pub fn put_checked(a: Checked, answer: &mut [u64]) -> u32
+    requires { ⌜ 1 ≤ length (now answer) ⌝ }
+    ensures { λ n. ⌜ Gives (outcome-by a []) n (now (answer .entry)) (now (answer .exit)) ⌝ }
+{
+    match a {
+        Checked::Refused(r) => refuse(r, answer),
+        Checked::Passed => 0,
+    }
 }
 
 // Two values, into the first two words.
@@ -148,6 +164,20 @@ pub fn put_neat(a: NeatAnswer, answer: &mut [u64]) -> u32
     }
 }
 
+// What the true plan's call answers: the node count, the used length and the used width.
+pub fn put_true(a: TruePlanAnswer, answer: &mut [u64]) -> u32
+    requires { ⌜ 3 ≤ length (now answer) ⌝ }
+    ensures { λ n. ⌜ Gives (true-outcome a) n (now (answer .entry)) (now (answer .exit)) ⌝ }
+{
+    match a {
+        TruePlanAnswer::Refused(r) => refuse(r, answer),
+        TruePlanAnswer::Written(nodes, length, width) => {
+            put_three(nodes, length, width, answer);
+            0
+        }
+    }
+}
+
 // What the bound call of two weights reports: the bound, both capacities and the numbers of normal lengths and widths.
 fn put_pairs(b: TwoReport, answer: &mut [u64])
     requires { ⌜ 5 ≤ length (now answer) ⌝ }
@@ -172,6 +202,20 @@ pub fn put_two(a: TwoAnswer, answer: &mut [u64]) -> u32
         TwoAnswer::Refused(r) => refuse(r, answer),
         TwoAnswer::Answered(b) => {
             put_pairs(b, answer);
+            0
+        }
+    }
+}
+
+// What the call for a whole order answers: the plates needed, the bound and the order's worth.
+pub fn put_plates(a: PlatesAnswer, answer: &mut [u64]) -> u32
+    requires { ⌜ 3 ≤ length (now answer) ⌝ }
+    ensures { λ n. ⌜ Gives (plates-outcome a) n (now (answer .entry)) (now (answer .exit)) ⌝ }
+{
+    match a {
+        PlatesAnswer::Refused(r) => refuse(r, answer),
+        PlatesAnswer::Answered(b) => {
+            put_three(b.plates, b.bound, b.worth, answer);
             0
         }
     }

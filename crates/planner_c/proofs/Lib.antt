@@ -8,3 +8,6 @@ mod Pairs
 mod Optimum
 mod Rounds
 mod Plates
+mod Orders
+mod TruePlans
+mod ModelCheck

@@ -5,3 +5,6 @@ pub mod Two
 pub mod Exact
 pub mod Found
 pub mod Racks
+pub mod Orders
+pub mod TruePlans
+pub mod Models

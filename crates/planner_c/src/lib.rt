@@ -5,11 +5,14 @@
 mod bounds;
 mod choices;
 mod found;
+mod models;
 mod racks;
 mod sawing;
 mod short;
 mod staged;
+mod true_plans;
 mod two;
+mod whole_orders;
 
 ghost use mathlib.Core.Path.{_≡_};
 ghost use Rattle.plan.specs.Calls.{arrays-before-idle, block-before-idle, plan-outcome, arrays-said, block-said, plan-kinds, plan-operands, JobPasses, BlockPasses};

@@ -1,0 +1,18 @@
+-- `answer_words::put_checked` meets its contract, for either verdict.
+use mathlib.Core.Path.{refl}
+use mathlib.Core.List.{[]}
+use denote.Ref.{now}
+use Rattle.refusal.specs.Refusals.{outcome-by}
+use Rattle.answer_words.proofs.Words.{given}
+use borrow.Author.Needs.{needs}
+use Rattle.answer_words.proofs.put_checked.Statement.{statement}
+use Rattle.answer_words.proofs.put_checked.Tie as tie
+
+returns : tie.Need-returns
+returns c = given (λ v. outcome-by v []) (now (c .before .before .before .before .before .before .before .before .args .answer)) (c .before .before .before .before .before .a .given .1) (c .before .before .refuse .ensures)
+
+returns-2 : tie.Need-returns-2
+returns-2 c = given (λ v. outcome-by v []) (now (c .before .before .before .args .answer)) (c .enum-told .given .1) (refl, refl)
+
+pub put-checked-spec : {M : Type 1} → statement M
+put-checked-spec = tie.close (tie.spec (search needs) (search needs) (search needs) (search needs) returns returns-2)
