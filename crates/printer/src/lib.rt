@@ -1,5 +1,5 @@
 // The bound printer: splits the input into an old job block and weights, and prints the bound and the plan behind it, or the refusal.
-// What decides is proved here or in the crates below: where the job ends, the plan with its profit, whether it keeps the demands.
+// What decides is proved here or in the crates below: where the job ends, the plan with its profit, whether it is best.
 use job::Choices;
 use job::read_job;
 use job::read_u16;
@@ -15,7 +15,8 @@ ghost use Prim.Native.Nat.{_≤_};
 ghost use lib.ListN.{length};
 ghost use Rattle.job.specs.Weights.{block-job};
 ghost use Rattle.plan.specs.Calls.{JobPasses};
-ghost use Rattle.printer.specs.Printer.{job-end, DemandsKept};
+ghost use Rattle.bound.specs.Bound.{lent};
+ghost use Rattle.printer.specs.Printer.{job-end, DemandsKept, JudgesPlan};
 
 // Where the job, an old block, ends in the input.
 pub fn job_end(input: &[u8]) -> usize
@@ -41,6 +42,59 @@ pub fn keeps_demands(block: &[u8], choices: Choices, kinds: &[u8], operands: &[u
     match verdict {
         Checked::Passed => true,
         Checked::Refused(_) => false,
+    }
+}
+
+// What is said of a written plan: the writing call's report, the plan's profit, and whether it is best, which is whether it keeps every
+// demand.
+pub struct Judged {
+    pub report: WriteReport,
+    pub profit: u64,
+    pub best: bool,
+}
+
+// What is said of a job block and weights.
+pub enum Judgement {
+    Plan(Judged),
+    Refused(Refusal),
+}
+
+// The plan of a job block and weights, written into the two arrays, and what is said of it; or the refusal.
+pub fn judge_plan(
+    block: &[u8],
+    choices: Choices,
+    weights: &[u8],
+    lengths: &mut [u16],
+    widths: &mut [u16],
+    table: &mut [u64],
+    kinds: &mut [u8],
+    operands: &mut [u16],
+) -> Judgement
+    ensures { λ r. ⌜ JudgesPlan (now (block .entry)) choices (now (weights .entry)) (lent (now (lengths .entry)) (now (widths .entry)) (now (table .entry)))
+        (now (kinds .entry)) (now (operands .entry)) (now (kinds .exit)) (now (operands .exit)) r ⌝ }
+{
+    let answer = write_plan(
+        block,
+        choices,
+        weights,
+        lengths,
+        widths,
+        table,
+        kinds,
+        operands,
+    );
+    match answer {
+        WriteAnswer::Refused(r) => Judgement::Refused(r),
+        WriteAnswer::Written(report) => {
+            let nodes = report.nodes as usize;
+            let best = keeps_demands(block, choices, &kinds[..nodes], &operands[..nodes]);
+            let judged = Judged {
+                report: report,
+                profit: report.bound,
+                best: best,
+            };
+            Judgement::Plan(judged)
+        }
     }
 }
 
@@ -132,7 +186,7 @@ fn print_nodes(kinds: &[u8], operands: &[u16])
     }
 }
 
-// The line of the plan's profit, which is the bound, and of its standing.
+// The line of the plan's profit and of its standing.
 fn print_profit(profit: u64, best: bool) {
     print_word(b"profit ");
     print_number(profit);
@@ -148,17 +202,17 @@ fn print_report(
     block: &[u8],
     choices: Choices,
     weights: &[u8],
-    report: WriteReport,
+    judged: Judged,
     kinds: &[u8],
     operands: &[u16],
 )
     requires { ⌜ length (now kinds) ≡ length (now operands) ⌝ }
 {
     print_plate(block, choices);
-    print_weights(weights, report.capacity);
-    print_bound(report.bound);
+    print_weights(weights, judged.report.capacity);
+    print_bound(judged.report.bound);
     print_nodes(kinds, operands);
-    print_profit(report.bound, keeps_demands(block, choices, kinds, operands));
+    print_profit(judged.profit, judged.best);
 }
 
 // The bound and the plan of a job block and weights, or the refusal.
@@ -168,7 +222,7 @@ fn print_answer(block: &[u8], choices: Choices, weights: &[u8]) {
     let mut table = [0u64; 8192];
     let mut kinds = [0u8; 4095];
     let mut operands = [0u16; 4095];
-    let answer = write_plan(
+    let answer = judge_plan(
         block,
         choices,
         weights,
@@ -179,14 +233,14 @@ fn print_answer(block: &[u8], choices: Choices, weights: &[u8]) {
         &mut operands,
     );
     match answer {
-        WriteAnswer::Refused(r) => print_refusal(r),
-        WriteAnswer::Written(report) => {
-            let nodes = report.nodes as usize;
+        Judgement::Refused(r) => print_refusal(r),
+        Judgement::Plan(judged) => {
+            let nodes = judged.report.nodes as usize;
             print_report(
                 block,
                 choices,
                 weights,
-                report,
+                judged,
                 &kinds[..nodes],
                 &operands[..nodes],
             );
