@@ -1,10 +1,13 @@
 /* The guillotine cutting planner from C: one plate, up to 64 kinds of piece, edge-to-edge cuts.
- * Link the static library that `rt staticlib planner_c` writes (target/staticlib/libplanner_c.a). */
+ * `make install` installs it; `pkg-config --cflags --libs planner` says how to build with it. */
 #ifndef PLANNER_H
 #define PLANNER_H
 
 #include <stddef.h>
 #include <stdint.h>
+
+/* The version of the interface: a second number rises with each new function, a first one where an old one changes. */
+#define PLANNER_VERSION "2.0.0"
 
 #ifdef __cplusplus
 extern "C" {
@@ -14,6 +17,14 @@ extern "C" {
  * aligned for its element, also where the number is 0. A slice that a call writes must not overlap
  * any other slice of that call. The library keeps no pointer and allocates nothing.
  *
+ * Threads. The library has no state of its own, so any number of threads may call it at a time, each with slices that
+ * no other thread writes.
+ *
+ * Sizes that suffice. Plan arrays of 4095 entries hold every plan; lists of 1021 words hold every list. A table of one
+ * word draws refusal 20 with the words needed; lend these and call again. planner_find_weights needs more in later
+ * rounds and ends its run where the table is too short: lend it p * r * 4096 words, or as many as there is memory for.
+ * planner_blocks.h packs the byte blocks.
+ *
  * Stack. Every function runs on a thread with a stack of 128 KiB, whatever it is given. The proof
  * does not see the stack: this is an assumption, tested from outside on the deepest and longest
  * inputs, where no function needed more than 40 KiB. Four functions recurse: the staged check and the
@@ -22,13 +33,20 @@ extern "C" {
  *
  * Job block. Plate length, plate width, number n of kinds, kerf k; then n sizes (length, width); all
  * of two bytes, lowest byte first. Then n pairs of price (four bytes) and demand (two bytes).
- * 8 + 10n bytes. The old block has no kerf and 6 + 10n bytes; it is read with k = 0.
+ * 8 + 10n bytes. The old block has no kerf and 6 + 10n bytes; it is read with k = 0. With PLANNER_GRAIN
+ * either block has n more bytes at its end, one for each kind: 0, the kind may be turned where the job
+ * allows it; 1, the kind keeps its grain.
  * A kind of demand 0 is cancelled; it keeps its number. The others are ordered.
  *
  * Choices. A word of bits, one for each choice of the call; 0 makes none.
- *   PLANNER_TURNING      any piece may be turned
+ *   PLANNER_TURNING      any piece may be turned, but those of a kind that keeps its grain
  *   PLANNER_FULL_DEMAND  the capacity counts every demand in full; a plan check reads no capacity
  *   PLANNER_OLD_BLOCK    the job block is the old one
+ *   PLANNER_GRAIN        the job block says of each kind whether it keeps its grain
+ *
+ * Turning. What is said below of PLANNER_TURNING is said of the kinds that do not keep their grain. A kind
+ * that keeps it has upright pieces only, and counts in every list, figure and capacity as it does without
+ * PLANNER_TURNING.
  *
  * Weights. One byte for each kind. The capacity is the sum, over the kinds, of weight times the
  * lesser of the demand and the copies that the plate can hold. With PLANNER_FULL_DEMAND it is the
@@ -114,9 +132,24 @@ extern "C" {
  * the order of the plates and with nodes numbered throughout; each ends where its tree does. The sides of
  * the job's own plate are not read.
  *
+ * True sizes. A sizes block has the true sizes of a job, in any unit of length: plate length, plate
+ * width and kerf; then n pairs of length and width, in the order of the kinds; all of four bytes, lowest
+ * byte first. 12 + 8n bytes. Sides are from 1 to 100000000, the kerf from 0 to 1000000. The true job
+ * has these sizes and the job block's prices, demands, turning and grain; the job block is its model. The
+ * model stands for the true sizes if in both directions whatever pieces that may lie on the true plate,
+ * no more copies of a kind than its demand, fit one after another on the true plate with a kerf between
+ * two, fit so on the model's plate too. Then what no tree of the model that keeps every demand exceeds,
+ * within a limit on stages or without, no tree at the true sizes that keeps them exceeds, wherever it is cut.
+ *
+ * True plan. The preorder of a tree at the true sizes, as two arrays: the kind of each node, and a word of
+ * four bytes with the true position of a cut, the number of a piece, or 0 for waste.
+ *
+ * Multipliers. A word of four bytes for each kind, at most 1000000. The lowered job has each price less
+ * its kind's multiplier, 0 where the multiplier is more.
+ *
  * Return value.
  *   0    done; `answer` holds the words that the function names; its later words are kept
- *   1 to 30
+ *   1 to 38
  *        refused, see below; answer[0] is the place; the other words of `answer` are kept
  *   100  `answer` has fewer words than the function names; nothing was changed
  *   101  `choices` has a bit that is no choice, `answer` is long enough; nothing was changed
@@ -129,14 +162,23 @@ extern "C" {
  *       after 7, that of a plate
  *    3  number of kinds outside 1 to 64                        0
  *   27  kerf above 20                                          0
- *    4  job not 8 + 10n bytes, an old block not 6 + 10n        0
+ *    4  job not 8 + 10n bytes, an old block not 6 + 10n; with  0
+ *       PLANNER_GRAIN n bytes more
  *    5  a side of a kind outside 1 to 1000                     kind
  *    6  price above 1000000                                    kind
  *    7  demand above 255                                       kind
+ *   35  grain byte above 1                                     kind
+ *   31  sizes block not 12 + 8n bytes                          0
+ *   32  a true size outside its range                          0 for plate or
+ *                                                              kerf, or 1 + kind
+ *   33  the model does not stand for the true sizes            0 along the length,
+ *                                                              1 along the width
  *    8  not n weights                                          0
  *   24  not n second weights                                   0
  *    9  capacity above 4095, of two weights either             0
  *   25  both capacities, each plus 1, multiply to above 65536  0
+ *   37  not n multipliers                                      0
+ *   38  multiplier above 1000000                               kind
  *   30  the demands, each plus 1, multiply to above 4096       0
  *   22  limit on stages outside 1 to 8                         0
  *   10  plan arrays differ in length, or plan block under      0
@@ -144,6 +186,7 @@ extern "C" {
  *   11  no node, or above 4095, in a rack over all plans       0
  *   12  kind of node above 3, or above 4 with PLANNER_TURNING  node
  *   13  piece number n or more                                 node
+ *   36  a turned piece of a kind that keeps its grain          node
  *   14  cut outside 1 to side - k - 1, or waste operand not 0  node
  *   15  piece does not fit                                     node
  *   16  this copy passes its demand                            node
@@ -153,11 +196,14 @@ extern "C" {
  *   29  a kind's copies in this and all earlier plans of the   plate
  *       rack pass its demand
  *   23  a cut whose path passes the limit on stages            first of them
+ *   34  the plan does not fit the plate at the true sizes      0 along the length,
+ *                                                              1 along the width
  *   19  a list too short                                       0
  *   20  table too short                                        words needed
  *   21  plan needs above 4095 nodes, or more than an array     nodes needed
  *       of the plan holds
- * Numbers 1 to 19 and 22 to 30 change no lent memory but answer[0]. On 20 the lists are filled and the
+ * Two numbers are not named below: every function that gives 7 gives 35, every one that gives 13 gives 36.
+ * Numbers 1 to 19 and 22 to 38 change no lent memory but answer[0]. On 20 the lists are filled and the
  * table is untouched. On 21 lists and table are filled and the plan arrays untouched. */
 
 enum {
@@ -170,7 +216,8 @@ enum {
 enum {
     PLANNER_TURNING = 1,
     PLANNER_FULL_DEMAND = 2,
-    PLANNER_OLD_BLOCK = 4
+    PLANNER_OLD_BLOCK = 4,
+    PLANNER_GRAIN = 8
 };
 
 /* Words of `answer`. */
@@ -186,7 +233,11 @@ enum {
     PLANNER_FOUND_WORDS = 66,
     PLANNER_RACK_WORDS = 1,
     PLANNER_SAW_WORDS = 68,
-    PLANNER_PART_WORDS = 2
+    PLANNER_PART_WORDS = 2,
+    PLANNER_MODEL_WORDS = 1,
+    PLANNER_TRUE_PLAN_WORDS = 3,
+    PLANNER_PLATES_WORDS = 3,
+    PLANNER_LAGRANGIAN_WORDS = 5
 };
 
 /* Checks a plan (refusals 1 to 7, 10 to 18, 26, 27). For an accepted job, known choices and a long enough
@@ -419,6 +470,66 @@ uint32_t planner_saw_operands(
     const uint8_t *kinds, size_t kinds_len,
     const uint16_t *operands, size_t operands_len,
     uint64_t node,
+    uint64_t *answer, size_t answer_len);
+
+/* Checks that the job is a model of true sizes (refusals 1 to 7, 27, 31 to 33). It returns 0 exactly if
+ * the model stands for the true sizes; of the directions the length is tried first.
+ * answer[0] the place of a refusal; where the model passes it is kept. */
+uint32_t planner_check_model(
+    const uint8_t *job, size_t job_len,
+    uint32_t choices,
+    const uint8_t *sizes, size_t sizes_len,
+    uint64_t *answer, size_t answer_len);
+
+/* Writes the neat plan of a plan at the true sizes (refusals 1 to 7, 27, 31, 32, 10 to 18, 26, 34, 21). The
+ * plan is checked as the model's first. The true plan has the neat plan's nodes, and each of its cuts is at
+ * the true used size of its first part. It is refused by 34 where its used length or width is more than the
+ * true plate's; the length is tried first; and by 21, with the nodes needed, if an output array is shorter.
+ * It is the preorder of a guillotine tree on the true plate that loses the true kerf at each cut, with the
+ * same copies and profit as the plan; whether the model stands for the true sizes is not asked. Entries of
+ * the output arrays past it keep what they held, and all do where the call is refused.
+ * answer[0] node count, answer[1] used length, answer[2] used width, both 0 without a piece. */
+uint32_t planner_true_plan(
+    const uint8_t *job, size_t job_len,
+    uint32_t choices,
+    const uint8_t *sizes, size_t sizes_len,
+    const uint8_t *kinds, size_t kinds_len,
+    const uint16_t *operands, size_t operands_len,
+    uint8_t *true_kinds, size_t true_kinds_len,
+    uint32_t *positions, size_t positions_len,
+    uint64_t *answer, size_t answer_len);
+
+/* Says how many plates a whole order needs (refusals 1 to 9, 19, 20, 27) and fills the storage as
+ * planner_bound does. The order's worth is the sum of demand times price. The plates needed are the
+ * fewest whose number times the bound is at least the worth less `other`, 0 where nothing is left of it,
+ * and 2^64 - 1 where the bound is 0 and something is left. No fewer of the job's plates hold the whole
+ * order together with any other plates whose trees earn at most `other` in all; nor do they at true sizes
+ * for which the job stands.
+ * answer[0] plates needed, answer[1] bound, answer[2] the order's worth. */
+uint32_t planner_plates_needed(
+    const uint8_t *job, size_t job_len,
+    uint32_t choices,
+    const uint8_t *weights, size_t weights_len,
+    uint64_t other,
+    uint16_t *lengths, size_t lengths_len,
+    uint16_t *widths, size_t widths_len,
+    uint64_t *table, size_t table_len,
+    uint64_t *answer, size_t answer_len);
+
+/* Computes the Lagrangian bound (refusals 1 to 9, 27, 37, 38, 19, 20): the lowered job's bound plus the sum
+ * of demand times multiplier. Lists and table are filled as planner_bound fills them for the lowered job. No
+ * tree that keeps every demand earns more, nor does one at true sizes for which the job stands. With all
+ * multipliers 0 it is the bound of planner_bound.
+ * answer[0] Lagrangian bound, answer[1] the lowered job's bound, answer[2] capacity, answer[3] p,
+ * answer[4] r. */
+uint32_t planner_bound_lagrangian(
+    const uint8_t *job, size_t job_len,
+    uint32_t choices,
+    const uint8_t *weights, size_t weights_len,
+    const uint32_t *multipliers, size_t multipliers_len,
+    uint16_t *lengths, size_t lengths_len,
+    uint16_t *widths, size_t widths_len,
+    uint64_t *table, size_t table_len,
     uint64_t *answer, size_t answer_len);
 
 #ifdef __cplusplus

@@ -209,7 +209,7 @@ int main(void)
     job[DEMAND_OF_KIND_1] = 200;
     bound(0, TABLE_WORDS);
     bound(PLANNER_FULL_DEMAND, TABLE_WORDS);
-    bound(8, TABLE_WORDS);
+    bound(16, TABLE_WORDS);
     job[KERF] = 1;
     job[DEMAND_OF_KIND_0] = 2;
     nodes = write_plan(0, kinds, operands);

@@ -1,150 +1,264 @@
 // The commands: plan an order, check a plan that somebody has drawn, certify a filed stamp again, say the usage.
-// Each gives the text to print, or what is wrong; files are written only after all has gone well.
+// Each gives the text to print and what went wrong beside; an error is all that it gives where there is no plan.
+use crate::csv::{cut_list, offcuts};
+use crate::date::today;
+use crate::error::Error;
+use crate::html::{html, Heading};
 use crate::json::{self, Filed};
-use crate::options::{Command, Options, USAGE};
+use crate::options::{Command, Form, Options, USAGE};
 use crate::order::{self, Order};
-use crate::outcome::Outcome;
-use crate::search::{search, with_waste_freed, BoundBy, Found, JobView};
-use crate::stamp::Stamp;
+use crate::outcome::{self, Board, Outcome};
+use crate::output::{is_same, Output};
+use crate::plan::Saw;
+use crate::search::{self, judge, Clock, Limits, Modelled, Packing, Progress, Task};
+use crate::stamp::{self, Stamp};
 use crate::summary::summary;
 use crate::svg::svg;
 use crate::verdict::Verdict;
-use planner::answers::Refusal;
-use planner::{Choices, Direction, Error, Job, Plan, Planner, Tree};
 use std::fs;
 use std::io::{stderr, IsTerminal};
 use std::path::Path;
+use std::thread;
+use std::time::Duration;
 
-type Done<T> = Result<T, String>;
-
-pub fn run(options: &Options) -> Done<String> {
-    match &options.command {
-        Command::Plan { order } => plan(order, options),
-        Command::Check { order, plan } => check(order, plan, options),
-        Command::Recheck { stamp } => recheck(stamp, options.limits.memory),
-        Command::Help => Ok(format!("{USAGE}\n")),
-    }
+/// What a command gives: the text to print, and what could not be written.
+#[derive(Debug, Default)]
+pub struct Done {
+    pub text: String,
+    pub notices: Vec<String>,
+    pub wrong: Vec<Error>,
 }
 
-fn plan(file: &Path, options: &Options) -> Done<String> {
-    let order = read_order(file, options.turning)?;
-    let (job, choices) = (order.job(), order.choices());
-    let found = search(&job, choices, options.limits, progress());
-    clear_progress();
-    let outcome = judged(order, &job, found, options.limits.memory).map_err(|e| e.to_string())?;
-    let text = summary(&outcome);
-    write_file(options.svg.as_deref(), || svg(&outcome).into_bytes())?;
-    write_file(options.json.as_deref(), || format!("{}\n", json::document(&outcome)).into_bytes())?;
-    write_file(options.stamp.as_deref(), || outcome.stamp().bytes())?;
-    Ok(text)
-}
+/// The stack of the thread that runs a command: deep plans are walked on it.
+const STACK: usize = 256 << 20;
 
-/// Certifies what a search found. Under one weight a kind the proved certificate judges the very plan that is given;
-/// other bounds were answered by their proved calls during the search.
-fn judged(order: Order, job: &Job, found: Found, memory: u64) -> Result<Outcome, Error> {
-    let choices = order.choices();
-    let mut planner = Planner::new(job, choices, memory);
-    let plan = sawn(&planner, &JobView::new(job, choices), &found);
-    let none = BoundBy::Weights(vec![0; job.kinds.len()]);
-    let (bound_by, bound) = found.least.map_or((none, None), |least| (least.bound_by, Some(least.bound)));
-    let verdict = match (&bound_by, bound) {
-        (BoundBy::Exact | BoundBy::TwoWeights(..), Some(bound)) => {
-            Verdict::of(planner.check(&plan)?, job, bound)
-        }
-        _ => Verdict::new(&mut planner, job, &plan, &bound_by)?,
-    };
-    Ok(Outcome::new(order, plan, verdict, bound_by))
-}
-
-/// The plan with every cut that brings a piece to its size, unless that makes too many nodes.
-fn sawn(planner: &Planner, view: &JobView, found: &Found) -> Plan {
-    let tree = found.plan.tree().unwrap_or(Tree::Waste);
-    let sawn = with_waste_freed(view, tree).plan();
-    match planner.check(&sawn) {
-        Ok(report) if report.profit == found.profit => sawn,
-        _ => found.plan.clone(),
-    }
-}
-
-fn check(file: &Path, plan: &Path, options: &Options) -> Done<String> {
-    let order = read_order(file, options.turning)?;
-    let (job, choices) = (order.job(), order.choices());
-    let at = |fault: String| format!("{}: {fault}", plan.display());
-    let text = String::from_utf8(read_file(plan)?).map_err(|_| at("expected UTF-8".to_string()))?;
-    let document = json::read(&text).map_err(at)?;
-    let filed = Filed::new(&document, &order).map_err(at)?;
-    let mut planner = Planner::new(&job, choices, options.limits.memory);
-    let plan = filed.tree.plan();
-    let bound_by = filed.bound_by.unwrap_or(BoundBy::Weights(vec![0; job.kinds.len()]));
-    match Verdict::new(&mut planner, &job, &plan, &bound_by) {
-        Ok(verdict) => Ok(summary(&Outcome::new(order, plan, verdict, bound_by))),
-        Err(Error::Refused(refusal)) => Err(in_order(&refusal, &order, &filed.tree)),
-        Err(error) => Err(error.to_string()),
-    }
-}
-
-/// A refusal with its node, in the words of the order.
-fn in_order(refusal: &Refusal, order: &Order, tree: &Tree) -> String {
-    let Some(place) = refusal.node() else { return refusal.to_string() };
-    let what = match tree.nodes().get(place as usize) {
-        Some(Tree::Piece { kind, .. }) => format!(", {}", order.panels[usize::from(*kind)].name),
-        Some(Tree::Cut { direction: Direction::Length, at, .. }) => {
-            format!(", the cut of the length at {}", order.length_of(*at))
-        }
-        Some(Tree::Cut { direction: Direction::Width, at, .. }) => {
-            format!(", the cut of the width at {}", order.length_of(*at))
-        }
-        _ => String::new(),
-    };
-    let words = refusal.words().replace("piece", "panel");
-    format!("refusal {} at node {place}{what}: {words}", refusal.number)
-}
-
-fn recheck(file: &Path, memory: u64) -> Done<String> {
-    let stamp = Stamp::read(&read_file(file)?);
-    let stamp = stamp.map_err(|fault| format!("{}: {fault}", file.display()))?;
-    let mut planner = Planner::of_block(stamp.job.clone(), stamp.choices, memory);
-    planner.check_block(&stamp.plan).map_err(|error| error.to_string())?;
-    let plan = Plan::from_block(&stamp.plan).expect("a block that passes its check");
-    let job = Job::from_block(&stamp.job, Choices::from_word(stamp.choices));
-    let job = job.expect("a job that passes its check");
-    let verdict = Verdict::new(&mut planner, &job, &plan, &stamp.bound_by);
-    let verdict = verdict.map_err(|error| error.to_string())?;
-    let (profit, ceiling) = (verdict.report.profit, verdict.ceiling);
-    let sentence = verdict.sentence("whole units", Some("plate, panels and kerf as filed"));
-    Ok(format!("earns {profit}, no plan earns more than {ceiling}\n{sentence}\n"))
-}
-
-fn read_order(file: &Path, turning: Option<bool>) -> Done<Order> {
-    order::read(&read_file(file)?, turning).map_err(|faults| {
-        let lines: Vec<_> =
-            faults.iter().map(|fault| format!("{}: {fault}", file.display())).collect();
-        lines.join("\n")
+/// Runs a command, on a stack of its own.
+pub fn run(options: &Options) -> Result<Done, Error> {
+    thread::scope(|scope| {
+        let running = thread::Builder::new().stack_size(STACK).spawn_scoped(scope, || run_here(options));
+        running.expect("a thread for the command").join().expect("a command that ends")
     })
 }
 
-fn read_file(file: &Path) -> Done<Vec<u8>> {
-    fs::read(file).map_err(|error| format!("{}: {error}", file.display()))
+fn run_here(options: &Options) -> Result<Done, Error> {
+    let said = |text: String| Ok(Done { text, ..Done::default() });
+    match &options.command {
+        Command::Plan { order } => plan(order, options),
+        Command::Check { order, plan } => check(order, plan, options),
+        Command::Recheck { stamp } => said(recheck(stamp, options.limits.memory)?),
+        Command::Help => said(format!("{USAGE}\n")),
+        Command::Version => said(format!("plan {}\n", env!("CARGO_PKG_VERSION"))),
+    }
 }
 
-fn write_file(file: Option<&Path>, bytes: impl FnOnce() -> Vec<u8>) -> Done<()> {
-    let Some(file) = file else { return Ok(()) };
-    fs::write(file, bytes()).map_err(|error| format!("{}: {error}", file.display()))
+fn plan(file: &Path, options: &Options) -> Result<Done, Error> {
+    let order = read_order(file, options.turning)?;
+    let outputs = open(options, &[file])?;
+    let task = Task::new(&order);
+    let clock = Clock::new(options.limits.seconds);
+    let progress = Progress { shown: stderr().is_terminal() };
+    let (packing, evidence) = match options.one {
+        true => {
+            let found = search::one(&task, first_board(&task), clock, options.limits.memory, &progress);
+            (found.packing, found.ceiling.map(|ceiling| ceiling.modelled).into_iter().collect())
+        }
+        false => {
+            let found = search::whole(&task, clock, options.limits.memory, &progress);
+            (found.packing, found.proof.map(|proof| proof.modelled).unwrap_or_default())
+        }
+    };
+    progress.clear();
+    judge(&task, &packing.boards).map_err(Error::Call)?;
+    let outcome = judged(order, &task, &packing, evidence, options);
+    Ok(given(outcome, file, outputs))
 }
 
-/// Shows the progress in one line, on a terminal only.
-fn progress() -> impl FnMut(&Found) {
-    let shown = stderr().is_terminal();
-    move |found| {
-        if shown {
-            let (rounds, profit, most) = (found.rounds, found.profit, found.ceiling());
-            eprint!("\r\x1b[Kround {rounds}: earns {profit}, at most {most}");
+/// The line of the stock that one board is planned on: the first that is no offcut.
+fn first_board(task: &Task) -> usize {
+    task.stock.iter().position(|stock| stock.cost > 0).unwrap_or(0)
+}
+
+fn judged(
+    order: Order,
+    task: &Task,
+    packing: &Packing,
+    evidence: Vec<Modelled>,
+    options: &Options,
+) -> Outcome {
+    let mut boards = outcome::boards(&order, task, packing);
+    if options.one && boards.is_empty() {
+        boards = vec![Board::new(&order, first_board(task), crate::plan::Tree::Rest)
+            .expect("a board that is left whole")];
+    }
+    let verdict = verdict(task, &boards, options.one, &evidence, options.limits.memory);
+    Outcome { order, one: options.one, boards, verdict, evidence }
+}
+
+/// The verdict of the proved calls on boards that the saw can cut.
+fn verdict(task: &Task, boards: &[Board], one: bool, evidence: &[Modelled], memory: u64) -> Verdict {
+    let kind_of = |panel: usize| task.kinds.iter().position(|kind| kind.panels.contains(&panel));
+    let mut copies = vec![0; task.kinds.len()];
+    for kind in boards.iter().flat_map(|board| &board.layout.panels).filter_map(|laid| kind_of(laid.panel)) {
+        copies[kind] += 1;
+    }
+    let evidence: Vec<Modelled> = evidence.iter().filter(|part| part.is_of(task)).cloned().collect();
+    if let (true, [board]) = (one, boards) {
+        return Verdict::of_board(task, board.plate, &copies, &evidence, memory);
+    }
+    let left =
+        task.kinds.iter().zip(&copies).map(|(kind, cut)| u64::from(kind.count.saturating_sub(*cut))).sum();
+    if left > 0 {
+        return Verdict::of_part(task, left, &evidence, memory);
+    }
+    let mut used = vec![0; task.stock.len()];
+    boards.iter().for_each(|board| used[board.plate] += 1);
+    Verdict::of_order(task, &used, &evidence, memory)
+}
+
+/// Opens every output, none of which may be an input or another output.
+fn open(options: &Options, inputs: &[&Path]) -> Result<Vec<(Form, Output)>, Error> {
+    let clash = |file: &Path, with| Err(Error::Clash { file: file.to_path_buf(), with });
+    for (index, (_, path)) in options.outputs.iter().enumerate() {
+        if inputs.iter().any(|input| is_same(path, input)) {
+            return clash(path, "what is read");
+        }
+        if options.outputs[..index].iter().any(|(_, other)| is_same(path, other)) {
+            return clash(path, "named twice");
         }
     }
+    options.outputs.iter().map(|(form, path)| Ok((*form, Output::open(path)?))).collect()
 }
 
-fn clear_progress() {
-    if stderr().is_terminal() {
-        eprint!("\r\x1b[K");
+/// Everything that is given of an outcome; what cannot be written does not keep the rest back.
+fn given(outcome: Outcome, file: &Path, outputs: Vec<(Form, Output)>) -> Done {
+    let mut done =
+        Done { text: summary(&outcome), notices: outcome.order.notices.clone(), wrong: Vec::new() };
+    let order = file.file_stem().unwrap_or_default().to_string_lossy().into_owned();
+    for (form, output) in outputs {
+        let text = match form {
+            Form::Svg => {
+                done.wrong.extend(draw(&outcome, output));
+                continue;
+            }
+            Form::Html => html(&outcome, &Heading { order: order.clone(), date: today() }),
+            Form::Json => format!("{}\n", json::document(&outcome)),
+            Form::Csv => cut_list(&outcome),
+            Form::Rest => offcuts(&outcome),
+            Form::Stamp => stamp::text(&outcome),
+        };
+        done.wrong.extend(output.write(text.as_bytes()).err());
     }
+    done
+}
+
+/// Writes the drawings: of one board to the file named, of several each to a file with its number before the ending.
+fn draw(outcome: &Outcome, output: Output) -> Vec<Error> {
+    if outcome.boards.len() == 1 {
+        return output.write(svg(outcome, 0).as_bytes()).err().into_iter().collect();
+    }
+    let path = output.path().to_path_buf();
+    drop(output);
+    let numbered = |index: usize| {
+        let stem = path.file_stem().unwrap_or_default().to_string_lossy();
+        let ending =
+            path.extension().map_or(String::new(), |ending| format!(".{}", ending.to_string_lossy()));
+        path.with_file_name(format!("{stem}-{}{ending}", index + 1))
+    };
+    let write = |index: usize| Output::open(&numbered(index))?.write(svg(outcome, index).as_bytes());
+    (0..outcome.boards.len()).filter_map(|index| write(index).err()).collect()
+}
+
+fn check(file: &Path, plan: &Path, options: &Options) -> Result<Done, Error> {
+    let order = read_order(file, options.turning)?;
+    let text = json::text_of(&read_file(plan)?).map_err(|wrong| Error::wrong(plan, wrong))?;
+    let document = json::read(&text).map_err(|wrong| Error::wrong(plan, wrong))?;
+    let filed = Filed::new(&document, &order).map_err(|wrong| Error::wrong(plan, wrong))?;
+    let outputs = open(options, &[file, plan])?;
+    let outcome = replayed(order, filed, options.limits).map_err(|wrong| Error::wrong(plan, wrong))?;
+    Ok(given(outcome, file, outputs))
+}
+
+/// Saws filed plans again, counts their panels and judges them, with what was filed and with what a search for bounds
+/// finds, unless it has no time.
+pub fn replayed(order: Order, filed: Filed, limits: Limits) -> Result<Outcome, String> {
+    let panels = order.panel_sides();
+    let saw = Saw { kerf: order.kerf(), panels: &panels };
+    let mut boards = Vec::new();
+    for (plate, tree) in filed.boards {
+        let tree = saw.sawn(tree, order.plates[plate].sides());
+        let board = Board::new(&order, plate, tree);
+        boards.push(board.map_err(|misfit| misfit.in_order(&order))?);
+    }
+    let task = Task::new(&order);
+    within_order(&order, &boards)?;
+    let mut evidence = filed.evidence;
+    let one = filed.one;
+    let now = verdict(&task, &boards, one, &evidence, limits.memory);
+    if !now.is_best() && limits.seconds != Some(Duration::ZERO) {
+        let clock = Clock::new(limits.seconds);
+        let found = match (one, &boards[..]) {
+            (true, [board]) => search::bounds_of_board(&task, board.plate, clock, limits.memory),
+            _ => search::bounds_of_order(&task, clock, limits.memory),
+        };
+        if verdict(&task, &boards, one, &found, limits.memory).key() < now.key() {
+            evidence = found;
+        }
+    }
+    let verdict = verdict(&task, &boards, one, &evidence, limits.memory);
+    Ok(Outcome { order, one, boards, verdict, evidence })
+}
+
+/// No panel is cut more often than it is ordered, none is turned against its grain or lies on a raw edge, no plan has
+/// too many stages, and no more plates are used than there are.
+fn within_order(order: &Order, boards: &[Board]) -> Result<(), String> {
+    let mut copies = vec![0; order.panels.len()];
+    let mut plates = vec![0; order.plates.len()];
+    for board in boards {
+        let plate = &order.plates[board.plate];
+        let trim = if plate.offcut { 0 } else { order.trim.thousandths() };
+        let of_edges = if trim > 0 { 2 } else { 0 };
+        if order.stages.is_some_and(|limit| board.tree.stages() > limit + of_edges) {
+            return Err(format!("a plan has more stages than {}", order.stages.unwrap_or(0)));
+        }
+        plates[board.plate] += 1;
+        for laid in &board.layout.panels {
+            copies[laid.panel] += 1;
+            let panel = &order.panels[laid.panel];
+            if laid.turned && !panel.turns && panel.sides[0] != panel.sides[1] {
+                return Err(format!("{} is turned and may not be", panel.name));
+            }
+            if !laid.rect.is_within(plate.sides(), trim) {
+                return Err(format!("{} lies on a raw edge", panel.name));
+            }
+        }
+    }
+    for (panel, copies) in order.panels.iter().zip(copies) {
+        if copies > panel.count {
+            return Err(format!("{} is cut {copies} times, and {} are ordered", panel.name, panel.count));
+        }
+    }
+    for (plate, used) in order.plates.iter().zip(plates) {
+        if plate.count.is_some_and(|count| used > count) {
+            let size = crate::layout::size(plate.sides());
+            return Err(format!(
+                "{used} plates of {size} are used, and there are {}",
+                plate.count.unwrap_or(0)
+            ));
+        }
+    }
+    Ok(())
+}
+
+fn recheck(file: &Path, memory: u64) -> Result<String, Error> {
+    let stamp = Stamp::read(&read_file(file)?).map_err(|wrong| Error::wrong(file, wrong))?;
+    stamp.recheck(memory).map_err(|wrong| Error::wrong(file, wrong))
+}
+
+fn read_order(file: &Path, turning: Option<bool>) -> Result<Order, Error> {
+    order::read(&read_file(file)?, turning)
+        .map_err(|faults| Error::Faults { file: file.to_path_buf(), faults })
+}
+
+fn read_file(file: &Path) -> Result<Vec<u8>, Error> {
+    fs::read(file).map_err(|error| Error::file(file, error))
 }

@@ -1,19 +1,22 @@
-// Lengths in millimetres with up to three decimals, kept exactly, and their rounding to whole units of
-// the fence.
+// Lengths in millimetres with up to three decimals, kept exactly as whole thousandths.
 use std::fmt;
 
-/// The greatest length that is read: a kilometre.
-const MOST: u64 = 1_000_000_000;
+/// The greatest length that is read, in thousandths: a hundred metres, as the planner's true sizes have it.
+const MOST: u64 = 100_000_000;
 
 /// A length in thousandths of a millimetre.
-#[derive(Clone, Copy, Debug, PartialEq, Eq, PartialOrd, Ord)]
-pub struct Millimetres(u64);
+#[derive(Clone, Copy, Debug, Default, PartialEq, Eq, PartialOrd, Ord, Hash)]
+pub struct Millimetres(u32);
 
 impl Millimetres {
     pub const ZERO: Millimetres = Millimetres(0);
 
-    pub const fn thousandths(thousandths: u64) -> Millimetres {
+    pub const fn of_thousandths(thousandths: u32) -> Millimetres {
         Millimetres(thousandths)
+    }
+
+    pub const fn thousandths(self) -> u32 {
+        self.0
     }
 
     /// Reads `720`, `3.2`, `3,2` or `720 mm`.
@@ -28,30 +31,11 @@ impl Millimetres {
             return None;
         }
         let thousandths: u64 = format!("{whole}{decimals:0<3}").parse().ok()?;
-        (thousandths <= MOST).then_some(Millimetres(thousandths))
-    }
-
-    /// Whole units of this size, rounded up.
-    pub fn units_up(self, unit: Millimetres) -> u64 {
-        self.0.div_ceil(unit.0)
-    }
-
-    /// Whole units of this size, rounded down.
-    pub fn units_down(self, unit: Millimetres) -> u64 {
-        self.0 / unit.0
-    }
-
-    /// The units, if the length is a whole number of them.
-    pub fn units(self, unit: Millimetres) -> Option<u64> {
-        self.0.is_multiple_of(unit.0).then_some(self.0 / unit.0)
-    }
-
-    pub fn times(self, units: u64) -> Millimetres {
-        Millimetres(self.0 * units)
+        (thousandths <= MOST).then_some(Millimetres(thousandths as u32))
     }
 
     pub fn as_f64(self) -> f64 {
-        self.0 as f64 / 1000.0
+        f64::from(self.0) / 1000.0
     }
 }
 

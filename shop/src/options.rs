@@ -4,10 +4,11 @@ use std::path::PathBuf;
 use std::time::Duration;
 
 pub const USAGE: &str = "\
-usage: plan ORDER [--svg FILE] [--json FILE] [--stamp FILE] [--seconds N] [--memory SIZE] [--turning yes|no]
-       plan check ORDER PLAN.json [--memory SIZE] [--turning yes|no]
+usage: plan ORDER [--one] [--html FILE] [--svg FILE] [--json FILE] [--csv FILE] [--rest FILE] [--stamp FILE]
+            [--seconds N] [--memory SIZE] [--turning yes|no]
+       plan check ORDER PLAN.json [--html FILE] [--svg FILE] [--seconds N] [--memory SIZE] [--turning yes|no]
        plan recheck STAMP [--memory SIZE]
-       plan --help
+       plan --help | --version
 SIZE is the greatest table, as 512M or 2G; 1G if it is not said.";
 
 /// A table for a plate of the greatest size under weights of 0 always fits.
@@ -19,14 +20,39 @@ pub enum Command {
     Check { order: PathBuf, plan: PathBuf },
     Recheck { stamp: PathBuf },
     Help,
+    Version,
 }
+
+/// What may be written, by the name of its option.
+#[derive(Clone, Copy, Debug, PartialEq, Eq)]
+pub enum Form {
+    Html,
+    Svg,
+    Json,
+    Csv,
+    Rest,
+    Stamp,
+}
+
+const FORMS: [(&str, Form); 6] = [
+    ("html", Form::Html),
+    ("svg", Form::Svg),
+    ("json", Form::Json),
+    ("csv", Form::Csv),
+    ("rest", Form::Rest),
+    ("stamp", Form::Stamp),
+];
+
+/// The options that each command uses beside the files that a plan is written to.
+const CHECK: [&str; 5] = ["html", "svg", "seconds", "memory", "turning"];
+const RECHECK: [&str; 1] = ["memory"];
 
 #[derive(Clone, Debug)]
 pub struct Options {
     pub command: Command,
-    pub svg: Option<PathBuf>,
-    pub json: Option<PathBuf>,
-    pub stamp: Option<PathBuf>,
+    /// Plan one board, not the whole order.
+    pub one: bool,
+    pub outputs: Vec<(Form, PathBuf)>,
     pub turning: Option<bool>,
     pub limits: Limits,
 }
@@ -36,34 +62,70 @@ impl Options {
     pub fn read(words: impl Iterator<Item = String>) -> Result<Options, String> {
         let limits = Limits { seconds: None, memory: 1 << 30 };
         let command = Command::Plan { order: PathBuf::new() };
-        let mut options =
-            Options { command, svg: None, json: None, stamp: None, turning: None, limits };
-        let (mut files, mut words) = (Vec::new(), words);
+        let mut options = Options { command, one: false, outputs: Vec::new(), turning: None, limits };
+        let (mut files, mut named, mut words) = (Vec::new(), Vec::new(), words);
         while let Some(word) = words.next() {
             match word.strip_prefix("--") {
                 Some("help") => return Ok(Options { command: Command::Help, ..options }),
-                Some(name) => {
-                    let value = words.next().ok_or(format!("--{name} needs a value"))?;
-                    options.set(name, value)?;
+                Some("version") => return Ok(Options { command: Command::Version, ..options }),
+                Some(option) => {
+                    let (name, value) = match option.split_once('=') {
+                        Some((name, value)) => (name.to_string(), Some(value.to_string())),
+                        None => (option.to_string(), None),
+                    };
+                    options.set(&name, value, &mut words)?;
+                    named.push(name);
+                }
+                None if word == "-h" => return Ok(Options { command: Command::Help, ..options }),
+                None if word.starts_with('-') && word.len() > 1 => {
+                    return Err(format!("there is no option {word}"))
                 }
                 None => files.push(word),
             }
         }
         options.command = command_of(&files)?;
+        options.refuse_unused(&named)?;
         Ok(options)
     }
 
-    fn set(&mut self, name: &str, value: String) -> Result<(), String> {
+    fn set(
+        &mut self,
+        name: &str,
+        value: Option<String>,
+        words: &mut impl Iterator<Item = String>,
+    ) -> Result<(), String> {
+        if name == "one" {
+            self.one = true;
+            return value.map_or(Ok(()), |_| Err("--one takes no value".to_string()));
+        }
+        let mut needed = || value.clone().or_else(|| words.next()).ok_or(format!("--{name} needs a value"));
+        if let Some((_, form)) = FORMS.iter().find(|(form, _)| *form == name) {
+            let path = needed()?;
+            if self.outputs.iter().any(|(other, _)| other == form) {
+                return Err(format!("--{name} is said twice"));
+            }
+            self.outputs.push((*form, path.into()));
+            return Ok(());
+        }
         match name {
-            "svg" => self.svg = Some(value.into()),
-            "json" => self.json = Some(value.into()),
-            "stamp" => self.stamp = Some(value.into()),
-            "seconds" => self.limits.seconds = Some(seconds(&value)?),
-            "memory" => self.limits.memory = memory(&value)?,
-            "turning" => self.turning = Some(turning(&value)?),
+            "seconds" => self.limits.seconds = Some(seconds(&needed()?)?),
+            "memory" => self.limits.memory = memory(&needed()?)?,
+            "turning" => self.turning = Some(turning(&needed()?)?),
             _ => return Err(format!("there is no option --{name}")),
         }
         Ok(())
+    }
+
+    fn refuse_unused(&self, named: &[String]) -> Result<(), String> {
+        let (command, used) = match self.command {
+            Command::Check { .. } => ("check", &CHECK[..]),
+            Command::Recheck { .. } => ("recheck", &RECHECK[..]),
+            _ => return Ok(()),
+        };
+        match named.iter().find(|name| !used.contains(&name.as_str())) {
+            Some(name) => Err(format!("{command} does not use --{name}")),
+            None => Ok(()),
+        }
     }
 }
 

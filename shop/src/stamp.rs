@@ -1,37 +1,80 @@
-// A stamp: what a shop files with a plan, so that it can be certified again from nothing. docs/STAMP.md has its
-// format: a mark, the choices, four lengths, then job block, weights, second weights and plan block.
-use crate::search::BoundBy;
+// A stamp: what a shop files with a plan, so that it can be certified again from nothing. It holds the order with its
+// names, the plans and what the proved calls read of the models, and nothing that they answer. docs/STAMP.md has its
+// form, and that of the stamps of earlier days, which are still read.
+use crate::commands::replayed;
+use crate::json::{self, evidence, tree_document, Filed, Value};
+use crate::order;
+use crate::outcome::Outcome;
+use crate::search::Limits;
+use crate::summary::summary;
+use planner::{Choices, Job, Plan, Planner};
 
-const MARK: &[u8; 8] = b"CUTSTAMP";
+const MARK: &str = "plan stamp 2";
+const OLD_MARK: &[u8; 8] = b"CUTSTAMP";
 
+/// A stamp of today: its document.
+pub fn text(outcome: &Outcome) -> String {
+    let boards = outcome.boards.iter().map(|board| tree_document(outcome, board)).collect();
+    let document = Value::object([
+        ("stamp", Value::text(MARK)),
+        ("one", Value::Truth(outcome.one)),
+        ("order", Value::text(outcome.order.text())),
+        ("boards", Value::List(boards)),
+        ("evidence", Value::List(outcome.evidence.iter().map(evidence).collect())),
+    ]);
+    format!("{document}\n")
+}
+
+pub enum Stamp {
+    Today(Value),
+    Old(OldStamp),
+}
+
+/// A stamp of earlier days: a job in whole units, weights and a plan.
 #[derive(Clone, Debug, PartialEq, Eq)]
-pub struct Stamp {
+pub struct OldStamp {
     pub choices: u32,
     pub job: Vec<u8>,
-    pub bound_by: BoundBy,
+    pub weights: [Vec<u8>; 2],
     pub plan: Vec<u8>,
 }
 
 impl Stamp {
-    pub fn bytes(&self) -> Vec<u8> {
-        let (first, second) = match &self.bound_by {
-            BoundBy::Exact => (&[][..], &[][..]),
-            BoundBy::Weights(weights) => (&weights[..], &[][..]),
-            BoundBy::TwoWeights(first, second) => (&first[..], &second[..]),
-        };
-        let sections = [&self.job[..], first, second, &self.plan[..]];
-        let mut bytes = MARK.to_vec();
-        bytes.extend(self.choices.to_le_bytes());
-        for section in sections {
-            bytes.extend((section.len() as u32).to_le_bytes());
+    /// Reads a stamp, or says what was expected. The blocks of an old one are left to the planner.
+    pub fn read(bytes: &[u8]) -> Result<Stamp, String> {
+        if let Some(rest) = bytes.strip_prefix(OLD_MARK) {
+            return OldStamp::read(rest).map(Stamp::Old);
         }
-        bytes.extend(sections.concat());
-        bytes
+        let document = json::read(&json::text_of(bytes)?)?;
+        match document.get("stamp") {
+            Some(Value::Text(mark)) if mark == MARK => Ok(Stamp::Today(document)),
+            _ => Err("expected the mark of a stamp".to_string()),
+        }
     }
 
-    /// Reads a stamp, or says what was expected. The blocks in it are left to the planner.
-    pub fn read(bytes: &[u8]) -> Result<Stamp, String> {
-        let rest = bytes.strip_prefix(MARK).ok_or("expected the mark CUTSTAMP of a stamp")?;
+    /// Certifies the plans again, and says plate, panels and verdict.
+    pub fn recheck(&self, memory: u64) -> Result<String, String> {
+        let document = match self {
+            Stamp::Today(document) => document,
+            Stamp::Old(old) => return old.recheck(memory),
+        };
+        let Some(Value::Text(text)) = document.get("order") else {
+            return Err("expected an order in the stamp".to_string());
+        };
+        let order =
+            order::read(text.as_bytes(), None).map_err(|faults| format!("the order: {}", faults[0]))?;
+        let mut filed = Filed::new(document, &order)?;
+        filed.one = document.get("one") == Some(&Value::Truth(true));
+        if filed.one && filed.boards.len() != 1 {
+            return Err("expected one board".to_string());
+        }
+        let limits = Limits { seconds: Some(std::time::Duration::ZERO), memory };
+        Ok(summary(&replayed(order, filed, limits)?))
+    }
+}
+
+impl OldStamp {
+    fn read(rest: &[u8]) -> Result<OldStamp, String> {
         let (fields, mut rest) = rest.split_at_checked(20).ok_or("expected a header of 28 bytes")?;
         let mut numbers =
             fields.chunks_exact(4).map(|four| u32::from_le_bytes([four[0], four[1], four[2], four[3]]));
@@ -47,11 +90,34 @@ impl Stamp {
         if !rest.is_empty() {
             return Err("expected no bytes after the plan block".to_string());
         }
-        let bound_by = match (first.is_empty(), second.is_empty()) {
-            (true, true) => BoundBy::Exact,
-            (false, true) => BoundBy::Weights(first),
-            _ => BoundBy::TwoWeights(first, second),
+        Ok(OldStamp { choices, job, weights: [first, second], plan })
+    }
+
+    fn recheck(&self, memory: u64) -> Result<String, String> {
+        let mut planner = Planner::of_block(self.job.clone(), self.choices, memory);
+        let words = |error: planner::Error| error.to_string();
+        let report = planner.check_block(&self.plan).map_err(words)?;
+        let plan = Plan::from_block(&self.plan).expect("a block that passes its check");
+        let job = Job::from_block(&self.job, Choices::from_word(self.choices))
+            .expect("a job that passes its check");
+        let [first, second] = &self.weights;
+        let bound = match (first.is_empty(), second.is_empty()) {
+            (true, true) => planner.exact().map_err(words)?.0.optimum,
+            (false, true) => planner.certify(first, &plan).map_err(words)?.bound,
+            _ => planner.bound_two(first, second).map_err(words)?.bound,
         };
-        Ok(Stamp { choices, job, bound_by, plan })
+        let worth: u64 = job.kinds.iter().map(|kind| u64::from(kind.price) * u64::from(kind.demand)).sum();
+        let (earned, most) = (report.profit, bound.min(worth));
+        let sentence = match most - earned {
+            0 => "best: no guillotine plan of this plate in whole units earns more".to_string(),
+            more if earned == 0 => format!("the plan earns nothing; at most {more} is possible"),
+            more => {
+                let tenths = (1000 * more).div_ceil(earned);
+                format!("at most {}.{} % more is possible", tenths / 10, tenths % 10)
+            }
+        };
+        Ok(format!(
+            "earns {earned}, no plan earns more than {most}\n{sentence} (plate, panels and kerf as filed)\n"
+        ))
     }
 }

@@ -1,7 +1,7 @@
 //! The choices of the calls, what they answer and borrow, and how an answer is laid out in words.
 //! They stand apart from the calls, so that other implementations of the calls can share them.
 
-/// The choice that a piece may be turned.
+/// The choice that a piece may be turned, unless its kind keeps its grain.
 pub const TURNING: u32 = 1;
 
 /// The choice that the capacity counts every demand in full.
@@ -9,6 +9,12 @@ pub const FULL_DEMAND: u32 = 2;
 
 /// The choice that the job block is the old one, which has no kerf.
 pub const OLD_BLOCK: u32 = 4;
+
+/// The choice that the job block says of each kind whether it keeps its grain.
+pub const GRAIN: u32 = 8;
+
+/// Every choice.
+pub const CHOICES: u32 = TURNING | FULL_DEMAND | OLD_BLOCK | GRAIN;
 
 /// Words of a report.
 pub const REPORT_WORDS: usize = 69;
@@ -157,7 +163,7 @@ pub struct Found {
     pub weights: [u64; 64],
 }
 
-/// Every plan of a rack passed: no word is answered.
+/// Every plan of a rack passed, or a model did: no word is answered.
 #[derive(Clone, Copy, Debug, PartialEq, Eq)]
 pub struct Passed;
 
@@ -172,6 +178,37 @@ pub struct Certificate {
     pub profit: u64,
 }
 
+/// The number of nodes of a plan at true sizes, and what it uses of the plate: nothing without a piece.
+#[derive(Clone, Copy, Debug, PartialEq, Eq)]
+pub struct Fitted {
+    /// How many nodes the plan has.
+    pub nodes: u64,
+    /// The used length.
+    pub length: u64,
+    /// The used width.
+    pub width: u64,
+}
+
+/// How many plates a whole order needs, and what that follows from.
+#[derive(Clone, Copy, Debug, PartialEq, Eq)]
+pub struct PlatesNeeded {
+    /// No fewer plates hold the order; `u64::MAX` where no number of them does.
+    pub plates: u64,
+    /// No plan within the demands earns more on one plate.
+    pub bound: u64,
+    /// What the order is worth: the sum of demand times price.
+    pub worth: u64,
+}
+
+/// The bound with multipliers in place of demands, and that of the lowered job.
+#[derive(Clone, Copy, Debug, PartialEq, Eq)]
+pub struct Lagrangian {
+    /// No plan within the demands earns more.
+    pub bound: u64,
+    /// The bound of the job whose prices are lowered by the multipliers.
+    pub lowered: Bound,
+}
+
 /// The lent lists and table.
 pub struct Storage<'a> {
     /// The normal lengths.
@@ -183,12 +220,18 @@ pub struct Storage<'a> {
 }
 
 /// The lent arrays that a plan is written to.
-pub struct PlanArrays<'a> {
+pub struct PlanArraysOf<'a, P> {
     /// The kind of each node.
     pub kinds: &'a mut [u8],
     /// The operand of each node.
-    pub operands: &'a mut [u16],
+    pub operands: &'a mut [P],
 }
+
+/// The lent arrays of a plan in the units of a job.
+pub type PlanArrays<'a> = PlanArraysOf<'a, u16>;
+
+/// The lent arrays of a plan at true sizes.
+pub type TruePlanArrays<'a> = PlanArraysOf<'a, u32>;
 
 /// The lent rack: of each plate its length, its width and the profit that its plan brought.
 pub struct Rack<'a> {
@@ -207,10 +250,10 @@ impl Storage<'_> {
     }
 }
 
-impl PlanArrays<'_> {
+impl<P> PlanArraysOf<'_, P> {
     /// The same arrays for a call in between.
-    pub fn again(&mut self) -> PlanArrays<'_> {
-        PlanArrays { kinds: self.kinds, operands: self.operands }
+    pub fn again(&mut self) -> PlanArraysOf<'_, P> {
+        PlanArraysOf { kinds: self.kinds, operands: self.operands }
     }
 }
 
@@ -349,6 +392,37 @@ impl Words<0> for Passed {
 
     fn from_words([]: [u64; 0]) -> Passed {
         Passed
+    }
+}
+
+impl Words<3> for Fitted {
+    fn to_words(&self) -> [u64; 3] {
+        [self.nodes, self.length, self.width]
+    }
+
+    fn from_words([nodes, length, width]: [u64; 3]) -> Fitted {
+        Fitted { nodes, length, width }
+    }
+}
+
+impl Words<3> for PlatesNeeded {
+    fn to_words(&self) -> [u64; 3] {
+        [self.plates, self.bound, self.worth]
+    }
+
+    fn from_words([plates, bound, worth]: [u64; 3]) -> PlatesNeeded {
+        PlatesNeeded { plates, bound, worth }
+    }
+}
+
+impl Words<5> for Lagrangian {
+    fn to_words(&self) -> [u64; 5] {
+        let [bound, capacity, lengths, widths] = self.lowered.to_words();
+        [self.bound, bound, capacity, lengths, widths]
+    }
+
+    fn from_words([bound, lowered @ ..]: [u64; 5]) -> Lagrangian {
+        Lagrangian { bound, lowered: Bound::from_words(lowered) }
     }
 }
 

@@ -1,4 +1,4 @@
-//! Building job blocks and plan blocks.
+//! Building job blocks, sizes blocks and plan blocks.
 //! Nothing is checked: a block may be one that the planner refuses.
 
 /// A kind: length, width, price, demand.
@@ -33,6 +33,12 @@ fn block(header: &[u16], kinds: &[Kind]) -> Vec<u8> {
         block.extend(demand.to_le_bytes());
     }
     block
+}
+
+/// A sizes block: the plate's sides and the kerf, then the sides of each kind.
+pub fn sizes_block(length: u32, width: u32, kerf: u32, kinds: &[[u32; 2]]) -> Vec<u8> {
+    let sizes = [length, width, kerf].into_iter().chain(kinds.iter().copied().flatten());
+    sizes.flat_map(u32::to_le_bytes).collect()
 }
 
 /// A plan block: the number of nodes, their kinds, their operands.

@@ -8,10 +8,13 @@ mod job;
 mod planner;
 pub mod slices;
 mod storage;
+mod table;
 mod tree;
 mod words;
 
-pub use job::{Choices, Job, Kind};
+pub use job::{Choices, Job, Kind, TrueSizes};
 pub use planner::Planner;
 pub use storage::Error;
-pub use tree::{Direction, Plan, Plate, Tree};
+pub use tree::{
+    Branch, Direction, Operand, Plan, PlanOf, Plate, Tree, TreeOf, TruePlan, TrueTree,
+};

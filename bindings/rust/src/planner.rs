@@ -2,12 +2,13 @@
 //! Limits, weights, plans and jobs are taken as they are: the calls refuse what they do not accept.
 
 use crate::answers::{
-    Bound, BoundTwo, Certificate, Exact, Found, Rack, Report, SawReport, StagedReport, Written,
+    Bound, BoundTwo, Certificate, Exact, Fitted, Found, Lagrangian, Passed, PlatesNeeded, Rack,
+    Report, SawReport, StagedReport, Written,
 };
-use crate::job::{Choices, Job};
+use crate::job::{Choices, Job, TrueSizes};
 use crate::slices;
 use crate::storage::{written, Error, Lender};
-use crate::tree::{Plan, Plate, Tree};
+use crate::tree::{Plan, Plate, Tree, TruePlan};
 
 /// The shares of the greatest capacity, 4,095: no round needs a table of more.
 const MOST_SHARES: u64 = 4_096;
@@ -81,6 +82,39 @@ impl Planner {
                 .map(|neat| ((), neat.nodes))
         })?;
         Ok(neat)
+    }
+
+    /// Checks that the job is a model that stands for true sizes: what no plan of the job within the demands
+    /// exceeds, no plan at those sizes exceeds.
+    pub fn check_model(&self, sizes: &TrueSizes) -> Result<Passed, Error> {
+        Ok(slices::check_model(&self.block, self.choices, &sizes.block())?)
+    }
+
+    /// The neat plan of a plan at true sizes, and what it uses of the true plate.
+    pub fn true_plan(&self, sizes: &TrueSizes, plan: &Plan) -> Result<(Fitted, TruePlan), Error> {
+        let Plan { kinds, operands } = plan;
+        Ok(written(|arrays| {
+            slices::true_plan(&self.block, self.choices, &sizes.block(), kinds, operands, arrays)
+                .map(|fitted| (fitted, fitted.nodes))
+        })?)
+    }
+
+    /// How many plates the whole order needs, beside others whose plans earn no more than `other` in all.
+    pub fn plates_needed(&mut self, weights: &[u8], other: u64) -> Result<PlatesNeeded, Error> {
+        self.lender.lend(|storage| {
+            slices::plates_needed(&self.block, self.choices, weights, other, storage)
+        })
+    }
+
+    /// The bound with multipliers in place of demands.
+    pub fn bound_lagrangian(
+        &mut self,
+        weights: &[u8],
+        multipliers: &[u32],
+    ) -> Result<Lagrangian, Error> {
+        self.lender.lend(|storage| {
+            slices::bound_lagrangian(&self.block, self.choices, weights, multipliers, storage)
+        })
     }
 
     /// The bound under these weights.

@@ -1,8 +1,8 @@
 //! What a planner lends its calls: lists and plan arrays with the most that any job and plan can need, and a
 //! table that grows to what refusal 20 asks for, up to a limit.
 
-use crate::answers::{PlanArrays, Refusal, Storage};
-use crate::tree::Plan;
+use crate::answers::{PlanArraysOf, Refusal, Storage};
+use crate::tree::{Operand, PlanOf};
 use std::fmt;
 
 /// The words of a list of positions: sides of 1,000 and a kerf of 20.
@@ -87,11 +87,11 @@ impl Lender {
 }
 
 /// Makes a call that writes a plan and answers its node count.
-pub fn written<A>(
-    call: impl FnOnce(PlanArrays) -> Result<(A, u64), Refusal>,
-) -> Result<(A, Plan), Refusal> {
-    let mut plan = Plan { kinds: vec![0; NODES], operands: vec![0; NODES] };
-    let arrays = PlanArrays { kinds: &mut plan.kinds, operands: &mut plan.operands };
+pub fn written<P: Operand, A>(
+    call: impl FnOnce(PlanArraysOf<P>) -> Result<(A, u64), Refusal>,
+) -> Result<(A, PlanOf<P>), Refusal> {
+    let mut plan = PlanOf { kinds: vec![0; NODES], operands: vec![P::from(0); NODES] };
+    let arrays = PlanArraysOf { kinds: &mut plan.kinds, operands: &mut plan.operands };
     let (answer, nodes) = call(arrays)?;
     plan.kinds.truncate(nodes as usize);
     plan.operands.truncate(nodes as usize);

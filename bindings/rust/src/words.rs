@@ -2,6 +2,7 @@
 //! Kinds and nodes are numbered from 0.
 
 use crate::answers::{Refusal, ANSWER_TOO_SHORT, UNKNOWN_CHOICE};
+use crate::tree::Direction;
 use std::error::Error;
 use std::fmt;
 
@@ -39,38 +40,61 @@ impl Refusal {
             28 => "the rack has not 1 to 16 plates, or not one entry a plate in each array",
             29 => "copies over the plans so far pass a demand",
             30 => "the demands, each plus 1, multiply to above 4,096",
+            31 => "the sizes block has not three sizes and two a kind",
+            32 => "a true side is outside 1 to 100,000,000, or the true kerf is above 1,000,000",
+            33 => "the model does not stand for the true sizes",
+            34 => "the plan does not fit the plate at the true sizes",
+            35 => "the grain byte is above 1",
+            36 => "the piece is turned and its kind keeps its grain",
+            37 => "there is not one multiplier a kind",
+            38 => "the multiplier is above 1,000,000",
             ANSWER_TOO_SHORT => "the answer has too few words",
             UNKNOWN_CHOICE => "a choice has no meaning",
             _ => "the number has no words",
         }
     }
 
-    /// The kind of piece that is refused, if one is.
+    /// The kind of piece that is refused, if one is. Of true sizes place 0 is the plate or the kerf.
     pub fn kind(&self) -> Option<u64> {
-        matches!(self.number, 5..=7).then_some(self.place)
+        match self.number {
+            5..=7 | 35 | 38 => Some(self.place),
+            32 => self.place.checked_sub(1),
+            _ => None,
+        }
     }
 
     /// The node that is refused, if one is.
     pub fn node(&self) -> Option<u64> {
-        matches!(self.number, 12..=18 | 23 | 26).then_some(self.place)
+        matches!(self.number, 12..=18 | 23 | 26 | 36).then_some(self.place)
     }
 
     /// The plate that is refused, if one is: of a job alone plate 0, of a rack any.
     pub fn plate(&self) -> Option<u64> {
         matches!(self.number, 2 | 29).then_some(self.place)
     }
+
+    /// The direction along which the true sizes are refused, if they are.
+    pub fn direction(&self) -> Option<Direction> {
+        let direction = if self.place == 0 { Direction::Length } else { Direction::Width };
+        matches!(self.number, 33 | 34).then_some(direction)
+    }
 }
 
 impl fmt::Display for Refusal {
     fn fmt(&self, f: &mut fmt::Formatter) -> fmt::Result {
-        let Refusal { number, place } = self;
-        write!(f, "refusal {number}")?;
-        match number {
-            5..=7 => write!(f, " at kind {place}")?,
-            12..=18 | 23 | 26 => write!(f, " at node {place}")?,
-            2 | 29 => write!(f, " at plate {place}")?,
-            20 => write!(f, ", {place} words are needed")?,
-            21 => write!(f, ", {place} nodes are needed")?,
+        write!(f, "refusal {}", self.number)?;
+        let places = [("kind", self.kind()), ("node", self.node()), ("plate", self.plate())];
+        for (sort, place) in places {
+            place.map_or(Ok(()), |place| write!(f, " at {sort} {place}"))?;
+        }
+        match self.direction() {
+            Some(Direction::Length) => write!(f, " along the length")?,
+            Some(Direction::Width) => write!(f, " along the width")?,
+            None => {}
+        }
+        match self.number {
+            20 => write!(f, ", {} words are needed", self.place)?,
+            21 => write!(f, ", {} nodes are needed", self.place)?,
             _ => {}
         }
         write!(f, ": {}", self.words())

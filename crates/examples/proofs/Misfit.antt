@@ -17,7 +17,7 @@ use Rattle.cutting.specs.Saws.{floor, saw-normal, saw-written}
 use Rattle.cutting.specs.Shares.{by-weight}
 use Rattle.cutting.specs.Normal.{summed, normal?, normal, sides}
 use Rattle.cutting.specs.Choice.{choice, plan-within, written, sawn}
-use Rattle.cutting.specs.Job.{Job, laid, capacity, ordered, members, pieces, by-kind, normal-positions, lossless-plan, plan-of}
+use Rattle.cutting.specs.Job.{Job, laid, turns, capacity, ordered, members, pieces, by-kind, normal-positions, lossless-plan, plan-of}
 use Rattle.job.specs.Block.{entries, record-of}
 use Rattle.job.specs.Weights.{block-job, weight-in}
 use Rattle.bound.specs.Bound.{wide-job}
@@ -43,7 +43,7 @@ module _ (pair ws : List ℕ) where
 
   -- the pieces where a test says that it is ordered
   abbrev either : Bool → List Piece
-  either b = each (ways false) (keep b 0 [])
+  either b = each (λ i. ways (turns J i) i) (keep b 0 [])
 
   -- so position 0 is the only one
   pub alone : (d : Direction) → normal-positions J d ≡ 0 ∷ []

@@ -1,8 +1,10 @@
 -- The saw's exported functions, stopped and called: what their words say of trees and of a node's part, and that no price is in them.
 use mathlib.Core.Path.{_≡_, refl, sym, _∙_, ap, subst}
+use mathlib.Core.Bool.{Bool, true, false}
 use mathlib.Core.List.{List, [], _∷_}
 use Prim.Native.Nat.{ℕ, _+_, _-_, _≤_, _<_}
 use native.Mathlib.Omega.{arith}
+use lib.Dec.{ltb}
 use lib.ListN.{length, take, drop}
 use Rattle.cutting.specs.declared.Node.{Node}
 use Rattle.cutting.specs.Lists.{over}
@@ -18,14 +20,14 @@ use Rattle.plan.specs.Trees.{PlanOf}
 use Rattle.plan.specs.Calls.{arrays-answer}
 use Rattle.saw.specs.declared.Part.{Part}
 use Rattle.saw.specs.declared.SawAnswer.{SawAnswer}
-use Rattle.saw.specs.Saw.{saw-of, saw-values, saw-outcome, saw-said, SawReports, SawChecks}
+use Rattle.saw.specs.Saw.{saw-of, saw-answer, saw-before-idle, saw-values, saw-outcome, saw-said, SawReports, SawChecks}
 use Rattle.saw.specs.Prices.{OnlyPrices}
 use Rattle.saw.specs.Parts.{tree-at, part-by, node-part, part-said}
 use Rattle.saw.proofs.Prices.{same-answer}
 use Rattle.saw.proofs.Calls.{check-met}
 use Rattle.saw.proofs.Parts.{part-tree, listed, listed-length, own-entries}
 use Rattle.answer_words.specs.Words.{Gives}
-use Rattle.planner_c.specs.Exports.{choices-of, returned, early, answered}
+use Rattle.planner_c.specs.Exports.{unknown, choices-of, returned-by, returned, early, answered}
 use Rattle.planner_c.specs.Saw.{saw-job-with, PriceBlind, SawChecked, PartGiven}
 use Rattle.planner_c.proofs.Exports.{stops, going, enough, spoken}
 
@@ -42,6 +44,26 @@ module _ (s : List ℕ) (choices : ℕ) (kinds operands old : List ℕ) where
   beside-said : ((i : ℕ) → arrays-answer s (choices-of choices) kinds operands .verdict ≡ Refused (Price i) → ⊥) → saw-said s (choices-of choices) kinds operands ≡ saw-outcome (saw-of (arrays-answer s (choices-of choices) kinds operands))
   beside-said f = let m = check-met s (choices-of choices) kinds operands refl in sym (m .1 .0) ∙ ap (λ a. saw-outcome a) (m .1 .1 .1 .1 .alike f)
 
+  -- what it answers without 26
+  abbrev unidle : SawAnswer
+  unidle = saw-before-idle s (choices-of choices) kinds operands
+
+  -- no number that it returns is 6
+  unsaid : {n : ℕ} → n ≡ returned 68 old choices (saw-said s (choices-of choices) kinds operands) → n ≡ 6 → ⊥
+  unsaid e z = by-case (ltb (length old) 68) (unknown choices) (saw-said s (choices-of choices) kinds operands) (λ (o : saw-said s (choices-of choices) kinds operands .0 ≡ 6). check-met s (choices-of choices) kinds operands refl .1 .1 .0 .never-six (numbered (ap (λ x. x .0) (check-met s (choices-of choices) kinds operands refl .1 .0) ∙ o))) (sym e ∙ z)
+    where
+      by-case : (a b : Bool) (o : Outcome) → (o .0 ≡ 6 → ⊥) → returned-by a b o ≡ 6 → ⊥
+      by-case true b o f q = omega (arith, q)
+      by-case false true o f q = omega (arith, q)
+      by-case false false o f q = f q
+
+      numbered : saw-outcome (saw-answer s (choices-of choices) kinds operands) .0 ≡ 6 → outcome-by (saw-answer s (choices-of choices) kinds operands .verdict) [] .0 ≡ 6
+      numbered q = go (saw-answer s (choices-of choices) kinds operands .verdict) (saw-values (saw-answer s (choices-of choices) kinds operands .report)) q
+        where
+          go : (v : Checked) (values : List ℕ) → outcome-by v values .0 ≡ 6 → outcome-by v [] .0 ≡ 6
+          go Passed values q = q
+          go (Refused x) values q = q
+
   -- both cases of the check
   abbrev pub SawAnswers : ℕ → List ℕ → Type 0
   SawAnswers n new = (n ≡ returned 68 old choices (saw-said s (choices-of choices) kinds operands)) × ((new ≡ answered 68 old choices (saw-said s (choices-of choices) kinds operands)) × SawChecked s choices kinds operands old new n)
@@ -57,6 +79,8 @@ module _ (s : List ℕ) (choices : ℕ) (kinds operands old : List ℕ) where
               tree = λ z. absurd (omega (arith, z, h));
               passes = λ k u b t p. going 68 choices old e k u;
               idle = λ k u b t d i p. absurd (omega (arith, h, going 68 choices old e k u));
+              old-table = λ f. stops 68 choices old e (saw-outcome unidle) h;
+              never-six = unsaid (a .0);
               office = λ f. (a .0 ∙ ap (λ x. returned 68 old choices x) (beside-said f), a .1 ∙ ap (λ x. answered 68 old choices x) (beside-said f));
               blind = blind 68 (λ z. saw-said z (choices-of choices) kinds operands) same-said (a .0, a .1);
             },
@@ -74,6 +98,8 @@ module _ (s : List ℕ) (choices : ℕ) (kinds operands old : List ℕ) where
                   (t .0, t .1, g .1 ∙ ap (λ v. over (outcome-by v (saw-values (r .report)) .1) old) p ∙ ap (λ w. over (saw-values w) old) (t .2 .own), subst (λ w. SawReports (saw-job-with s choices) (t .0) w) (t .2 .own) (t .2)));
               passes = λ k u b t p. g .0 ∙ ap (λ v. outcome-by v (saw-values (r .report)) .0) (checks .passes b t p);
               idle = λ k u b t d i p. (let v = checks .idle b t d ∙ p in (g .0 ∙ ap (λ v. outcome-by v (saw-values (r .report)) .0) v, g .1 ∙ ap (λ v. over (outcome-by v (saw-values (r .report)) .1) old) v));
+              old-table = λ f. enough 68 choices old e (saw-outcome unidle) h (ap (λ a. saw-outcome a) (checks .old-table f)) g;
+              never-six = unsaid (a .0);
               office = λ f. (a .0 ∙ ap (λ x. returned 68 old choices x) (beside-said f), a .1 ∙ ap (λ x. answered 68 old choices x) (beside-said f));
               blind = blind 68 (λ z. saw-said z (choices-of choices) kinds operands) same-said (a .0, a .1);
             },

@@ -5,6 +5,8 @@ use Prim.Native.Nat.{ℕ, _≤_, _<_}
 use native.Mathlib.Omega.{arith}
 use lib.ListN.{length}
 use Rattle.cutting.specs.Lists.{over}
+use Rattle.cutting.specs.Tree.{Tree, IdleFree}
+use Rattle.cutting.specs.Pieces.{Piece}
 use Rattle.cutting.specs.Promises.{FiguresMost}
 use Rattle.cutting.proofs.Promises.{figures-most}
 use Rattle.cutting.specs.Preorder.{node-count, kinds-of, operands-of}
@@ -13,7 +15,7 @@ use Rattle.refusal.proofs.Numbers.{number-some}
 use Rattle.refusal.specs.declared.Checked.{Checked}
 use Rattle.refusal.specs.declared.Checked.the-variants.{Passed, Refused}
 use Rattle.plan.specs.declared.PlanAnswer.{PlanAnswer}
-use Rattle.plan.specs.Trees.{ChecksPlan, Reports}
+use Rattle.plan.specs.Trees.{DrawnAs, ChecksPlan, Reports}
 use Rattle.job.specs.declared.Choices.{Choices}
 use Rattle.job.specs.Block.{job-checks}
 use Rattle.job.specs.Weights.{block-job, weight-in, Accepted}
@@ -34,7 +36,7 @@ use Rattle.certificate.specs.Certificate.{certificate-outcome}
 use Rattle.certificate.specs.Promises.{BestAmong, GapAmong}
 use Rattle.plan.specs.Calls.{plan-values, plan-outcome}
 use Rattle.answer_words.specs.Words.{Gives}
-use Rattle.planner_c.specs.Exports.{answer-word, PlanGiven, NeatGiven, BoundGiven, TreeChecked, Certified, GivenAmong, job-with, returned, early, answered}
+use Rattle.planner_c.specs.Exports.{answer-word, PlanGiven, NeatGiven, BoundGiven, TreeChecked, Certified, GivenAmong, job-with, returned, early, answered, Says}
 use Rattle.planner_c.proofs.Exports.{stops, going, enough}
 
 -- a bound
@@ -89,13 +91,15 @@ certificate-given Earned None most old (certificate.Gap profit more) best gap g 
     subst (λ w. Certified Earned None most (answer-word w 2) (answer-word w 1) (answer-word w 0)) (sym (g .1)) (record { earns = b .0; sum = refl; bound-is = b .2; none-above = b .3 })
 certificate-given Earned None most old (certificate.Refused r) best gap g e = absurd (omega (arith, number-some r, g .0, e))
 
-module _ (Before : Type 0) (s : List ℕ) (choices : ℕ) (kinds operands : List ℕ) (old : List ℕ) where
+module _ (Before : Type 0) (s : List ℕ) (choices : ℕ) (kinds operands : List ℕ) (unidle : PlanAnswer) (old : List ℕ) where
   -- a checked plan: 0 is returned exactly where the verdict is that it passes
-  tree-given : {n : ℕ} {new : List ℕ} {before : PlanAnswer} (a : PlanAnswer) → ChecksPlan Before (job-with s choices) kinds operands before a → Gives (plan-outcome a) n old new → TreeChecked Before s choices kinds operands old new n
-  tree-given {n} a checks g = record {
+  tree-given : {n : ℕ} {new : List ℕ} (a : PlanAnswer) → ChecksPlan Before (job-with s choices) kinds operands unidle a → Gives (plan-outcome a) n old new
+      → (((t : Tree Piece) → DrawnAs (job-with s choices) t kinds operands → IdleFree t) → Says 69 choices (plan-outcome unidle) old new n) → TreeChecked Before s choices kinds operands (plan-outcome unidle) old new n
+  tree-given {n} a checks g table = record {
     tree = λ e. (let p = passed (a .verdict) refl e in let t = checks .tree p in (t .0, t .1, g .1 ∙ ap (λ v. over (outcome-by v (plan-values (a .report)) .1) old) p ∙ ap (λ r. over (plan-values r) old) (t .2 .own), subst (λ r. Reports (job-with s choices) (t .0) r) (t .2 .own) (t .2)));
     passes = λ h u b t k. g .0 ∙ ap (λ v. outcome-by v (plan-values (a .report)) .0) (checks .passes b t k);
     idle = λ h u b t d k e. (let v = checks .idle b t d ∙ e in (g .0 ∙ ap (λ v. outcome-by v (plan-values (a .report)) .0) v, g .1 ∙ ap (λ v. over (outcome-by v (plan-values (a .report)) .1) old) v));
+    old-table = table;
   }
     where
       passed : (v : Checked) → a .verdict ≡ v → n ≡ 0 → a .verdict ≡ Passed
@@ -105,7 +109,7 @@ module _ (Before : Type 0) (s : List ℕ) (choices : ℕ) (kinds operands : List
   -- both cases of an exported check, whichever way the plan is given: stopped, and called
   module _ (said : Outcome) {before : ℕ} (e : before ≡ early 69 (length old) choices) where
     abbrev pub ChecksAnswer : ℕ → List ℕ → Type 0
-    ChecksAnswer n new = (n ≡ returned 69 old choices said) × ((new ≡ answered 69 old choices said) × TreeChecked Before s choices kinds operands old new n)
+    ChecksAnswer n new = (n ≡ returned 69 old choices said) × ((new ≡ answered 69 old choices said) × TreeChecked Before s choices kinds operands (plan-outcome unidle) old new n)
 
     pub check-stops : 0 < before → ChecksAnswer before old
     check-stops h =
@@ -117,11 +121,12 @@ module _ (Before : Type 0) (s : List ℕ) (choices : ℕ) (kinds operands : List
               tree = λ z. absurd (omega (arith, z, h));
               passes = λ k u b t p. going 69 choices old e k u;
               idle = λ k u b t d i p. absurd (omega (arith, h, going 69 choices old e k u));
+              old-table = λ f. stops 69 choices old e (plan-outcome unidle) h;
             },
           ),
         )
 
-    pub check-called : {n : ℕ} {new : List ℕ} {old-answer r : PlanAnswer} → before ≤ 0 → plan-outcome r ≡ said → ChecksPlan Before (job-with s choices) kinds operands old-answer r → Gives (plan-outcome r) n old new → ChecksAnswer n new
+    pub check-called : {n : ℕ} {new : List ℕ} {r : PlanAnswer} → before ≤ 0 → plan-outcome r ≡ said → ChecksPlan Before (job-with s choices) kinds operands unidle r → Gives (plan-outcome r) n old new → ChecksAnswer n new
     check-called {r = r} h o checks g =
         let a = enough 69 choices old e said h o g in
-        (a .0, (a .1, tree-given r checks g))
+        (a .0, (a .1, tree-given r checks g (λ f. enough 69 choices old e (plan-outcome unidle) h (ap (λ a. plan-outcome a) (checks .old-table f)) g)))

@@ -69,6 +69,10 @@ answered-by false words o = over (o .1) words
 abbrev pub answered : ℕ → List ℕ → ℕ → Outcome → List ℕ
 answered n words choices o = answered-by (stopped n words choices) words o
 
+-- number and words are those of an outcome
+abbrev pub Says : ℕ → ℕ → Outcome → (old new : List ℕ) → ℕ → Type 0
+Says words choices o old new n = (n ≡ returned words old choices o) × (new ≡ answered words old choices o)
+
 module _ {A : Type 0} where
   -- what is left, by whether the call is stopped
   abbrev pub Left-by : Bool → (A → A → Type 0) → A → A → Type 0
@@ -100,12 +104,14 @@ answer-word answer i = getD answer i 0
 
 -- a plan's check returns 0 only for the preorder of a guillotine tree on the plate that keeps every demand and has no idle cut, and its
 -- words are then that tree's own report, whose four areas sum to the plate's; where the answer has words enough, the choices are known and
--- what stands before the plan's checks holds, it returns 0 for every such plan, and for one with idle cuts 26 with the first of them
-pub record TreeChecked (Before : Type 0) (s : List ℕ) (choices : ℕ) (kinds operands old new : List ℕ) (n : ℕ) : Type 0 where
+-- what stands before the plan's checks holds, it returns 0 for every such plan, and for one with idle cuts 26 with the first of them; where no tree that
+-- the arrays draw has an idle cut, number and words are those of `unidle`, the outcome without 26
+pub record TreeChecked (Before : Type 0) (s : List ℕ) (choices : ℕ) (kinds operands : List ℕ) (unidle : Outcome) (old new : List ℕ) (n : ℕ) : Type 0 where
   pub tree : n ≡ 0 → (t : Tree Piece) × PlanOf (job-with s choices) t kinds operands × (new ≡ over (plan-values (tree-report (job-with s choices) t)) old) × Reports (job-with s choices) t (tree-report (job-with s choices) t)
   pub passes : 69 ≤ length old → unknown choices ≡ false → Before → (t : Tree Piece) → PlanOf (job-with s choices) t kinds operands → n ≡ 0
   pub idle : 69 ≤ length old → unknown choices ≡ false → Before → (t : Tree Piece) → DrawnAs (job-with s choices) t kinds operands
       → (k : ℕ) → first-refusal (tree-checks 0 t) ≡ Refused (IdleCut k) → (n ≡ 26) × (new ≡ over (k ∷ []) old)
+  pub old-table : ((t : Tree Piece) → DrawnAs (job-with s choices) t kinds operands → IdleFree t) → Says 69 choices unidle old new n
 
 -- a certificate where 0 is returned, by what the plan earns, the trees that it is compared with and their bound: the plan earns the profit,
 -- profit and gap sum to the bound, and none of those trees earns more than it; so a gap of 0 says that none earns more than the plan

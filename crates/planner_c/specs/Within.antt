@@ -6,7 +6,7 @@ use mathlib.Core.List.{List, [], _∷_}
 use Prim.Native.Nat.{ℕ, _≤_}
 use lib.ListN.{length}
 use Rattle.cutting.specs.Lists.{greatest, over}
-use Rattle.cutting.specs.Tree.{Tree}
+use Rattle.cutting.specs.Tree.{Tree, IdleFree}
 use Rattle.cutting.specs.Pieces.{Piece}
 use Rattle.cutting.specs.Shares.{stages}
 use Rattle.cutting.specs.Job.{Job}
@@ -17,23 +17,26 @@ use Rattle.refusal.specs.declared.Checked.the-variants.{Refused}
 use Rattle.job.specs.declared.Choices.{Choices}
 use Rattle.job.specs.Weights.{weight-in}
 use Rattle.stages.specs.Stages.{path-checks}
-use Rattle.plan.specs.Trees.{PlanOf, tree-report, Reports}
+use Rattle.plan.specs.Trees.{DrawnAs, PlanOf, tree-report, Reports}
 use Rattle.bound.specs.Bound.{Memory, wide-job, block-capacity}
-use Rattle.staged_plan.specs.Check.{LimitPasses, staged-values, StagedPlanOf}
+use Rattle.staged_plan.specs.Check.{LimitPasses, staged-before-idle, staged-values, staged-check-outcome, StagedPlanOf}
 use Rattle.staged_bound.specs.Staged.{limit-verdict, StagedLeaves, StagedHolds}
 use Rattle.staged_certificate.specs.Certificate.{staged-plan-verdict, EarnsStaged}
-use Rattle.planner_c.specs.Exports.{unknown, choices-of, job-with, answer-word, GivenAmong}
+use Rattle.planner_c.specs.Exports.{unknown, choices-of, job-with, Says, answer-word, GivenAmong}
 
 -- the staged check returns 0 only for the plan of a tree of at most so many stages, and its words are then that tree's own report and its
 -- stages, which are the most changes of direction on a path plus one; where the answer has words enough, the choices are known and no check
 -- of job block and limit refuses them, it returns 0 for every such plan, and for the plan of a tree of more stages 23 with the first cut in
--- preorder whose path, from the plate down through it, passes the limit
+-- preorder whose path, from the plate down through it, passes the limit; where no tree that the arrays draw has an idle cut, number and
+-- words are those without 26
 pub record StagedChecked (s : List ℕ) (choices limit : ℕ) (kinds operands old new : List ℕ) (n : ℕ) : Type 0 where
   pub tree : n ≡ 0 → (t : Tree Piece) × StagedPlanOf (job-with s choices) limit t kinds operands × (new ≡ over (staged-values (tree-report (job-with s choices) t) (stages t)) old) × Reports (job-with s choices) t (tree-report (job-with s choices) t)
   pub paths-most : (t : Tree Piece) → stages t ≡ greatest path-stages (paths t)
   pub passes : 70 ≤ length old → unknown choices ≡ false → LimitPasses s (choices-of choices) limit → (t : Tree Piece) → StagedPlanOf (job-with s choices) limit t kinds operands → n ≡ 0
   pub past : 70 ≤ length old → unknown choices ≡ false → LimitPasses s (choices-of choices) limit → (t : Tree Piece) → PlanOf (job-with s choices) t kinds operands
       → (k : ℕ) → first-refusal (path-checks limit t) ≡ Refused (ManyStages k) → (n ≡ 23) × (new ≡ over (k ∷ []) old)
+  pub old-table : ((t : Tree Piece) → DrawnAs (job-with s choices) t kinds operands → IdleFree t)
+      → Says 70 choices (staged-check-outcome (staged-before-idle s (choices-of choices) limit kinds operands)) old new n
 
 -- what the staged bound call leaves in lent memory
 abbrev pub StagedBoundLeaves : List ℕ → Choices → List ℕ → ℕ → Memory → Memory → Type 0

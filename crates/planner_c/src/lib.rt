@@ -15,7 +15,7 @@ mod two;
 mod whole_orders;
 
 ghost use mathlib.Core.Path.{_≡_};
-ghost use Rattle.plan.specs.Calls.{arrays-said, block-said, plan-kinds, plan-operands, JobPasses, BlockPasses};
+ghost use Rattle.plan.specs.Calls.{arrays-before-idle, block-before-idle, plan-outcome, arrays-said, block-said, plan-kinds, plan-operands, JobPasses, BlockPasses};
 ghost use Rattle.neat.specs.Neat.{neat-said, NeatJudged};
 ghost use Rattle.planner_c.specs.Exports.{choices-of, job-with, returned, answered, Left, NeatLeft, NeatGiven, TreeChecked};
 
@@ -31,7 +31,8 @@ pub extern "C" fn planner_check_plan(
 ) -> u32
     ensures number { λ n. ⌜ n ≡ returned 69 (now (answer .entry)) choices (arrays-said (now (block .entry)) (choices-of choices) (now (kinds .entry)) (now (operands .entry))) ⌝ }
     ensures words { λ _. ⌜ now (answer .exit) ≡ answered 69 (now (answer .entry)) choices (arrays-said (now (block .entry)) (choices-of choices) (now (kinds .entry)) (now (operands .entry))) ⌝ }
-    ensures trees { λ n. ⌜ TreeChecked (JobPasses (now (block .entry)) (choices-of choices)) (now (block .entry)) choices (now (kinds .entry)) (now (operands .entry)) (now (answer .entry)) (now (answer .exit)) n ⌝ }
+    ensures trees { λ n. ⌜ TreeChecked (JobPasses (now (block .entry)) (choices-of choices)) (now (block .entry)) choices (now (kinds .entry)) (now (operands .entry))
+        (plan-outcome (arrays-before-idle (now (block .entry)) (choices-of choices) (now (kinds .entry)) (now (operands .entry)))) (now (answer .entry)) (now (answer .exit)) n ⌝ }
 {
     let stop = choices::early(answer.len(), 69, choices);
     if 0 < stop {
@@ -52,7 +53,8 @@ pub extern "C" fn planner_check_plan_block(
 ) -> u32
     ensures number { λ n. ⌜ n ≡ returned 69 (now (answer .entry)) choices (block-said (now (block .entry)) (choices-of choices) (now (plan .entry))) ⌝ }
     ensures words { λ _. ⌜ now (answer .exit) ≡ answered 69 (now (answer .entry)) choices (block-said (now (block .entry)) (choices-of choices) (now (plan .entry))) ⌝ }
-    ensures trees { λ n. ⌜ TreeChecked (JobPasses (now (block .entry)) (choices-of choices) × BlockPasses (now (plan .entry))) (now (block .entry)) choices (plan-kinds (now (plan .entry))) (plan-operands (now (plan .entry))) (now (answer .entry)) (now (answer .exit)) n ⌝ }
+    ensures trees { λ n. ⌜ TreeChecked (JobPasses (now (block .entry)) (choices-of choices) × BlockPasses (now (plan .entry))) (now (block .entry)) choices (plan-kinds (now (plan .entry))) (plan-operands (now (plan .entry)))
+        (plan-outcome (block-before-idle (now (block .entry)) (choices-of choices) (now (plan .entry)))) (now (answer .entry)) (now (answer .exit)) n ⌝ }
 {
     let stop = choices::early(answer.len(), 69, choices);
     if 0 < stop {

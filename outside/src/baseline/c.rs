@@ -1,7 +1,8 @@
 // The C baseline of the folder bench/, on slices.
 // It trusts its caller, so every call is unsafe.
 use crate::answers::{
-    Bound, BoundTwo, Exact, Found, PlanArrays, Storage, Words, Written, FOUND_WORDS,
+    Bound, BoundTwo, Exact, Found, Lagrangian, PlanArrays, PlatesNeeded, Storage, Words, Written,
+    FOUND_WORDS,
 };
 
 extern "C" {
@@ -37,6 +38,18 @@ extern "C" {
         answer: *mut u64,
     );
 
+    fn baseline_plates_needed(
+        job: *const u8, choices: u32, weights: *const u8, other: u64,
+        lengths: *mut u16, widths: *mut u16, table: *mut u64,
+        answer: *mut u64,
+    );
+
+    fn baseline_bound_lagrangian(
+        job: *const u8, choices: u32, weights: *const u8, multipliers: *const u32,
+        lengths: *mut u16, widths: *mut u16, table: *mut u64,
+        answer: *mut u64,
+    );
+
     fn baseline_find_weights(
         job: *const u8, choices: u32, lower: u64,
         lengths: *mut u16, widths: *mut u16, table: *mut u64, words: usize,
@@ -55,6 +68,42 @@ pub unsafe fn bound(job: &[u8], choices: u32, weights: &[u8], storage: Storage) 
         answer.as_mut_ptr(),
     );
     Bound::from_words(answer)
+}
+
+/// # Safety
+/// As for `bound`.
+pub unsafe fn plates_needed(
+    job: &[u8],
+    choices: u32,
+    weights: &[u8],
+    other: u64,
+    storage: Storage,
+) -> PlatesNeeded {
+    let mut answer = [0; 3];
+    baseline_plates_needed(
+        job.as_ptr(), choices, weights.as_ptr(), other,
+        storage.lengths.as_mut_ptr(), storage.widths.as_mut_ptr(), storage.table.as_mut_ptr(),
+        answer.as_mut_ptr(),
+    );
+    PlatesNeeded::from_words(answer)
+}
+
+/// # Safety
+/// As for `bound`, with a multiplier that is accepted for each kind.
+pub unsafe fn bound_lagrangian(
+    job: &[u8],
+    choices: u32,
+    weights: &[u8],
+    multipliers: &[u32],
+    storage: Storage,
+) -> Lagrangian {
+    let mut answer = [0; 5];
+    baseline_bound_lagrangian(
+        job.as_ptr(), choices, weights.as_ptr(), multipliers.as_ptr(),
+        storage.lengths.as_mut_ptr(), storage.widths.as_mut_ptr(), storage.table.as_mut_ptr(),
+        answer.as_mut_ptr(),
+    );
+    Lagrangian::from_words(answer)
 }
 
 /// # Safety

@@ -1,7 +1,9 @@
 // The checks, neat plans and certificates of the C baseline, on slices: they refuse as planner.h says, and
 // answer its words.
 // Plan arrays are of one length; the job block is the new one.
-use crate::answers::{PlanArrays, Rack, Storage, REPORT_WORDS, SAW_WORDS, STAGED_REPORT_WORDS};
+use crate::answers::{
+    PlanArrays, Rack, Storage, TruePlanArrays, REPORT_WORDS, SAW_WORDS, STAGED_REPORT_WORDS,
+};
 
 extern "C" {
     fn baseline_check_plan(
@@ -45,6 +47,18 @@ extern "C" {
         job: *const u8, bytes: usize, choices: u32,
         kinds: *const u8, operands: *const u16, nodes: usize,
         neat_kinds: *mut u8, neat_operands: *mut u16, room: usize,
+        answer: *mut u64,
+    ) -> u32;
+
+    fn baseline_check_model(
+        job: *const u8, bytes: usize, choices: u32, sizes: *const u8,
+        answer: *mut u64,
+    ) -> u32;
+
+    fn baseline_true_plan(
+        job: *const u8, bytes: usize, choices: u32, sizes: *const u8,
+        kinds: *const u8, operands: *const u16, nodes: usize,
+        true_kinds: *mut u8, positions: *mut u32,
         answer: *mut u64,
     ) -> u32;
 
@@ -178,6 +192,34 @@ pub fn neat_plan(
             answer.as_mut_ptr(),
         )
     }
+}
+
+/// # Safety
+/// The planner accepts the sizes for the job.
+pub unsafe fn check_model(job: &[u8], choices: u32, sizes: &[u8], answer: &mut [u64]) -> u32 {
+    assert!(!answer.is_empty());
+    baseline_check_model(job.as_ptr(), job.len(), choices, sizes.as_ptr(), answer.as_mut_ptr())
+}
+
+/// # Safety
+/// The planner accepts the sizes for the job, and the plan, where it passes, fits the true plate and the
+/// arrays.
+pub unsafe fn true_plan(
+    job: &[u8],
+    choices: u32,
+    sizes: &[u8],
+    kinds: &[u8],
+    operands: &[u16],
+    plan: TruePlanArrays,
+    answer: &mut [u64],
+) -> u32 {
+    let nodes = nodes(kinds, operands, answer, 3);
+    baseline_true_plan(
+        job.as_ptr(), job.len(), choices, sizes.as_ptr(),
+        kinds.as_ptr(), operands.as_ptr(), nodes,
+        plan.kinds.as_mut_ptr(), plan.operands.as_mut_ptr(),
+        answer.as_mut_ptr(),
+    )
 }
 
 /// # Safety

@@ -1,13 +1,16 @@
-// The job block, new and old: refusals 1 to 7 and 27; the pieces as they may lie; what a cut leaves.
-// Header, then all sizes, then the pairs of price and demand.
+// The job block, new and old: refusals 1 to 7, 27 and 35; the pieces as they may lie; what a cut leaves.
+// Header, then all sizes, then the pairs of price and demand, then the grain where the choices have it.
 use super::refuse_if;
-use crate::answers::{Refusal, FULL_DEMAND, OLD_BLOCK, TURNING};
+use crate::answers::{Refusal, FULL_DEMAND, GRAIN, OLD_BLOCK, TURNING};
 
+#[derive(Clone, Copy)]
 pub struct Kind {
     pub length: usize,
     pub width: usize,
     pub price: u64,
     pub demand: u64,
+    /// Whether it keeps its grain.
+    pub grain: bool,
 }
 
 /// A piece as it lies: of which kind, and its sides, exchanged where it is turned.
@@ -18,6 +21,7 @@ pub struct Piece {
     pub width: usize,
 }
 
+#[derive(Clone)]
 pub struct Job {
     pub length: usize,
     pub width: usize,
@@ -40,11 +44,18 @@ impl Job {
         Piece { kind, turned, length, width }
     }
 
+    /// Whether pieces of a kind may be turned.
+    pub fn turns(&self, kind: usize) -> bool {
+        self.turning && !self.kinds[kind].grain
+    }
+
     /// Every kind that is ordered as it may lie, upright before turned. A kind of demand 0 is cancelled.
     pub fn pieces(&self) -> impl Iterator<Item = Piece> + '_ {
-        let ways: &[bool] = if self.turning { &[false, true] } else { &[false] };
         let kinds = (0..self.kinds.len()).filter(|&i| self.kinds[i].demand > 0);
-        kinds.flat_map(move |i| ways.iter().map(move |&turned| self.piece(i, turned)))
+        kinds.flat_map(move |i| {
+            let ways: &[bool] = if self.turns(i) { &[false, true] } else { &[false] };
+            ways.iter().map(move |&turned| self.piece(i, turned))
+        })
     }
 
     /// The second part of a cut at a position; none where a part would be below 1. The blade takes
@@ -68,8 +79,9 @@ impl Job {
         refuse_if(is_no_side(length) || is_no_side(width), 2, 0)?;
         refuse_if(!(1..=64).contains(&n), 3, 0)?;
         refuse_if(kerf > 20, 27, 0)?;
-        refuse_if(block.len() != header + 10 * n, 4, 0)?;
-        let (sizes, pairs) = block[header..].split_at(4 * n);
+        refuse_if(block.len() != header + if chosen(GRAIN) { 11 } else { 10 } * n, 4, 0)?;
+        let (sizes, rest) = block[header..].split_at(4 * n);
+        let (pairs, grains) = rest.split_at(6 * n);
         for (i, size) in sizes.chunks(4).enumerate() {
             refuse_if(is_no_side(two(size, 0)) || is_no_side(two(size, 2)), 5, i)?;
         }
@@ -77,18 +89,24 @@ impl Job {
             refuse_if(four(pair, 0) > 1_000_000, 6, i)?;
             refuse_if(two(pair, 4) > 255, 7, i)?;
         }
-        let kinds = sizes.chunks(4).zip(pairs.chunks(6)).map(kind).collect();
+        for (i, &grain) in grains.iter().enumerate() {
+            refuse_if(grain > 1, 35, i)?;
+        }
+        let kept = |i: usize| grains.get(i) == Some(&1);
+        let kinds = sizes.chunks(4).zip(pairs.chunks(6)).enumerate();
+        let kinds = kinds.map(|(i, (size, pair))| kind(size, pair, kept(i))).collect();
         let (turning, full_demand) = (chosen(TURNING), chosen(FULL_DEMAND));
         Ok(Job { length, width, kerf, kinds, turning, full_demand })
     }
 }
 
-fn kind((size, pair): (&[u8], &[u8])) -> Kind {
+fn kind(size: &[u8], pair: &[u8], grain: bool) -> Kind {
     Kind {
         length: two(size, 0),
         width: two(size, 2),
         price: four(pair, 0) as u64,
         demand: two(pair, 4) as u64,
+        grain,
     }
 }
 
@@ -100,6 +118,6 @@ fn two(bytes: &[u8], at: usize) -> usize {
     u16::from_le_bytes([bytes[at], bytes[at + 1]]) as usize
 }
 
-fn four(bytes: &[u8], at: usize) -> usize {
+pub fn four(bytes: &[u8], at: usize) -> usize {
     two(bytes, at) + (two(bytes, at + 2) << 16)
 }

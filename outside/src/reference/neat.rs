@@ -2,7 +2,7 @@
 use super::job::Job;
 use super::plan::check;
 use super::refuse_if;
-use crate::answers::{Neat, PlanArrays, Refusal};
+use crate::answers::{Neat, PlanArrays, PlanArraysOf, Refusal};
 
 /// A plan as a tree: a cut has its kind, its position and its two parts.
 enum Tree {
@@ -27,17 +27,38 @@ pub fn neat_plan(
 ) -> Result<Neat, Refusal> {
     let job = Job::read(job, choices)?;
     check(&job, kinds, operands)?;
+    let nodes = tidied(&job, kinds, operands).write(plan)?;
+    Ok(Neat { nodes })
+}
+
+/// A neat plan, listed, and its used length and width.
+pub struct Tidied {
+    nodes: Vec<(u8, usize)>,
+    pub length: usize,
+    pub width: usize,
+}
+
+/// The neat plan of a plan that passes its check, at the sizes of this job.
+pub fn tidied(job: &Job, kinds: &[u8], operands: &[u16]) -> Tidied {
     let mut nodes = kinds.iter().copied().zip(operands.iter().copied());
-    let tidied = neat(&job, read(&mut nodes)).map_or(Tree::Waste, |used| used.tree);
-    let mut listed = Vec::new();
-    list(&tidied, &mut listed);
-    let count = listed.len();
-    refuse_if(count > plan.kinds.len().min(plan.operands.len()), 21, count)?;
-    for (i, (kind, operand)) in listed.into_iter().enumerate() {
-        plan.kinds[i] = kind;
-        plan.operands[i] = operand;
+    let none = Used { tree: Tree::Waste, length: 0, width: 0 };
+    let Used { tree, length, width } = neat(job, read(&mut nodes)).unwrap_or(none);
+    let mut nodes = Vec::new();
+    list(&tree, &mut nodes);
+    Tidied { nodes, length, width }
+}
+
+impl Tidied {
+    /// Writes the nodes and counts them: refusal 21.
+    pub fn write<P: TryFrom<usize>>(self, plan: PlanArraysOf<P>) -> Result<u64, Refusal> {
+        let count = self.nodes.len();
+        refuse_if(count > plan.kinds.len().min(plan.operands.len()), 21, count)?;
+        for (i, (kind, operand)) in self.nodes.into_iter().enumerate() {
+            plan.kinds[i] = kind;
+            plan.operands[i] = P::try_from(operand).ok().expect("a position on the plate");
+        }
+        Ok(count as u64)
     }
-    Ok(Neat { nodes: count as u64 })
 }
 
 fn read(nodes: &mut impl Iterator<Item = (u8, u16)>) -> Tree {
@@ -78,12 +99,12 @@ fn join(job: &Job, kind: u8, first: Used, second: Used) -> Used {
     Used { tree: Tree::Cut { kind, position, parts }, length, width }
 }
 
-fn list(tree: &Tree, nodes: &mut Vec<(u8, u16)>) {
+fn list(tree: &Tree, nodes: &mut Vec<(u8, usize)>) {
     match tree {
         Tree::Waste => nodes.push((0, 0)),
-        Tree::Piece { kind, number } => nodes.push((*kind, *number)),
+        Tree::Piece { kind, number } => nodes.push((*kind, (*number).into())),
         Tree::Cut { kind, position, parts } => {
-            nodes.push((*kind, *position as u16));
+            nodes.push((*kind, *position));
             parts.iter().for_each(|part| list(part, nodes));
         }
     }

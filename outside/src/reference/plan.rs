@@ -1,4 +1,4 @@
-// The plan check: refusals 10 to 18 and 26, and the report, whose four areas make up the plate.
+// The plan check: refusals 10 to 18, 26 and 36, and the report, whose four areas make up the plate.
 // Rectangles that wait for their node are kept in a list, the next one last.
 use super::job::{Job, Piece};
 use super::refuse_if;
@@ -44,7 +44,7 @@ pub fn check_arrays(kinds: &[u8], operands: &[u16]) -> Result<(), Refusal> {
     refuse_if(kinds.is_empty() || kinds.len() > 4095, 11, 0)
 }
 
-/// Refusals 12 to 17 of the tree that starts at a node; its report, and where it ends.
+/// Refusals 12 to 17 and 36 of the tree that starts at a node; its report, and where it ends.
 pub fn check_tree(
     job: &Job,
     kinds: &[u8],
@@ -113,7 +113,9 @@ impl Walk<'_> {
             self.report.waste += (length * width) as u64;
         } else if kind == PIECE || kind == TURNED_PIECE {
             refuse_if(operand >= self.job.kinds.len(), 13, at)?;
-            self.piece(at, self.job.piece(operand, kind == TURNED_PIECE), length, width)?;
+            let turned = kind == TURNED_PIECE;
+            refuse_if(turned && !self.job.turns(operand), 36, at)?;
+            self.piece(at, self.job.piece(operand, turned), length, width)?;
         } else if kind == CUT_LENGTH {
             let second = self.cut(at, length, operand, width)?;
             self.waiting.extend([(second, width), (operand, width)]);

@@ -15,8 +15,30 @@ pub fn saw_check(
     Ok(SawReport { pieces, waste, trim, copies, sawdust })
 }
 
+/// The part of a node in the kinds.
+pub fn saw_kinds(
+    job: &[u8],
+    choices: u32,
+    kinds: &[u8],
+    operands: &[u16],
+    node: u64,
+) -> Result<Part, Refusal> {
+    Ok(saw_part(job, choices, (kinds, operands), kinds.len(), node))
+}
+
+/// The part of a node in the operands.
+pub fn saw_operands(
+    job: &[u8],
+    choices: u32,
+    kinds: &[u8],
+    operands: &[u16],
+    node: u64,
+) -> Result<Part, Refusal> {
+    Ok(saw_part(job, choices, (kinds, operands), operands.len(), node))
+}
+
 /// The part of a node in one of the plan's arrays, which has so many entries.
-pub fn saw_part(
+fn saw_part(
     job: &[u8],
     choices: u32,
     (kinds, operands): (&[u8], &[u16]),

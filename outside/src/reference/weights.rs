@@ -37,14 +37,14 @@ fn counted(job: &Job, kind: usize) -> u64 {
     }
 }
 
-/// The copies of a kind that can lie on one plate: upright ones in rows and columns; where pieces
+/// The copies of a kind that can lie on one plate: upright ones in rows and columns; where its pieces
 /// may be turned, what the areas allow, or none if it fits neither way.
 fn held(job: &Job, kind: usize) -> usize {
     let upright = job.piece(kind, false);
     let sides = [job.length, job.width, upright.length, upright.width];
     let [plate_length, plate_width, length, width] = sides.map(|side| side + job.kerf);
     let fits = |turned| job.piece(kind, turned).fits(job.length, job.width);
-    if !job.turning {
+    if !job.turns(kind) {
         (plate_length / length) * (plate_width / width)
     } else if fits(false) || fits(true) {
         (plate_length * plate_width) / (length * width)

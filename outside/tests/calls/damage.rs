@@ -1,7 +1,7 @@
 // Damage to inputs: bytes cut off, added and changed, fields set to the edges of their ranges.
 // A damaged input may still be accepted; the reference says what must come of it.
 use crate::run::Input;
-use outside::answers::OLD_BLOCK;
+use outside::answers::{GRAIN, OLD_BLOCK};
 use outside::blocks::plan_block;
 use outside::random::Random;
 
@@ -37,14 +37,16 @@ fn header(input: &Input) -> usize {
 }
 
 fn damage_job(random: &mut Random, input: &mut Input) {
-    let header = header(input);
+    let (header, n) = (header(input), input.weights.len());
     let job = &mut input.job;
-    let n = (job.len() - header) / 10;
     match random.from(0, 4) {
         0 => damage_bytes(random, job),
         1 => set_field(random, job, 0, header / 2),
         2 => set_field(random, job, header, 2 * n),
-        _ => damage_pair(random, &mut job[header + 4 * n..]),
+        3 if input.choices & GRAIN != 0 => {
+            job[header + 10 * n + random.from(0, n - 1)] = random.pick(&[2, 255]);
+        }
+        _ => damage_pair(random, &mut job[header + 4 * n..][..6 * n]),
     }
 }
 
@@ -114,13 +116,41 @@ pub fn damage_second(random: &mut Random, input: &mut Input) {
 /// too many pairs of shares, where the plate holds 16 of it. An odd block is left as it is.
 fn overload_pairs(input: &mut Input) {
     let (n, header) = (input.second.len(), header(input));
-    if input.job.len() == header + 10 * n && input.weights.len() == n {
+    let bytes = header + if input.choices & GRAIN == 0 { 10 } else { 11 } * n;
+    if input.job.len() == bytes && input.weights.len() == n {
         let (sizes, pairs) = input.job[header..].split_at_mut(4 * n);
         sizes[4 * n - 4..].copy_from_slice(&[1, 0, 1, 0]);
-        pairs[6 * n - 2..].copy_from_slice(&[16, 0]);
+        pairs[6 * n - 2..][..2].copy_from_slice(&[16, 0]);
         input.weights[n - 1] = 1;
         input.second.fill(0);
         input.second[n - 1] = 255;
+    }
+}
+
+const SIZE_EDGES: [u32; 7] = [0, 1, 1_000_000, 1_000_001, 100_000_000, 100_000_001, u32::MAX];
+
+/// Now and then the sizes block is cut off, longer or odd, or a size is at an edge.
+pub fn damage_sizes(random: &mut Random, input: &mut Input) {
+    match random.from(0, 31) {
+        0 | 1 => damage_bytes(random, &mut input.sizes),
+        2..=4 => {
+            let at = 4 * random.from(0, input.sizes.len() / 4 - 1);
+            input.sizes[at..at + 4].copy_from_slice(&random.pick(&SIZE_EDGES).to_le_bytes());
+        }
+        _ => {}
+    }
+}
+
+/// Now and then there are too few or too many multipliers, or one is too great.
+pub fn damage_multipliers(random: &mut Random, input: &mut Input) {
+    let multipliers = &mut input.multipliers;
+    let last = multipliers.len() - 1;
+    match random.from(0, 31) {
+        0 => multipliers.truncate(last),
+        1 => multipliers.push(0),
+        2 | 3 => multipliers[random.from(0, last)] = random.pick(&[1_000_001, 1 << 24, u32::MAX]),
+        4 => multipliers.fill(1_000_000),
+        _ => {}
     }
 }
 

@@ -304,9 +304,19 @@ fn is_filled(input: &Input, capacity: usize) -> (usize, usize) {
     let Input { job, choices, weights, .. } = input;
     let written = baseline::rust::write_plan(job, *choices, weights, storage, plan).to_words();
     assert_eq!(written[1..4], [capacity, p, r].map(|number| number as u64));
-    let certificate = [written[0], written[0], 0];
-    let calls =
-        [(Call::Bound, &written[..4]), (Call::WritePlan, &written), (Call::Certify, &certificate)];
+    let bound = written[0];
+    let certificate = [bound, bound, 0];
+    let read = Job::read(job, *choices).expect("a job");
+    let worth: u64 = read.kinds.iter().map(|kind| kind.demand * kind.price).sum();
+    let plates = [worth.div_ceil(bound), bound, worth];
+    let lagrangian = [&[bound], &written[..4]].concat();
+    let calls = [
+        (Call::Bound, &written[..4]),
+        (Call::WritePlan, &written),
+        (Call::Certify, &certificate),
+        (Call::PlatesNeeded, &plates),
+        (Call::BoundLagrangian, &lagrangian),
+    ];
     for (call, answer) in calls {
         let (code, lent) = on_small_stack(call, input, sizes);
         assert_eq!((code, &lent.answer.words()[..answer.len()]), (0, answer));

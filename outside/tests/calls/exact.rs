@@ -76,7 +76,7 @@ impl Amounts {
         (0..kinds).map(|kind| self.number(&one(kind))).collect()
     }
 
-    fn digits(&self, mut state: usize) -> Vec<usize> {
+    pub fn digits(&self, mut state: usize) -> Vec<usize> {
         let mut next = |radix: &usize| {
             let digit = state % radix;
             state /= radix;

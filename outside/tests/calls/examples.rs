@@ -9,13 +9,27 @@ use outside::blocks::{job_block, job_s, plan_block};
 /// A node: kind and operand.
 pub type Node = (u8, u16);
 
-/// An input without a choice and without second weights, within the greatest limit.
+/// An input without a choice and without second weights, within the greatest limit, at the job's own sizes
+/// and with multipliers of 0.
 pub fn input(job: Vec<u8>, weights: &[u8], nodes: &[Node]) -> Input {
     let kinds: Vec<u8> = nodes.iter().map(|node| node.0).collect();
     let operands: Vec<u16> = nodes.iter().map(|node| node.1).collect();
     let plan = plan_block(&kinds, &operands);
-    let second = vec![0; weights.len()];
-    Input { job, choices: 0, weights: weights.to_vec(), second, limit: 8, kinds, operands, plan }
+    let (second, multipliers) = (vec![0; weights.len()], vec![0; weights.len()]);
+    let (sizes, weights) = (own_sizes(&job), weights.to_vec());
+    let given = Input { job, weights, second, limit: 8, kinds, operands, plan, ..Input::default() };
+    Input { sizes, multipliers, ..given }
+}
+
+/// The sizes of a job block, new or old, as true sizes; something for a block cut short.
+fn own_sizes(job: &[u8]) -> Vec<u8> {
+    let field = |at: usize| job.get(at..at + 2).map_or(1, |two| u16::from_le_bytes([two[0], two[1]]));
+    let n = usize::from(field(4)).min(64);
+    let header = if job.len() == 6 + 10 * n { 6 } else { 8 };
+    let kerf = if header == 6 { 0 } else { field(6) };
+    let sides = (0..2 * n).map(|i| field(header + 2 * i));
+    let sizes = [field(0), field(2), kerf].into_iter().chain(sides);
+    sizes.flat_map(|size| u32::from(size).to_le_bytes()).collect()
 }
 
 /// Expects each implementation to answer these words.

@@ -18,16 +18,14 @@ pub fn finer(job: &Job, m: usize) -> Job {
     let kind = |kind: &reference::Kind| reference::Kind {
         length: m * kind.length,
         width: m * kind.width,
-        price: kind.price,
-        demand: kind.demand,
+        ..*kind
     };
     Job {
         length: m * job.length,
         width: m * job.width,
         kerf: m * job.kerf,
         kinds: job.kinds.iter().map(kind).collect(),
-        turning: job.turning,
-        full_demand: job.full_demand,
+        ..*job
     }
 }
 

@@ -93,13 +93,20 @@ fn lessened(input: &Input) -> Input {
 
 /// The default form is the full demand of the lessened job, in every answer and word of lent
 /// memory; and the lessened job has one answer in both forms. The exact answer has no capacity: its
-/// states count every copy ordered; and the rounds read how far copies lie from what is ordered.
+/// states count every copy ordered; the rounds read how far copies lie from what is ordered; and models,
+/// whole orders and multipliers read every copy ordered.
 #[test]
 fn demands_that_the_plate_holds_answer_alike_in_both_forms() {
     for input in generated(43, 1000, SMALL) {
         let lessened = lessened(&input);
-        let counts_orders = |call: &Call| matches!(call, Call::Exact | Call::FindWeights);
-        for call in ALL_CALLS.into_iter().filter(|call| !counts_orders(call)) {
+        let counts_orders = [
+            Call::Exact,
+            Call::FindWeights,
+            Call::CheckModel,
+            Call::PlatesNeeded,
+            Call::BoundLagrangian,
+        ];
+        for call in ALL_CALLS.into_iter().filter(|call| !counts_orders.contains(call)) {
             let run = |input: &Input| compare(call, input, SMALL_ROOM);
             let (code, lent) = run(&input);
             for alike in forms(&lessened).each_ref().map(run) {

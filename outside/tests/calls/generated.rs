@@ -1,12 +1,12 @@
 // Every call on many thousands of generated inputs, valid and damaged, with storage that is ample,
 // exact or short: code, answer and all lent memory must be the reference's.
-use crate::damage::{damage, damage_second};
+use crate::damage::{damage, damage_multipliers, damage_second, damage_sizes};
 use crate::inputs::{draw, short_order, Scale, SMALL};
 use crate::lent::{Lent, Sizes};
 use crate::run::{compare, Call, Input, ALL_CALLS, ALL_CHOICES, STAGED_CALLS};
-use outside::answers::{OLD_BLOCK, STAGED_REPORT_WORDS};
+use outside::answers::{GRAIN, OLD_BLOCK, STAGED_REPORT_WORDS, TURNING};
 use outside::random::Random;
-use outside::reference::{capacities, capacity, normal_positions, Copies, Job};
+use outside::reference::{capacities, capacity, normal_positions, true_job, Copies, Job, Kind};
 use std::collections::BTreeMap;
 
 /// How often each call gave each code, and how many certificates of a plan that earns something were
@@ -56,16 +56,37 @@ const LONG: Scale = Scale {
 
 #[test]
 fn small_inputs_agree() {
-    for (choices, tally) in agree(1, 12_000, Scale { work: 300_000, ..SMALL }) {
-        for call in ALL_CALLS {
-            let seen = |code: &u32| tally.codes.get(&(call, *code)).copied().unwrap_or(0);
-            let has_kerf = choices & OLD_BLOCK == 0;
-            for code in codes(call).into_iter().filter(|code| has_kerf || *code != 27) {
-                assert!(seen(&code) >= 20, "{call:?} gave {code} only {} times", seen(&code));
-            }
-        }
-        assert!(tally.best >= 100 && tally.gaps >= 100, "{} best, {} gaps", tally.best, tally.gaps);
+    agree(1, 12_000, SMALL_WORK).iter().for_each(|tally| every_code_is_met(tally, 20));
+}
+
+/// The same with grain, on fewer inputs.
+#[test]
+fn small_inputs_with_grain_agree() {
+    let random = &mut Random::new(6);
+    for turning in [TURNING, TURNING | OLD_BLOCK, 0] {
+        let choices = turning | GRAIN;
+        every_code_is_met(&(choices, agree_with(random, 8_000, SMALL_WORK, choices)), 10);
     }
+}
+
+const SMALL_WORK: Scale = Scale { work: 300_000, ..SMALL };
+
+/// Expects each call to have given each code that it can give under the choices so many times.
+fn every_code_is_met((choices, tally): &(u32, Tally), times: usize) {
+    let chosen = |bit| choices & bit != 0;
+    let possible = |code: &u32| match code {
+        27 => !chosen(OLD_BLOCK),
+        35 => chosen(GRAIN),
+        36 => chosen(GRAIN) && chosen(TURNING),
+        _ => true,
+    };
+    for call in ALL_CALLS {
+        let seen = |code: &u32| tally.codes.get(&(call, *code)).copied().unwrap_or(0);
+        for code in codes(call).into_iter().filter(possible) {
+            assert!(seen(&code) >= times, "{call:?} gave {code} only {} times", seen(&code));
+        }
+    }
+    assert!(tally.best >= 100 && tally.gaps >= 100, "{} best, {} gaps", tally.best, tally.gaps);
 }
 
 #[test]
@@ -91,21 +112,25 @@ fn large_capacities_agree() {
 /// The codes that a call can give.
 fn codes(call: Call) -> Vec<u32> {
     let others: &[u32] = match call {
-        Call::CheckPlan | Call::CheckPlanBlock => &[10, 11, 12, 13, 14, 15, 16, 17, 18, 26],
+        Call::CheckPlan | Call::CheckPlanBlock => &[10, 11, 12, 13, 14, 15, 16, 17, 18, 26, 36],
+        Call::CheckModel => &[31, 32, 33],
+        Call::TruePlan => &[31, 32, 10, 11, 12, 13, 14, 15, 16, 17, 18, 26, 36, 34, 21],
+        Call::PlatesNeeded => &[8, 9, 19, 20],
+        Call::BoundLagrangian => &[8, 9, 37, 38, 19, 20],
         Call::Bound => &[8, 9, 19, 20],
         Call::WritePlan => &[8, 9, 19, 20, 21],
-        Call::NeatPlan => &[10, 11, 12, 13, 14, 15, 16, 17, 18, 21, 26],
-        Call::Certify => &[8, 9, 10, 11, 12, 13, 14, 15, 16, 17, 18, 19, 20, 26],
+        Call::NeatPlan => &[10, 11, 12, 13, 14, 15, 16, 17, 18, 21, 26, 36],
+        Call::Certify => &[8, 9, 10, 11, 12, 13, 14, 15, 16, 17, 18, 19, 20, 26, 36],
         Call::BoundTwo => &[8, 9, 19, 20, 24, 25],
         Call::Exact => &[19, 20, 21, 30],
-        Call::FindWeights => &[10, 11, 12, 13, 14, 15, 16, 17, 18, 19, 20, 21, 26],
-        Call::CheckPlanStaged => &[10, 11, 12, 13, 14, 15, 16, 17, 18, 22, 23, 26],
+        Call::FindWeights => &[10, 11, 12, 13, 14, 15, 16, 17, 18, 19, 20, 21, 26, 36],
+        Call::CheckPlanStaged => &[10, 11, 12, 13, 14, 15, 16, 17, 18, 22, 23, 26, 36],
         Call::BoundStaged => &[8, 9, 19, 20, 22],
         Call::CertifyStaged => {
-            &[8, 9, 10, 11, 12, 13, 14, 15, 16, 17, 18, 19, 20, 22, 23, 26]
+            &[8, 9, 10, 11, 12, 13, 14, 15, 16, 17, 18, 19, 20, 22, 23, 26, 36]
         }
     };
-    (0..=7).chain(others.iter().copied()).chain([27, 100, 101]).collect()
+    (0..=7).chain(others.iter().copied()).chain([27, 35, 100, 101]).collect()
 }
 
 /// Compares every call on so many inputs for each word of choices, with the new block and the old.
@@ -122,6 +147,9 @@ fn agree_with(random: &mut Random, inputs: usize, scale: Scale, choices: u32) ->
         let input = draw_affordable(random, scale, choices);
         let order = short_order(random, &input, scale.work.min(1_000_000));
         for call in ALL_CALLS {
+            if call == Call::CheckModel && !few_chains(&input) {
+                continue;
+            }
             let input = if call == Call::Exact { &order } else { &input };
             let sizes = draw_sizes(random, call, input, scale.work);
             let (code, lent) = tally.compare(call, input, sizes);
@@ -133,22 +161,41 @@ fn agree_with(random: &mut Random, inputs: usize, scale: Scale, choices: u32) ->
                 (Call::NeatPlan, 0) => {
                     neat_plan_agrees(random, &input.with_neat_plan(&lent), sizes, &mut tally);
                 }
+                (Call::TruePlan, 0) => {
+                    let nodes = lent.answer.words()[0] as usize;
+                    tally.compare(call, input, short_of(random, nodes, sizes));
+                }
                 _ => {}
             }
         }
     }
     let (all, done) = tally.compared();
     println!("choices {choices}: {inputs} inputs, {all} calls compared, {done} of them done");
-    assert!(all >= ALL_CALLS.len() * inputs && 3 * done >= all);
+    assert!(all >= (ALL_CALLS.len() - 1) * inputs && 3 * done >= all);
     tally
 }
 
 /// The neat plan again, into arrays that just hold it or do not.
 fn neat_plan_agrees(random: &mut Random, neat: &Input, sizes: Sizes, tally: &mut Tally) {
-    let nodes = neat.kinds.len();
+    tally.compare(Call::NeatPlan, neat, short_of(random, neat.kinds.len(), sizes));
+}
+
+/// Arrays that just hold so many nodes or do not.
+fn short_of(random: &mut Random, nodes: usize, sizes: Sizes) -> Sizes {
     let short = random.pick(&[(0, 0), (1, 0), (0, 1)]);
-    let tight = Sizes { kinds: nodes - short.0, operands: nodes - short.1, ..sizes };
-    tally.compare(Call::NeatPlan, neat, tight);
+    Sizes { kinds: nodes - short.0, operands: nodes - short.1, ..sizes }
+}
+
+/// Whether the reference can list every chain of pieces at the true sizes in a short time.
+fn few_chains(input: &Input) -> bool {
+    let Ok(model) = Job::read(&input.job, input.choices) else { return true };
+    let Ok(job) = true_job(&model, &input.sizes) else { return true };
+    let room = |job: &Job| job.length.max(job.width) + job.kerf;
+    let copies = |kind: &Kind| {
+        let side = kind.length.min(kind.width) + job.kerf;
+        (room(&job) / side).min(kind.demand as usize)
+    };
+    room(&job) * room(&model) * job.kinds.iter().map(copies).sum::<usize>() <= 20_000
 }
 
 /// The written plan again, into arrays that just hold it or do not; and as input of the checks.
@@ -181,6 +228,8 @@ fn draw_affordable(random: &mut Random, scale: Scale, choices: u32) -> Input {
         draw_second(random, scale, &mut input);
         damage(random, &mut input);
         damage_second(random, &mut input);
+        damage_sizes(random, &mut input);
+        damage_multipliers(random, &mut input);
         if work(&input) <= scale.work {
             return input;
         }

@@ -2,8 +2,8 @@
 // Sides are small against the plate, prices few, so that ties and full plates are common.
 use crate::examples::{input, Node};
 use crate::run::Input;
-use outside::answers::{OLD_BLOCK, TURNING};
-use outside::blocks::{kerf_block, old_block, Kind};
+use outside::answers::{GRAIN, OLD_BLOCK, TURNING};
+use outside::blocks::{kerf_block, old_block, sizes_block, Kind};
 use outside::random::Random;
 use outside::reference::{Copies, Job};
 
@@ -52,14 +52,55 @@ pub fn draw(random: &mut Random, scale: Scale, choices: u32) -> Input {
     let heaviest = if random.one_in(4) { 0 } else { scale.weight };
     let weights: Vec<u8> = (0..n).map(|_| random.from(0, heaviest) as u8).collect();
     let mut left = kinds.iter().map(|kind| kind.3).collect::<Vec<u16>>();
-    let nodes = draw_plan(random, plate, &kinds, choices, &mut left);
+    let grains = if choices & GRAIN != 0 { draw_grains(random, n) } else { vec![] };
+    let nodes = draw_plan(random, plate, &kinds, (choices, &grains), &mut left);
     let [length, width, kerf] = [length, width, plate.kerf].map(|field| field as u16);
-    let block = if old {
+    let mut block = if old {
         old_block(length, width, &kinds)
     } else {
         kerf_block(length, width, kerf, &kinds)
     };
-    input(block, &weights, &nodes).with(choices)
+    block.extend(grains);
+    let seed = block.iter().fold(1, |seed: u64, &byte| seed.wrapping_mul(31).wrapping_add(byte.into()));
+    let own = &mut Random::new(seed);
+    input(block, &weights, &nodes)
+        .with(choices)
+        .at(draw_true_sizes(own, plate, &kinds))
+        .lowered(&draw_multipliers(own, &kinds))
+        .beside(own.pick(&[0, 0, 1, 5, 20, u64::MAX]))
+}
+
+/// Kinds that keep their grain and kinds that do not.
+fn draw_grains(random: &mut Random, n: usize) -> Vec<u8> {
+    (0..n).map(|_| random.from(0, 1) as u8).collect()
+}
+
+/// True sizes for which a job mostly stands: some number of true units to each of its own, and some more.
+/// One draw in three has pieces that may take less than that, so that more of them may fit.
+fn draw_true_sizes(random: &mut Random, plate: Rectangle, kinds: &[Kind]) -> Vec<u8> {
+    let units = random.from(1, 4);
+    let more = random.from(0, units - 1);
+    let less = if random.one_in(3) { units } else { 0 };
+    let kerf = units * plate.kerf + random.from(0, more);
+    let mut side = |side: usize, less: usize| {
+        let taken = units * (side + plate.kerf) + random.from(0, more);
+        taken.saturating_sub(kerf + random.from(0, less)).max(1) as u32
+    };
+    let [length, width] = [plate.length, plate.width].map(|own| side(own, 0));
+    let kinds = kinds.iter().map(|kind| [kind.0, kind.1].map(|own| side(own.into(), less)));
+    let kinds: Vec<[u32; 2]> = kinds.collect();
+    sizes_block(length, width, kerf as u32, &kinds)
+}
+
+/// Multipliers of 0, up to about the prices, or whatever is accepted.
+fn draw_multipliers(random: &mut Random, kinds: &[Kind]) -> Vec<u32> {
+    let most = random.pick(&[0, 0, 1, 2]);
+    let draw = |kind: &Kind| match random.from(0, 15) {
+        0 => random.from(0, 1_000_000) as u32,
+        _ => (random.from(0, kind.2 as usize) * most) as u32,
+    };
+    let multipliers = kinds.iter().map(draw);
+    multipliers.map(|multiplier| multiplier.min(1_000_000)).collect()
 }
 
 fn draw_kerf(random: &mut Random, scale: Scale) -> usize {
@@ -98,20 +139,21 @@ pub fn short_order(random: &mut Random, input: &Input, work: usize) -> Input {
         most.demand /= 2;
     }
     let mut order = input.clone();
-    let pairs = order.job.len() - 6 * job.kinds.len();
+    let header = if input.choices & OLD_BLOCK == 0 { 8 } else { 6 };
+    let pairs = header + 4 * job.kinds.len();
     for (pair, kind) in order.job[pairs..].chunks_mut(6).zip(&job.kinds) {
         pair[4..].copy_from_slice(&(kind.demand as u16).to_le_bytes());
     }
     order
 }
 
-/// A plan by random cuts with copies of which so many are left. Now and then a node breaks a rule; one
-/// plan in four keeps its idle cuts.
+/// A plan by random cuts with copies of which so many are left, under choices and grain bytes. Now and then a
+/// node breaks a rule; one plan in four keeps its idle cuts.
 pub fn draw_plan(
     random: &mut Random,
     plate: Rectangle,
     kinds: &[Kind],
-    choices: u32,
+    turning: (u32, &[u8]),
     left: &mut [u16],
 ) -> Vec<Node> {
     let mut waiting = vec![plate];
@@ -120,7 +162,7 @@ pub fn draw_plan(
         let node = if random.one_in(40) {
             (random.from(0, 5) as u8, random.from(0, plate.length + 1) as u16)
         } else {
-            draw_node(random, rectangle, kinds, choices, left)
+            draw_node(random, rectangle, kinds, turning, left)
         };
         nodes.push(node);
         waiting.extend(parts(node, rectangle));
@@ -148,12 +190,12 @@ fn draw_node(
     random: &mut Random,
     Rectangle { length, width, kerf }: Rectangle,
     kinds: &[Kind],
-    choices: u32,
+    (choices, grains): (u32, &[u8]),
     left: &mut [u16],
 ) -> Node {
     let i = random.from(0, kinds.len() - 1);
     let (l, w, _, _) = kinds[i];
-    let turned = choices & TURNING != 0 && random.one_in(2);
+    let turned = choices & TURNING != 0 && random.one_in(2) && grains.get(i) != Some(&1);
     let (node, l, w) = if turned { (4, w, l) } else { (1, l, w) };
     match random.from(0, 5) {
         0..=2 if left[i] > 0 && usize::from(l) <= length && usize::from(w) <= width => {

@@ -1,10 +1,10 @@
 // Lent memory, filled with a pattern and fenced on both sides, so that every changed word is seen.
 // Two calls did the same where their whole memory is equal afterwards.
-use outside::answers::{PlanArrays, Storage, STAGED_REPORT_WORDS};
+use outside::answers::{PlanArrays, Storage, TruePlanArrays, STAGED_REPORT_WORDS};
 
 const FENCE: usize = 8;
 
-/// How many words of each slice are lent.
+/// How many words of each slice are lent; true positions as many as operands.
 #[derive(Clone, Copy, Debug)]
 pub struct Sizes {
     pub lengths: usize,
@@ -35,6 +35,7 @@ pub struct Lent {
     pub table: Fenced<u64>,
     pub kinds: Fenced<u8>,
     pub operands: Fenced<u16>,
+    pub positions: Fenced<u32>,
     pub answer: Fenced<u64>,
 }
 
@@ -62,6 +63,7 @@ impl Lent {
             table: Fenced::new(sizes.table, |x| x),
             kinds: Fenced::new(sizes.kinds, |x| (x >> 56) as u8),
             operands: Fenced::new(sizes.operands, |x| (x >> 44) as u16),
+            positions: Fenced::new(sizes.operands, |x| (x >> 24) as u32),
             answer: Fenced::new(sizes.answer, |x| !x),
         }
     }
@@ -74,6 +76,7 @@ impl Lent {
             ("table", self.table == other.table),
             ("kinds", self.kinds == other.kinds),
             ("operands", self.operands == other.operands),
+            ("positions", self.positions == other.positions),
             ("answer", self.answer == other.answer),
         ];
         same.iter().filter(|(_, same)| !same).map(|(name, _)| *name).collect()
@@ -87,5 +90,11 @@ impl Lent {
         };
         let plan = PlanArrays { kinds: self.kinds.lend(), operands: self.operands.lend() };
         (storage, plan, self.answer.lend())
+    }
+
+    /// The arrays of a plan at true sizes, and the answer.
+    pub fn split_true(&mut self) -> (TruePlanArrays<'_>, &mut [u64]) {
+        let plan = TruePlanArrays { kinds: self.kinds.lend(), operands: self.positions.lend() };
+        (plan, self.answer.lend())
     }
 }

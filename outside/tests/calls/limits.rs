@@ -97,7 +97,7 @@ fn plans_of_4096_nodes_are_refused() {
 }
 
 /// Words of choices with a bit that has no meaning, alone and beside the others.
-const UNKNOWN_CHOICES: [u32; 8] = [8, 9, 10, 12, 15, 16, 1 << 31 | 7, u32::MAX];
+const UNKNOWN_CHOICES: [u32; 8] = [16, 17, 18, 24, 31, 32, 1 << 31 | 7, u32::MAX];
 
 /// A code that comes before all others, with no change of memory.
 fn nothing_is_changed(call: Call, input: &Input, answer: usize, code: u32) {

@@ -237,7 +237,7 @@ fn turned_and_sawn_plans_are_checked() {
 fn short_answers_and_unknown_choices_change_nothing() {
     let passed = s(&PLATES, &[&FIRST, &SECOND]);
     for order in [passed.clone(), s(&[], &[])] {
-        let unknown = order.clone().with(8);
+        let unknown = order.clone().with(16);
         for (order, answer, expected) in
             [(&order, 0, 100), (&unknown, 0, 100), (&unknown, 1, 101), (&unknown, 9, 101)]
         {

@@ -34,7 +34,7 @@ fn draw_rack(random: &mut Random, scale: Scale, choices: u32, plates: usize) -> 
     for _ in 0..plates {
         let (length, width) = (random.from(1, scale.plate), random.from(1, scale.plate));
         let plate = Rectangle { length, width, kerf: job.kerf };
-        nodes.extend(draw_plan(random, plate, &kinds, choices, &mut left));
+        nodes.extend(draw_plan(random, plate, &kinds, (choices, &[]), &mut left));
         sides.push((length as u16, width as u16));
         if !shared {
             left.clone_from(&demands);

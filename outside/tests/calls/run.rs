@@ -22,9 +22,13 @@ pub enum Call {
     BoundTwo,
     Exact,
     FindWeights,
+    CheckModel,
+    TruePlan,
+    PlatesNeeded,
+    BoundLagrangian,
 }
 
-pub const ALL_CALLS: [Call; 12] = [
+pub const ALL_CALLS: [Call; 16] = [
     Call::CheckPlan,
     Call::CheckPlanBlock,
     Call::Bound,
@@ -37,10 +41,15 @@ pub const ALL_CALLS: [Call; 12] = [
     Call::BoundTwo,
     Call::Exact,
     Call::FindWeights,
+    Call::CheckModel,
+    Call::TruePlan,
+    Call::PlatesNeeded,
+    Call::BoundLagrangian,
 ];
 
 /// The calls that take one weight a kind and no limit.
-pub const WEIGHING_CALLS: [Call; 3] = [Call::Bound, Call::WritePlan, Call::Certify];
+pub const WEIGHING_CALLS: [Call; 5] =
+    [Call::Bound, Call::WritePlan, Call::Certify, Call::PlatesNeeded, Call::BoundLagrangian];
 
 /// The calls that take a limit.
 pub const STAGED_CALLS: [Call; 3] = [Call::CheckPlanStaged, Call::BoundStaged, Call::CertifyStaged];
@@ -59,6 +68,9 @@ pub struct Input {
     pub kinds: Vec<u8>,
     pub operands: Vec<u16>,
     pub plan: Vec<u8>,
+    pub sizes: Vec<u8>,
+    pub other: u64,
+    pub multipliers: Vec<u32>,
 }
 
 impl Input {
@@ -73,6 +85,21 @@ impl Input {
     /// The same input with these second weights.
     pub fn and(self, second: &[u8]) -> Input {
         Input { second: second.to_vec(), ..self }
+    }
+
+    /// The same input at these true sizes.
+    pub fn at(self, sizes: Vec<u8>) -> Input {
+        Input { sizes, ..self }
+    }
+
+    /// The same input with these multipliers.
+    pub fn lowered(self, multipliers: &[u32]) -> Input {
+        Input { multipliers: multipliers.to_vec(), ..self }
+    }
+
+    /// The same input beside plates that earn so much.
+    pub fn beside(self, other: u64) -> Input {
+        Input { other, ..self }
     }
 
     /// This input; and where it is a new block with kerf 0, the same as an old block.
@@ -115,17 +142,30 @@ impl Call {
             Call::CheckPlanStaged => STAGED_REPORT_WORDS,
             Call::Bound | Call::BoundStaged => 4,
             Call::WritePlan | Call::BoundTwo | Call::Exact => 5,
-            Call::NeatPlan => 1,
-            Call::Certify | Call::CertifyStaged => 3,
+            Call::NeatPlan | Call::CheckModel => 1,
+            Call::Certify | Call::CertifyStaged | Call::TruePlan | Call::PlatesNeeded => 3,
+            Call::BoundLagrangian => 5,
             Call::FindWeights => FOUND_WORDS,
         }
     }
 
     pub fn run(self, calls: &Calls, input: &Input, lent: &mut Lent) -> u32 {
-        let (storage, plan, answer) = lent.split();
-        let Input { job, weights, kinds, operands, plan: block, .. } = input;
+        let Input { job, weights, kinds, operands, plan: block, sizes, .. } = input;
         let (c, limit) = (input.choices, input.limit);
+        if self == Call::TruePlan {
+            let (plan, answer) = lent.split_true();
+            return (calls.true_plan)(job, c, sizes, kinds, operands, plan, answer);
+        }
+        let (storage, plan, answer) = lent.split();
         match self {
+            Call::TruePlan => unreachable!("it was run"),
+            Call::CheckModel => (calls.check_model)(job, c, sizes, answer),
+            Call::PlatesNeeded => {
+                (calls.plates_needed)(job, c, weights, input.other, storage, answer)
+            }
+            Call::BoundLagrangian => {
+                (calls.bound_lagrangian)(job, c, weights, &input.multipliers, storage, answer)
+            }
             Call::CheckPlan => (calls.check_plan)(job, c, kinds, operands, answer),
             Call::CheckPlanBlock => (calls.check_plan_block)(job, c, block, answer),
             Call::Bound => (calls.bound)(job, c, weights, storage, answer),

@@ -142,10 +142,10 @@ fn short_answers_and_unknown_choices_change_nothing() {
     let i = input(job_s(), &[], &PLAN);
     for call in [Saw::Check, Saw::Kinds(0), Saw::Operands(9)] {
         assert_eq!(call.agrees(&i, call.words() - 1).0, 100);
-        assert_eq!(call.agrees(&i.clone().with(8), call.words()).0, 101);
-        assert_eq!(call.agrees(&i.clone().with(8), call.words() - 1).0, 100);
+        assert_eq!(call.agrees(&i.clone().with(16), call.words()).0, 101);
+        assert_eq!(call.agrees(&i.clone().with(16), call.words() - 1).0, 100);
     }
-    let unknown = slices::saw_kinds(&i.job, 8, &i.kinds, &i.operands, 0);
+    let unknown = slices::saw_kinds(&i.job, 16, &i.kinds, &i.operands, 0);
     assert_eq!(unknown.map_err(|refusal| refusal.number), Err(101));
 }
 

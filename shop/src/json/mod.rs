@@ -3,8 +3,8 @@
 mod plans;
 mod reader;
 
-pub use plans::{document, Filed};
-pub use reader::read;
+pub use plans::{document, evidence, tree_document, Filed};
+pub use reader::{read, text_of};
 
 use std::fmt;
 
@@ -55,9 +55,9 @@ impl Value {
             Value::Truth(truth) => write!(f, "{truth}"),
             Value::Number(number) => write!(f, "{number}"),
             Value::Text(text) => write_text(f, text),
-            Value::List(values) => self.write_all(f, indent, ['[', ']'], values, |f, value, indent| {
-                value.write(f, indent)
-            }),
+            Value::List(values) => {
+                self.write_all(f, indent, ['[', ']'], values, |f, value, indent| value.write(f, indent))
+            }
             Value::Object(members) => {
                 self.write_all(f, indent, ['{', '}'], members, |f, (name, value), indent| {
                     write_text(f, name)?;

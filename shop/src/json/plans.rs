@@ -1,129 +1,178 @@
-// Plans for machines: a judged plan as a JSON document, and the tree of a document that anybody has written.
+// Plans for machines: a judged plan as a JSON document, and the trees of a document that anybody has written.
 // docs/ORDERS.md says what such a document holds.
 use super::Value;
-use crate::layout::{Cut, Part, Use};
+use crate::layout::{side_word, Part, Rect, Use};
 use crate::millimetres::Millimetres;
-use crate::order::{Order, Rounded};
-use crate::outcome::Outcome;
-use crate::search::BoundBy;
-use planner::{Direction, Tree};
+use crate::order::Order;
+use crate::outcome::{worth_in_words, Board, Outcome};
+use crate::plan::{Direction, Tree};
+use crate::search::{Model, Modelled};
+use crate::verdict::Verdict;
 
-/// A plan as it was filed: its tree and, where they are given, the weights that judge it.
+/// The plans of a document, each with the line of the stock that it is for, and what may judge them.
 pub struct Filed {
-    pub tree: Tree,
-    pub bound_by: Option<BoundBy>,
+    pub boards: Vec<(usize, Tree)>,
+    pub one: bool,
+    pub evidence: Vec<Modelled>,
+}
+
+fn mm(length: u32) -> Value {
+    Value::number(Millimetres::of_thousandths(length))
+}
+
+fn sides(rect: Rect) -> Value {
+    Value::object([("length", mm(rect.length)), ("width", mm(rect.width))])
 }
 
 pub fn document(outcome: &Outcome) -> Value {
     let order = &outcome.order;
-    let length = |units| Value::number(order.length_of(units));
-    let shares = outcome.shares().map(|(name, tenths)| {
-        (name, Value::number(format!("{}.{}", tenths / 10, tenths % 10)))
-    });
-    let [first, second] = weights(&outcome.bound_by);
-    let verdict = &outcome.verdict;
-    Value::object([
-        ("plate", Value::List(vec![length(outcome.job.length), length(outcome.job.width)])),
-        ("unit", Value::number(order.unit)),
-        ("kerf", length(outcome.job.kerf)),
-        ("turning", Value::Truth(order.turning)),
-        ("pieces", Value::List((0..order.panels.len()).map(|kind| panel(outcome, kind)).collect())),
+    let tenths = |tenths: u128| Value::number(format!("{}.{}", tenths / 10, tenths % 10));
+    let shares = outcome.shares().map(|(name, share)| (name, tenths(share)));
+    let mut members = vec![
+        ("kerf", Value::number(order.kerf)),
+        ("pieces", Value::List(pieces(outcome))),
         ("per_cent", Value::object(shares)),
-        ("profit", Value::number(verdict.report.profit)),
-        ("most_possible", Value::number(verdict.ceiling)),
-        ("best", Value::Truth(verdict.is_best())),
+        ("worth", Value::text(outcome.worth())),
+        ("best", Value::Truth(outcome.verdict.is_best())),
         ("verdict", Value::text(outcome.sentence())),
-        ("rounded", rounded(order)),
-        ("exact", Value::Truth(outcome.bound_by == BoundBy::Exact)),
-        ("weights", first),
-        ("second_weights", second),
-        ("plan", node(outcome, &outcome.layout.plate)),
-    ])
-}
-
-/// What was rounded, by the names of the members.
-fn rounded(order: &Order) -> Value {
-    let Rounded { kerf, panels, plate } = order.rounded();
-    let members = [("kerf", kerf), ("pieces", panels), ("plate", plate)];
-    Value::List(members.iter().filter(|member| member.1).map(|member| Value::text(member.0)).collect())
-}
-
-fn weights(bound_by: &BoundBy) -> [Value; 2] {
-    let list = |weights: &[u8]| Value::List(weights.iter().map(Value::number).collect());
-    match bound_by {
-        BoundBy::Exact => [Value::Null, Value::Null],
-        BoundBy::Weights(weights) => [list(weights), Value::Null],
-        BoundBy::TwoWeights(first, second) => [list(first), list(second)],
+    ];
+    match outcome.verdict {
+        Verdict::Board { most, .. } => {
+            members.push(("most_possible", Value::text(worth_in_words(order, most))));
+        }
+        Verdict::Order { boards, cost, least_boards, least_cost, .. } => {
+            members.push(("boards_planned", Value::number(boards)));
+            members.push(("boards_needed", Value::number(least_boards)));
+            members.push(("cost", Value::number(cost)));
+            members.push(("cost_needed", Value::number(least_cost)));
+        }
+        Verdict::Short { left, .. } => members.push(("left_over", Value::number(left))),
     }
+    members.push(("boards", Value::List(outcome.boards.iter().map(|one| board(outcome, one)).collect())));
+    if let (true, [board]) = (outcome.one, &outcome.boards[..]) {
+        members.push(("plan", node(outcome, board, &board.layout.board)));
+    }
+    members.push(("evidence", Value::List(outcome.evidence.iter().map(evidence).collect())));
+    Value::Object(members.into_iter().map(|(name, value)| (name.to_string(), value)).collect())
 }
 
-fn panel(outcome: &Outcome, kind: usize) -> Value {
-    let panel = &outcome.order.panels[kind];
+fn pieces(outcome: &Outcome) -> Vec<Value> {
+    let panels = outcome.order.panels.iter().zip(outcome.copies());
+    let piece = panels.map(|(panel, cut)| {
+        Value::object([
+            ("name", Value::text(&panel.name)),
+            ("length", Value::number(panel.sides[0])),
+            ("width", Value::number(panel.sides[1])),
+            ("price", panel.price.map_or(Value::Null, Value::number)),
+            ("turns", Value::Truth(panel.turns)),
+            ("ordered", Value::number(panel.count)),
+            ("cut", Value::number(cut)),
+        ])
+    });
+    piece.collect()
+}
+
+fn board(outcome: &Outcome, board: &Board) -> Value {
+    let rests = board.layout.rests.iter().map(|rest| sides(*rest)).collect();
     Value::object([
-        ("name", Value::text(&panel.name)),
-        ("length", Value::number(panel.sides[0])),
-        ("width", Value::number(panel.sides[1])),
-        ("price", Value::number(outcome.job.kinds[kind].price)),
-        ("ordered", Value::number(panel.count)),
-        ("cut", Value::number(outcome.copies(kind))),
+        ("plate", sides(board.layout.board.rect)),
+        ("offcut", Value::Truth(outcome.order.plates[board.plate].offcut)),
+        ("plan", node(outcome, board, &board.layout.board)),
+        ("rests", Value::List(rests)),
     ])
 }
 
-fn node(outcome: &Outcome, part: &Part) -> Value {
-    let length = |units| Value::number(outcome.order.length_of(units));
-    let size = Value::List(vec![length(part.rect.length), length(part.rect.width)]);
+fn node(outcome: &Outcome, board: &Board, part: &Part) -> Value {
+    let size = ("size", Value::List(vec![mm(part.rect.length), mm(part.rect.width)]));
     match part.becomes {
-        Use::Waste => Value::object([("waste", Value::Truth(true)), ("size", size)]),
-        Use::Piece { kind, turned } => Value::object([
-            ("piece", Value::text(&outcome.order.panels[kind].name)),
+        Use::Rest => Value::object([("waste", Value::Truth(true)), size]),
+        Use::Panel { panel, turned } => Value::object([
+            ("piece", Value::text(&outcome.order.panels[panel].name)),
             ("turned", Value::Truth(turned)),
-            ("size", size),
+            size,
         ]),
         Use::Cut(number) => {
-            let Cut { direction, at, parts, .. } = outcome.layout.cuts[number - 1];
-            let side = match direction {
-                Direction::Length => "length",
-                Direction::Width => "width",
-            };
+            let cut = &board.layout.cuts[number - 1];
+            let second = cut.second.map_or(Value::Null, |second| node(outcome, board, &second));
             Value::object([
-                ("cut", Value::text(side)),
-                ("at", length(at)),
+                ("cut", Value::text(side_word(cut.direction))),
+                ("at", mm(cut.at)),
                 ("number", Value::number(number)),
-                ("size", size),
-                ("first", node(outcome, &parts[0])),
-                ("second", node(outcome, &parts[1])),
+                size,
+                ("first", node(outcome, board, &cut.first)),
+                ("second", second),
             ])
         }
     }
 }
 
+/// A board and its plan, without what can be seen from them.
+pub fn tree_document(outcome: &Outcome, board: &Board) -> Value {
+    Value::object([
+        ("plate", sides(board.layout.board.rect)),
+        ("offcut", Value::Truth(outcome.order.plates[board.plate].offcut)),
+        ("plan", node(outcome, board, &board.layout.board)),
+    ])
+}
+
+pub fn evidence(part: &Modelled) -> Value {
+    let numbers = |numbers: &[u32]| Value::List(numbers.iter().map(Value::number).collect());
+    let pair = |pair: [u16; 2]| Value::List(pair.iter().map(Value::number).collect());
+    Value::object([
+        ("stock", Value::number(part.stock)),
+        ("plate", pair(part.model.plate)),
+        ("sides", Value::List(part.model.sides.iter().map(|sides| pair(*sides)).collect())),
+        ("prices", numbers(&part.prices)),
+        ("multipliers", numbers(&part.multipliers)),
+    ])
+}
+
 impl Filed {
-    /// The plan of a document, or what was expected and where. A tree may stand alone or as the member `plan`.
+    /// The plans of a document, or what was expected and where. A tree may stand alone, as the member `plan`, or in
+    /// the list `boards`.
     pub fn new(document: &Value, order: &Order) -> Result<Filed, String> {
-        let tree = tree(document.get("plan").unwrap_or(document), "the plan", order)?;
-        let first = weights_of(document, "weights")?;
-        let second = weights_of(document, "second_weights")?;
-        let bound_by = match (first, second) {
-            (Some(first), Some(second)) => Some(BoundBy::TwoWeights(first, second)),
-            (Some(weights), None) => Some(BoundBy::Weights(weights)),
-            _ => None,
+        let evidence = evidence_of(document)?;
+        let boards = document.get("boards").and_then(list).unwrap_or_default();
+        let one = document.get("plan").is_some() || document.get("boards").is_none();
+        if one {
+            let stock =
+                boards.first().map_or(Ok(first_plate(order)), |board| stock_of(board, order, "the plan"))?;
+            let tree = tree(document.get("plan").unwrap_or(document), "the plan", order)?;
+            return Ok(Filed { boards: vec![(stock, tree)], one, evidence });
+        }
+        let board = |(index, board): (usize, &Value)| {
+            let place = format!("board {}", index + 1);
+            let plan = board.get("plan").ok_or_else(|| format!("{place}: expected a plan"))?;
+            Ok((stock_of(board, order, &place)?, tree(plan, &place, order)?))
         };
-        let exact = document.get("exact") == Some(&Value::Truth(true));
-        Ok(Filed { tree, bound_by: if exact { Some(BoundBy::Exact) } else { bound_by } })
+        let boards = boards.iter().enumerate().map(board).collect::<Result<_, String>>()?;
+        Ok(Filed { boards, one, evidence })
     }
 }
 
-fn weights_of(document: &Value, name: &str) -> Result<Option<Vec<u8>>, String> {
-    let weight = |value: &Value| match value {
-        Value::Number(number) => number.parse().ok(),
+/// The first line of the stock that is no offcut.
+fn first_plate(order: &Order) -> usize {
+    order.plates.iter().position(|plate| !plate.offcut).unwrap_or(0)
+}
+
+/// The line of the stock with the sides that a board says; the first plate where it says none.
+fn stock_of(board: &Value, order: &Order, place: &str) -> Result<usize, String> {
+    let Some(plate) = board.get("plate") else {
+        return Ok(first_plate(order));
+    };
+    let side =
+        |name: &str| plate.get(name).and_then(length).ok_or_else(|| format!("{place}: expected a {name}"));
+    let sides = [side("length")?, side("width")?];
+    let offcut = board.get("offcut") == Some(&Value::Truth(true));
+    let same = |plate: &crate::order::Plate| plate.sides() == sides && plate.offcut == offcut;
+    order.plates.iter().position(same).ok_or_else(|| format!("{place}: expected a plate of the stock"))
+}
+
+fn length(value: &Value) -> Option<u32> {
+    match value {
+        Value::Number(number) => Millimetres::read(number).map(Millimetres::thousandths),
         _ => None,
-    };
-    let weights = match document.get(name) {
-        None | Some(Value::Null) => return Ok(None),
-        Some(Value::List(weights)) => weights.iter().map(weight).collect::<Option<_>>(),
-        Some(_) => None,
-    };
-    weights.map(Some).ok_or_else(|| format!("{name}: expected a list of numbers from 0 to 255"))
+    }
 }
 
 fn tree(value: &Value, place: &str, order: &Order) -> Result<Tree, String> {
@@ -134,31 +183,70 @@ fn tree(value: &Value, place: &str, order: &Order) -> Result<Tree, String> {
             Value::Text(side) if side == "width" => Direction::Width,
             _ => return expected("length or width as \"cut\""),
         };
-        let Some(at) = value.get("at").and_then(|at| position(at, order.unit)) else {
-            return expected(&format!("whole steps of {} mm as \"at\"", order.unit));
+        let Some(at) = value.get("at").and_then(length) else {
+            return expected("millimetres with at most three decimals as \"at\"");
         };
-        let part = |name: &str| match value.get(name) {
-            Some(part) => tree(part, &format!("{name} part of {place}"), order),
-            None => Err(format!("{place}: expected a part \"{name}\"")),
+        let Some(first) = value.get("first") else {
+            return expected("a part \"first\"");
         };
-        return Ok(Tree::cut(direction, at, part("first")?, part("second")?));
+        let first = tree(first, &format!("first part of {place}"), order)?;
+        let second = match value.get("second") {
+            Some(Value::Null) => None,
+            Some(second) => Some(tree(second, &format!("second part of {place}"), order)?),
+            None => return expected("a part \"second\", or null"),
+        };
+        return Ok(Tree::cut(direction, at, first, second));
     }
     match (value.get("piece"), value.get("waste")) {
         (Some(Value::Text(name)), _) => {
-            let Some(kind) = order.panels.iter().position(|panel| panel.name == *name) else {
+            let Some(panel) = order.panels.iter().position(|panel| panel.name == *name) else {
                 return expected(&format!("a panel of the order, found \"{name}\""));
             };
             let turned = value.get("turned") == Some(&Value::Truth(true));
-            Ok(Tree::Piece { kind: kind as u16, turned })
+            Ok(Tree::Panel { panel, turned })
         }
-        (_, Some(Value::Truth(true))) => Ok(Tree::Waste),
+        (_, Some(Value::Truth(true))) => Ok(Tree::Rest),
         _ => expected("\"cut\", \"piece\" with a name, or \"waste\": true"),
     }
 }
 
-/// A position in units. One beyond every plate is left to the planner to refuse.
-fn position(at: &Value, unit: Millimetres) -> Option<u16> {
-    let Value::Number(number) = at else { return None };
-    let units = Millimetres::read(number)?.units(unit)?;
-    Some(u16::try_from(units).unwrap_or(u16::MAX))
+/// The evidence of a document. Whether it is of this order, the verdict finds out.
+fn evidence_of(document: &Value) -> Result<Vec<Modelled>, String> {
+    let parts = match document.get("evidence") {
+        Some(Value::List(parts)) => parts,
+        None | Some(Value::Null) => return Ok(Vec::new()),
+        Some(_) => return Err("evidence: expected a list".to_string()),
+    };
+    let wrong =
+        || "evidence: expected stock, plate, sides, prices and multipliers in whole numbers".to_string();
+    let part = |part: &Value| {
+        let stock = usize::try_from(number(part.get("stock")?)?).ok()?;
+        let plate = pair(part.get("plate")?)?;
+        let sides = list(part.get("sides")?)?.iter().map(pair).collect::<Option<_>>()?;
+        let numbers = |name: &str| list(part.get(name)?)?.iter().map(number).collect::<Option<Vec<u32>>>();
+        let (prices, multipliers) = (numbers("prices")?, numbers("multipliers")?);
+        Some(Modelled { stock, model: Model { plate, sides }, prices, multipliers })
+    };
+    parts.iter().map(|value| part(value).ok_or_else(wrong)).collect()
+}
+
+fn list(value: &Value) -> Option<&[Value]> {
+    match value {
+        Value::List(values) => Some(values),
+        _ => None,
+    }
+}
+
+fn number(value: &Value) -> Option<u32> {
+    match value {
+        Value::Number(number) => number.parse().ok(),
+        _ => None,
+    }
+}
+
+fn pair(value: &Value) -> Option<[u16; 2]> {
+    match list(value)? {
+        [first, second] => Some([u16::try_from(number(first)?).ok()?, u16::try_from(number(second)?).ok()?]),
+        _ => None,
+    }
 }

@@ -1,8 +1,14 @@
 // Reads JSON. A fault says line, column and what was expected there.
 use super::Value;
 
-/// The deepest nesting that is read: a plan of 4,095 nodes has no more.
-const DEEPEST: usize = 2_100;
+/// The deepest nesting that is read: no plan of a board is deeper.
+const DEEPEST: usize = 40_000;
+
+/// The text of a file, without the mark that some programs put before it.
+pub fn text_of(bytes: &[u8]) -> Result<String, String> {
+    let text = std::str::from_utf8(bytes).map_err(|_| "expected UTF-8".to_string())?;
+    Ok(text.strip_prefix('\u{feff}').unwrap_or(text).to_string())
+}
 
 struct Reader<'a> {
     text: &'a str,

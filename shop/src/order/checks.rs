@@ -1,95 +1,98 @@
-// What an order's lines must have together: a plate, panels that fit it, and a unit of the fence that
-// brings all into what the planner accepts.
+// What an order's lines must have together: a plate, a trim that the blade can take, and panels each of which fits a
+// plate of the stock.
 use super::fault::{Expected, Fault};
 use super::reader::{Draft, Heading, Placed};
 use super::{Order, Panel};
 use crate::millimetres::Millimetres;
+use crate::plan::{lying, Sides};
+use std::collections::HashSet;
 
-/// The most units of a plate's side and of the kerf.
-const MOST_UNITS: u64 = 1_000;
-const MOST_KERF: u64 = 20;
-
-/// The units that are tried where the order has none, in thousandths of a millimetre.
-const UNITS: [u64; 5] = [1_000, 2_000, 2_500, 5_000, 10_000];
+/// The most sizes of panels and the greatest kerf, as the planner has them, and the most panels in all.
+const MOST_SIZES: usize = 64;
+const MOST_PANELS: u32 = 20_000;
+const MOST_KERF: Millimetres = Millimetres::of_thousandths(1_000_000);
 
 impl Draft {
     /// The order, or the first fault of the whole and then those of each panel.
     pub fn order(self) -> Result<Order, Vec<Fault>> {
-        let end = |expected: &str| {
-            vec![Expected::at(1, expected, "the end of the file").on(self.lines + 1)]
-        };
-        let plate = self.plate.as_ref().ok_or_else(|| end("a line plate, LENGTH x WIDTH"))?;
+        let end = |expected: &str| vec![Expected::at(1, expected, "the end of the file").on(self.lines + 1)];
+        if self.plates.is_empty() {
+            return Err(end("a line plate, LENGTH x WIDTH"));
+        }
         if !matches!(self.heading, Some(Heading::Columns(_))) {
             return Err(end("a heading name, length, width, count, price"));
         }
         if self.panels.is_empty() {
             return Err(end("a line for each panel"));
         }
-        let unit = fence_unit(plate, self.unit.as_ref()).map_err(|fault| vec![fault])?;
-        let kerf = kerf_in(self.kerf.as_ref(), unit).map_err(|fault| vec![fault])?;
-        let (plate, turning) = (plate.value, self.turning.unwrap_or(false));
-        let misfit = |panel: &Placed<Panel>| misfit(panel, plate, unit, turning);
-        let faults: Vec<Fault> = self.panels.iter().filter_map(misfit).collect();
+        self.saw_fault().map_or(Ok(()), |fault| Err(vec![fault]))?;
+        let turning = self.turning.unwrap_or(false);
+        let mut notices = self.notices;
+        if self.kerf.is_none() {
+            notices.push("no saw line: the blade is taken to have no width".to_string());
+        }
+        let mut order = Order {
+            plates: self.plates.into_iter().map(|plate| plate.value).collect(),
+            trim: self.trim.map_or(Millimetres::ZERO, |trim| trim.value),
+            stages: self.stages,
+            kerf: self.kerf.map_or(Millimetres::ZERO, |kerf| kerf.value),
+            panels: Vec::new(),
+            notices,
+        };
+        let panels: Vec<Placed<Panel>> =
+            self.panels.into_iter().map(|panel| panel.turning(turning)).collect();
+        let usable: Vec<Sides> = order.plates.iter().map(|plate| order.usable(plate)).collect();
+        let mut faults: Vec<Fault> = panels.iter().filter_map(|panel| misfit(panel, &usable)).collect();
+        faults.extend(one_too_many(&panels));
+        faults.extend(too_many_copies(&panels));
         if !faults.is_empty() {
             return Err(faults);
         }
-        let panels = self.panels.into_iter().map(|panel| panel.value).collect();
-        Ok(Order { plate, kerf, unit, turning, panels })
+        order.panels = panels.into_iter().map(|panel| panel.value).collect();
+        Ok(order)
     }
-}
 
-/// The unit of the order, or the least that brings the plate to at most 1,000 units.
-fn fence_unit(
-    plate: &Placed<[Millimetres; 2]>,
-    given: Option<&Placed<Millimetres>>,
-) -> Result<Millimetres, Fault> {
-    let sides = plate.value;
-    let within = |unit: &Millimetres| sides.iter().all(|side| side.units_down(*unit) <= MOST_UNITS);
-    let found = format!("{} x {}", sides[0], sides[1]);
-    let unit = match given {
-        Some(unit) if within(&unit.value) => unit.value,
-        Some(unit) => {
-            let expected = format!("a unit that divides the plate of {found} into at most 1000");
-            return Err(unit.fault(expected, unit.value.to_string()));
+    fn saw_fault(&self) -> Option<Fault> {
+        let kerf = self.kerf.as_ref()?;
+        if kerf.value > MOST_KERF {
+            return Some(kerf.fault(format!("a kerf of at most {MOST_KERF} mm"), kerf.value.to_string()));
         }
-        None => UNITS.map(Millimetres::thousandths).into_iter().find(within).ok_or_else(|| {
-            plate.fault("a plate of at most 10000 mm a side, or a unit for the saw", &found)
-        })?,
+        let trim = self.trim.as_ref().filter(|trim| trim.value <= kerf.value)?;
+        Some(trim.fault(format!("a trim wider than the kerf, {} mm", kerf.value), trim.value.to_string()))
+    }
+}
+
+/// The fault of a panel that fits no plate in any way in which it may lie.
+fn misfit(panel: &Placed<Panel>, usable: &[Sides]) -> Option<Fault> {
+    let sides = panel.value.sides();
+    let fits = |plate: &Sides, turned: bool| {
+        let own = lying(sides, turned);
+        own[0] <= plate[0] && own[1] <= plate[1]
     };
-    match sides.iter().all(|side| side.units_down(unit) > 0) {
-        true => Ok(unit),
-        false => Err(plate.fault(format!("a plate of at least one unit, {unit} mm, a side"), found)),
-    }
-}
-
-fn kerf_in(
-    kerf: Option<&Placed<Millimetres>>,
-    unit: Millimetres,
-) -> Result<Millimetres, Fault> {
-    let Some(kerf) = kerf else { return Ok(Millimetres::ZERO) };
-    if kerf.value.units_up(unit) > MOST_KERF {
-        let expected = format!("a kerf of at most {} mm, 20 units", unit.times(MOST_KERF));
-        return Err(kerf.fault(expected, kerf.value.to_string()));
-    }
-    Ok(kerf.value)
-}
-
-/// The fault of a panel that fits the plate in no way in which it may lie.
-fn misfit(
-    panel: &Placed<Panel>,
-    plate: [Millimetres; 2],
-    unit: Millimetres,
-    turning: bool,
-) -> Option<Fault> {
-    let [length, width] = plate.map(|side| side.units_down(unit));
-    let [along, across] = panel.value.sides.map(|side| side.units_up(unit));
-    let fits = along <= length && across <= width;
-    if fits || turning && across <= length && along <= width {
+    if usable.iter().any(|plate| fits(plate, false) || panel.value.turns && fits(plate, true)) {
         return None;
     }
-    let plate = [length, width].map(|units| unit.times(units));
-    let expected =
-        format!("a panel that fits the plate, in steps of {unit} mm {} x {}", plate[0], plate[1]);
-    let [along, across] = panel.value.sides;
-    Some(panel.fault(expected, format!("{along} x {across}")))
+    let plates: Vec<String> = usable.iter().map(|plate| crate::layout::size(*plate)).collect();
+    let expected = format!("a panel that fits a plate of {}", plates.join(" or "));
+    Some(panel.fault(expected, crate::layout::size(sides)))
+}
+
+/// The first panel that makes the sizes too many.
+fn one_too_many(panels: &[Placed<Panel>]) -> Option<Fault> {
+    let mut sizes = HashSet::new();
+    let wanted = panels.iter().filter(|panel| panel.value.count > 0);
+    let mut kinds = wanted.map(|panel| (panel, (panel.value.sides, panel.value.price, panel.value.turns)));
+    let (panel, _) = kinds.find(|(_, size)| sizes.insert(*size) && sizes.len() > MOST_SIZES)?;
+    let found = crate::layout::size(panel.value.sides());
+    Some(panel.fault(format!("no more than {MOST_SIZES} sizes of panels"), found))
+}
+
+/// The first panel that makes the copies too many.
+fn too_many_copies(panels: &[Placed<Panel>]) -> Option<Fault> {
+    let mut all = 0;
+    let panel = panels.iter().find(|panel| {
+        all += panel.value.count;
+        all > MOST_PANELS
+    })?;
+    Some(panel.fault(format!("no more than {MOST_PANELS} panels in all"), all.to_string()))
 }

@@ -1,73 +1,88 @@
-// An order: the plate, the saw and the panels in millimetres, and the job that it makes in whole units of
-// the fence. Sides of panels and the kerf are rounded up, the plate down: what is planned can be cut.
+// An order: the stock of boards, the saw and the panels, in millimetres as they are written. Nothing is rounded.
 mod cells;
 mod checks;
 mod fault;
 mod reader;
+mod writer;
 
 pub use fault::Fault;
 pub use reader::read;
 
 use crate::millimetres::Millimetres;
-use planner::{Choices, Job, Kind};
+use crate::plan::Sides;
 
 /// A panel of the order, of which `count` copies are wanted. Without a price its area counts.
 #[derive(Clone, Debug, PartialEq, Eq)]
 pub struct Panel {
     pub name: String,
     pub sides: [Millimetres; 2],
-    pub count: u16,
+    pub count: u32,
     pub price: Option<u32>,
+    /// Whether it may be turned by a quarter; a panel with a grain may not.
+    pub turns: bool,
 }
 
-/// An order that has no fault: its job is one that the planner accepts.
+/// Boards of one size in the stock.
+#[derive(Clone, Debug, PartialEq, Eq)]
+pub struct Plate {
+    pub sides: [Millimetres; 2],
+    /// How many there are; none: as many as are needed.
+    pub count: Option<u32>,
+    pub cost: u32,
+    /// An offcut of an earlier order, which is used first and costs nothing.
+    pub offcut: bool,
+}
+
+/// An order that has no fault.
 #[derive(Clone, Debug, PartialEq, Eq)]
 pub struct Order {
-    pub plate: [Millimetres; 2],
+    pub plates: Vec<Plate>,
+    /// What is taken off each raw edge of a plate first, the blade included.
+    pub trim: Millimetres,
+    /// The most stages of sawing.
+    pub stages: Option<u32>,
     pub kerf: Millimetres,
-    pub unit: Millimetres,
-    pub turning: bool,
     pub panels: Vec<Panel>,
+    /// What was read otherwise than somebody might think.
+    pub notices: Vec<String>,
 }
 
-/// What of an order is not in whole units, and so is planned otherwise than it was given.
-#[derive(Clone, Copy, Debug, PartialEq, Eq)]
-pub struct Rounded {
-    pub kerf: bool,
-    /// The sides of a panel that is wanted.
-    pub panels: bool,
-    pub plate: bool,
+impl Plate {
+    pub fn sides(&self) -> Sides {
+        self.sides.map(Millimetres::thousandths)
+    }
+}
+
+impl Panel {
+    pub fn sides(&self) -> Sides {
+        self.sides.map(Millimetres::thousandths)
+    }
+
+    /// In square thousandths of a millimetre.
+    pub fn area(&self) -> u64 {
+        let [length, width] = self.sides();
+        u64::from(length) * u64::from(width)
+    }
 }
 
 impl Order {
-    pub fn job(&self) -> Job {
-        let [length, width] = self.plate.map(|side| side.units_down(self.unit) as u16);
-        let kerf = self.kerf.units_up(self.unit) as u16;
-        Job { length, width, kerf, kinds: self.panels.iter().map(|p| self.kind(p)).collect() }
+    pub fn kerf(&self) -> u32 {
+        self.kerf.thousandths()
     }
 
-    pub fn choices(&self) -> Choices {
-        Choices { turning: self.turning, ..Choices::default() }
+    /// The part of a plate within its trimmed edges. An offcut has no raw edges.
+    pub fn usable(&self, plate: &Plate) -> Sides {
+        let off = if plate.offcut { 0 } else { 2 * self.trim.thousandths() };
+        plate.sides().map(|side| side.saturating_sub(off))
     }
 
-    pub fn rounded(&self) -> Rounded {
-        let is_rounded = |side: &Millimetres| side.units(self.unit).is_none();
-        let wanted = self.panels.iter().filter(|panel| panel.count > 0);
-        Rounded {
-            kerf: is_rounded(&self.kerf),
-            panels: wanted.flat_map(|panel| &panel.sides).any(is_rounded),
-            plate: self.plate.iter().any(is_rounded),
-        }
+    /// The sides of every panel, for the saw.
+    pub fn panel_sides(&self) -> Vec<Sides> {
+        self.panels.iter().map(Panel::sides).collect()
     }
 
-    /// The length of so many units.
-    pub fn length_of(&self, units: u16) -> Millimetres {
-        self.unit.times(units.into())
-    }
-
-    fn kind(&self, panel: &Panel) -> Kind {
-        let [length, width] = panel.sides.map(|side| side.units_up(self.unit) as u16);
-        let price = panel.price.unwrap_or(u32::from(length) * u32::from(width));
-        Kind { length, width, price, demand: panel.count }
+    /// Whether worth is counted in prices; else it is area.
+    pub fn is_priced(&self) -> bool {
+        self.panels.iter().any(|panel| panel.price.is_some())
     }
 }

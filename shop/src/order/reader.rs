@@ -1,18 +1,19 @@
-// Reads an order file: lines for plate, saw and turning, a heading, then a line for each panel.
+// Reads an order file: lines for plates, saw and turning, a heading, then a line for each panel.
 // All faulty lines are reported, each with its first fault.
 use super::cells::{cells, Cell};
 use super::fault::{Expected, Fault};
-use super::{Order, Panel};
+use super::{Order, Panel, Plate};
 use crate::millimetres::Millimetres;
 
 const LENGTH: &str = "a length in millimetres, above 0 and with at most three decimals";
-const COLUMNS: [&str; 5] = ["name", "length", "width", "count", "price"];
+const COLUMNS: [&str; 6] = ["name", "length", "width", "count", "price", "turn"];
 const PRICE: usize = 4;
+const TURN: usize = 5;
 
-/// The most kinds, copies of a kind and price that a job may have.
-const MOST_KINDS: usize = 64;
-const MOST_COPIES: u32 = 255;
+/// The most copies of a panel or plate, the greatest price or cost, and the most stages.
+const MOST_COPIES: u32 = 10_000;
 const MOST_PRICE: u32 = 1_000_000;
+const MOST_STAGES: u32 = 8;
 
 /// A value with its place in the file.
 #[derive(Clone, Debug)]
@@ -28,22 +29,44 @@ impl<T> Placed<T> {
     }
 }
 
+/// A panel as its line has it: what it does not say of turning, the order says.
+#[derive(Clone, Debug)]
+pub struct PanelLine {
+    name: String,
+    sides: [Millimetres; 2],
+    count: u32,
+    price: Option<u32>,
+    turns: Option<bool>,
+}
+
+impl Placed<PanelLine> {
+    /// The panel in an order whose panels may be turned, or may not, where they do not say.
+    pub fn turning(self, turning: bool) -> Placed<Panel> {
+        let PanelLine { name, sides, count, price, turns } = self.value;
+        let value = Panel { name, sides, count, price, turns: turns.unwrap_or(turning) };
+        Placed { value, line: self.line, column: self.column }
+    }
+}
+
 /// What the lines have said so far.
 #[derive(Default)]
 pub struct Draft {
-    pub plate: Option<Placed<[Millimetres; 2]>>,
+    pub plates: Vec<Placed<Plate>>,
+    pub trim: Option<Placed<Millimetres>>,
+    pub stages: Option<u32>,
     pub kerf: Option<Placed<Millimetres>>,
-    pub unit: Option<Placed<Millimetres>>,
     pub turning: Option<bool>,
     pub heading: Option<Heading>,
-    pub panels: Vec<Placed<Panel>>,
+    pub panels: Vec<Placed<PanelLine>>,
+    pub notices: Vec<String>,
     pub lines: usize,
+    unit: bool,
 }
 
 /// Where a heading puts each of `COLUMNS`. After a faulty one no line can be read.
 pub enum Heading {
     Faulty,
-    Columns([Option<usize>; 5]),
+    Columns([Option<usize>; COLUMNS.len()]),
 }
 
 /// Reads an order, or says all that is wrong with it. `turning` stands for what the order says of it.
@@ -77,20 +100,25 @@ fn text_of(bytes: &[u8]) -> Result<&str, Fault> {
 
 impl Draft {
     fn line(&mut self, cells: &[Cell]) -> Result<(), Expected> {
-        let Some((first, rest)) = cells.split_first() else { return Ok(()) };
+        let Some((first, rest)) = cells.split_first() else {
+            return Ok(());
+        };
         match self.heading {
             Some(Heading::Columns(columns)) => return self.panel(cells, columns),
             Some(Heading::Faulty) => return Ok(()),
             None => {}
         }
         match first.text.to_lowercase().as_str() {
-            "plate" => self.plate(first, rest),
+            "plate" | "board" => self.plate(first, rest, false),
+            "offcut" => self.plate(first, rest, true),
+            "trim" => self.trim(first, rest),
+            "stages" => self.stages(first, rest),
             "saw" => self.saw(rest),
             "turning" => self.turning(first, rest),
             _ if cells.iter().any(|cell| is_named(cell, "name")) => self.heading(cells),
             _ => Err(Expected::in_cell(
                 first,
-                "plate, saw, turning or the heading name, length, width, count, price",
+                "plate, offcut, trim, stages, saw, turning or the heading name, length, width, count, price",
             )),
         }
     }
@@ -99,14 +127,52 @@ impl Draft {
         Placed { value, line: self.lines, column: cell.column }
     }
 
-    fn plate(&mut self, first: &Cell, rest: &[Cell]) -> Result<(), Expected> {
+    /// A size of the stock: sides, then how many there are and what each costs, if that is said.
+    fn plate(&mut self, first: &Cell, rest: &[Cell], offcut: bool) -> Result<(), Expected> {
         let expected = "LENGTH x WIDTH in millimetres, as 2440 x 1220";
-        let cell = only(first, rest, expected)?;
+        let (cell, rest) = rest.split_first().ok_or_else(|| after(std::slice::from_ref(first), expected))?;
         let sides = cell.text.split_once(['x', 'X', '×']);
         let sides = sides.and_then(|(length, width)| Some([length_in(length)?, length_in(width)?]));
         let sides = sides.ok_or_else(|| Expected::in_cell(cell, expected))?;
-        once(self.plate.is_none(), first)?;
-        self.plate = Some(self.placed(cell, sides));
+        let mut plate = Plate { sides, count: offcut.then_some(1), cost: u32::from(!offcut), offcut };
+        let (mut counted, mut costed) = (false, offcut);
+        for cell in rest.iter().filter(|cell| !cell.text.is_empty()) {
+            match cell.text.to_lowercase().strip_prefix("cost").map(|cost| cost.trim().to_string()) {
+                Some(text) => {
+                    once(!costed, cell)?;
+                    costed = true;
+                    plate.cost = whole(&Cell { text, ..cell.clone() }, "a cost", MOST_PRICE)?;
+                    if plate.cost == 0 {
+                        return Err(Expected::in_cell(cell, "a cost above 0"));
+                    }
+                }
+                None => {
+                    once(!counted, cell)?;
+                    counted = true;
+                    plate.count =
+                        Some(whole(cell, "how many there are, or a cost as cost 100", MOST_COPIES)?);
+                }
+            }
+        }
+        self.plates.push(self.placed(cell, plate));
+        Ok(())
+    }
+
+    fn trim(&mut self, first: &Cell, rest: &[Cell]) -> Result<(), Expected> {
+        let expected = "a width in millimetres, as trim, 10";
+        let cell = only(first, rest, expected)?;
+        let trim = length_in(&cell.text).ok_or_else(|| Expected::in_cell(cell, expected))?;
+        once(self.trim.is_none(), first)?;
+        self.trim = Some(self.placed(cell, trim));
+        Ok(())
+    }
+
+    fn stages(&mut self, first: &Cell, rest: &[Cell]) -> Result<(), Expected> {
+        let expected = format!("a number of stages from 1 to {MOST_STAGES}");
+        let cell = only(first, rest, &expected)?;
+        let stages = cell.text.parse().ok().filter(|stages| (1..=MOST_STAGES).contains(stages));
+        once(self.stages.is_none(), first)?;
+        self.stages = Some(stages.ok_or_else(|| Expected::in_cell(cell, expected))?);
         Ok(())
     }
 
@@ -115,13 +181,13 @@ impl Draft {
             let expected = || Expected::in_cell(cell, "kerf or unit with millimetres, as kerf 3.2");
             let (word, length) = cell.text.split_once(char::is_whitespace).ok_or_else(expected)?;
             let length = Millimetres::read(length.trim()).ok_or_else(expected)?;
-            let value = Some(self.placed(cell, length));
             match word.to_lowercase().as_str() {
-                "kerf" if self.kerf.is_none() => self.kerf = value,
+                "kerf" if self.kerf.is_none() => self.kerf = Some(self.placed(cell, length)),
                 "unit" if length == Millimetres::ZERO => {
                     return Err(Expected::in_cell(cell, "a unit above 0"));
                 }
-                "unit" if self.unit.is_none() => self.unit = value,
+                // Orders of earlier days have it; sizes are no longer rounded to it.
+                "unit" if !self.unit => self.unit = true,
                 "kerf" | "unit" => return once(false, cell),
                 _ => return Err(expected()),
             }
@@ -130,12 +196,7 @@ impl Draft {
     }
 
     fn turning(&mut self, first: &Cell, rest: &[Cell]) -> Result<(), Expected> {
-        let cell = only(first, rest, "yes or no")?;
-        let turning = match cell.text.to_lowercase().as_str() {
-            "yes" => true,
-            "no" => false,
-            _ => return Err(Expected::in_cell(cell, "yes or no")),
-        };
+        let turning = yes_or_no(only(first, rest, "yes or no")?)?;
         once(self.turning.is_none(), first)?;
         self.turning = Some(turning);
         Ok(())
@@ -143,10 +204,10 @@ impl Draft {
 
     fn heading(&mut self, cells: &[Cell]) -> Result<(), Expected> {
         self.heading = Some(Heading::Faulty);
-        let mut columns = [None; 5];
+        let mut columns = [None; COLUMNS.len()];
         for (index, cell) in cells.iter().enumerate() {
             let column = COLUMNS.iter().position(|name| is_named(cell, name)).ok_or_else(|| {
-                Expected::in_cell(cell, "one of the columns name, length, width, count, price")
+                Expected::in_cell(cell, "one of the columns name, length, width, count, price, turn")
             })?;
             once(columns[column].is_none(), cell)?;
             columns[column] = Some(index);
@@ -158,7 +219,7 @@ impl Draft {
         Ok(())
     }
 
-    fn panel(&mut self, cells: &[Cell], columns: [Option<usize>; 5]) -> Result<(), Expected> {
+    fn panel(&mut self, cells: &[Cell], columns: [Option<usize>; COLUMNS.len()]) -> Result<(), Expected> {
         let headed = columns.iter().flatten().count();
         if let Some(cell) = cells.get(headed) {
             return Err(Expected::in_cell(cell, format!("no more than {headed} cells")));
@@ -171,12 +232,16 @@ impl Draft {
         self.new_name(name)?;
         let length = cell(1, LENGTH)?;
         let sides = [side(length)?, side(cell(2, LENGTH)?)?];
-        let count = whole(cell(3, "a count")?, "a count", MOST_COPIES)? as u16;
+        let count = whole(cell(3, "a count")?, "a count", MOST_COPIES)?;
         let price = match cell(PRICE, "") {
             Ok(cell) if !cell.text.is_empty() => Some(whole(cell, "a price", MOST_PRICE)?),
             _ => None,
         };
-        let panel = Panel { name: name.text.clone(), sides, count, price };
+        let turns = match cell(TURN, "") {
+            Ok(cell) if !cell.text.is_empty() => Some(yes_or_no(cell)?),
+            _ => None,
+        };
+        let panel = PanelLine { name: name.text.clone(), sides, count, price, turns };
         self.panels.push(self.placed(length, panel));
         Ok(())
     }
@@ -184,9 +249,6 @@ impl Draft {
     fn new_name(&self, cell: &Cell) -> Result<(), Expected> {
         if cell.text.is_empty() {
             return Err(Expected::in_cell(cell, "a name"));
-        }
-        if self.panels.len() == MOST_KINDS {
-            return Err(Expected::in_cell(cell, format!("no more than {MOST_KINDS} panels")));
         }
         match self.panels.iter().find(|panel| panel.value.name == cell.text) {
             Some(other) => Err(Expected::in_cell(
@@ -220,6 +282,14 @@ fn after(cells: &[Cell], expected: impl Into<String>) -> Expected {
 fn once(first_time: bool, cell: &Cell) -> Result<(), Expected> {
     let again = || Expected::in_cell(cell, "something that was not said before");
     first_time.then_some(()).ok_or_else(again)
+}
+
+fn yes_or_no(cell: &Cell) -> Result<bool, Expected> {
+    match cell.text.to_lowercase().as_str() {
+        "yes" => Ok(true),
+        "no" => Ok(false),
+        _ => Err(Expected::in_cell(cell, "yes or no")),
+    }
 }
 
 fn length_in(text: &str) -> Option<Millimetres> {

@@ -1,7 +1,9 @@
-// A drawing replayed from its own numbers: every cut spans what it divides, and in the parts that are left pieces,
-// waste and trim lie side by side. All numbers are ten-thousandths of a millimetre.
+// A drawing replayed from its own numbers: every cut spans what it divides, and the parts that are left are panels, in
+// exactly their size, and rests. All numbers are ten-thousandths of a millimetre.
+use crate::replay::{Cut, Ordered};
 use crate::scratch::{program, Scratch};
 use crate::xml::{elements, Element};
+use std::collections::BTreeMap;
 
 #[derive(Clone, Copy, Debug, PartialEq, Eq)]
 pub struct Area {
@@ -14,8 +16,7 @@ pub struct Shown {
     pub plate: Area,
     pub kerf: i64,
     pub pieces: Vec<(String, Area)>,
-    pub waste: Vec<Area>,
-    pub trim: Vec<Area>,
+    pub rests: Vec<Area>,
     cuts: Vec<Area>,
 }
 
@@ -55,19 +56,23 @@ fn area(rect: &Element) -> Area {
     Area { x: [x, x + length], y: [y, y + width] }
 }
 
-/// The part of the plate that the blade takes along a line.
-fn blade(line: &Element, kerf: i64) -> Area {
-    let [x1, y1, x2, y2] = ["x1", "y1", "x2", "y2"].map(|name| attribute(line, name));
-    match x1 == x2 {
-        true => Area { x: [x1 - kerf / 2, x1 + kerf / 2], y: [y1, y2] },
-        false => Area { x: [x1, x2], y: [y1 - kerf / 2, y1 + kerf / 2] },
-    }
+/// The boards of drawings.
+pub fn shown(drawings: &[String]) -> Vec<Shown> {
+    drawings.iter().flat_map(|svg| boards(svg)).collect()
 }
 
-pub fn shown(svg: &str) -> Shown {
+fn boards(svg: &str) -> Vec<Shown> {
     let elements = elements(svg).unwrap_or_else(|wrong| panic!("{wrong}\n{svg}"));
+    let boards = elements.split(|element| element.get("class") == Some("board"));
+    let kerfs = elements
+        .iter()
+        .filter(|element| element.get("class") == Some("board"))
+        .map(|e| attribute(e, "data-kerf"));
+    boards.skip(1).zip(kerfs).map(|(elements, kerf)| board(elements, kerf)).collect()
+}
+
+fn board(elements: &[Element], kerf: i64) -> Shown {
     let class = |class| elements.iter().filter(move |element| element.get("class") == Some(class));
-    let kerf = attribute(&elements[0], "data-kerf");
     let named = |rect: &Element| (rect.get("data-name").expect("a name").to_string(), area(rect));
     let plates: Vec<_> = class("plate").map(area).collect();
     assert_eq!(plates.len(), 1);
@@ -75,10 +80,27 @@ pub fn shown(svg: &str) -> Shown {
         plate: plates[0],
         kerf,
         pieces: class("piece").map(named).collect(),
-        waste: class("waste").map(area).collect(),
-        trim: class("trim").map(area).collect(),
-        cuts: class("cut").map(|line| blade(line, kerf)).collect(),
+        rests: class("rest").map(area).collect(),
+        cuts: class("cut").map(area).collect(),
     }
+}
+
+/// Replays every board that is drawn and gives the copies on each.
+pub fn replayed(drawings: &[String], ordered: &Ordered) -> Cut {
+    let copies = |shown: &Shown| {
+        shown.replay();
+        let mut copies = BTreeMap::new();
+        for (name, area) in &shown.pieces {
+            let sides = area.sides().map(|side| side / 10);
+            let (length, width, _) = ordered.panels[name];
+            ordered.expect(name, sides != [length, width], sides);
+            *copies.entry(name.clone()).or_default() += 1;
+        }
+        copies
+    };
+    let cut = shown(drawings).iter().map(copies).collect();
+    ordered.keeps(&cut);
+    cut
 }
 
 impl Shown {
@@ -87,43 +109,44 @@ impl Shown {
         let mut parts = vec![self.plate];
         for cut in &self.cuts {
             let divided = |part: &Area| {
-                let across = part.x == cut.x && part.y[0] < cut.y[0] && cut.y[1] < part.y[1];
-                let along = part.y == cut.y && part.x[0] < cut.x[0] && cut.x[1] < part.x[1];
+                let across = part.x == cut.x && part.y[0] < cut.y[0] && cut.y[1] <= part.y[1];
+                let along = part.y == cut.y && part.x[0] < cut.x[0] && cut.x[1] <= part.x[1];
                 across || along
             };
             let index = parts.iter().position(divided);
             let part = parts.swap_remove(index.unwrap_or_else(|| panic!("{cut:?} divides no part")));
             let [mut first, mut second] = [part; 2];
-            if part.y == cut.y {
+            let axis = if part.y == cut.y && part.x[0] < cut.x[0] { 0 } else { 1 };
+            let taken = if axis == 0 {
                 (first.x[1], second.x[0]) = (cut.x[0], cut.x[1]);
+                cut.x[1] - cut.x[0]
             } else {
                 (first.y[1], second.y[0]) = (cut.y[0], cut.y[1]);
+                cut.y[1] - cut.y[0]
+            };
+            parts.push(first);
+            if second.sides()[axis] > 0 {
+                assert_eq!(taken, self.kerf, "{cut:?}");
+                parts.push(second);
+            } else {
+                assert!(taken <= self.kerf, "{cut:?}");
             }
-            parts.extend([first, second]);
         }
-        parts.iter().for_each(|part| self.is_filled(part));
-        assert_eq!(parts.len(), self.pieces.len() + self.waste.len());
+        for part in &parts {
+            assert!(
+                self.rests.contains(part) || self.pieces.iter().any(|(_, piece)| piece == part),
+                "{part:?}"
+            );
+        }
+        assert_eq!(parts.len(), self.pieces.len() + self.rests.len());
         self.lies_apart();
     }
 
-    /// A part is all waste, or holds one piece in its corner with trim beside it.
-    fn is_filled(&self, part: &Area) {
-        if self.waste.contains(part) {
-            return;
-        }
-        let inside: Vec<_> = self.pieces.iter().filter(|(_, area)| part.holds(area)).collect();
-        let [(_, piece)] = inside[..] else { panic!("{part:?} holds {inside:?}") };
-        assert_eq!((piece.x[0], piece.y[0]), (part.x[0], part.y[0]));
-        let trim: i64 = self.trim.iter().filter(|trim| part.holds(trim)).map(Area::size).sum();
-        assert_eq!(piece.size() + trim, part.size(), "{part:?}");
-    }
-
-    /// No two of pieces, waste, trim and cuts overlap, and all lie on the plate.
+    /// No two of pieces, rests and cuts overlap, and all lie on the plate.
     fn lies_apart(&self) {
         let pieces = self.pieces.iter().map(|(_, area)| *area);
-        let rest = self.waste.iter().chain(&self.trim).copied();
         let cuts = self.cuts.iter().filter(|_| self.kerf > 0).copied();
-        let all: Vec<_> = pieces.chain(rest).chain(cuts).collect();
+        let all: Vec<_> = pieces.chain(self.rests.iter().copied()).chain(cuts).collect();
         for (index, one) in all.iter().enumerate() {
             assert!(self.plate.holds(one), "{one:?} leaves the plate");
             for other in &all[..index] {
@@ -140,68 +163,29 @@ fn drawings_can_be_cut() {
     let heading = "name, length, width, count\n";
     let panels = "A & B, 100, 50, 2\n<C>, 70.5, 30, 3\n\"D \"\"x\"\"\", 20, 20, 9\n棚板, 95, 8, 2\n";
     for (index, head) in [
-        "plate, 300 x 200\nsaw, kerf 3.2, unit 0.5\n",
+        "plate, 300 x 200\nsaw, kerf 3.2\n",
         "plate, 300 x 200\nturning, yes\n",
-        "plate, 100.7 x 200.7\nsaw, kerf 0.3, unit 0.7\nturning, yes\n",
+        "plate, 100.7 x 200.7\nsaw, kerf 0.3\nturning, yes\n",
         "plate, 300 x 1000\nsaw, kerf 4\n",
     ]
     .into_iter()
     .enumerate()
     {
         let order = scratch.write(&format!("{index}.csv"), format!("{head}{heading}{panels}"));
-        scratch.plan(&order).expect("an order without fault");
-        let shown = shown(&scratch.read("plan.svg"));
-        shown.replay();
-        assert!(shown.pieces.iter().any(|(name, _)| name == "A & B"));
-    }
-}
-
-/// The boxes of the cuts' numbers.
-fn numbers(svg: &str) -> Vec<Area> {
-    let elements = elements(svg).expect("a drawing");
-    elements.iter().filter(|element| element.get("class") == Some("number")).map(area).collect()
-}
-
-/// Heights of text in millimetres on paper.
-fn heights_on_paper(svg: &str) -> Vec<f64> {
-    let elements = elements(svg).expect("a drawing");
-    let page: f64 = elements[0].get("width").and_then(|w| w.strip_suffix("mm")?.parse().ok()).expect("a width");
-    let drawn = elements[0].get("viewBox").expect("a view").split(' ').nth(2).expect("four numbers");
-    let scale = page / drawn.parse::<f64>().expect("a width");
-    let size = |element: &Element| element.get("font-size").map(|size| size.parse::<f64>().expect("a size"));
-    elements.iter().filter_map(size).map(|size| size * scale).collect()
-}
-
-#[test]
-fn a_printed_sheet_is_a4_and_can_be_read() {
-    let scratch = Scratch::new("printed");
-    let sample = concat!(env!("CARGO_MANIFEST_DIR"), "/../samples/wardrobe.csv");
-    let sample = std::fs::read_to_string(sample).expect("the sample");
-    let wide = "plate, 1222 x 2444\nsaw, kerf 3.2, unit 5\nname, length, width, count\nwide shelf, 588, 478, 11\n";
-    for (file, order, page) in [
-        ("long.csv", sample.as_str(), "@page { size: 297mm 210mm; margin: 0 }"),
-        ("wide.csv", wide, "@page { size: 210mm 297mm; margin: 0 }"),
-    ] {
-        let order = scratch.write(file, order);
-        scratch.plan(&order).expect("an order without fault");
-        let svg = scratch.read("plan.svg");
-        assert!(svg.contains(page));
-        let numbers = numbers(&svg);
-        assert_eq!(numbers.len(), shown(&svg).cuts.len());
-        for (index, number) in numbers.iter().enumerate() {
-            assert!(numbers[..index].iter().all(|other| !number.meets(other)), "{file} {number:?}");
-        }
-        assert!(heights_on_paper(&svg).iter().all(|&height| height > 2.09), "{file}");
+        scratch.plan(&order, &["--seconds", "0.3"]).expect("an order without fault");
+        let shown = shown(&scratch.drawings());
+        shown.iter().for_each(Shown::replay);
+        assert!(shown.iter().flat_map(|board| &board.pieces).any(|(name, _)| name == "A & B"));
     }
 }
 
 /// Plans an order within two seconds, by the program, and replays its drawing.
-fn planned_in_time(name: &str, head: &str, panels: &str) -> Shown {
+fn planned_in_time(name: &str, head: &str, panels: &str) -> Vec<Shown> {
     let scratch = Scratch::new(name);
     let order = scratch.write("order.csv", format!("{head}name, length, width, count\n{panels}"));
     program(&[&order, "--svg", &scratch.path("plan.svg"), "--seconds", "2"]);
-    let shown = shown(&scratch.read("plan.svg"));
-    shown.replay();
+    let shown = shown(&scratch.drawings());
+    shown.iter().for_each(Shown::replay);
     shown
 }
 
@@ -209,25 +193,12 @@ fn planned_in_time(name: &str, head: &str, panels: &str) -> Shown {
 fn a_drawing_of_64_panels_is_replayed() {
     let panel = |i: usize| format!("panel with a long name {i}, {}, {}, 2\n", 100 + 7 * i, 50 + 5 * i);
     let panels: String = (0..64).map(panel).collect();
-    planned_in_time("many", "plate, 2440 x 1220\nsaw, kerf 3\n", &panels);
+    let shown = planned_in_time("many", "plate, 2440 x 1220\nsaw, kerf 3\n", &panels);
+    assert_eq!(shown.iter().map(|board| board.pieces.len()).sum::<usize>(), 128);
 }
 
 #[test]
-fn plans_with_too_many_nodes_are_left_out() {
-    let shown = planned_in_time("small", "plate, 300 x 300\n", "a, 5, 5, 255\nb, 7, 4, 255\n");
-    assert_eq!(shown.pieces.len(), 510);
-}
-
-#[test]
-fn the_title_has_the_kerf_as_given_and_as_planned() {
-    let scratch = Scratch::new("title");
-    let panel = "name, length, width, count\na, 100, 50, 2\n";
-    for (saw, title) in [
-        ("kerf 3.2, unit 5", "steps of 5 mm, kerf 3.2 mm, planned as 5 mm, scale 1 :"),
-        ("kerf 5, unit 5", "steps of 5 mm, kerf 5 mm, scale 1 :"),
-    ] {
-        let order = scratch.write("order.csv", format!("plate, 300 x 200\nsaw, {saw}\n{panel}"));
-        scratch.plan(&order).expect("an order without fault");
-        assert!(scratch.read("plan.svg").contains(title), "{saw}");
-    }
+fn boards_of_very_many_panels_are_planned() {
+    let shown = planned_in_time("small", "plate, 300 x 300\nsaw, kerf 0\n", "a, 5, 5, 900\nb, 7, 4, 255\n");
+    assert_eq!(shown.iter().map(|board| board.pieces.len()).sum::<usize>(), 1155);
 }

@@ -10,6 +10,7 @@ pub struct Panel {
     pub count: usize,
 }
 
+#[derive(Clone)]
 pub struct Small {
     pub plate: [usize; 2],
     pub kerf: usize,
@@ -82,4 +83,49 @@ fn job_s_is_searched() {
     small.turning = true;
     small.panels.iter_mut().zip([2, 2, 1]).for_each(|(panel, count)| panel.count = count);
     assert_eq!(small.most(), 18);
+}
+
+impl Small {
+    /// The fewest plates that hold every copy, by trying every way to share the copies out.
+    pub fn fewest(&self) -> usize {
+        let all: Vec<usize> = self.panels.iter().map(|panel| panel.count).collect();
+        self.fewest_for(&all, &mut HashMap::new(), &mut Known::new())
+    }
+
+    fn fewest_for(&self, left: &[usize], known: &mut HashMap<Vec<usize>, usize>, held: &mut Known) -> usize {
+        if left.iter().all(|copies| *copies == 0) {
+            return 0;
+        }
+        if let Some(fewest) = known.get(left) {
+            return *fewest;
+        }
+        let mut fewest = usize::MAX;
+        for share in shares(left) {
+            let count: usize = share.iter().sum();
+            if count > 0 && self.copies_on(self.plate, share.clone(), held) == count as u64 {
+                let rest: Vec<usize> = left.iter().zip(&share).map(|(left, share)| left - share).collect();
+                fewest = fewest.min(self.fewest_for(&rest, known, held).saturating_add(1));
+            }
+        }
+        known.insert(left.to_vec(), fewest);
+        fewest
+    }
+
+    /// The most copies of these that a rectangle holds.
+    fn copies_on(&self, sides: [usize; 2], left: Vec<usize>, known: &mut Known) -> u64 {
+        let priced = |panel: &Panel| Panel { price: 1, ..*panel };
+        let counted = Small { panels: self.panels.iter().map(priced).collect(), ..*self };
+        counted.most_on(sides, left, known)
+    }
+}
+
+#[test]
+fn the_fewest_plates_are_found() {
+    let panels =
+        vec![Panel { sides: [3, 2], price: 1, count: 3 }, Panel { sides: [2, 2], price: 1, count: 1 }];
+    let mut small = Small { plate: [5, 4], kerf: 0, turning: false, panels };
+    assert_eq!(small.fewest(), 2);
+    small.turning = true;
+    small.plate = [6, 4];
+    assert_eq!(small.fewest(), 1);
 }

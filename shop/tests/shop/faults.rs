@@ -35,13 +35,17 @@ fn something_is_missing() {
 
 #[test]
 fn lines_before_the_heading() {
-    fault("table, 1 x 1", 1, 1, "plate, saw, turning or the heading");
+    fault("table, 1 x 1", 1, 1, "saw, turning or the heading");
     fault("plate", 1, 6, "LENGTH x WIDTH");
     for plate in ["2440", "2440 1220", "2440 x", "x 5", "0 x 5", "5 x 0", "-5 x 5", "a x b", "1 x 2 x 3"] {
         fault(&format!("plate, {plate}"), 1, 8, "LENGTH x WIDTH");
     }
-    fault("plate, 5 x 5, 7", 1, 15, "the line's end");
-    after_plate("plate, 5 x 5", 1, "not said before");
+    fault("plate, 5 x 5, some", 1, 15, "how many there are");
+    fault("plate, 5 x 5, 7, 8", 1, 18, "not said before");
+    fault("plate, 5 x 5, cost x", 1, 15, "a cost");
+    after_plate("offcut, 5", 9, "LENGTH x WIDTH");
+    after_plate("trim, 0", 7, "a width in millimetres");
+    after_plate("stages, 9", 9, "from 1 to 8");
     after_plate("saw, kerf", 6, "kerf or unit");
     after_plate("saw, kerf x", 6, "kerf or unit");
     after_plate("saw, kerf 3.2, blade 3", 16, "kerf or unit");
@@ -75,15 +79,17 @@ fn panels() {
         panel(&format!("b, {length}, 1, 1"), 4, "a length");
         panel(&format!("b, 1, {length}, 1"), 7, "a length");
     }
-    for count in ["", "256", "-1", "1.5", "x"] {
+    for count in ["", "10001", "-1", "1.5", "x"] {
         panel(&format!("b, 1, 1, {count}, 5"), 10, "a count");
     }
     for price in ["1000001", "-1", "1.5", "x"] {
         panel(&format!("b, 1, 1, 1, {price}"), 13, "a price");
     }
     panel("b, 1, 1, 1, 1, 1", 16, "no more than 5 cells");
-    let many: String = (0..65).map(|i| format!("p{i}, 1, 1, 1\n")).collect();
-    fault(&format!("{HEAD}{many}"), 67, 1, "no more than 64 panels");
+    let many: String = (1..=65).map(|i| format!("p{i}, {i}, 1, 1\n")).collect();
+    fault(&format!("{HEAD}{many}"), 67, 6, "no more than 64 sizes");
+    let alike: String = (1..=99).map(|i| format!("p{i}, 7, 1, 1\n")).collect();
+    assert!(read(format!("{HEAD}{alike}").as_bytes(), None).is_ok());
 }
 
 #[test]
@@ -100,27 +106,30 @@ fn sizes_together() {
     let with = |saw: &str, piece: &str| {
         format!("plate, 2440 x 1220\nsaw, {saw}\nname, length, width, count\n{piece}\n")
     };
-    fault(&with("unit 2", "a, 1, 1, 1"), 2, 6, "a unit that divides");
-    fault(&with("unit 1300", "a, 1, 1, 1"), 1, 8, "at least one unit");
-    fault(&with("unit 5, kerf 100.1", "a, 1, 1, 1"), 2, 14, "at most 100 mm");
-    fault(&with("kerf 3", "a, 2440.1, 1, 1"), 4, 4, "fits the plate");
-    fault(&with("kerf 3", "a, 1, 1220.1, 1"), 4, 4, "fits the plate");
+    fault(&with("kerf 1000.001", "a, 1, 1, 1"), 2, 6, "at most 1000 mm");
+    fault(&with("kerf 3", "a, 2440.1, 1, 1"), 4, 4, "fits a plate");
+    fault(&with("kerf 3", "a, 1, 1220.1, 1"), 4, 4, "fits a plate");
     fault(&with("kerf 3", "a, 1000, 1300, 1"), 4, 4, "2440 x 1220");
-    fault("plate, 10010 x 9\nname, length, width, count\na, 1, 1, 1", 1, 8, "at most 10000 mm");
+    fault(
+        "plate, 9 x 9\ntrim, 2\nsaw, kerf 3\nname, length, width, count\na, 1, 1, 1",
+        2,
+        7,
+        "wider than the kerf",
+    );
     let turned = "plate, 2440 x 1220\nturning, yes\nname, length, width, count\n";
     assert!(read(format!("{turned}a, 1000, 1300, 1").as_bytes(), None).is_ok());
-    fault(&format!("{turned}a, 1230, 1300, 1"), 4, 4, "fits the plate");
+    fault(&format!("{turned}a, 1230, 1300, 1"), 4, 4, "fits a plate");
 }
 
 #[test]
 fn every_faulty_line_is_named_and_nothing_is_written() {
     let scratch = Scratch::new("faults");
-    let order = scratch.write("order.csv", format!("{HEAD}a, x, 1, 1\nb, 1, 1, 1\nc, 1, 1, 999\n"));
-    let faults = scratch.plan(&order).expect_err("two faults");
+    let order = scratch.write("order.csv", format!("{HEAD}a, x, 1, 1\nb, 1, 1, 1\nc, 1, 1, 99999\n"));
+    let faults = scratch.plan(&order, &[]).expect_err("two faults");
     let lines: Vec<_> = faults.lines().collect();
     assert!(lines.len() == 2 && lines[0].contains("line 3, column 4: expected a length"), "{faults}");
-    assert!(lines[1].contains("line 5, column 10: expected a count, a whole number from 0 to 255"));
-    assert!(lines[1].ends_with("found \"999\""), "{faults}");
+    assert!(lines[1].contains("line 5, column 10: expected a count, a whole number from 0 to 10000"));
+    assert!(lines[1].ends_with("found \"99999\""), "{faults}");
     for file in ["plan.svg", "plan.json", "plan.stamp"] {
         assert!(!Path::new(&scratch.path(file)).exists());
     }

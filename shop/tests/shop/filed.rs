@@ -1,10 +1,8 @@
-// Filed plans: stamps that are damaged, and plans that somebody else has drawn, with their faults and refusals in
-// words.
+// Filed plans: stamps that are damaged, stamps of earlier days, and plans that somebody else has drawn, with their
+// faults in words.
 use crate::scratch::{shop, Scratch};
-use shop::search::BoundBy;
-use shop::stamp::Stamp;
 
-const ORDER: &str = "plate, 50 x 30\nsaw, unit 10\nname, length, width, count, price\n\
+const ORDER: &str = "plate, 50 x 30\nsaw, kerf 0\nname, length, width, count, price\n\
                      a, 20, 30, 1, 7\nb, 30, 10, 2, 4\nc, 20, 20, 1, 5\n";
 const BEST: &str = r#"{"cut": "length", "at": 20, "first": {"piece": "a"}, "second":
     {"cut": "width", "at": 10, "first": {"piece": "b"}, "second": {"piece": "c"}}}"#;
@@ -19,24 +17,32 @@ fn checked(name: &str, plan: &str) -> Result<String, String> {
 #[test]
 fn plans_of_others_are_judged() {
     let alone = checked("alone", BEST).expect("a plan of the order");
-    assert!(alone.contains("earns 16\nat most 18.8 % more is possible"), "{alone}");
-    let weighed = format!("{{\"plan\": {BEST}, \"weights\": [0, 1, 0]}}");
-    let weighed = checked("weighed", &weighed).expect("a plan of the order");
-    assert!(weighed.contains("best: no guillotine plan of this plate in steps of 10 mm earns more"));
-    let two = format!("{{\"plan\": {BEST}, \"weights\": [0, 0, 0], \"second_weights\": [0, 1, 0]}}");
-    assert!(checked("two", &two).expect("a plan of the order").contains("best: "));
-    let exact = format!("{{\"plan\": {BEST}, \"exact\": true}}");
-    assert!(checked("exact", &exact).expect("a plan of the order").contains("best: "));
+    assert!(
+        alone.contains("worth 16\nbest: no guillotine plan of this board cuts panels worth more"),
+        "{alone}"
+    );
+    let marked = checked("marked", &format!("\u{feff}{{\"plan\": {BEST}}}")).expect("a plan of the order");
+    assert_eq!(marked, alone);
+    let whole = format!("{{\"boards\": [{{\"plan\": {BEST}}}, {{\"plan\": {{\"piece\": \"b\"}}}}]}}");
+    let whole = checked("whole", &whole).expect("plans of the order");
+    assert!(whole.contains("2 boards: no plan needs fewer"), "{whole}");
+    let less = checked("less", r#"{"piece": "c"}"#).expect("a plan of the order");
+    assert!(less.contains("at most 220.0 % more is possible"), "{less}");
+    assert!(less.contains("20 x 20: c"), "panels are brought to their size\n{less}");
 }
 
 #[test]
-fn refusals_are_said_in_words() {
+fn what_cannot_be_sawn_is_said_in_words() {
     for (index, (from, to, words)) in [
-        ("\"c\"", "\"a\"", "refusal 15 at node 4, a: the panel does not fit its rectangle"),
-        ("\"at\": 20", "\"at\": 50", "refusal 14 at node 0, the cut of the length at 50: the cut leaves"),
-        ("\"at\": 10", "\"at\": 9990", "refusal 14 at node 2, the cut of the width at 9990: the cut leaves"),
-        ("{\"piece\": \"a\"}", "{\"piece\": \"c\"}", "refusal 16 at node 4, c: this copy"),
-        ("\"piece\": \"a\"", "\"piece\": \"a\", \"turned\": true", "refusal 12 at node 1, a: no"),
+        ("\"c\"", "\"a\"", "node 4, a: a panel of 20 x 30 does not fit a part of 30 x 20"),
+        ("\"at\": 20", "\"at\": 50", "node 0, the cut of the length at 50: it is not within the side of 50"),
+        ("\"at\": 10", "\"at\": 9990", "the cut of the width at 9990: it is not within the side of 30"),
+        ("{\"piece\": \"a\"}", "{\"piece\": \"c\"}", "c is cut 2 times, and 1 are ordered"),
+        (
+            "\"piece\": \"c\"",
+            "\"piece\": \"b\", \"turned\": true",
+            "b: a panel of 10 x 30 does not fit a part",
+        ),
     ]
     .into_iter()
     .enumerate()
@@ -44,12 +50,16 @@ fn refusals_are_said_in_words() {
         let refused = checked(&format!("refused{index}"), &BEST.replace(from, to)).expect_err(to);
         assert!(refused.contains(words), "{refused}");
     }
-    let idle = r#"{"cut": "width", "at": 10, "first": {"waste": true}, "second": {"waste": true}}"#;
-    let idle = checked("idle", idle).expect_err("an idle cut");
-    assert!(idle.contains("refusal 26 at node 0, the cut of the width at 10: the cut is idle"), "{idle}");
-    let weights = format!("{{\"plan\": {BEST}, \"weights\": [0]}}");
-    let weights = checked("weights", &weights).expect_err("one weight");
-    assert!(weights.contains("refusal 8: there is not one weight a kind"), "{weights}");
+    let turned = checked("turned", r#"{"piece": "c", "turned": true}"#);
+    assert!(turned.is_ok(), "a square has no grain to keep");
+    let turned = checked(
+        "against",
+        r#"{"cut": "length", "at": 30, "first": {"piece": "a", "turned": true}, "second": {"waste": true}}"#,
+    );
+    assert_eq!(turned.expect_err("a grain").split(": ").last(), Some("a is turned and may not be"));
+    let shaved = r#"{"cut": "length", "at": 20, "first": {"piece": "a"}, "second": null}"#;
+    let shaved = checked("shaved", shaved).expect_err("a second part");
+    assert!(shaved.contains("a second part of 30 is left, and none is named"), "{shaved}");
 }
 
 #[test]
@@ -65,14 +75,17 @@ fn faults_of_plans_are_placed() {
         ("{\"piece\": \"z\"}", "the plan: expected a panel of the order, found \"z\""),
         ("{}", "the plan: expected \"cut\", \"piece\" with a name, or \"waste\": true"),
         ("{\"cut\": \"depth\"}", "the plan: expected length or width as \"cut\""),
-        ("{\"cut\": \"width\", \"at\": 15}", "the plan: expected whole steps of 10 mm as \"at\""),
+        (
+            "{\"cut\": \"width\", \"at\": 1.2345}",
+            "the plan: expected millimetres with at most three decimals as \"at\"",
+        ),
         ("{\"cut\": \"width\", \"at\": 10}", "the plan: expected a part \"first\""),
         (
             "{\"cut\": \"width\", \"at\": 10, \"first\": {\"waste\": true}, \"second\": {\"piece\": 1}}",
             "second part of the plan: expected \"cut\"",
         ),
-        ("{\"piece\": \"a\", \"weights\": [300]}", "weights: expected a list of numbers from 0 to 255"),
-        (&"[".repeat(5000), "nested less deeply"),
+        ("{\"piece\": \"a\", \"evidence\": [300]}", "evidence: expected stock"),
+        (&"[".repeat(50_000), "nested less deeply"),
     ]
     .into_iter()
     .enumerate()
@@ -88,56 +101,65 @@ fn rechecked(name: &str, bytes: &[u8]) -> Result<String, String> {
     shop(&["recheck", &scratch.write("stamp", bytes)])
 }
 
-fn stamp(weights: &[u8]) -> Stamp {
+#[test]
+fn damaged_stamps_are_refused_or_judged_anew() {
     let scratch = Scratch::new("stamped");
     let order = scratch.write("order.csv", ORDER);
-    scratch.plan(&order).expect("an order without fault");
-    let bytes = std::fs::read(scratch.path("plan.stamp")).expect("a stamp");
-    Stamp { bound_by: BoundBy::Weights(weights.to_vec()), ..Stamp::read(&bytes).expect("a stamp") }
+    let summary = scratch.plan(&order, &["--one"]).expect("an order without fault");
+    let stamp = scratch.read("plan.stamp");
+    assert_eq!(rechecked("stamp-whole", stamp.as_bytes()).expect("a stamp"), summary);
+    for length in (0..stamp.len() - 1).step_by(37) {
+        let short =
+            rechecked("stamp-short", &stamp.as_bytes()[..length]).expect_err("a stamp that is cut short");
+        assert!(short.contains("expected"), "{short}");
+    }
+    for (from, to) in [
+        ("plan stamp 2", "plan stamp 3"),
+        ("a, 20, 30", "a, 20, 31"),
+        ("a, 20, 30, 1", "a, 20, 30, 0"),
+        ("plate, 50 x 30", "plate, 49 x 30"),
+        ("\"at\": 20", "\"at\": 21"),
+    ] {
+        assert!(stamp.contains(from), "{stamp}");
+        rechecked("stamp-damaged", stamp.replacen(from, to, 1).as_bytes()).expect_err(to);
+    }
+    let dearer =
+        rechecked("stamp-dearer", stamp.replacen("b, 30, 10, 2, 4", "b, 30, 10, 2, 9", 1).as_bytes());
+    assert!(!dearer.expect("another order").contains("worth 16\n"));
+}
+
+/// A stamp of earlier days: job S, weights 0 1 0, and a plan that earns 16.
+fn old_stamp() -> Vec<u8> {
+    let job: Vec<u8> = [5u16, 3, 3, 0, 2, 3, 3, 1, 2, 2].iter().flat_map(|word| word.to_le_bytes()).collect();
+    let pairs = [(7u32, 1u16), (4, 2), (5, 1)];
+    let pairs =
+        pairs.iter().flat_map(|(price, demand)| [&price.to_le_bytes()[..], &demand.to_le_bytes()].concat());
+    let job: Vec<u8> = job.into_iter().chain(pairs).collect();
+    let operands: Vec<u8> = [2u16, 0, 1, 1, 2].iter().flat_map(|word| word.to_le_bytes()).collect();
+    let plan = [&[5, 0, 2, 1, 3, 1, 1][..], &operands].concat();
+    let sections = [&job[..], &[0, 1, 0], &[], &plan];
+    let mut bytes = b"CUTSTAMP".to_vec();
+    bytes.extend(0u32.to_le_bytes());
+    sections.iter().for_each(|section| bytes.extend((section.len() as u32).to_le_bytes()));
+    bytes.extend(sections.concat());
+    bytes
 }
 
 #[test]
-fn stamps_are_certified_again() {
-    let stamp = stamp(&[0, 1, 0]);
-    let bytes = stamp.bytes();
-    assert_eq!(Stamp::read(&bytes), Ok(stamp.clone()));
-    let best = rechecked("best", &bytes).expect("a stamp");
+fn stamps_of_earlier_days_are_read() {
+    let old = old_stamp();
     assert_eq!(
-        best,
+        rechecked("old", &old).expect("a stamp"),
         "earns 16, no plan earns more than 16\n\
          best: no guillotine plan of this plate in whole units earns more (plate, panels and kerf as filed)\n"
     );
-    let gap = Stamp { bound_by: BoundBy::Weights(vec![0; 3]), ..stamp.clone() };
-    let gap = rechecked("gap", &gap.bytes()).expect("a stamp");
-    assert_eq!(
-        gap,
-        "earns 16, no plan earns more than 19\n\
-         at most 18.8 % more is possible (plate, panels and kerf as filed)\n"
-    );
-    for bound_by in [BoundBy::Exact, BoundBy::TwoWeights(vec![0; 3], vec![0, 1, 0])] {
-        let other = Stamp { bound_by, ..stamp.clone() };
-        assert_eq!(rechecked("other", &other.bytes()).expect("a stamp"), best);
+    for length in 0..old.len() {
+        rechecked("old-short", &old[..length]).expect_err("a stamp that is cut short");
     }
-}
-
-#[test]
-fn damaged_stamps_are_refused() {
-    let stamp = stamp(&[0, 1, 0]);
-    let bytes = stamp.bytes();
-    for length in 0..bytes.len() {
-        let cut_short = rechecked("short", &bytes[..length]).expect_err("a stamp that is cut short");
-        assert!(cut_short.contains("expected"), "{cut_short}");
-    }
-    let longer = rechecked("longer", &[&bytes[..], &[0]].concat()).expect_err("a byte too many");
+    let longer = rechecked("old-longer", &[&old[..], &[0]].concat()).expect_err("a byte too many");
     assert!(longer.contains("expected no bytes after the plan block"));
-    let few = Stamp { bound_by: BoundBy::Weights(vec![1]), ..stamp.clone() };
-    assert!(rechecked("few", &few.bytes()).expect_err("one weight").contains("refusal 8"));
-    let bits = Stamp { choices: 8, ..stamp.clone() };
-    assert!(rechecked("bits", &bits.bytes()).expect_err("no choice").contains("a choice has no meaning"));
-    let mut job = stamp.clone();
-    job.job.pop();
-    assert!(rechecked("job", &job.bytes()).expect_err("a byte too few").contains("refusal 4"));
-    let mut plan = stamp;
-    plan.plan[2] = 9;
-    assert!(rechecked("plan", &plan.bytes()).expect_err("no such node").contains("refusal 12 at node 0"));
+    let mut plan = old;
+    let node = plan.len() - 15;
+    plan[node] = 9;
+    assert!(rechecked("old-plan", &plan).expect_err("no such node").contains("refusal 12"), "{plan:?}");
 }

@@ -1,12 +1,12 @@
-// Generated orders on small plates: every plan can be cut and passes the check, every "best" earns what an exhaustive
-// search finds, and no ceiling lies below that.
-use crate::drawings::{shown, Shown};
+// Generated orders on small plates: every plan can be cut, every "best" is what an exhaustive search finds, and no
+// bound lies on the wrong side of it. Lengths are whole multiples of a step of tenths of a millimetre, so that the
+// exhaustive search sees every cut that matters.
 use crate::exhaustive::{Panel, Small};
 use crate::scratch::{shop, Scratch};
-use shop::json::{read, Value};
+use shop::json::Value;
 use std::fmt::Write;
 
-const ORDERS: u64 = 200;
+const ORDERS: u64 = 60;
 
 /// Numbers that look random (a linear congruence).
 struct Dice(u64);
@@ -18,31 +18,30 @@ impl Dice {
     }
 }
 
-/// An order file, and the same in units of its own reckoning. Lengths are tenths of a millimetre.
-fn generated(seed: u64) -> (String, Small) {
+/// An order file, and the same in steps. `copies` is the most of all panels together.
+fn generated(seed: u64, most_kinds: usize, most_copies: usize, priced: bool) -> (String, Small) {
     let mut dice = Dice(seed.wrapping_mul(0x9E37_79B9_7F4A_7C15));
-    let unit = dice.from(1, 60);
-    let plate = [dice.from(3, 8), dice.from(2, 7)];
-    let kerf = if dice.from(0, 1) == 0 { 0 } else { dice.from(1, 2 * unit) };
-    let (turning, priced) = (dice.from(0, 1) == 1, dice.from(0, 1) == 1);
-    let tenths = |length: usize| format!("{}.{}", length / 10, length % 10);
-    let side = |units: usize, dice: &mut Dice| units * unit + dice.from(0, unit - 1);
-    let [length, width] = plate.map(|units| tenths(side(units, &mut dice)));
-    let mut text = format!("plate, {length} x {width}\nsaw, kerf {}, unit {}\n", tenths(kerf), tenths(unit));
-    writeln!(text, "turning, {}\nname, length, width, count, price", if turning { "yes" } else { "no" })
-        .expect("a string takes all text");
-    let mut panels = Vec::new();
-    for number in 0..dice.from(1, 4) {
+    let step = dice.from(1, 600);
+    let plate = [dice.from(3, 7), dice.from(2, 6)];
+    let (kerf, turning) = (dice.from(0, 1), dice.from(0, 1) == 1);
+    let tenths = |steps: usize| format!("{}.{}", steps * step / 10, steps * step % 10);
+    let mut text =
+        format!("plate, {} x {}\nsaw, kerf {}\n", tenths(plate[0]), tenths(plate[1]), tenths(kerf));
+    let turns = if turning { "yes" } else { "no" };
+    writeln!(text, "turning, {turns}\nname, length, width, count, price").expect("a string takes all text");
+    let mut panels: Vec<Panel> = Vec::new();
+    for number in 0..dice.from(1, most_kinds) {
         let sides = plate.map(|most| dice.from(1, most));
-        let count = if dice.from(0, 2) == 0 { dice.from(0, 60) } else { dice.from(0, 2) };
-        let price = if priced { dice.from(0, 20) } else { sides[0] * sides[1] };
-        let shown = sides.map(|units| tenths(units * unit - dice.from(0, unit - 1)));
+        let left = most_copies - panels.iter().map(|panel| panel.count).sum::<usize>();
+        let count = dice.from(1, 3).min(left);
+        let price = if priced { dice.from(1, 20) } else { sides[0] * sides[1] };
         let cell = if priced { price.to_string() } else { String::new() };
-        writeln!(text, "panel {number}, {}, {}, {count}, {cell}", shown[0], shown[1])
+        let [length, width] = sides.map(tenths);
+        writeln!(text, "panel {number}, {length}, {width}, {count}, {cell}")
             .expect("a string takes all text");
         panels.push(Panel { sides, price: price as u64, count });
     }
-    (text, Small { plate, kerf: kerf.div_ceil(unit), turning, panels })
+    (text, Small { plate, kerf, turning, panels })
 }
 
 fn number(document: &Value, name: &str) -> u64 {
@@ -52,63 +51,66 @@ fn number(document: &Value, name: &str) -> u64 {
     }
 }
 
-/// The drawing shows no more copies than are ordered, of the rounded size.
-fn keeps_the_order(shown: &Shown, small: &Small, unit: i64) {
-    for (number, panel) in small.panels.iter().enumerate() {
-        let name = format!("panel {number}");
-        let copies: Vec<_> = shown.pieces.iter().filter(|(shown, _)| *shown == name).collect();
-        assert!(copies.len() <= panel.count);
-        let [length, width] = panel.sides.map(|units| units as i64 * unit);
-        for (_, area) in copies {
-            let sides = area.sides();
-            assert!(sides == [length, width] || small.turning && sides == [width, length]);
-        }
+fn text(document: &Value, name: &str) -> u64 {
+    match document.get(name) {
+        Some(Value::Text(text)) => text.parse().expect("a whole number"),
+        other => panic!("{name} is {other:?}"),
     }
 }
 
-/// The plan that cuts nothing is best under the same weights only where nothing can be earned.
-fn no_other_plan_is_best(scratch: &Scratch, order: &str, document: &Value, most: u64) {
-    let weights = ["weights", "second_weights", "exact"].map(|name| {
-        let value = document.get(name).cloned().unwrap_or(Value::Null);
-        (name, value)
-    });
-    let [first, second, exact] = weights;
+#[test]
+fn one_board_is_planned_as_well_as_the_verdict_says() {
+    let scratch = Scratch::new("generated-one");
+    let mut best = 0;
+    for seed in 1..=ORDERS {
+        let (order, small) = generated(seed, 4, 8, true);
+        let summary = scratch.planned(&order, &["--one", "--seconds", "0.5"]);
+        let document = scratch.document();
+        let (worth, ceiling) = (text(&document, "worth"), text(&document, "most_possible"));
+        let most = small.most();
+        assert!(worth <= most && most <= ceiling, "{worth} {most} {ceiling}\n{order}\n{summary}");
+        let says_best = summary.contains("\nbest: ");
+        assert_eq!(says_best, document.get("best") == Some(&Value::Truth(true)));
+        assert!(!says_best || worth == most, "{worth} {most}\n{order}\n{summary}");
+        no_other_plan_is_best(&scratch, most);
+        best += u64::from(says_best);
+    }
+    println!("one board: {best} of {ORDERS} best");
+    assert!(best > ORDERS * 3 / 4);
+}
+
+/// The plan that cuts nothing is best only where nothing can be cut.
+fn no_other_plan_is_best(scratch: &Scratch, most: u64) {
+    let evidence = scratch.document().get("evidence").cloned().unwrap_or(Value::Null);
     let waste = ("plan", Value::object([("waste", Value::Truth(true))]));
-    let file = scratch.write("waste.json", Value::object([waste, first, second, exact]).to_string());
-    let judged = shop(&["check", order, &file]).expect("a plan that cuts nothing passes");
+    let file = scratch.write("waste.json", Value::object([waste, ("evidence", evidence)]).to_string());
+    let judged = shop(&["check", &scratch.path("order.csv"), &file, "--seconds", "0"]);
+    let judged = judged.expect("a plan that cuts nothing passes");
     assert_eq!(judged.contains("\nbest: "), most == 0, "{judged}");
 }
 
 #[test]
-fn generated_orders_are_planned_as_well_as_the_verdict_says() {
-    let scratch = Scratch::new("generated");
-    let (mut best, mut whole, mut exact, mut two) = (0, 0, 0, 0);
+fn whole_orders_take_as_few_boards_as_the_verdict_says() {
+    let scratch = Scratch::new("generated-whole");
+    let mut best = 0;
     for seed in 1..=ORDERS {
-        let (text, small) = generated(seed);
-        let order = scratch.write("order.csv", &text);
-        let summary = scratch.plan(&order).unwrap_or_else(|wrong| panic!("{wrong}\n{text}"));
-        let document = read(&scratch.read("plan.json")).expect("JSON");
-        let (profit, ceiling) = (number(&document, "profit"), number(&document, "most_possible"));
-        let most = small.most();
-        assert!(profit <= most && most <= ceiling, "{profit} {most} {ceiling}\n{text}\n{summary}");
-        let says_best = summary.contains("\nbest: ");
-        assert_eq!(says_best, document.get("best") == Some(&Value::Truth(true)));
-        assert!(!says_best || profit == most, "{profit} {most}\n{text}\n{summary}");
-        let drawing = shown(&scratch.read("plan.svg"));
-        drawing.replay();
-        let unit = drawing.plate.sides()[0] / small.plate[0] as i64;
-        keeps_the_order(&drawing, &small, unit);
-        let checked = shop(&["check", &order, &scratch.path("plan.json")]).expect("it passes");
-        assert_eq!(checked, summary);
-        let again = shop(&["recheck", &scratch.path("plan.stamp")]).expect("a stamp");
-        let head = format!("earns {profit}, no plan earns more than {ceiling}\n");
-        assert!(again.starts_with(&head) && again.contains("best: ") == says_best, "{again}\n{summary}");
-        no_other_plan_is_best(&scratch, &order, &document, most);
-        best += usize::from(says_best);
-        whole += usize::from(summary.contains("every panel"));
-        exact += usize::from(document.get("exact") == Some(&Value::Truth(true)));
-        two += usize::from(document.get("second_weights") != Some(&Value::Null));
+        let (order, small) = generated(1000 + seed, 3, 7, false);
+        let fits = |panel: &Panel| {
+            let [a, b] = panel.sides;
+            a <= small.plate[0] && b <= small.plate[1]
+                || small.turning && b <= small.plate[0] && a <= small.plate[1]
+        };
+        assert!(small.panels.iter().all(fits));
+        let summary = scratch.planned(&order, &["--seconds", "0.5"]);
+        let document = scratch.document();
+        let fewest = small.fewest() as u64;
+        let (boards, needed) = (number(&document, "boards_planned"), number(&document, "boards_needed"));
+        assert!(needed <= fewest && fewest <= boards, "{needed} {fewest} {boards}\n{order}\n{summary}");
+        let says_best = summary.contains("no plan needs fewer");
+        assert_eq!(says_best, boards == needed, "{summary}");
+        assert_eq!(boards, fewest, "{order}\n{summary}");
+        best += u64::from(says_best);
     }
-    println!("{ORDERS} orders: {best} best, {whole} of them whole, {exact} exact, {two} by two weights");
-    assert!(best > ORDERS as usize / 2 && exact > 0);
+    println!("whole orders: {best} of {ORDERS} proved fewest");
+    assert!(best > ORDERS * 3 / 4);
 }

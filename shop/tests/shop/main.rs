@@ -1,13 +1,17 @@
-// Tests of the shop's command: its usage, orders and their faults, the sample, drawings replayed cut by cut, filed
-// plans, verdicts on rounded sizes, and generated orders against an exhaustive search.
+// Tests of the shop's command: its usage, orders and their faults, the sample, plans replayed cut by cut from the
+// document, the list and the drawing, filed plans, verdicts, and generated orders against an exhaustive search.
 mod drawings;
 mod exhaustive;
 mod faults;
 mod filed;
 mod generated;
 mod orders;
+mod outputs;
+mod replay;
 mod sample;
 mod scratch;
+mod sheets;
+mod stock;
 mod usage;
 mod verdicts;
 mod xml;

@@ -9,8 +9,10 @@ const HEAD: &str = "plate, 2440 x 1220\nname, length, width, count\n";
 
 #[test]
 fn an_order_may_be_written_in_many_ways() {
-    let plain = order("plate, 500 x 300\nsaw, kerf 3.2, unit 5\nname, length, width, count, price\n\
-                       side, 72.5, 56, 2, 7\nSeite, 10, 10, 1\n");
+    let plain = order(
+        "plate, 500 x 300\nsaw, kerf 3.2, unit 5\nname, length, width, count, price\n\
+                       side, 72.5, 56, 2, 7\nSeite, 10, 10, 1\n",
+    );
     let ways = [
         "\u{feff}PLATE, 500 × 300\r\nSaw, Unit 5, Kerf 3.2 mm\r\n\r\nName, Length, Width, Count, Price\r\n\
          side, 72.5, 56, 2, 7\r\nSeite, 10, 10, 1\r\n",
@@ -35,35 +37,39 @@ fn names_are_kept() {
 }
 
 #[test]
-fn panels_are_rounded_up_and_the_plate_down() {
-    let rounded = order(
+fn lengths_are_read_as_written() {
+    let exact = order(
         "plate, 2444.9 x 1220\nsaw, kerf 3.2, unit 5\nturning, yes\nname, length, width, count, price\n\
          a, 720.001, 560, 2\nb, 720, 564.9, 255, 9\n",
     );
-    let (job, choices) = (rounded.job(), rounded.choices());
-    assert_eq!((job.length, job.width, job.kerf, choices.turning), (488, 244, 1, true));
-    let kinds: Vec<_> =
-        job.kinds.iter().map(|k| (k.length, k.width, k.price, k.demand)).collect();
-    assert_eq!(kinds, [(145, 112, 145 * 112, 2), (144, 113, 9, 255)]);
-    assert!(!read(b"plate, 9 x 9\nturning, yes\nname, length, width, count\na, 1, 1, 1", Some(false))
-        .expect("no fault")
-        .turning);
+    assert_eq!((exact.plates[0].sides(), exact.kerf()), ([2_444_900, 1_220_000], 3_200));
+    let panels: Vec<_> = exact.panels.iter().map(|p| (p.sides(), p.count, p.price, p.turns)).collect();
+    assert_eq!(panels, [([720_001, 560_000], 2, None, true), ([720_000, 564_900], 255, Some(9), true)]);
+    let kept = read(b"plate, 9 x 9\nturning, yes\nname, length, width, count\na, 1, 1, 1", Some(false));
+    assert!(!kept.expect("no fault").panels[0].turns);
 }
 
 #[test]
-fn the_unit_is_the_least_that_fits() {
-    for (plate, unit) in [
-        ("1000 x 9", "1"),
-        ("1000.9 x 9", "1"),
-        ("1001 x 9", "2"),
-        ("9 x 2000", "2"),
-        ("2440 x 1220", "2.5"),
-        ("2503 x 9", "5"),
-        ("5005 x 9", "10"),
-        ("10000 x 9", "10"),
-    ] {
-        let text = format!("plate, {plate}\nname, length, width, count\na, 1, 1, 1\n");
-        let least = if unit == "10" { text.replace("x 9", "x 90") } else { text };
-        assert_eq!(order(&least).unit.to_string(), unit, "{plate}");
-    }
+fn the_stock_is_read() {
+    let stock = order(
+        "plate, 2440 x 1220, 5, cost 100\nboard, 2800 x 2070, cost 185\noffcut, 1180 x 610\noffcut, 600 x 500, 3\n\
+         trim, 10\nstages, 3\nsaw, kerf 4\nname, length, width, count, turn\na, 100, 90, 1, yes\nb, 100, 90, 1, no\n\
+         c, 100, 90, 1\n",
+    );
+    let plates: Vec<_> = stock.plates.iter().map(|p| (p.sides(), p.count, p.cost, p.offcut)).collect();
+    assert_eq!(
+        plates,
+        [
+            ([2_440_000, 1_220_000], Some(5), 100, false),
+            ([2_800_000, 2_070_000], None, 185, false),
+            ([1_180_000, 610_000], Some(1), 0, true),
+            ([600_000, 500_000], Some(3), 0, true),
+        ]
+    );
+    assert_eq!((stock.trim.thousandths(), stock.stages), (10_000, Some(3)));
+    assert_eq!(stock.usable(&stock.plates[0]), [2_420_000, 1_200_000]);
+    assert_eq!(stock.usable(&stock.plates[2]), [1_180_000, 610_000]);
+    let turns: Vec<bool> = stock.panels.iter().map(|panel| panel.turns).collect();
+    assert_eq!(turns, [true, false, false]);
+    assert_eq!(order(&stock.text()), stock);
 }

@@ -1,6 +1,6 @@
 // The sample order through the program itself, in a pipe: its output and drawing are the stored ones, with and
 // without turning, in time.
-use crate::drawings::shown;
+use crate::drawings::{shown, Shown};
 use crate::scratch::{program, shop, Scratch};
 use std::path::Path;
 use std::time::{Duration, Instant};
@@ -24,7 +24,7 @@ fn stored(file: &str) -> String {
 #[test]
 fn the_sample_is_planned_in_time() {
     let scratch = Scratch::new("sample");
-    let [svg, json, stamp] = ["svg", "json", "stamp"].map(|kind| scratch.path(kind));
+    let [svg, json, stamp] = ["plan.svg", "json", "stamp"].map(|kind| scratch.path(kind));
     let words = ["--svg", &svg, "--json", &json, "--stamp", &stamp];
     let (text, mut took) = printed(&words);
     assert_eq!(text, stored("tests/wardrobe.out"));
@@ -34,20 +34,21 @@ fn the_sample_is_planned_in_time() {
         }
     }
     assert!(took < LIMIT, "{took:?}");
-    let same = scratch.read("svg") == stored("../docs/pictures/wardrobe.svg");
-    assert!(same, "docs/pictures/wardrobe.svg is not the sample's drawing");
-    shown(&scratch.read("svg")).replay();
-    let again = shop(&["recheck", &stamp]).expect("a stamp");
-    assert!(again.contains("best: no guillotine plan"), "{again}");
+    for (index, drawing) in scratch.drawings().iter().enumerate() {
+        let file = format!("docs/pictures/wardrobe-{}.svg", index + 1);
+        assert!(*drawing == stored(&format!("../{file}")), "{file} is not the sample's drawing");
+    }
+    shown(&scratch.drawings()).iter().for_each(Shown::replay);
+    assert_eq!(shop(&["recheck", &stamp]).expect("a stamp"), text);
     println!("the sample took {took:?}");
 }
 
 #[test]
 fn the_sample_is_planned_with_turning() {
     let scratch = Scratch::new("turned");
-    let svg = scratch.path("svg");
+    let svg = scratch.path("plan.svg");
     let (text, took) = printed(&["--turning", "yes", "--svg", &svg]);
     assert_eq!(text, stored("tests/wardrobe-turned.out"));
-    shown(&scratch.read("svg")).replay();
+    shown(&scratch.drawings()).iter().for_each(Shown::replay);
     println!("the sample with turning took {took:?}");
 }

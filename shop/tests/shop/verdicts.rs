@@ -1,74 +1,66 @@
-// What the verdict says of rounded sizes: it names what was rounded, and nothing where all is in whole steps.
+// What the verdict says, of one board and of whole orders, at true sizes.
 use crate::scratch::{shop, Scratch};
-use shop::json::{read, Value};
+use shop::json::Value;
 
-const BEST: &str = "best: no guillotine plan of this plate in steps of 5 mm earns more";
+const BEST: &str = "best: no guillotine plan of this board cuts panels worth more";
 
-fn order(plate: &str, kerf: &str, panels: &str) -> String {
-    format!("plate, {plate}\nsaw, kerf {kerf}, unit 5\nname, length, width, count\n{panels}\n")
-}
-
-/// Plans an order and expects the sentence on the terminal, and sentence and rounded members in the document.
-fn says(name: &str, order: &str, sentence: &str, rounded: &[&str]) {
+fn says(name: &str, order: &str, words: &[&str], sentence: &str) {
     let scratch = Scratch::new(name);
-    let summary = scratch.plan(&scratch.write("order.csv", order)).expect("an order without fault");
+    let summary = scratch.planned(order, words);
     assert!(summary.contains(&format!("\n{sentence}\n")), "{summary}");
-    let document = read(&scratch.read("plan.json")).expect("JSON");
-    assert_eq!(document.get("verdict"), Some(&Value::text(sentence)));
-    let members = rounded.iter().map(Value::text).collect();
-    assert_eq!(document.get("rounded"), Some(&Value::List(members)));
-    assert!(scratch.read("plan.svg").contains(&format!(">{sentence}<")));
+    assert_eq!(scratch.document().get("verdict"), Some(&Value::text(sentence)));
+    assert!(scratch.drawings().iter().all(|drawing| drawing.contains(sentence)));
+    assert!(!summary.contains("round"), "{summary}");
 }
 
 #[test]
-fn what_was_rounded_is_named() {
-    let kerf = "kerf 3.2 mm planned as 5 mm";
-    let five = "a, 485, 100, 5";
-    says("rounded-kerf", &order("2440 x 100", "3.2", five), &format!("{BEST} ({kerf})"), &["kerf"]);
-    says(
-        "rounded-panels",
-        &order("2440 x 100", "5", "a, 484, 99.5, 5"),
-        &format!("{BEST} (panels rounded up)"),
-        &["pieces"],
-    );
-    says(
-        "rounded-plate",
-        &order("2440 x 104.9", "5", five),
-        &format!("{BEST} (plate rounded down)"),
-        &["plate"],
-    );
-    says(
-        "rounded-all",
-        &order("2444 x 100", "3.2", "a, 481, 100, 5"),
-        &format!("{BEST} ({kerf}, panels rounded up, plate rounded down)"),
-        &["kerf", "pieces", "plate"],
-    );
-}
-
-#[test]
-fn nothing_is_named_where_nothing_was_rounded() {
-    for (name, kerf, panels) in [
-        ("whole-steps", "5", "a, 485, 100, 5"),
-        ("no-kerf", "0", "a, 485, 100, 6"),
-        ("not-wanted", "5", "a, 485, 100, 5\nb, 13.2, 7.1, 0"),
-    ] {
-        says(name, &order("2440 x 100", kerf, panels), BEST, &[]);
+fn true_sizes_leave_nothing_to_rounding() {
+    let felt = "plate, 2400 x 1200\nsaw, kerf 0.5\nname, length, width, count\ntile, 299.5, 299.5, 50\n";
+    says("felt", felt, &["--one"], BEST);
+    let backs = "plate, 2440 x 1220\nsaw, kerf 3.2\nname, length, width, count\nback, 607, 402, 20\n";
+    says("backs", backs, &["--one"], BEST);
+    let five = "plate, 2440 x 100\nsaw, kerf 3.2, unit 5\nname, length, width, count\na, 485, 100, 5\n";
+    says("five", five, &["--one"], BEST);
+    for (file, copies) in [("felt", "tile     299.5 x 299.5   32"), ("backs", "back         607 x 402   12")]
+    {
+        let order = if file == "felt" { felt } else { backs };
+        let scratch = Scratch::new("copies");
+        let summary = scratch.planned(order, &["--one"]);
+        assert!(summary.contains(copies), "{summary}");
     }
-    let whole = "best: every panel of the order is cut";
-    says("whole-order", &order("2440 x 100", "3.2", "a, 485, 100, 4"), whole, &["kerf"]);
 }
 
 #[test]
-fn what_more_is_possible_names_it_too() {
-    let scratch = Scratch::new("rounded-gap");
-    let order = scratch.write("order.csv", order("2440 x 100", "3.2", "a, 485, 100, 5"));
+fn whole_orders_are_proved() {
+    let trap = "plate, 2440 x 1220\nsaw, kerf 3.2\nname, length, width, count\n\
+                door, 1300, 1200, 3\nside, 810, 1200, 3\nfiller, 315, 1200, 3\n";
+    says("trap", trap, &[], "3 boards: no plan needs fewer");
+    let tiles = "plate, 2400 x 1200\nsaw, kerf 0.5\nname, length, width, count\ntile, 299.5, 299.5, 200\n";
+    says("tiles", tiles, &[], "7 boards: no plan needs fewer");
+    let one = "plate, 100 x 100\nsaw, kerf 1\nname, length, width, count\na, 100, 100, 1\n";
+    says("single", one, &[], "1 board: no plan needs fewer");
+}
+
+#[test]
+fn what_more_is_possible_is_said() {
+    let scratch = Scratch::new("gap");
+    let order = "plate, 2440 x 100\nsaw, kerf 3.2\nname, length, width, count\na, 485, 100, 5\n";
+    let order = scratch.write("order.csv", order);
     for (plan, sentence) in [
-        ("{\"piece\": \"a\"}", "at most 300.0 % more is possible"),
-        ("{\"waste\": true}", "the plan earns nothing; at most 7760 is possible"),
+        ("{\"piece\": \"a\"}", "at most 400.0 % more is possible"),
+        ("{\"waste\": true}", "nothing is cut, and something could be"),
     ] {
         let plan = scratch.write("plan.json", plan);
         let judged = shop(&["check", &order, &plan]).expect("a plan of the order");
-        let sentence = format!("\n{sentence} (kerf 3.2 mm planned as 5 mm)\n");
-        assert!(judged.contains(&sentence), "{judged}");
+        assert!(judged.contains(&format!("\n{sentence}\n")), "{judged}");
     }
+}
+
+#[test]
+fn the_same_order_gets_the_same_plan() {
+    let order = "plate, 1000 x 800\nsaw, kerf 3.2\nturning, yes\nname, length, width, count\n\
+                 a, 410, 333.3, 3\nb, 277, 190, 4\nc, 605.5, 122, 3\nd, 91, 90, 6\n";
+    let scratch = Scratch::new("same");
+    let first = scratch.planned(order, &[]);
+    assert_eq!(first, scratch.planned(order, &[]));
 }

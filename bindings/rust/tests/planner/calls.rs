@@ -60,7 +60,7 @@ fn the_saw_reads_no_price() {
     }
     assert_eq!(planner.tree_at_saw(&plan, 5), Ok(None));
     assert_eq!(planner.tree_at_saw(&first_nodes(&plan, 3), 1), Ok(None));
-    let unknown = Planner::of_block(job.block(Choices::default()), 8, 0);
+    let unknown = Planner::of_block(job.block(Choices::default()), 16, 0);
     assert_eq!(unknown.tree_at_saw(&plan, 0), refused(101, 0));
 }
 

@@ -5,7 +5,7 @@ use planner::{Error, Planner};
 type Call = fn(&mut Planner) -> Result<u64, Error>;
 
 /// Every call that is lent a table, and the words that it needs on job S.
-const CALLS: [(u64, Call); 8] = [
+const CALLS: [(u64, Call); 10] = [
     (60, |planner| Ok(planner.bound(&WEIGHTS)?.bound)),
     (60, |planner| Ok(planner.write_plan(&WEIGHTS)?.0.bound)),
     (60, |planner| Ok(planner.certify(&WEIGHTS, &best().plan())?.bound)),
@@ -14,6 +14,8 @@ const CALLS: [(u64, Call); 8] = [
     (120, |planner| Ok(planner.bound_two(&WEIGHTS, &[0, 0, 1])?.bound)),
     (240, |planner| Ok(planner.exact()?.0.optimum)),
     (20, |planner| Ok(planner.find_weights(&best().plan())?.0.rounds)),
+    (60, |planner| Ok(planner.plates_needed(&WEIGHTS, 0)?.plates)),
+    (60, |planner| Ok(planner.bound_lagrangian(&WEIGHTS, &[1, 2, 3])?.bound)),
 ];
 
 #[test]

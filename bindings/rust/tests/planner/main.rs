@@ -2,7 +2,10 @@
 // The calls below it are compared word by word elsewhere.
 mod calls;
 mod choices;
+mod grain;
 mod lending;
+mod orders;
+mod true_sizes;
 mod types;
 
 use planner::{Choices, Direction, Job, Kind, Plan, Planner, Tree};
@@ -13,7 +16,7 @@ const WEIGHTS: [u8; 3] = [0, 1, 0];
 const AMPLE: u64 = 1 << 20;
 
 fn kind(length: u16, width: u16, price: u32, demand: u16) -> Kind {
-    Kind { length, width, price, demand }
+    Kind { length, width, price, demand, grain: false }
 }
 
 fn job_s() -> Job {

@@ -1,7 +1,7 @@
 // Trees and plans, jobs and blocks, refusals in words.
 use crate::{best, first_nodes, job_s, piece, planner};
 use planner::answers::Refusal;
-use planner::{Choices, Error, Job, Plan, Tree};
+use planner::{Choices, Error, Job, Plan, Tree, TrueSizes};
 
 #[test]
 fn trees_are_plans_in_preorder() {
@@ -22,13 +22,51 @@ fn trees_are_plans_in_preorder() {
 #[test]
 fn jobs_are_blocks() {
     let kerf = Job { kerf: 2, ..job_s() };
-    for bits in 0..8 {
+    for bits in 0..16 {
         let choices = Choices::from_word(bits);
         assert_eq!(choices.word(), bits);
-        let job = if choices.old_block { job_s() } else { kerf.clone() };
-        let block = kerf.block(choices);
+        let mut job = if choices.old_block { job_s() } else { kerf.clone() };
+        job.kinds[1].grain = choices.grain;
+        let block = Job { kerf: 2, ..job.clone() }.block(choices);
+        assert_eq!(block.len(), if choices.old_block { 36 } else { 38 } + 3 * usize::from(choices.grain));
         assert_eq!(Job::from_block(&block, choices), Some(job));
         assert_eq!(Job::from_block(&block[1..], choices), None);
+    }
+    let grain = Choices { grain: true, ..Choices::default() };
+    let mut block = job_s().block(grain);
+    *block.last_mut().expect("a grain byte") = 2;
+    assert_eq!(Job::from_block(&block, grain), None);
+}
+
+#[test]
+fn true_sizes_are_blocks() {
+    let sizes = TrueSizes { length: 0x0102_0304, width: 5, kerf: 6, kinds: vec![[7, 8], [9, 10]] };
+    let block = sizes.block();
+    assert_eq!(block.len(), 28);
+    assert_eq!(block[..8], [4, 3, 2, 1, 5, 0, 0, 0]);
+    assert_eq!(TrueSizes::from_block(&block), Some(sizes));
+    for bytes in [0, 8, 24, 27] {
+        assert_eq!(TrueSizes::from_block(&block[..bytes]), None);
+    }
+}
+
+/// A cut in the first part of a cut, and so on, or each in the second part of the one before.
+#[test]
+fn trees_may_be_a_million_cuts_deep() {
+    let cuts = 1_000_000;
+    let first = [vec![2; cuts], vec![0; cuts + 1]].concat();
+    let second: Vec<u8> = (0..cuts).flat_map(|_| [3, 0]).chain([0]).collect();
+    for kinds in [first, second] {
+        let operands = kinds.iter().map(|kind| u16::from(*kind > 0)).collect();
+        let plan = Plan { kinds, operands };
+        let tree = plan.tree().expect("a tree");
+        assert_eq!((tree.nodes().len(), tree.plan() == plan), (2 * cuts + 1, true));
+        let mut other = tree.clone();
+        assert!(tree == other && format!("{tree:?}").len() > cuts);
+        while let Tree::Cut { first, second, .. } = other {
+            other = if *first == Tree::Waste { second } else { first }.into_tree();
+        }
+        assert!(tree != other && first_nodes(&plan, 2 * cuts).tree().is_none());
     }
 }
 
@@ -45,18 +83,23 @@ fn refusals_say_their_place() {
     let nodes = "refusal 21, 5000 nodes are needed: the plan needs more nodes than there is room for";
     assert_eq!(said(21, 5000), nodes);
     assert_eq!(said(22, 0), "refusal 22: the limit on stages is outside 1 to 8");
+    let model = "the model does not stand for the true sizes";
+    assert_eq!(said(33, 0), format!("refusal 33 along the length: {model}"));
+    assert_eq!(said(33, 1), format!("refusal 33 along the width: {model}"));
+    assert_eq!(said(36, 4), "refusal 36 at node 4: the piece is turned and its kind keeps its grain");
+    assert!(said(32, 0).starts_with("refusal 32: ") && said(32, 3).starts_with("refusal 32 at kind 2: "));
     let memory = Error::Memory((1 << 17) + 1).to_string();
     assert_eq!(memory, "the table needs 2 MiB, more than may be used");
 }
 
 #[test]
 fn places_are_of_one_sort() {
-    for number in (1..=30).chain([100, 101]) {
+    for number in (1..=38).chain([100, 101]) {
         let refusal = Refusal { number, place: 4 };
         let sorts = [("kind", refusal.kind()), ("node", refusal.node()), ("plate", refusal.plate())];
         let said = refusal.to_string();
         let (words, _) = said.split_once(": ").expect("a number and its words");
-        let named = sorts.map(|(sort, place)| (place, words.ends_with(&format!(" at {sort} 4"))));
+        let named = sorts.map(|(sort, place)| (place, words.contains(&format!(" at {sort} "))));
         assert!(named.iter().all(|(place, named)| place.is_some() == *named), "{said}");
         assert!(named.iter().filter(|(_, named)| *named).count() <= 1, "{said}");
     }
@@ -64,7 +107,7 @@ fn places_are_of_one_sort() {
 
 #[test]
 fn every_number_has_words_of_its_own() {
-    let numbers = (1..=30).chain([100, 101]);
+    let numbers = (1..=38).chain([100, 101]);
     let mut words: Vec<_> = numbers.map(|number| Refusal { number, place: 0 }.words()).collect();
     words.push(Refusal { number: 99, place: 0 }.words());
     let all = words.len();

@@ -218,6 +218,60 @@ pub static CHECKS: [Call; 7] = [
     ),
 ];
 
+/// The model is the job; before the baseline runs, the proved call has accepted the sizes.
+pub static TRUE_SIZES: [Call; 2] = [
+    call(
+        "check of a model",
+        |Job { block, choices, sizes, .. }, memory| {
+            ours::check_model(block, *choices, sizes, memory.split().2)
+        },
+        |Job { block, choices, sizes, .. }, memory| unsafe {
+            checks::check_model(block, *choices, sizes, memory.split().2)
+        },
+    ),
+    call(
+        "true plan",
+        |Job { block, choices, sizes, kinds, operands, .. }, memory| {
+            let (plan, answer) = memory.true_plan();
+            ours::true_plan(block, *choices, sizes, kinds, operands, plan, answer)
+        },
+        |Job { block, choices, sizes, kinds, operands, .. }, memory| {
+            let (plan, answer) = memory.true_plan();
+            unsafe { checks::true_plan(block, *choices, sizes, kinds, operands, plan, answer) }
+        },
+    ),
+];
+
+pub static ORDERS: [Call; 2] = [
+    call(
+        "plates needed",
+        |Job { block, choices, weights, .. }, memory| {
+            let (storage, _, answer) = memory.split();
+            ours::plates_needed(block, *choices, weights, 0, storage, answer)
+        },
+        |Job { block, choices, weights, .. }, memory| {
+            let storage = memory.split().0;
+            let needed = unsafe { c::plates_needed(block, *choices, weights, 0, storage) };
+            memory.put(needed.to_words());
+            0
+        },
+    ),
+    call(
+        "Lagrangian bound",
+        |Job { block, choices, weights, multipliers, .. }, memory| {
+            let (storage, _, answer) = memory.split();
+            ours::bound_lagrangian(block, *choices, weights, multipliers, storage, answer)
+        },
+        |Job { block, choices, weights, multipliers, .. }, memory| {
+            let storage = memory.split().0;
+            let bound =
+                unsafe { c::bound_lagrangian(block, *choices, weights, multipliers, storage) };
+            memory.put(bound.to_words());
+            0
+        },
+    ),
+];
+
 pub static RACK: Call = call(
     "rack",
     |Job { block, choices, plates, kinds, operands, .. }, memory| {

@@ -2,7 +2,7 @@
 // Prices are areas with a premium of up to a quarter; demands are raised until Q is as wanted, which
 // counts them in full where the plate cannot hold so many.
 use outside::answers::{FULL_DEMAND, TURNING};
-use outside::blocks::{job_s, kerf_block, plan_block, Kind};
+use outside::blocks::{job_s, kerf_block, plan_block, sizes_block, Kind};
 use outside::random::Random;
 use outside::reference;
 use planner::{Choices, Job as Typed, Plan, Planner};
@@ -22,6 +22,10 @@ pub struct Job {
     pub kinds: Vec<u8>,
     pub operands: Vec<u16>,
     pub plan: Vec<u8>,
+    /// For the calls at true sizes.
+    pub sizes: Vec<u8>,
+    /// For the Lagrangian bound.
+    pub multipliers: Vec<u32>,
     /// For the rack: the lengths and the widths of its plates.
     pub plates: [Vec<u16>; 2],
 }
@@ -184,6 +188,31 @@ pub fn rounds() -> Vec<Job> {
 pub fn plans() -> Vec<Job> {
     let drawn = [s(), draw(&SMALL), growing(500)].map(|job| planned(job, 1));
     drawn.into_iter().chain([strips()]).collect()
+}
+
+/// Plans and the jobs' own sizes in tenths, without a kerf.
+pub fn true_sizes() -> Vec<Job> {
+    let tenths = |side: u16| 10 * u32::from(side);
+    let sized = |job: Job| {
+        let typed = Typed::from_block(&job.block, Choices::default()).expect("an accepted job");
+        let kinds = typed.kinds.iter().map(|kind| [kind.length, kind.width].map(tenths));
+        let kinds: Vec<[u32; 2]> = kinds.collect();
+        let sizes = sizes_block(tenths(typed.length), tenths(typed.width), 0, &kinds);
+        Job { sizes, ..job }
+    };
+    plans().into_iter().map(sized).collect()
+}
+
+/// Orders without weights and with some; each multiplier is a seventh of the price.
+pub fn orders() -> Vec<Job> {
+    let half = Draw { plate: 500, kinds: 40, sides: (30, 250), ..SMALL };
+    let weighed = Draw { weights: &[0, 1], capacity: 30, ..SMALL };
+    let lowered = |job: Job| {
+        let typed = Typed::from_block(&job.block, Choices::default()).expect("an accepted job");
+        let multipliers = typed.kinds.iter().map(|kind| kind.price / 7).collect();
+        Job { multipliers, ..job }
+    };
+    [SMALL, weighed, half].iter().map(draw).map(lowered).collect()
 }
 
 /// A plate that is cut into 1,000 strips, 250 of each kind.

@@ -44,6 +44,8 @@ fn tables() -> Vec<Table> {
     let of_rounds = [("rounds", Fact::Answer(1)), ("bound", Fact::Answer(0))];
     let certificates = [&calls::CERTIFICATE, &calls::STAGED_CERTIFICATE];
     let checks: Vec<_> = calls::CHECKS.iter().collect();
+    let true_sizes: Vec<_> = calls::TRUE_SIZES.iter().collect();
+    let orders: Vec<_> = calls::ORDERS.iter().collect();
     vec![
         bounds("Named jobs", jobs::named()),
         bounds("Growth with p and r", jobs::growing_plates()),
@@ -55,5 +57,7 @@ fn tables() -> Vec<Table> {
         table("Certificates", &[WORDS, NODES], &certificates, jobs::certificates()),
         table("Checks and neat plans", &[NODES], &checks, jobs::plans()),
         table("Racks", &[NODES], &[&calls::RACK], jobs::racks()),
+        table("True sizes", &[NODES], &true_sizes, jobs::true_sizes()),
+        table("Orders", &[WORDS], &orders, jobs::orders()),
     ]
 }

@@ -2,7 +2,7 @@
 use mathlib.Core.Path.{_∙_, ap}
 use denote.Ref.{now}
 use Rattle.job.specs.Weights.{block-job}
-use Rattle.staged_plan.specs.Check.{staged-check-said, staged-before-idle, LimitPasses, ChecksStaged}
+use Rattle.staged_plan.specs.Check.{staged-before-idle, staged-check-said, LimitPasses, ChecksStaged}
 use Rattle.planner_c.specs.Exports.{choices-of}
 use Rattle.planner_c.proofs.Exports.{of-word, words-enough}
 use Rattle.planner_c.proofs.Within.{staged-check-stops, staged-check-called}

@@ -1,0 +1,3 @@
+pub mod Lagrange
+pub mod Prices
+pub mod Calls

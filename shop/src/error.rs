@@ -1,0 +1,55 @@
+// Why the command gave no plan, or not all that was asked for.
+use crate::order::Fault;
+use std::path::{Path, PathBuf};
+use std::{fmt, io};
+
+#[derive(Debug)]
+pub enum Error {
+    /// The order has faults.
+    Faults { file: PathBuf, faults: Vec<Fault> },
+    /// A file cannot be read or written.
+    File { file: PathBuf, error: io::Error },
+    /// A plan or a stamp is not right.
+    Wrong { file: PathBuf, wrong: String },
+    /// An output is named that is an input, or that is named twice.
+    Clash { file: PathBuf, with: &'static str },
+    /// A proved call refused what the search has found.
+    Call(planner::Error),
+}
+
+/// The faults that are shown.
+const SHOWN: usize = 20;
+
+impl Error {
+    pub fn file(file: &Path, error: io::Error) -> Error {
+        Error::File { file: file.to_path_buf(), error }
+    }
+
+    pub fn wrong(file: &Path, wrong: impl ToString) -> Error {
+        Error::Wrong { file: file.to_path_buf(), wrong: wrong.to_string() }
+    }
+}
+
+impl fmt::Display for Error {
+    fn fmt(&self, f: &mut fmt::Formatter) -> fmt::Result {
+        match self {
+            Error::Faults { file, faults } => {
+                let shown: Vec<String> =
+                    faults.iter().take(SHOWN).map(|fault| format!("{}: {fault}", file.display())).collect();
+                write!(f, "{}", shown.join("\n"))?;
+                match faults.len().checked_sub(SHOWN) {
+                    Some(more @ 1..) => write!(f, "\n{}: {more} more faults", file.display()),
+                    _ => Ok(()),
+                }
+            }
+            Error::File { file, error } => write!(f, "{}: {error}", file.display()),
+            Error::Wrong { file, wrong } => write!(f, "{}: {wrong}", file.display()),
+            Error::Clash { file, with } => {
+                write!(f, "{}: an output may not be {with}", file.display())
+            }
+            Error::Call(error) => write!(f, "the plan was found and does not pass: {error}"),
+        }
+    }
+}
+
+impl std::error::Error for Error {}

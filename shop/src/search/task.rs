@@ -1,0 +1,130 @@
+// What is searched: kinds of panels, boards and the saw, all in thousandths of a millimetre. Panels of one size, price
+// and grain are one kind.
+use crate::order::{Order, Panel};
+use crate::plan::{lying, Sides};
+use planner::Choices;
+
+/// A kind of panel and the lines of the order that have it.
+#[derive(Clone, Debug)]
+pub struct Kind {
+    pub sides: Sides,
+    pub turns: bool,
+    pub price: Option<u32>,
+    pub count: u32,
+    pub panels: Vec<usize>,
+}
+
+impl Kind {
+    /// A square has no grain to keep.
+    pub fn keeps_grain(&self) -> bool {
+        !self.turns && self.sides[0] != self.sides[1]
+    }
+}
+
+/// Boards of one size: the part of the plate that may be used.
+#[derive(Clone, Copy, Debug, PartialEq, Eq)]
+pub struct Stock {
+    pub sides: Sides,
+    pub count: Option<u32>,
+    pub cost: u64,
+}
+
+#[derive(Clone, Debug)]
+pub struct Task {
+    pub kinds: Vec<Kind>,
+    /// In the order of the plates.
+    pub stock: Vec<Stock>,
+    pub kerf: u32,
+    pub stages: Option<u32>,
+    /// What a copy of each kind is worth: its price, or its area in square thousandths of a millimetre.
+    pub worths: Vec<u64>,
+}
+
+/// Orders of more panels get fewer steps.
+const MANY_PANELS: u64 = 100;
+
+/// Where an order has prices, an area without one counts in square centimetres.
+const SQUARE_CENTIMETRE: u64 = 100_000_000;
+
+impl Task {
+    pub fn new(order: &Order) -> Task {
+        let mut kinds: Vec<Kind> = Vec::new();
+        for (number, panel) in order.panels.iter().enumerate().filter(|(_, panel)| panel.count > 0) {
+            let same = |kind: &&mut Kind| {
+                (kind.sides, kind.turns, kind.price) == (panel.sides(), turns(panel), panel.price)
+            };
+            if let Some(kind) = kinds.iter_mut().find(same) {
+                kind.count += panel.count;
+                kind.panels.push(number);
+            } else {
+                let (sides, price, count) = (panel.sides(), panel.price, panel.count);
+                kinds.push(Kind { sides, turns: turns(panel), price, count, panels: vec![number] });
+            }
+        }
+        let stock = order.plates.iter().map(|plate| Stock {
+            sides: order.usable(plate),
+            count: plate.count,
+            cost: if plate.offcut { 0 } else { plate.cost.into() },
+        });
+        let worths = kinds.iter().map(|kind| worth(kind, order.is_priced())).collect();
+        Task { stock: stock.collect(), kerf: order.kerf(), stages: order.stages, worths, kinds }
+    }
+
+    /// The ways in which a kind may lie on a board.
+    pub fn ways(&self, kind: usize, board: Sides) -> impl Iterator<Item = bool> + '_ {
+        let Kind { sides, turns, .. } = self.kinds[kind];
+        [false, true].into_iter().filter(move |turned| {
+            let [length, width] = lying(sides, *turned);
+            (!turned || turns) && length <= board[0] && width <= board[1]
+        })
+    }
+
+    /// The sides of a kind as it lies, with the kerf added: sums of these need no care for the blade.
+    pub fn wide(&self, kind: usize, turned: bool) -> [i32; 2] {
+        lying(self.kinds[kind].sides, turned).map(|side| (side + self.kerf) as i32)
+    }
+
+    /// The sides of a board with the kerf added.
+    pub fn room(&self, board: Sides) -> [i32; 2] {
+        board.map(|side| (side + self.kerf) as i32)
+    }
+
+    /// The lines of the stock that have boards for panels of the order.
+    pub fn usable_stock(&self) -> impl Iterator<Item = usize> + '_ {
+        (0..self.stock.len()).filter(|stock| {
+            let Stock { sides, count, .. } = self.stock[*stock];
+            count != Some(0) && (0..self.kinds.len()).any(|kind| self.ways(kind, sides).next().is_some())
+        })
+    }
+
+    /// So many steps of packing, or fewer where the order has very many panels and each step takes longer.
+    pub fn steps(&self, steps: u64) -> u64 {
+        let panels: u64 = self.kinds.iter().map(|kind| u64::from(kind.count)).sum();
+        steps * MANY_PANELS / panels.max(MANY_PANELS)
+    }
+
+    /// Whether panels may be turned, and whether some may not.
+    pub fn choices(&self) -> Choices {
+        let turning = self.kinds.iter().any(|kind| kind.turns);
+        let grain = turning && self.kinds.iter().any(Kind::keeps_grain);
+        Choices { turning, grain, ..Choices::default() }
+    }
+
+    pub fn counts(&self) -> Vec<u32> {
+        self.kinds.iter().map(|kind| kind.count).collect()
+    }
+}
+
+/// A square lies in one way only.
+fn turns(panel: &Panel) -> bool {
+    panel.turns && panel.sides[0] != panel.sides[1]
+}
+
+fn worth(kind: &Kind, priced: bool) -> u64 {
+    let area = u64::from(kind.sides[0]) * u64::from(kind.sides[1]);
+    match kind.price {
+        Some(price) => price.into(),
+        None if priced => area.div_ceil(SQUARE_CENTIMETRE),
+        None => area,
+    }
+}
