@@ -7,6 +7,8 @@ use bound::BoundAnswer;
 use certificate::Certificate;
 use exact::ExactAnswer;
 use exact::ExactReport;
+use multipliers::LagrangianAnswer;
+use multipliers::LagrangianReport;
 use neat::NeatAnswer;
 use plates_needed::PlatesAnswer;
 use refusal::Checked;
@@ -36,6 +38,7 @@ ghost use Rattle.writer.specs.Write.{write-values, write-outcome};
 ghost use Rattle.saw.specs.Parts.{part-said};
 ghost use Rattle.two_bound.specs.Two.{two-values, two-outcome};
 ghost use Rattle.plates_needed.specs.Plates.{plates-outcome};
+ghost use Rattle.multipliers.specs.Multipliers.{lagrangian-values, lagrangian-outcome};
 ghost use Rattle.exact.specs.Exact.{exact-values, exact-outcome};
 ghost use Rattle.answer_words.specs.Words.{Gives, GapWithin};
 
@@ -216,6 +219,36 @@ pub fn put_plates(a: PlatesAnswer, answer: &mut [u64]) -> u32
         PlatesAnswer::Refused(r) => refuse(r, answer),
         PlatesAnswer::Answered(b) => {
             put_three(b.plates, b.bound, b.worth, answer);
+            0
+        }
+    }
+}
+
+// What the bound by multipliers reports: the Lagrangian bound, and what the bound call does of the lowered job.
+fn put_multiplied(b: LagrangianReport, answer: &mut [u64])
+    requires { ⌜ 5 ≤ length (now answer) ⌝ }
+    ensures { λ _. ⌜ now (answer .exit) ≡ sets (now (answer .entry)) 0 (lagrangian-values b) ⌝ }
+{
+    let low = b.lowered;
+    put_four(
+        b.lagrangian,
+        low.bound,
+        low.capacity as u64,
+        low.length_count as u64,
+        answer,
+    );
+    answer[4] = low.columns as u64;
+}
+
+// What the bound by multipliers answers.
+pub fn put_lagrangian(a: LagrangianAnswer, answer: &mut [u64]) -> u32
+    requires { ⌜ 5 ≤ length (now answer) ⌝ }
+    ensures { λ n. ⌜ Gives (lagrangian-outcome a) n (now (answer .entry)) (now (answer .exit)) ⌝ }
+{
+    match a {
+        LagrangianAnswer::Refused(r) => refuse(r, answer),
+        LagrangianAnswer::Answered(b) => {
+            put_multiplied(b, answer);
             0
         }
     }

@@ -11,3 +11,4 @@ mod Plates
 mod Orders
 mod TruePlans
 mod ModelCheck
+mod Multiplied

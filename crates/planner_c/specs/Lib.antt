@@ -8,3 +8,4 @@ pub mod Racks
 pub mod Orders
 pub mod TruePlans
 pub mod Models
+pub mod Lagrangian

@@ -5,6 +5,7 @@
 mod bounds;
 mod choices;
 mod found;
+mod lagrangian;
 mod models;
 mod racks;
 mod sawing;

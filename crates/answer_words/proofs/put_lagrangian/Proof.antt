@@ -1,0 +1,17 @@
+-- `answer_words::put_lagrangian` meets its contract, for either answer.
+use mathlib.Core.Path.{refl}
+use denote.Ref.{now}
+use Rattle.multipliers.specs.Multipliers.{lagrangian-values, lagrangian-outcome}
+use Rattle.answer_words.proofs.Words.{given, values-given}
+use borrow.Author.Needs.{needs}
+use Rattle.answer_words.proofs.put_lagrangian.Statement.{statement}
+use Rattle.answer_words.proofs.put_lagrangian.Tie as tie
+
+returns : tie.Need-returns
+returns c = given lagrangian-outcome (now (c .before .before .before .before .before .before .before .before .args .answer)) (c .before .before .before .before .before .a .given .1) (c .before .before .refuse .ensures)
+
+returns-2 : tie.Need-returns-2
+returns-2 c = let a = c .before .before .before .before .before .before .before .before .args in values-given lagrangian-outcome (lagrangian-values (c .before .before .before .before .before .a2 .given .0 .0)) (now (a .answer)) (c .before .before .before .before .before .a2 .given .1) refl (c .before .before .before .before .before .before .before .before .pre) (c .before .before .put-multiplied .ensures)
+
+pub put-lagrangian-spec : {M : Type 1} → statement M
+put-lagrangian-spec = tie.close (tie.spec (search needs) (search needs) (search needs) (search needs) (search needs) returns (search needs) returns-2)
