@@ -31,6 +31,11 @@ impl Millimetres {
             return None;
         }
         let thousandths: u64 = format!("{whole}{decimals:0<3}").parse().ok()?;
+        Millimetres::within(thousandths)
+    }
+
+    /// So many thousandths, if they are not above the greatest length.
+    pub fn within(thousandths: u64) -> Option<Millimetres> {
         (thousandths <= MOST).then_some(Millimetres(thousandths as u32))
     }
 

@@ -1,5 +1,6 @@
-// A line of an order file as cells, each with its column. A line with a tab is separated by tabs, any
-// other by commas; a cell may stand in quotes, and a # where a cell begins opens a comment.
+// A line of an order file as cells, each with its column. A line with a tab is separated by tabs, else one with a
+// semicolon by semicolons, any other by commas; a cell may stand in quotes, and a # where a cell begins opens a
+// comment.
 use super::fault::Expected;
 
 /// A cell, without the blanks around it. Columns count characters from 1.
@@ -7,6 +8,18 @@ use super::fault::Expected;
 pub struct Cell {
     pub text: String,
     pub column: usize,
+    pub gap: Gap,
+}
+
+/// What stands between a cell and the one before.
+#[derive(Clone, Copy, Debug, PartialEq, Eq)]
+pub enum Gap {
+    /// A separator and a blank.
+    Blank,
+    /// A comma as separator, right between two digits.
+    DigitComma,
+    /// A separator, or nothing.
+    Other,
 }
 
 struct Line {
@@ -17,8 +30,8 @@ struct Line {
 
 /// The cells of a line up to the last that is not empty.
 pub fn cells(line: &str) -> Result<Vec<Cell>, Expected> {
-    let separator = if line.contains('\t') { '\t' } else { ',' };
-    let mut line = Line { chars: line.chars().collect(), at: 0, separator };
+    let chars: Vec<char> = line.chars().collect();
+    let mut line = Line { separator: separator(&chars), chars, at: 0 };
     let mut cells = Vec::new();
     loop {
         line.skip_blanks();
@@ -34,6 +47,24 @@ pub fn cells(line: &str) -> Result<Vec<Cell>, Expected> {
     let last = cells.iter().rposition(|cell| !cell.text.is_empty());
     cells.truncate(last.map_or(0, |last| last + 1));
     Ok(cells)
+}
+
+/// What separates the cells of a line: a tab or else a semicolon, outside quotes and before a comment, or else a comma.
+fn separator(chars: &[char]) -> char {
+    let (mut quoted, mut begins, mut separator) = (false, true, ',');
+    for next in chars {
+        match next {
+            // After a closing quote a second one opens the cell again.
+            '"' if quoted || begins => quoted = !quoted,
+            _ if quoted => {}
+            '#' if begins => break,
+            '\t' => return '\t',
+            ';' => (begins, separator) = (true, ';'),
+            ',' => begins = true,
+            _ => begins &= next.is_whitespace(),
+        }
+    }
+    separator
 }
 
 impl Line {
@@ -52,9 +83,21 @@ impl Line {
     }
 
     fn cell(&mut self) -> Result<Cell, Expected> {
-        let column = self.at + 1;
+        let (column, gap) = (self.at + 1, self.gap());
         let text = if self.next() == Some('"') { self.quoted()? } else { self.bare() };
-        Ok(Cell { text, column })
+        Ok(Cell { text, column, gap })
+    }
+
+    /// What stands before the cell that begins here.
+    fn gap(&self) -> Gap {
+        let digit = |at: usize| self.chars.get(at).is_some_and(char::is_ascii_digit);
+        match self.chars[..self.at] {
+            [.., before, ','] if self.separator == ',' && before.is_ascii_digit() && digit(self.at) => {
+                Gap::DigitComma
+            }
+            [.., last] if last != self.separator => Gap::Blank,
+            _ => Gap::Other,
+        }
     }
 
     fn bare(&mut self) -> String {

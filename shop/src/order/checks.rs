@@ -1,6 +1,7 @@
 // What an order's lines must have together: a plate, a trim that the blade can take, and panels each of which fits a
 // plate of the stock.
 use super::fault::{Expected, Fault};
+use super::names::number_repeated;
 use super::reader::{Draft, Heading, Placed};
 use super::{Order, Panel};
 use crate::millimetres::Millimetres;
@@ -29,7 +30,7 @@ impl Draft {
         let turning = self.turning.unwrap_or(false);
         let mut notices = self.notices;
         if self.kerf.is_none() {
-            notices.push("no saw line: the blade is taken to have no width".to_string());
+            notices.push("no saw line with a kerf: the blade is taken to have no width".to_string());
         }
         let mut order = Order {
             plates: self.plates.into_iter().map(|plate| plate.value).collect(),
@@ -39,7 +40,7 @@ impl Draft {
             panels: Vec::new(),
             notices,
         };
-        let panels: Vec<Placed<Panel>> =
+        let mut panels: Vec<Placed<Panel>> =
             self.panels.into_iter().map(|panel| panel.turning(turning)).collect();
         let usable: Vec<Sides> = order.plates.iter().map(|plate| order.usable(plate)).collect();
         let mut faults: Vec<Fault> = panels.iter().filter_map(|panel| misfit(panel, &usable)).collect();
@@ -48,6 +49,7 @@ impl Draft {
         if !faults.is_empty() {
             return Err(faults);
         }
+        order.notices.extend(number_repeated(&mut panels));
         order.panels = panels.into_iter().map(|panel| panel.value).collect();
         Ok(order)
     }

@@ -33,6 +33,12 @@ impl Expected {
         Expected::at(cell.column, expected, found)
     }
 
+    /// Something that is missing after the last cell of a line.
+    pub fn after(cells: &[Cell], expected: impl Into<String>) -> Expected {
+        let column = cells.last().map_or(1, |last| last.column + last.text.chars().count());
+        Expected::at(column, expected, "the line's end")
+    }
+
     pub fn on(self, line: usize) -> Fault {
         let Expected { column, expected, found } = self;
         Fault { line, column, expected, found }

@@ -1,7 +1,13 @@
-// An order: the stock of boards, the saw and the panels, in millimetres as they are written. Nothing is rounded.
+// An order: the stock of boards, the saw and the panels, in millimetres as they are written. Nothing but inches is
+// rounded, to thousandths.
 mod cells;
 mod checks;
+mod commas;
+mod encoding;
 mod fault;
+mod heading;
+mod lengths;
+mod names;
 mod reader;
 mod writer;
 

@@ -2,13 +2,11 @@
 // All faulty lines are reported, each with its first fault.
 use super::cells::{cells, Cell};
 use super::fault::{Expected, Fault};
-use super::{Order, Panel, Plate};
+use super::heading::{self, once, Columns};
+use super::{commas, encoding, lengths, Order, Panel, Plate};
 use crate::millimetres::Millimetres;
 
-const LENGTH: &str = "a length in millimetres, above 0 and with at most three decimals";
-const COLUMNS: [&str; 6] = ["name", "length", "width", "count", "price", "turn"];
-const PRICE: usize = 4;
-const TURN: usize = 5;
+const LENGTH: &str = "a length above 0, in millimetres with at most three decimals or in inches as 23 1/2\"";
 
 /// The most copies of a panel or plate, the greatest price or cost, and the most stages.
 const MOST_COPIES: u32 = 10_000;
@@ -63,16 +61,16 @@ pub struct Draft {
     unit: bool,
 }
 
-/// Where a heading puts each of `COLUMNS`. After a faulty one no line can be read.
+/// The heading of the panels. After a faulty one no line can be read.
 pub enum Heading {
     Faulty,
-    Columns([Option<usize>; COLUMNS.len()]),
+    Columns(Columns),
 }
 
 /// Reads an order, or says all that is wrong with it. `turning` stands for what the order says of it.
 pub fn read(bytes: &[u8], turning: Option<bool>) -> Result<Order, Vec<Fault>> {
-    let text = text_of(bytes).map_err(|fault| vec![fault])?;
-    let mut draft = Draft::default();
+    let encoding::Decoded { text, notice } = encoding::decode(bytes).map_err(|fault| vec![fault])?;
+    let mut draft = Draft { notices: Vec::from_iter(notice), ..Draft::default() };
     let mut faults = Vec::new();
     for line in text.lines() {
         draft.lines += 1;
@@ -87,27 +85,25 @@ pub fn read(bytes: &[u8], turning: Option<bool>) -> Result<Order, Vec<Fault>> {
     }
 }
 
-/// The text without the mark that spreadsheets put before it.
-fn text_of(bytes: &[u8]) -> Result<&str, Fault> {
-    let text = std::str::from_utf8(bytes).map_err(|error| {
-        let before = String::from_utf8_lossy(&bytes[..error.valid_up_to()]);
-        let line = before.split('\n').count();
-        let column = before.split('\n').next_back().map_or(0, |last| last.chars().count()) + 1;
-        Expected::at(column, "text in UTF-8", "a byte of another code").on(line)
-    })?;
-    Ok(text.strip_prefix('\u{feff}').unwrap_or(text))
-}
-
 impl Draft {
     fn line(&mut self, cells: &[Cell]) -> Result<(), Expected> {
-        let Some((first, rest)) = cells.split_first() else {
-            return Ok(());
-        };
         match self.heading {
-            Some(Heading::Columns(columns)) => return self.panel(cells, columns),
-            Some(Heading::Faulty) => return Ok(()),
-            None => {}
+            _ if cells.is_empty() => Ok(()),
+            Some(Heading::Columns(columns)) => {
+                commas::suspect(cells, columns.needed())?;
+                self.panel(cells, columns)
+            }
+            Some(Heading::Faulty) => Ok(()),
+            None if heading::named(cells) > 1 => self.heading(cells),
+            None => {
+                commas::suspect(cells, 2)?;
+                self.before_heading(cells).map_err(|fault| commas::explain(fault, cells))
+            }
         }
+    }
+
+    fn before_heading(&mut self, cells: &[Cell]) -> Result<(), Expected> {
+        let (first, rest) = (&cells[0], &cells[1..]);
         match first.text.to_lowercase().as_str() {
             "plate" | "board" => self.plate(first, rest, false),
             "offcut" => self.plate(first, rest, true),
@@ -115,7 +111,9 @@ impl Draft {
             "stages" => self.stages(first, rest),
             "saw" => self.saw(rest),
             "turning" => self.turning(first, rest),
-            _ if cells.iter().any(|cell| is_named(cell, "name")) => self.heading(cells),
+            // A word to spreadsheets; what separates cells is seen in each line.
+            "sep=" => Ok(()),
+            _ if heading::named(cells) > 0 => self.heading(cells),
             _ => Err(Expected::in_cell(
                 first,
                 "plate, offcut, trim, stages, saw, turning or the heading name, length, width, count, price",
@@ -129,11 +127,10 @@ impl Draft {
 
     /// A size of the stock: sides, then how many there are and what each costs, if that is said.
     fn plate(&mut self, first: &Cell, rest: &[Cell], offcut: bool) -> Result<(), Expected> {
-        let expected = "LENGTH x WIDTH in millimetres, as 2440 x 1220";
-        let (cell, rest) = rest.split_first().ok_or_else(|| after(std::slice::from_ref(first), expected))?;
-        let sides = cell.text.split_once(['x', 'X', '×']);
-        let sides = sides.and_then(|(length, width)| Some([length_in(length)?, length_in(width)?]));
-        let sides = sides.ok_or_else(|| Expected::in_cell(cell, expected))?;
+        let expected = "LENGTH x WIDTH, as 2440 x 1220 or 96\" x 48\"";
+        let missing = || Expected::after(std::slice::from_ref(first), expected);
+        let (cell, rest) = rest.split_first().ok_or_else(missing)?;
+        let sides = lengths::sides(&cell.text).map_err(|none| none.in_cell(cell, expected))?;
         let mut plate = Plate { sides, count: offcut.then_some(1), cost: u32::from(!offcut), offcut };
         let (mut counted, mut costed) = (false, offcut);
         for cell in rest.iter().filter(|cell| !cell.text.is_empty()) {
@@ -161,7 +158,7 @@ impl Draft {
     fn trim(&mut self, first: &Cell, rest: &[Cell]) -> Result<(), Expected> {
         let expected = "a width in millimetres, as trim, 10";
         let cell = only(first, rest, expected)?;
-        let trim = length_in(&cell.text).ok_or_else(|| Expected::in_cell(cell, expected))?;
+        let trim = lengths::side(&cell.text).map_err(|none| none.in_cell(cell, expected))?;
         once(self.trim.is_none(), first)?;
         self.trim = Some(self.placed(cell, trim));
         Ok(())
@@ -178,9 +175,10 @@ impl Draft {
 
     fn saw(&mut self, rest: &[Cell]) -> Result<(), Expected> {
         for cell in rest {
-            let expected = || Expected::in_cell(cell, "kerf or unit with millimetres, as kerf 3.2");
-            let (word, length) = cell.text.split_once(char::is_whitespace).ok_or_else(expected)?;
-            let length = Millimetres::read(length.trim()).ok_or_else(expected)?;
+            let expected = "kerf or unit with millimetres, as kerf 3.2";
+            let other = || Expected::in_cell(cell, expected);
+            let (word, length) = cell.text.split_once(char::is_whitespace).ok_or_else(other)?;
+            let length = lengths::length(length).map_err(|none| none.in_cell(cell, expected))?;
             match word.to_lowercase().as_str() {
                 "kerf" if self.kerf.is_none() => self.kerf = Some(self.placed(cell, length)),
                 "unit" if length == Millimetres::ZERO => {
@@ -189,14 +187,14 @@ impl Draft {
                 // Orders of earlier days have it; sizes are no longer rounded to it.
                 "unit" if !self.unit => self.unit = true,
                 "kerf" | "unit" => return once(false, cell),
-                _ => return Err(expected()),
+                _ => return Err(other()),
             }
         }
         Ok(())
     }
 
     fn turning(&mut self, first: &Cell, rest: &[Cell]) -> Result<(), Expected> {
-        let turning = yes_or_no(only(first, rest, "yes or no")?)?;
+        let turning = turns(only(first, rest, "yes or no")?, false)?;
         once(self.turning.is_none(), first)?;
         self.turning = Some(turning);
         Ok(())
@@ -204,100 +202,58 @@ impl Draft {
 
     fn heading(&mut self, cells: &[Cell]) -> Result<(), Expected> {
         self.heading = Some(Heading::Faulty);
-        let mut columns = [None; COLUMNS.len()];
-        for (index, cell) in cells.iter().enumerate() {
-            let column = COLUMNS.iter().position(|name| is_named(cell, name)).ok_or_else(|| {
-                Expected::in_cell(cell, "one of the columns name, length, width, count, price, turn")
-            })?;
-            once(columns[column].is_none(), cell)?;
-            columns[column] = Some(index);
-        }
-        if let Some(missing) = columns[..PRICE].iter().position(Option::is_none) {
-            return Err(after(cells, format!("a column {}", COLUMNS[missing])));
-        }
+        let (columns, notice) = heading::columns(cells)?;
         self.heading = Some(Heading::Columns(columns));
+        self.notices.extend(notice);
         Ok(())
     }
 
-    fn panel(&mut self, cells: &[Cell], columns: [Option<usize>; COLUMNS.len()]) -> Result<(), Expected> {
-        let headed = columns.iter().flatten().count();
-        if let Some(cell) = cells.get(headed) {
-            return Err(Expected::in_cell(cell, format!("no more than {headed} cells")));
+    fn panel(&mut self, cells: &[Cell], columns: Columns) -> Result<(), Expected> {
+        if let Some(cell) = cells.get(columns.all) {
+            let fault = Expected::in_cell(cell, format!("no more than {} cells", columns.all));
+            return Err(commas::explain(fault, cells));
         }
         let cell = |column: usize, expected: &str| {
-            let cell = columns[column].and_then(|index| cells.get(index));
-            cell.ok_or_else(|| after(cells, expected))
+            columns.cell(cells, column).ok_or_else(|| Expected::after(cells, expected))
         };
-        let name = cell(0, "a name")?;
-        self.new_name(name)?;
-        let length = cell(1, LENGTH)?;
-        let sides = [side(length)?, side(cell(2, LENGTH)?)?];
-        let count = whole(cell(3, "a count")?, "a count", MOST_COPIES)?;
-        let price = match cell(PRICE, "") {
-            Ok(cell) if !cell.text.is_empty() => Some(whole(cell, "a price", MOST_PRICE)?),
-            _ => None,
-        };
-        let turns = match cell(TURN, "") {
-            Ok(cell) if !cell.text.is_empty() => Some(yes_or_no(cell)?),
-            _ => None,
-        };
+        let name = cell(heading::NAME, "a name")?;
+        if name.text.is_empty() {
+            return Err(Expected::in_cell(name, "a name"));
+        }
+        let length = cell(heading::LENGTH, LENGTH)?;
+        let sides = [side(length)?, side(cell(heading::WIDTH, LENGTH)?)?];
+        let count = whole(cell(heading::COUNT, "a count")?, "a count", MOST_COPIES)?;
+        let price = columns.filled(cells, heading::PRICE).map(|cell| whole(cell, "a price", MOST_PRICE));
+        let turns = columns.filled(cells, heading::TURN).map(|cell| turns(cell, columns.grain));
+        let (price, turns) = (price.transpose()?, turns.transpose()?);
         let panel = PanelLine { name: name.text.clone(), sides, count, price, turns };
         self.panels.push(self.placed(length, panel));
         Ok(())
     }
-
-    fn new_name(&self, cell: &Cell) -> Result<(), Expected> {
-        if cell.text.is_empty() {
-            return Err(Expected::in_cell(cell, "a name"));
-        }
-        match self.panels.iter().find(|panel| panel.value.name == cell.text) {
-            Some(other) => Err(Expected::in_cell(
-                cell,
-                format!("a name that no other panel has, and line {} has it", other.line),
-            )),
-            None => Ok(()),
-        }
-    }
-}
-
-fn is_named(cell: &Cell, name: &str) -> bool {
-    cell.text.eq_ignore_ascii_case(name)
 }
 
 /// The one cell that follows a word.
 fn only<'a>(first: &Cell, rest: &'a [Cell], expected: &str) -> Result<&'a Cell, Expected> {
     match rest {
         [cell] => Ok(cell),
-        [] => Err(after(std::slice::from_ref(first), expected)),
+        [] => Err(Expected::after(std::slice::from_ref(first), expected)),
         [_, more, ..] => Err(Expected::in_cell(more, "the line's end")),
     }
 }
 
-/// Something is missing after the last cell of a line.
-fn after(cells: &[Cell], expected: impl Into<String>) -> Expected {
-    let column = cells.last().map_or(1, |last| last.column + last.text.chars().count());
-    Expected::at(column, expected, "the line's end")
-}
-
-fn once(first_time: bool, cell: &Cell) -> Result<(), Expected> {
-    let again = || Expected::in_cell(cell, "something that was not said before");
-    first_time.then_some(()).ok_or_else(again)
-}
-
-fn yes_or_no(cell: &Cell) -> Result<bool, Expected> {
+/// Whether a panel may be turned. Where the cell tells of the `grain`, yes means that it may not.
+fn turns(cell: &Cell, grain: bool) -> Result<bool, Expected> {
     match cell.text.to_lowercase().as_str() {
-        "yes" => Ok(true),
-        "no" => Ok(false),
-        _ => Err(Expected::in_cell(cell, "yes or no")),
+        "yes" | "y" | "x" | "1" | "true" => Ok(!grain),
+        "no" | "n" | "0" | "false" | "none" => Ok(grain),
+        "with grain" | "with the grain" | "along grain" | "along the grain" | "lengthwise" => Ok(false),
+        "no grain" | "without grain" | "any" | "either" => Ok(true),
+        _ => Err(Expected::in_cell(cell, "yes or no, x, 1 or 0, with grain or no grain")),
     }
 }
 
-fn length_in(text: &str) -> Option<Millimetres> {
-    Millimetres::read(text.trim()).filter(|length| *length > Millimetres::ZERO)
-}
-
 fn side(cell: &Cell) -> Result<Millimetres, Expected> {
-    length_in(&cell.text).ok_or_else(|| Expected::in_cell(cell, LENGTH))
+    lengths::side(&cell.text).map_err(|none| none.in_cell(cell, LENGTH))
 }
 
 fn whole(cell: &Cell, what: &str, most: u32) -> Result<u32, Expected> {

@@ -60,10 +60,11 @@ fn lines_before_the_heading() {
 
 #[test]
 fn headings() {
-    after_plate("name, length, width, number", 22, "one of the columns");
+    after_plate("name, length, width, number", 28, "a column count beside those that are not read, number");
     after_plate("name, length, length, count", 15, "not said before");
     after_plate("name, length, width", 20, "a column count");
-    after_plate("name, length, , width, count", 15, "one of the columns");
+    after_plate("name, length", 13, "a column width");
+    after_plate("name", 5, "a column length");
     let skipped = format!("{PLATE}name, length\na, 1\n");
     assert_eq!(read(skipped.as_bytes(), None).expect_err("two columns are missing").len(), 1);
 }
@@ -71,7 +72,6 @@ fn headings() {
 #[test]
 fn panels() {
     panel(", 1, 1, 1", 1, "a name");
-    panel("a, 1, 1, 1", 1, "line 3 has it");
     panel("b", 2, "a length");
     panel("b, 1", 5, "a length");
     panel("b, 1, 1", 8, "a count");
@@ -96,7 +96,7 @@ fn panels() {
 fn text_and_quotes() {
     panel("\"b, 1, 1, 1", 12, "a closing quote");
     panel("\"b\" c, 1, 1, 1", 5, "the cell's end");
-    let faults = read(b"plate, 5 x 5\nna\xffme\n", None).expect_err("no UTF-8");
+    let faults = read(b"plate, 5 x 5\nna\x9dme\n", None).expect_err("no text");
     assert_eq!((faults[0].line, faults[0].column), (2, 3));
     assert!(faults[0].expected.contains("UTF-8"));
 }

@@ -1,5 +1,7 @@
-// Tests of the shop's command: its usage, orders and their faults, the sample, plans replayed cut by cut from the
-// document, the list and the drawing, filed plans, verdicts, and generated orders against an exhaustive search.
+// Tests of the shop's command: its usage, orders, also as spreadsheets write them, and their faults, the sample, plans
+// replayed cut by cut from the document, the list and the drawing, filed plans, verdicts, and generated orders against
+// an exhaustive search.
+mod dialects;
 mod drawings;
 mod exhaustive;
 mod faults;
