@@ -10,9 +10,12 @@ use std::fmt::Write;
 /// Room for a drawing on its sheet, in millimetres.
 const DRAWING: [f64; 2] = [190.0, 150.0];
 
-/// Longer lists stand in two columns.
-const FEW_CUTS: usize = 26;
+/// Longer lists of panels stand in two columns.
 const FEW_PANELS: usize = 10;
+
+/// What a sheet has for drawing and lists, and what a row of a list takes, in millimetres.
+const SHEET: f64 = 258.0;
+const ROW: f64 = 4.7;
 
 /// Labels on a sheet, 3 by 8.
 const LABELS: usize = 24;
@@ -122,18 +125,20 @@ impl Page<'_> {
         self.in_columns(panels.len() > FEW_PANELS, |page| {
             page.table("panels", &["", "panel", "size in mm", "here", "grain"], rows);
         });
-        self.cuts(board);
+        let listed = if panels.len() > FEW_PANELS { panels.len().div_ceil(2) } else { panels.len() };
+        self.cuts(board, SHEET - paper[1] - ROW * (listed + 1) as f64);
         self.put("</section>");
     }
 
-    fn cuts(&mut self, board: &Board) {
+    /// The list of cuts, in two columns where one does not fit the room that is left of the sheet.
+    fn cuts(&mut self, board: &Board, room: f64) {
         let cuts = &board.layout.cuts;
         if cuts.is_empty() {
             return self.paragraph("cuts", "No cut.");
         }
         let outcome = self.outcome;
         let rows = cuts.iter().enumerate().map(|(index, cut)| cut_row(outcome, index + 1, cut));
-        self.in_columns(cuts.len() > FEW_CUTS, |page| {
+        self.in_columns(ROW * (cuts.len() + 1) as f64 > room, |page| {
             page.table("list", &["cut", "of", "side", "fence", "first part", "second part"], rows);
         });
     }
