@@ -8,7 +8,7 @@ VERSION := $(shell sed -n 's/^.define PLANNER_VERSION "\(.*\)"/\1/p' include/pla
 SONAME := libplanner.so.$(firstword $(subst ., ,$(VERSION)))
 BUILD := target/install
 ARCHIVE := target/staticlib/libplanner_c.a
-COMMAND := shop/target/release/shop
+COMMAND := target/release/shop
 
 include := $(DESTDIR)$(PREFIX)/include
 lib := $(DESTDIR)$(PREFIX)/lib
@@ -28,7 +28,7 @@ $(BUILD)/$(SONAME): $(ARCHIVE)
 	$(CC) -shared -Wl,-soname,$(SONAME) -Wl,--whole-archive $(ARCHIVE) -Wl,--no-whole-archive -o $@
 
 command: archive
-	cargo build --quiet --release --offline --manifest-path shop/Cargo.toml
+	cargo build --quiet --release --offline --package shop
 
 install: install-library install-command
 

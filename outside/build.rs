@@ -5,7 +5,7 @@ fn main() {
     let here = std::env::var("CARGO_MANIFEST_DIR").expect("cargo names the project's folder");
     let here = Path::new(&here);
     for name in ["baseline_c", "stack"] {
-        link(&here.join("target/c"), name);
+        link(&here.join("../target/outside"), name);
     }
 }
 

@@ -13,8 +13,8 @@ pub enum Error {
     Wrong { file: PathBuf, wrong: String },
     /// An output is named that is an input, or that is named twice.
     Clash { file: PathBuf, with: &'static str },
-    /// A proved call refused what the search has found.
-    Call(planner::Error),
+    /// The order has no plan.
+    Plan { file: PathBuf, wrong: planner_search::Error },
 }
 
 /// The faults that are shown.
@@ -23,6 +23,10 @@ const SHOWN: usize = 20;
 impl Error {
     pub fn file(file: &Path, error: io::Error) -> Error {
         Error::File { file: file.to_path_buf(), error }
+    }
+
+    pub fn plan(file: &Path, wrong: planner_search::Error) -> Error {
+        Error::Plan { file: file.to_path_buf(), wrong }
     }
 
     pub fn wrong(file: &Path, wrong: impl ToString) -> Error {
@@ -47,7 +51,7 @@ impl fmt::Display for Error {
             Error::Clash { file, with } => {
                 write!(f, "{}: an output may not be {with}", file.display())
             }
-            Error::Call(error) => write!(f, "the plan was found and does not pass: {error}"),
+            Error::Plan { file, wrong } => write!(f, "{}: {wrong}", file.display()),
         }
     }
 }

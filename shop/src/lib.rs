@@ -1,5 +1,5 @@
-// The shop's command as a library, so that tests can use its parts: orders, the search, and what is
-// given of a plan.
+// The shop's command as a library, so that tests can use its parts: orders as they are written, and what is given of a
+// plan. The plan itself comes from the library `planner_search`.
 pub mod commands;
 pub mod csv;
 mod date;
@@ -8,17 +8,15 @@ pub mod error;
 pub mod html;
 pub mod interrupt;
 pub mod json;
-pub mod layout;
-pub mod millimetres;
 pub mod options;
 pub mod order;
-pub mod outcome;
 mod output;
 mod places;
-pub mod plan;
-pub mod search;
+mod progress;
 pub mod stamp;
 pub mod summary;
 pub mod svg;
 pub mod text;
-pub mod verdict;
+
+pub use planner_search as search;
+pub use planner_search::{layout, millimetres, outcome, plan, verdict};

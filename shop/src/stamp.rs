@@ -1,11 +1,10 @@
 // A stamp: what a shop files with a plan, so that it can be certified again from nothing. It holds the order with its
 // names, the plans and what the proved calls read of the models, and nothing that they answer. docs/STAMP.md has its
 // form, and that of the stamps of earlier days, which are still read.
-use crate::commands::replayed;
-use crate::json::{self, evidence, tree_document, Filed, Value};
+use crate::json::{self, evidence, tree_document, Value};
 use crate::order;
 use crate::outcome::Outcome;
-use crate::search::Limits;
+use crate::search::{judge_plans, Limits};
 use crate::summary::summary;
 use planner::{Choices, Job, Plan, Planner};
 
@@ -18,7 +17,7 @@ pub fn text(outcome: &Outcome) -> String {
     let document = Value::object([
         ("stamp", Value::text(MARK)),
         ("one", Value::Truth(outcome.one)),
-        ("order", Value::text(outcome.order.text())),
+        ("order", Value::text(order::text(&outcome.order))),
         ("boards", Value::List(boards)),
         ("evidence", Value::List(outcome.evidence.iter().map(evidence).collect())),
     ]);
@@ -63,13 +62,14 @@ impl Stamp {
         };
         let order =
             order::read(text.as_bytes(), None).map_err(|faults| format!("the order: {}", faults[0]))?;
-        let mut filed = Filed::new(document, &order)?;
+        let mut filed = json::filed(document, &order)?;
         filed.one = document.get("one") == Some(&Value::Truth(true));
         if filed.one && filed.boards.len() != 1 {
             return Err("expected one board".to_string());
         }
         let limits = Limits { seconds: Some(std::time::Duration::ZERO), memory };
-        Ok(summary(&replayed(order, filed, limits)?))
+        let outcome = judge_plans(order, filed, limits).map_err(|error| error.to_string())?;
+        Ok(summary(&outcome))
     }
 }
 

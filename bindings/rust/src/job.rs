@@ -61,8 +61,7 @@ pub struct Choices {
 impl Job {
     /// The job as a block; the old block has no field for the kerf, and a block without grain none for it.
     pub fn block(&self, choices: Choices) -> Vec<u8> {
-        let kinds: Vec<_> =
-            self.kinds.iter().map(|k| (k.length, k.width, k.price, k.demand)).collect();
+        let kinds: Vec<_> = self.kinds.iter().map(|k| (k.length, k.width, k.price, k.demand)).collect();
         let mut block = if choices.old_block {
             old_block(self.length, self.width, &kinds)
         } else {

@@ -15,6 +15,4 @@ mod words;
 pub use job::{Choices, Job, Kind, TrueSizes};
 pub use planner::Planner;
 pub use storage::Error;
-pub use tree::{
-    Branch, Direction, Operand, Plan, PlanOf, Plate, Tree, TreeOf, TruePlan, TrueTree,
-};
+pub use tree::{Branch, Direction, Operand, Plan, PlanOf, Plate, Tree, TreeOf, TruePlan, TrueTree};

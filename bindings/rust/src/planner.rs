@@ -2,8 +2,8 @@
 //! Limits, weights, plans and jobs are taken as they are: the calls refuse what they do not accept.
 
 use crate::answers::{
-    Bound, BoundTwo, Certificate, Exact, Fitted, Found, Lagrangian, Passed, PlatesNeeded, Rack,
-    Report, SawReport, StagedReport, Written,
+    Bound, BoundTwo, Certificate, Exact, Fitted, Found, Lagrangian, Passed, PlatesNeeded, Rack, Report,
+    SawReport, StagedReport, Written,
 };
 use crate::job::{Choices, Job, TrueSizes};
 use crate::slices;
@@ -101,17 +101,11 @@ impl Planner {
 
     /// How many plates the whole order needs, beside others whose plans earn no more than `other` in all.
     pub fn plates_needed(&mut self, weights: &[u8], other: u64) -> Result<PlatesNeeded, Error> {
-        self.lender.lend(|storage| {
-            slices::plates_needed(&self.block, self.choices, weights, other, storage)
-        })
+        self.lender.lend(|storage| slices::plates_needed(&self.block, self.choices, weights, other, storage))
     }
 
     /// The bound with multipliers in place of demands.
-    pub fn bound_lagrangian(
-        &mut self,
-        weights: &[u8],
-        multipliers: &[u32],
-    ) -> Result<Lagrangian, Error> {
+    pub fn bound_lagrangian(&mut self, weights: &[u8], multipliers: &[u32]) -> Result<Lagrangian, Error> {
         self.lender.lend(|storage| {
             slices::bound_lagrangian(&self.block, self.choices, weights, multipliers, storage)
         })
@@ -124,16 +118,12 @@ impl Planner {
 
     /// The bound within a limit on the stages.
     pub fn bound_staged(&mut self, weights: &[u8], limit: u32) -> Result<Bound, Error> {
-        self.lender.lend(|storage| {
-            slices::bound_staged(&self.block, self.choices, weights, limit, storage)
-        })
+        self.lender.lend(|storage| slices::bound_staged(&self.block, self.choices, weights, limit, storage))
     }
 
     /// The bound under two weights a kind.
     pub fn bound_two(&mut self, first: &[u8], second: &[u8]) -> Result<BoundTwo, Error> {
-        self.lender.lend(|storage| {
-            slices::bound_two(&self.block, self.choices, first, second, storage)
-        })
+        self.lender.lend(|storage| slices::bound_two(&self.block, self.choices, first, second, storage))
     }
 
     /// The bound and the plan behind it, which may exceed demands.
@@ -150,8 +140,7 @@ impl Planner {
     pub fn exact(&mut self) -> Result<(Exact, Plan), Error> {
         self.lender.lend(|storage| {
             written(|arrays| {
-                slices::exact(&self.block, self.choices, storage, arrays)
-                    .map(|exact| (exact, exact.nodes))
+                slices::exact(&self.block, self.choices, storage, arrays).map(|exact| (exact, exact.nodes))
             })
         })
     }
@@ -159,18 +148,12 @@ impl Planner {
     /// Certifies a plan under these weights.
     pub fn certify(&mut self, weights: &[u8], plan: &Plan) -> Result<Certificate, Error> {
         let Plan { kinds, operands } = plan;
-        self.lender.lend(|storage| {
-            slices::certify(&self.block, self.choices, weights, kinds, operands, storage)
-        })
+        self.lender
+            .lend(|storage| slices::certify(&self.block, self.choices, weights, kinds, operands, storage))
     }
 
     /// Certifies a plan within a limit on the stages.
-    pub fn certify_staged(
-        &mut self,
-        weights: &[u8],
-        limit: u32,
-        plan: &Plan,
-    ) -> Result<Certificate, Error> {
+    pub fn certify_staged(&mut self, weights: &[u8], limit: u32, plan: &Plan) -> Result<Certificate, Error> {
         let Plan { kinds, operands } = plan;
         self.lender.lend(|storage| {
             slices::certify_staged(&self.block, self.choices, weights, limit, kinds, operands, storage)

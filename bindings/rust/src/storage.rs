@@ -39,10 +39,7 @@ impl Lender {
     }
 
     /// Makes a call; where it needs a longer table, lends that and makes it again.
-    pub fn lend<A>(
-        &mut self,
-        call: impl FnMut(Storage) -> Result<A, Refusal>,
-    ) -> Result<A, Error> {
+    pub fn lend<A>(&mut self, call: impl FnMut(Storage) -> Result<A, Refusal>) -> Result<A, Error> {
         self.lend_times(1, call)
     }
 

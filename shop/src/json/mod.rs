@@ -3,7 +3,7 @@
 mod plans;
 mod reader;
 
-pub use plans::{document, evidence, tree_document, Filed};
+pub use plans::{document, evidence, filed, tree_document};
 pub use reader::{read, text_of};
 
 use std::fmt;

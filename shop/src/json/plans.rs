@@ -6,15 +6,8 @@ use crate::millimetres::Millimetres;
 use crate::order::Order;
 use crate::outcome::{worth_in_words, Board, Outcome};
 use crate::plan::{Direction, Tree};
-use crate::search::{Model, Modelled};
+use crate::search::{Filed, Model, Modelled};
 use crate::verdict::Verdict;
-
-/// The plans of a document, each with the line of the stock that it is for, and what may judge them.
-pub struct Filed {
-    pub boards: Vec<(usize, Tree)>,
-    pub one: bool,
-    pub evidence: Vec<Modelled>,
-}
 
 fn mm(length: u32) -> Value {
     Value::number(Millimetres::of_thousandths(length))
@@ -127,27 +120,25 @@ pub fn evidence(part: &Modelled) -> Value {
     ])
 }
 
-impl Filed {
-    /// The plans of a document, or what was expected and where. A tree may stand alone, as the member `plan`, or in
-    /// the list `boards`.
-    pub fn new(document: &Value, order: &Order) -> Result<Filed, String> {
-        let evidence = evidence_of(document)?;
-        let boards = document.get("boards").and_then(list).unwrap_or_default();
-        let one = document.get("plan").is_some() || document.get("boards").is_none();
-        if one {
-            let stock =
-                boards.first().map_or(Ok(first_plate(order)), |board| stock_of(board, order, "the plan"))?;
-            let tree = tree(document.get("plan").unwrap_or(document), "the plan", order)?;
-            return Ok(Filed { boards: vec![(stock, tree)], one, evidence });
-        }
-        let board = |(index, board): (usize, &Value)| {
-            let place = format!("board {}", index + 1);
-            let plan = board.get("plan").ok_or_else(|| format!("{place}: expected a plan"))?;
-            Ok((stock_of(board, order, &place)?, tree(plan, &place, order)?))
-        };
-        let boards = boards.iter().enumerate().map(board).collect::<Result<_, String>>()?;
-        Ok(Filed { boards, one, evidence })
+/// The plans of a document, or what was expected and where. A tree may stand alone, as the member `plan`, or in
+/// the list `boards`.
+pub fn filed(document: &Value, order: &Order) -> Result<Filed, String> {
+    let evidence = evidence_of(document)?;
+    let boards = document.get("boards").and_then(list).unwrap_or_default();
+    let one = document.get("plan").is_some() || document.get("boards").is_none();
+    if one {
+        let stock =
+            boards.first().map_or(Ok(first_plate(order)), |board| stock_of(board, order, "the plan"))?;
+        let tree = tree(document.get("plan").unwrap_or(document), "the plan", order)?;
+        return Ok(Filed { boards: vec![(stock, tree)], one, evidence });
     }
+    let board = |(index, board): (usize, &Value)| {
+        let place = format!("board {}", index + 1);
+        let plan = board.get("plan").ok_or_else(|| format!("{place}: expected a plan"))?;
+        Ok((stock_of(board, order, &place)?, tree(plan, &place, order)?))
+    };
+    let boards = boards.iter().enumerate().map(board).collect::<Result<_, String>>()?;
+    Ok(Filed { boards, one, evidence })
 }
 
 /// The first line of the stock that is no offcut.

@@ -5,13 +5,9 @@ use super::names::number_repeated;
 use super::reader::{Draft, Heading, Placed};
 use super::{Order, Panel};
 use crate::millimetres::Millimetres;
-use crate::plan::{lying, Sides};
+use crate::plan::Sides;
+use planner_search::order::{MOST_KERF, MOST_PANELS, MOST_SIZES};
 use std::collections::HashSet;
-
-/// The most sizes of panels and the greatest kerf, as the planner has them, and the most panels in all.
-const MOST_SIZES: usize = 64;
-const MOST_PANELS: u32 = 20_000;
-const MOST_KERF: Millimetres = Millimetres::of_thousandths(1_000_000);
 
 impl Draft {
     /// The order, or the first fault of the whole and then those of each panel.
@@ -66,17 +62,12 @@ impl Draft {
 
 /// The fault of a panel that fits no plate in any way in which it may lie.
 fn misfit(panel: &Placed<Panel>, usable: &[Sides]) -> Option<Fault> {
-    let sides = panel.value.sides();
-    let fits = |plate: &Sides, turned: bool| {
-        let own = lying(sides, turned);
-        own[0] <= plate[0] && own[1] <= plate[1]
-    };
-    if usable.iter().any(|plate| fits(plate, false) || panel.value.turns && fits(plate, true)) {
+    if usable.iter().any(|plate| panel.value.fits(*plate)) {
         return None;
     }
     let plates: Vec<String> = usable.iter().map(|plate| crate::layout::size(*plate)).collect();
     let expected = format!("a panel that fits a plate of {}", plates.join(" or "));
-    Some(panel.fault(expected, crate::layout::size(sides)))
+    Some(panel.fault(expected, crate::layout::size(panel.value.sides())))
 }
 
 /// The first panel that makes the sizes too many.

@@ -1,6 +1,6 @@
 // Orders as spreadsheets write them: separators, decimal commas, codes of text, headings, repeated names, inches
 // and words for the grain.
-use shop::order::{read, Fault, Order};
+use shop::order::{read, text, Fault, Order};
 
 const HEAD: &str = "plate, 2440 x 1220\nsaw, kerf 3.2\nname, length, width, count\n";
 const PLAIN: &str = "plate, 2440.5 x 1220\nsaw, kerf 3.2\ntrim, 10.5\nname, length, width, count, price\n\
@@ -43,7 +43,7 @@ fn a_line_is_separated_by_tabs_or_semicolons_or_commas() {
     ));
     assert_eq!(names(&mixed), ["a; b", "c\td; \"e\"", "f, g", "h;i"]);
     assert_eq!(sides(&mixed)[2], [1_500, 2_000]);
-    assert_eq!(order(mixed.text()), mixed);
+    assert_eq!(order(text(&mixed)), mixed);
 }
 
 #[test]
@@ -147,7 +147,7 @@ fn repeated_names_are_numbered() {
     assert_eq!(names(&read), distinct);
     let shown = "\"shelf (3)\" in line 6, \"shelf (4)\" in line 8, \"side (2)\" in line 9 and 1 more";
     assert_eq!(read.notices, [format!("repeated names are numbered: {shown}")]);
-    assert_eq!(order(read.text()).panels, read.panels);
+    assert_eq!(order(text(&read)).panels, read.panels);
 }
 
 #[test]

@@ -1,5 +1,5 @@
 // Orders without fault: how they may be written, and what units and rounding make of them.
-use shop::order::{read, Order};
+use shop::order::{read, text, Order};
 
 fn order(text: &str) -> Order {
     read(text.as_bytes(), None).unwrap_or_else(|faults| panic!("{}\n{text}", faults[0]))
@@ -71,5 +71,5 @@ fn the_stock_is_read() {
     assert_eq!(stock.usable(&stock.plates[2]), [1_180_000, 610_000]);
     let turns: Vec<bool> = stock.panels.iter().map(|panel| panel.turns).collect();
     assert_eq!(turns, [true, false, false]);
-    assert_eq!(order(&stock.text()), stock);
+    assert_eq!(order(&text(&stock)), stock);
 }

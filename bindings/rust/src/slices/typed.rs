@@ -3,8 +3,8 @@
 use super::calls;
 use crate::answers::{
     Bound, BoundTwo, Certificate, Exact, Fitted, Found, Lagrangian, Neat, Part, Passed, PlanArrays,
-    PlatesNeeded, Rack, Refusal, Report, SawReport, StagedReport, Storage, TruePlanArrays, Words,
-    Written, STAGED_REPORT_WORDS,
+    PlatesNeeded, Rack, Refusal, Report, SawReport, StagedReport, Storage, TruePlanArrays, Words, Written,
+    STAGED_REPORT_WORDS,
 };
 
 /// Words of the longest answer.
@@ -25,9 +25,7 @@ macro_rules! typed_calls {
 crate::calls!(typed_calls);
 
 /// Lends the words of the answer, and one for the place of a refusal where there are none.
-fn typed<const N: usize, A: Words<N>>(
-    call: impl FnOnce(&mut [u64]) -> u32,
-) -> Result<A, Refusal> {
+fn typed<const N: usize, A: Words<N>>(call: impl FnOnce(&mut [u64]) -> u32) -> Result<A, Refusal> {
     let mut words = [0; MOST_WORDS];
     match call(&mut words[..N.max(1)]) {
         0 => Ok(A::from_words(words[..N].try_into().expect("the words of an answer"))),

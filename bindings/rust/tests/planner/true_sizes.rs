@@ -57,8 +57,7 @@ fn a_model_must_hold_what_the_plate_holds() {
 #[test]
 fn plans_must_fit_the_true_plate() {
     let plan = grid(8, 4).plan();
-    let cut =
-        |length, width| planner(&tiles()).true_plan(&TrueSizes { length, width, ..felt() }, &plan);
+    let cut = |length, width| planner(&tiles()).true_plan(&TrueSizes { length, width, ..felt() }, &plan);
     assert!(cut(23_995, 11_995).is_ok());
     assert_eq!(cut(23_994, 11_994), refused(34, 0));
     assert_eq!(cut(23_995, 11_994), refused(34, 1));

@@ -3,8 +3,8 @@
 use crate::layout::{Layout, Misfit, Rect};
 use crate::order::{Order, Plate};
 use crate::plan::{Direction, Saw, Sides, Tree};
-use crate::search::{Modelled, Packing, Task};
 use crate::verdict::Verdict;
+use crate::{Modelled, Packing, Task};
 
 /// A board that is cut: the line of the stock that it is of, its plan and where everything lies on it.
 #[derive(Clone, Debug)]
@@ -58,7 +58,7 @@ pub fn boards(order: &Order, task: &Task, packing: &Packing) -> Vec<Board> {
     };
     let panels = order.panel_sides();
     let saw = Saw { kerf: order.kerf(), panels: &panels };
-    let board = |board: &crate::search::Board| {
+    let board = |board: &crate::board::Board| {
         let plate = &order.plates[board.stock];
         let tree = board.tree(&saw, order.usable(plate), &mut next);
         Board::new(order, board.stock, edged(order, plate, tree)).expect("a packing that can be sawn")

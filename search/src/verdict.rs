@@ -1,6 +1,6 @@
 // What the proved calls say of a plan, in one plain sentence: of one board the most that any plan of it is worth, of a
 // whole order how few boards hold it. Nothing of the search is believed: models are checked and bounds computed anew.
-use crate::search::{held, Floor, Modelled, Offer, Priced, Prices, Task};
+use crate::{held, Floor, Modelled, Offer, Priced, Prices, Task};
 
 /// A judged plan.
 #[derive(Clone, Debug, PartialEq, Eq)]

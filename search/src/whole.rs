@@ -390,7 +390,7 @@ impl Search<'_> {
 /// What bounds the cost of a whole order, without a search for plans.
 pub fn bounds_of_order(task: &Task, clock: Clock, memory: u64) -> Vec<Modelled> {
     let best = Packing { boards: Vec::new(), left: task.counts() };
-    let progress = &Progress { shown: false };
+    let progress = &Progress::none();
     let values = areas(task);
     let (proof, prices, seed) = (None, Vec::new(), 0);
     let mut search = Search { task, values, clock, memory, progress, best, proof, prices, seed };

@@ -112,6 +112,22 @@ impl Tree {
         Tree::Cut { direction, at, first: Box::new(first), second: second.map(Box::new) }
     }
 
+    /// The panels of the tree, by their lines.
+    pub fn panels(&self) -> Vec<usize> {
+        let (mut panels, mut waiting) = (Vec::new(), vec![self]);
+        while let Some(tree) = waiting.pop() {
+            match tree {
+                Tree::Rest => {}
+                Tree::Panel { panel, .. } => panels.push(*panel),
+                Tree::Cut { first, second, .. } => {
+                    waiting.push(first);
+                    waiting.extend(second.as_deref());
+                }
+            }
+        }
+        panels
+    }
+
     /// How often the direction of sawing changes on the longest path, counting the first as one.
     pub fn stages(&self) -> u32 {
         fn below(tree: &Tree, above: Option<Direction>) -> u32 {
