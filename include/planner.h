@@ -22,8 +22,8 @@ extern "C" {
  *
  * Sizes that suffice. Plan arrays of 4095 entries hold every plan; lists of 1021 words hold every list. A table of one
  * word draws refusal 20 with the words needed; lend these and call again. planner_find_weights needs more in later
- * rounds and ends its run where the table is too short: lend it p * r * 4096 words, or as many as there is memory for.
- * planner_blocks.h packs the byte blocks.
+ * rounds and ends its run where the table is too short: lend it p * r * 4096 words, or as many as there is memory for;
+ * its comment says how to see why a run ended. planner_blocks.h packs the byte blocks.
  *
  * Stack. Every function runs on a thread with a stack of 128 KiB, whatever it is given. The proof
  * does not see the stack: this is an assumption, tested from outside on the deepest and longest
@@ -405,6 +405,11 @@ uint32_t planner_exact(
  * arrays as planner_write_plan with its weights does, over what the round before left: at the end they
  * are as the last round begun left them, be it counted or not. Where 20 refused it, table and arrays,
  * and where 21 did, the arrays are still those of the round before.
+ * Why it ended. The written arrays hold the plan of the last round counted. If that plan keeps every demand, or if 18
+ * rounds were run, the run ended by its own rules. Otherwise the next round would have a capacity above 4095, which is a
+ * rule of its own too, or planner_write_plan would refuse it: by 21, where its plan needs above 4095 nodes, or by 20,
+ * where the table is too short. A table of p * r * 4096 words rules 20 out; with a shorter one more words may bring more
+ * rounds and a lower bound.
  * answer[0] bound, answer[1] rounds run; answer[2 + i] weight of kind i, 0 past the job's kinds. */
 uint32_t planner_find_weights(
     const uint8_t *job, size_t job_len,

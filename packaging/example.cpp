@@ -1,4 +1,6 @@
 // The header from C++: the true sizes of felt tiles, for which a plate of 8 by 4 units stands.
+#include <cstddef>
+#include <cstdint>
 #include <cstdio>
 #include <planner.h>
 #include <planner_blocks.h>

@@ -12,11 +12,14 @@ import os
 import subprocess
 import tempfile
 from dataclasses import dataclass, field
-from typing import Iterable, Sequence, Union
+from math import isqrt
+from typing import Any, Iterable, Sequence, Union
 
 TURNING, FULL_DEMAND, OLD_BLOCK, GRAIN = 1, 2, 4, 8
 MOST_NODES = 4095
 MOST_CAPACITY = 4095
+MOST_ROUNDS = 18
+MOST_WEIGHT = 255
 NONE_NEEDED = 2**64 - 1  # plates needed where no number of them is enough
 
 # The parameters of planner.h by name: the element of a slice, and whether the call writes it. A number alone stands in `_NUMBERS`.
@@ -76,6 +79,10 @@ class Refused(Exception):
     def __init__(self, number: int, place: int) -> None:
         super().__init__(f"refusal {number} at {place}: {REFUSALS.get(number, 'unknown')}")
         self.number, self.place = number, place
+
+
+class OrderRefused(Exception):
+    """The command gave no plan: its words, a line for each fault."""
 
 
 # ---- jobs ------------------------------------------------------------------------------------------------------------------------
@@ -197,11 +204,12 @@ class Report:
 
 @dataclass(frozen=True)
 class Bound:
-    """A bound: no tree that keeps every demand earns more."""
+    """A bound: no tree that keeps every demand earns more. `lengths` and `widths` say how many normal ones there are, and `tree` is
+    the plan behind the bound where it was written."""
     bound: int
     capacities: list[int]
-    length_count: int
-    columns: int
+    lengths: int
+    widths: int
     tree: Tree | None = None
 
 
@@ -219,10 +227,13 @@ class Certificate:
 
 @dataclass(frozen=True)
 class WeightsFound:
-    """The least bound met, the rounds run, and the weights that first gave the bound."""
+    """The least bound met, the rounds run, the weights that first gave the bound, and why there were no more rounds: `demands` (the
+    last plan keeps them), `rounds` (all 18 were run), `capacity` (the next would be above 4,095), `nodes` (the next plan has above
+    4,095) or `memory` (the next table has more words than may be lent; more may give a lower bound)."""
     bound: int
     rounds: int
     weights: list[int]
+    ended: str
 
 
 @dataclass(frozen=True)
@@ -247,8 +258,8 @@ class Lagrangian:
     bound: int
     lowered: int
     capacity: int
-    length_count: int
-    columns: int
+    lengths: int
+    widths: int
 
 
 # ---- the library -----------------------------------------------------------------------------------------------------------------
@@ -321,6 +332,10 @@ class Planner:
     def check(self, plan: Tree) -> Report:
         return _report(self._call("check_plan", *arrays(plan)))
 
+    def check_block(self, plan: bytes) -> Report:
+        """The check of a plan block."""
+        return _report(self._call("check_plan_block", plan))
+
     def check_staged(self, plan: Tree, limit: int) -> Report:
         *words, stages = self._call("check_plan_staged", limit, *arrays(plan))
         return _report(words, stages=stages)
@@ -365,12 +380,43 @@ class Planner:
     def find_weights(self, plan: Tree) -> WeightsFound:
         """Weights in rounds. The table is lent for the largest capacity that `memory` allows, so that no round ends for want of it
         before the memory does."""
+        lower = self.check(plan).profit or 0
         first = self.bound()
-        words = min(first.length_count * first.columns * (MOST_CAPACITY + 1), self.memory)
+        words = min(first.lengths * first.widths * (MOST_CAPACITY + 1), self.memory)
         lengths, widths = self._lists()
         kinds, operands = self._plan_room()
-        bound, rounds, *weights = self._call("find_weights", *arrays(plan), lengths, widths, _room(ctypes.c_uint64, words), kinds, operands)
-        return WeightsFound(bound, rounds, weights[: len(self.job.kinds)])
+        table = _room(ctypes.c_uint64, words)
+        bound, rounds, *weights = self._call("find_weights", *arrays(plan), lengths, widths, table, kinds, operands)
+        ended = self._ended(rounds, self._over_demands(kinds, operands), lower)
+        return WeightsFound(bound, rounds, weights[: len(self.job.kinds)], ended)
+
+    def _over_demands(self, kinds: Sequence[int], operands: Sequence[int]) -> list[int]:
+        """Of each kind the copies less the demand, in the plan at the beginning of arrays."""
+        over, wanted = [-kind.demand for kind in self.job.kinds], 1
+        for kind, operand in zip(kinds, operands):
+            if kind in (1, 4):
+                over[operand] += 1
+            wanted += 1 if kind in _DIRECTIONS else -1
+            if wanted == 0:
+                break
+        return over
+
+    def _ended(self, rounds: int, over: list[int], lower: int) -> str:
+        """Why a run ended. Where its last plan and its rounds leave that open, they are run once more, one writing call each."""
+        if max(over) <= 0:
+            return "demands"
+        if rounds == MOST_ROUNDS:
+            return "rounds"
+        weights = [0] * len(over)
+        for number in range(rounds):
+            written = self.write_plan(weights)
+            over = self._over_demands(*arrays(written.tree or Waste()))
+            weights = _next_weights(number, weights, written.bound - lower, over)
+        try:
+            self.write_plan(weights)
+        except Refused as refused:
+            return {9: "capacity", 20: "memory", 21: "nodes"}[refused.number]
+        raise AssertionError("a round that ends a run is refused")
 
     def check_rack(self, plates: Sequence[tuple[int, int]], plans: Sequence[Tree]) -> list[int]:
         """The profits of the plans of a rack of plates, which share the demands."""
@@ -384,6 +430,12 @@ class Planner:
         """First entry and number of entries of a node's part of the plan arrays."""
         first, count = self._call("saw_kinds", *arrays(plan), node)
         return first, count
+
+    def saw_tree(self, plan: Tree, node: int) -> Tree | None:
+        """The tree at a node of a plan, for the saw; None where the plan does not pass or has no such node."""
+        kinds, operands = arrays(plan)
+        (first, count), (at, entries) = (self._call(name, kinds, operands, node) for name in ("saw_kinds", "saw_operands"))
+        return tree(kinds[first:first + count], operands[at:at + entries]) if count else None
 
     def check_model(self, sizes: TrueSizes) -> None:
         """Passes exactly if the job stands for the true sizes, and else raises `Refused` 33."""
@@ -428,6 +480,15 @@ class Planner:
         return _room(ctypes.c_uint8, MOST_NODES), _room(ctypes.c_uint16, MOST_NODES)
 
 
+def _next_weights(number: int, weights: Sequence[int], gap: int, over: Sequence[int]) -> list[int]:
+    """The weights after a round: each is raised or lowered by the root of its distance times the scale."""
+    under = sum(distance * distance for distance in over) << (number // 3)
+    scale = max(2 * gap, under)
+    steps = [min(isqrt(abs(distance) * scale // under), MOST_WEIGHT) for distance in over]
+    moved = [weight + step if distance > 0 else weight - step for weight, step, distance in zip(weights, steps, over)]
+    return [min(max(weight, 0), MOST_WEIGHT) for weight in moved]
+
+
 def _report(words: Sequence[int], stages: int | None = None, priced: bool = True) -> Report:
     profit, pieces, waste, trim, *copies, sawdust = words
     return Report(profit if priced else None, pieces, waste, trim, sawdust, copies, stages)
@@ -435,10 +496,13 @@ def _report(words: Sequence[int], stages: int | None = None, priced: bool = True
 
 # ---- whole orders ----------------------------------------------------------------------------------------------------------------
 
-def plan_order(order: str, *options: str, command: str = "cutplan") -> dict:
-    """Plans an order file with the command, and gives what its `--json` says."""
+def plan_order(order: str | os.PathLike[str], *options: str, command: str = "cutplan") -> dict[str, Any]:
+    """Plans an order file with the command, and gives what its `--json` says; docs/ORDERS.md has its members. Further options of
+    the command may follow, as "--one" or "--svg", "plan.svg". What the command says of a faulty order is in `OrderRefused`."""
     with tempfile.TemporaryDirectory() as folder:
         out = os.path.join(folder, "plan.json")
-        subprocess.run([command, order, "--json", out, *options], check=True, stdout=subprocess.DEVNULL)
+        done = subprocess.run([command, os.fspath(order), "--json", out, *options], capture_output=True, text=True)
+        if done.returncode:
+            raise OrderRefused(done.stderr.strip())
         with open(out, encoding="utf-8") as file:
             return json.load(file)

@@ -121,7 +121,7 @@ impl Offer {
     /// A board of the stock under a model; none where the model does not stand for it.
     pub fn new(task: &Task, stock: usize, model: &Model, memory: u64) -> Option<Offer> {
         let Stock { sides, count, cost } = task.stock[stock];
-        let priced = Priced::new(task, &task.counts(), sides, model, memory)?;
+        let priced = Priced::new(task, &task.bounded_counts(), sides, model, memory)?;
         Some(Offer { priced, cost, count: if cost == 0 { count } else { None }, sides })
     }
 }

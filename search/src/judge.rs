@@ -2,9 +2,9 @@
 // them together. A board is given as its tree in a model where every panel is one by one: the calls then do the sums
 // at true sizes themselves.
 use super::board::Board;
-use super::proof::Entries;
+use super::proof::{Entries, MOST_COPIES};
 use super::task::Task;
-use planner::{Error, Job, Kind, Planner, Plate, Tree, TrueSizes};
+use planner::{Error, Job, Kind, Planner, Plate, TrueSizes};
 
 /// The plate of the model; more panels than this never lie in a row of a plan that the calls take.
 const SIDE: u16 = 1_000;
@@ -37,28 +37,36 @@ fn is_short(board: &Board) -> bool {
     2 * board.kinds().len() <= NODES && board.kinds().len() <= usize::from(SIDE)
 }
 
-/// Passes every board through the proved calls. Boards with more panels than the calls take are passed over.
+/// Passes every board through the proved calls. Boards with more panels or kinds than the calls take are passed over.
 pub fn judge(task: &Task, boards: &[Board]) -> Result<(), Error> {
-    let short: Vec<&Board> = boards.iter().filter(|board| is_short(board)).collect();
+    let short: Vec<&Board> = boards.iter().filter(|board| is_short(board) && !board.is_empty()).collect();
     short.iter().try_for_each(|board| judge_board(task, board))?;
-    let entries = Entries::new(&task.counts());
-    if !entries.whole {
-        return Ok(());
+    let mut left = task.counts();
+    let mut rest = &short[..];
+    while !rest.is_empty() {
+        let (rack, after) = rest.split_at(one_rack(task, rest).max(1));
+        check_rack(task, &mut left, rack)?;
+        rest = after;
     }
-    let mut numbers = Numbers { left: entries.entries };
-    let mut rack: Vec<Tree> = Vec::new();
-    let mut demands = numbers.left.clone();
-    for board in short {
-        let before = numbers.left.clone();
-        let tree = board.model_tree(&|_| [1, 1], &mut |kind| numbers.next(kind));
-        let nodes: usize = rack.iter().chain([&tree]).map(|tree| tree.nodes().len()).sum();
-        if rack.len() == RACK || nodes > NODES {
-            check_rack(task, &demands, &mut rack)?;
-            demands = before;
-        }
-        rack.push(tree);
-    }
-    check_rack(task, &demands, &mut rack)
+    Ok(())
+}
+
+/// How many of the first boards a rack takes: so many plates, nodes and kinds.
+fn one_rack(task: &Task, boards: &[&Board]) -> usize {
+    let mut cut = vec![0; task.kinds.len()];
+    let mut nodes = 0;
+    let passes = |board: &&Board| {
+        nodes += 2 * count(board, &mut cut);
+        nodes > NODES || !Entries::new(&cut).whole
+    };
+    boards.iter().take(RACK).position(passes).unwrap_or(boards.len().min(RACK))
+}
+
+/// Adds the copies of each kind on a board, and gives how many there are.
+fn count(board: &Board, cut: &mut [u32]) -> usize {
+    let kinds = board.kinds();
+    kinds.iter().for_each(|kind| cut[*kind] += 1);
+    kinds.len()
 }
 
 fn job(task: &Task, entries: &[(usize, u16)]) -> Job {
@@ -89,12 +97,27 @@ fn judge_board(task: &Task, board: &Board) -> Result<(), Error> {
     Ok(())
 }
 
-/// Checks boards that share the copies of the order that earlier ones have left.
-fn check_rack(task: &Task, demands: &[(usize, u16)], rack: &mut Vec<Tree>) -> Result<(), Error> {
-    if rack.is_empty() {
+/// Checks boards that share the copies of the order that earlier ones have left. Of kinds that they do not have, and of
+/// those that have more copies left than a block takes, no more is demanded than they can have.
+fn check_rack(task: &Task, left: &mut [u32], boards: &[&Board]) -> Result<(), Error> {
+    let mut cut = vec![0; task.kinds.len()];
+    for board in boards {
+        count(board, &mut cut);
+    }
+    let blocks = |copies: u32| copies.div_ceil(MOST_COPIES) * MOST_COPIES;
+    let demands: Vec<u32> = left.iter().zip(&cut).map(|(left, cut)| *left.min(&blocks(*cut))).collect();
+    let entries = Entries::new(&demands);
+    left.iter_mut().zip(cut).for_each(|(left, cut)| *left = left.saturating_sub(cut));
+    if !entries.whole {
         return Ok(());
     }
-    let plates: Vec<Plate> = rack.drain(..).map(|tree| Plate { length: SIDE, width: SIDE, tree }).collect();
-    Planner::new(&job(task, demands), task.choices(), NO_TABLE).check_rack(&plates)?;
+    let job = job(task, &entries.entries);
+    let mut numbers = Numbers { left: entries.entries };
+    let mut plate = |board: &&Board| {
+        let tree = board.model_tree(&|_| [1, 1], &mut |kind| numbers.next(kind));
+        Plate { length: SIDE, width: SIDE, tree }
+    };
+    let plates: Vec<Plate> = boards.iter().map(&mut plate).collect();
+    Planner::new(&job, task.choices(), NO_TABLE).check_rack(&plates)?;
     Ok(())
 }

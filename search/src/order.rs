@@ -5,8 +5,8 @@ use crate::plan::{lying, Sides};
 use std::collections::HashSet;
 use std::fmt;
 
-/// The most sizes of panels, as a job has at most so many kinds.
-pub const MOST_SIZES: usize = 64;
+/// The most sizes of panels. A job has 64 kinds: of more sizes those of the greatest area bound the boards.
+pub const MOST_SIZES: usize = 1_000;
 
 /// The most panels in all.
 pub const MOST_PANELS: u32 = 20_000;
@@ -69,7 +69,7 @@ pub enum OrderFault {
     Stages(u32),
     /// The panel of this line fits no plate in any way in which it may lie, or a side of it is 0.
     Panel(usize),
-    /// There are more sizes of panels than a job has kinds.
+    /// There are too many sizes of panels.
     Sizes(usize),
     /// There are too many panels.
     Panels(u64),

@@ -1,6 +1,8 @@
 // The plan of a board as a tree of saw cuts at true sizes. All lengths are thousandths of a millimetre. A cut stands
 // at a fence setting: the size of its first part. The blade takes the kerf after it; what is left is the second part.
 pub use planner::Direction;
+use std::mem;
+use std::ops::Deref;
 
 /// Length and width.
 pub type Sides = [u32; 2];
@@ -13,7 +15,50 @@ pub enum Tree {
     /// It is a panel of the order, by its line. In a sawn tree the rectangle is exactly the panel's.
     Panel { panel: usize, turned: bool },
     /// It is cut. There is no second part where setting and kerf reach the end of the side: the blade only shaves.
-    Cut { direction: Direction, at: u32, first: Box<Tree>, second: Option<Box<Tree>> },
+    Cut { direction: Direction, at: u32, first: Branch, second: Option<Branch> },
+}
+
+/// A tree below a cut. It gives its memory back without recursion, for plans may be deep.
+#[derive(Clone, Debug, PartialEq, Eq)]
+pub struct Branch(Box<Tree>);
+
+impl Branch {
+    pub fn into_tree(mut self) -> Tree {
+        self.take()
+    }
+
+    /// The tree; a rest stands in its place.
+    fn take(&mut self) -> Tree {
+        mem::replace(&mut *self.0, Tree::Rest)
+    }
+}
+
+impl From<Tree> for Branch {
+    fn from(tree: Tree) -> Branch {
+        Branch(Box::new(tree))
+    }
+}
+
+impl Deref for Branch {
+    type Target = Tree;
+
+    fn deref(&self) -> &Tree {
+        &self.0
+    }
+}
+
+impl Drop for Branch {
+    fn drop(&mut self) {
+        let mut waiting = Vec::new();
+        let mut next = Some(self.take());
+        while let Some(mut tree) = next {
+            if let Tree::Cut { first, second, .. } = &mut tree {
+                waiting.push(first.take());
+                waiting.extend(second.as_mut().map(Branch::take));
+            }
+            next = waiting.pop();
+        }
+    }
 }
 
 /// The number of a direction in `Sides`.
@@ -67,8 +112,8 @@ impl Saw<'_> {
         if from <= to {
             return tree;
         }
-        let second = (from - to > self.kerf).then(|| Box::new(Tree::Rest));
-        Tree::Cut { direction: direction(axis), at: to, first: Box::new(tree), second }
+        let second = (from - to > self.kerf).then_some(Tree::Rest);
+        Tree::cut(direction(axis), to, tree, second)
     }
 
     /// The tree with every cut that brings a panel to its size; panels that do not fit their rectangle stay as they
@@ -96,9 +141,9 @@ impl Saw<'_> {
                     part[axis] = size;
                     part
                 };
-                let first = Box::new(self.sawn(*first, part(at)));
+                let first = self.sawn(first.into_tree(), part(at)).into();
                 let second = match (second, rest) {
-                    (Some(second), Some(size)) => Some(Box::new(self.sawn(*second, part(size)))),
+                    (Some(second), Some(size)) => Some(self.sawn(second.into_tree(), part(size)).into()),
                     (second, _) => second,
                 };
                 Tree::Cut { direction, at, first, second }
@@ -109,7 +154,7 @@ impl Saw<'_> {
 
 impl Tree {
     pub fn cut(direction: Direction, at: u32, first: Tree, second: Option<Tree>) -> Tree {
-        Tree::Cut { direction, at, first: Box::new(first), second: second.map(Box::new) }
+        Tree::Cut { direction, at, first: first.into(), second: second.map(Branch::from) }
     }
 
     /// The panels of the tree, by their lines.

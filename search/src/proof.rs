@@ -6,8 +6,8 @@ use crate::plan::Sides;
 use planner::{Choices, Job, Kind, Planner, TrueSizes};
 
 /// The most copies of a kind and the most kinds in a job block.
-const MOST_COPIES: u32 = 255;
-const MOST_KINDS: usize = 64;
+pub const MOST_COPIES: u32 = 255;
+pub const MOST_KINDS: usize = 64;
 
 /// Ways to take copies, and cells of a table, up to which the exact call is quick.
 const MOST_STATES: u64 = 600;

@@ -1,8 +1,10 @@
 // What is searched: kinds of panels, boards and the saw, all in thousandths of a millimetre. Panels of one size, price
 // and grain are one kind.
+use super::proof::{MOST_COPIES, MOST_KINDS};
 use crate::order::{Order, Panel};
 use crate::plan::{lying, Sides};
 use planner::Choices;
+use std::cmp::Reverse;
 
 /// A kind of panel and the lines of the order that have it.
 #[derive(Clone, Debug)]
@@ -112,6 +114,26 @@ impl Task {
 
     pub fn counts(&self) -> Vec<u32> {
         self.kinds.iter().map(|kind| kind.count).collect()
+    }
+
+    /// The copies that bound the boards of an order. A block takes so many kinds: of more, those of the least area are left
+    /// out. What the others need, the whole order needs.
+    pub fn bounded_counts(&self) -> Vec<u32> {
+        let area = |kind: &usize| {
+            let Kind { sides: [length, width], count, .. } = self.kinds[*kind];
+            u128::from(length) * u128::from(width) * u128::from(count)
+        };
+        let mut kinds: Vec<usize> = (0..self.kinds.len()).collect();
+        kinds.sort_by_key(|kind| Reverse(area(kind)));
+        let (mut counts, mut room) = (vec![0; kinds.len()], MOST_KINDS);
+        for kind in kinds {
+            let entries = self.kinds[kind].count.div_ceil(MOST_COPIES) as usize;
+            if entries <= room {
+                room -= entries;
+                counts[kind] = self.kinds[kind].count;
+            }
+        }
+        counts
     }
 }
 

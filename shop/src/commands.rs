@@ -108,17 +108,17 @@ fn draw(outcome: &Outcome, output: Output) -> Vec<Error> {
 
 fn check(file: &Path, plan: &Path, options: &Options) -> Result<Done, Error> {
     let order = read_order(file, options.turning)?;
-    let text = json::text_of(&read_file(plan)?).map_err(|wrong| Error::wrong(plan, wrong))?;
-    let document = json::read(&text).map_err(|wrong| Error::wrong(plan, wrong))?;
-    let filed = json::filed(&document, &order).map_err(|wrong| Error::wrong(plan, wrong))?;
+    let bytes = read_file(plan)?;
+    let read = || json::filed(&json::read(&json::text_of(&bytes)?)?, &order);
+    let filed = read().map_err(|wrong| Error::document(plan, wrong))?;
     let outputs = open(options, &[file, plan])?;
-    let outcome = judge_plans(order, filed, options.limits).map_err(|wrong| Error::wrong(plan, wrong))?;
+    let outcome = judge_plans(order, filed, options.limits).map_err(|wrong| Error::plan(plan, wrong))?;
     Ok(given(outcome, file, outputs))
 }
 
 fn recheck(file: &Path, memory: u64) -> Result<String, Error> {
-    let stamp = Stamp::read(&read_file(file)?).map_err(|wrong| Error::wrong(file, wrong))?;
-    stamp.recheck(memory).map_err(|wrong| Error::wrong(file, wrong))
+    let stamp = Stamp::read(&read_file(file)?).map_err(|wrong| Error::stamp(file, wrong))?;
+    stamp.recheck(memory).map_err(|wrong| Error::stamp(file, wrong))
 }
 
 fn read_order(file: &Path, turning: Option<bool>) -> Result<Order, Error> {

@@ -1,5 +1,7 @@
 // Why the command gave no plan, or not all that was asked for.
+use crate::json;
 use crate::order::Fault;
+use crate::stamp;
 use std::path::{Path, PathBuf};
 use std::{fmt, io};
 
@@ -9,11 +11,13 @@ pub enum Error {
     Faults { file: PathBuf, faults: Vec<Fault> },
     /// A file cannot be read or written.
     File { file: PathBuf, error: io::Error },
-    /// A plan or a stamp is not right.
-    Wrong { file: PathBuf, wrong: String },
+    /// A plan that is checked is not written as it should be.
+    Document { file: PathBuf, wrong: json::Expected },
+    /// A stamp is not right.
+    Stamp { file: PathBuf, wrong: stamp::Wrong },
     /// An output is named that is an input, or that is named twice.
     Clash { file: PathBuf, with: &'static str },
-    /// The order has no plan.
+    /// The order has no plan, or the plan of a file is not right.
     Plan { file: PathBuf, wrong: planner_search::Error },
 }
 
@@ -29,8 +33,12 @@ impl Error {
         Error::Plan { file: file.to_path_buf(), wrong }
     }
 
-    pub fn wrong(file: &Path, wrong: impl ToString) -> Error {
-        Error::Wrong { file: file.to_path_buf(), wrong: wrong.to_string() }
+    pub fn document(file: &Path, wrong: json::Expected) -> Error {
+        Error::Document { file: file.to_path_buf(), wrong }
+    }
+
+    pub fn stamp(file: &Path, wrong: stamp::Wrong) -> Error {
+        Error::Stamp { file: file.to_path_buf(), wrong }
     }
 }
 
@@ -47,7 +55,8 @@ impl fmt::Display for Error {
                 }
             }
             Error::File { file, error } => write!(f, "{}: {error}", file.display()),
-            Error::Wrong { file, wrong } => write!(f, "{}: {wrong}", file.display()),
+            Error::Document { file, wrong } => write!(f, "{}: {wrong}", file.display()),
+            Error::Stamp { file, wrong } => write!(f, "{}: {wrong}", file.display()),
             Error::Clash { file, with } => {
                 write!(f, "{}: an output may not be {with}", file.display())
             }

@@ -1,5 +1,6 @@
 // The command line: what is to be done, with which files and limits.
 use crate::search::Limits;
+use std::fmt;
 use std::path::PathBuf;
 use std::time::Duration;
 
@@ -47,6 +48,42 @@ const FORMS: [(&str, Form); 6] = [
 const CHECK: [&str; 5] = ["html", "svg", "seconds", "memory", "turning"];
 const RECHECK: [&str; 1] = ["memory"];
 
+/// What is wrong with a command line.
+#[derive(Clone, Debug, PartialEq, Eq)]
+pub enum Wrong {
+    NoOption(String),
+    NoValue(String),
+    Value(String),
+    Twice(String),
+    Unused { command: &'static str, option: String },
+    Files(String),
+    NoOrder,
+    Seconds(String),
+    Memory(String),
+    Turning(String),
+}
+
+impl fmt::Display for Wrong {
+    fn fmt(&self, f: &mut fmt::Formatter) -> fmt::Result {
+        match self {
+            Wrong::NoOption(option) => write!(f, "there is no option {option}"),
+            Wrong::NoValue(option) => write!(f, "--{option} needs a value"),
+            Wrong::Value(option) => write!(f, "--{option} takes no value"),
+            Wrong::Twice(option) => write!(f, "--{option} is said twice"),
+            Wrong::Unused { command, option } => write!(f, "{command} does not use --{option}"),
+            Wrong::Files(command) => write!(f, "{command} has other files than it needs"),
+            Wrong::NoOrder => write!(f, "one order is needed"),
+            Wrong::Seconds(value) => write!(f, "--seconds needs a number, and {value} is none"),
+            Wrong::Memory(value) => {
+                write!(f, "--memory needs a size of at least 16M, as 512M or 2G, and not {value}")
+            }
+            Wrong::Turning(value) => write!(f, "--turning needs yes or no, and not {value}"),
+        }
+    }
+}
+
+impl std::error::Error for Wrong {}
+
 #[derive(Clone, Debug)]
 pub struct Options {
     pub command: Command,
@@ -59,8 +96,8 @@ pub struct Options {
 
 impl Options {
     /// Reads the words of a command line, or says what is wrong with them.
-    pub fn read(words: impl Iterator<Item = String>) -> Result<Options, String> {
-        let limits = Limits { seconds: None, memory: 1 << 30 };
+    pub fn read(words: impl Iterator<Item = String>) -> Result<Options, Wrong> {
+        let limits = Limits::default();
         let command = Command::Plan { order: PathBuf::new() };
         let mut options = Options { command, one: false, outputs: Vec::new(), turning: None, limits };
         let (mut files, mut named, mut words) = (Vec::new(), Vec::new(), words);
@@ -77,9 +114,7 @@ impl Options {
                     named.push(name);
                 }
                 None if word == "-h" => return Ok(Options { command: Command::Help, ..options }),
-                None if word.starts_with('-') && word.len() > 1 => {
-                    return Err(format!("there is no option {word}"))
-                }
+                None if word.starts_with('-') && word.len() > 1 => return Err(Wrong::NoOption(word)),
                 None => files.push(word),
             }
         }
@@ -93,16 +128,17 @@ impl Options {
         name: &str,
         value: Option<String>,
         words: &mut impl Iterator<Item = String>,
-    ) -> Result<(), String> {
+    ) -> Result<(), Wrong> {
         if name == "one" {
             self.one = true;
-            return value.map_or(Ok(()), |_| Err("--one takes no value".to_string()));
+            return value.map_or(Ok(()), |_| Err(Wrong::Value(name.to_string())));
         }
-        let mut needed = || value.clone().or_else(|| words.next()).ok_or(format!("--{name} needs a value"));
+        let mut needed =
+            || value.clone().or_else(|| words.next()).ok_or_else(|| Wrong::NoValue(name.to_string()));
         if let Some((_, form)) = FORMS.iter().find(|(form, _)| *form == name) {
             let path = needed()?;
             if self.outputs.iter().any(|(other, _)| other == form) {
-                return Err(format!("--{name} is said twice"));
+                return Err(Wrong::Twice(name.to_string()));
             }
             self.outputs.push((*form, path.into()));
             return Ok(());
@@ -111,41 +147,41 @@ impl Options {
             "seconds" => self.limits.seconds = Some(seconds(&needed()?)?),
             "memory" => self.limits.memory = memory(&needed()?)?,
             "turning" => self.turning = Some(turning(&needed()?)?),
-            _ => return Err(format!("there is no option --{name}")),
+            _ => return Err(Wrong::NoOption(format!("--{name}"))),
         }
         Ok(())
     }
 
-    fn refuse_unused(&self, named: &[String]) -> Result<(), String> {
+    fn refuse_unused(&self, named: &[String]) -> Result<(), Wrong> {
         let (command, used) = match self.command {
             Command::Check { .. } => ("check", &CHECK[..]),
             Command::Recheck { .. } => ("recheck", &RECHECK[..]),
             _ => return Ok(()),
         };
         match named.iter().find(|name| !used.contains(&name.as_str())) {
-            Some(name) => Err(format!("{command} does not use --{name}")),
+            Some(name) => Err(Wrong::Unused { command, option: name.clone() }),
             None => Ok(()),
         }
     }
 }
 
-fn command_of(files: &[String]) -> Result<Command, String> {
+fn command_of(files: &[String]) -> Result<Command, Wrong> {
     let files: Vec<&str> = files.iter().map(String::as_str).collect();
     match files[..] {
         ["check", order, plan] => Ok(Command::Check { order: order.into(), plan: plan.into() }),
         ["recheck", stamp] => Ok(Command::Recheck { stamp: stamp.into() }),
-        ["check" | "recheck", ..] => Err(format!("{} has other files than it needs", files[0])),
+        ["check" | "recheck", ..] => Err(Wrong::Files(files[0].to_string())),
         [order] => Ok(Command::Plan { order: order.into() }),
-        _ => Err("one order is needed".to_string()),
+        _ => Err(Wrong::NoOrder),
     }
 }
 
-fn seconds(value: &str) -> Result<Duration, String> {
+fn seconds(value: &str) -> Result<Duration, Wrong> {
     let seconds = value.parse().ok().and_then(|seconds| Duration::try_from_secs_f64(seconds).ok());
-    seconds.ok_or(format!("--seconds needs a number, and {value} is none"))
+    seconds.ok_or_else(|| Wrong::Seconds(value.to_string()))
 }
 
-fn memory(value: &str) -> Result<u64, String> {
+fn memory(value: &str) -> Result<u64, Wrong> {
     let (digits, shift) = match value.strip_suffix(['K', 'M', 'G']) {
         Some(digits) if value.ends_with('K') => (digits, 10),
         Some(digits) if value.ends_with('M') => (digits, 20),
@@ -154,13 +190,13 @@ fn memory(value: &str) -> Result<u64, String> {
     };
     let bytes = digits.parse::<u64>().ok().and_then(|number| number.checked_mul(1 << shift));
     let bytes = bytes.filter(|bytes| *bytes >= LEAST_MEMORY);
-    bytes.ok_or(format!("--memory needs a size of at least 16M, as 512M or 2G, and not {value}"))
+    bytes.ok_or_else(|| Wrong::Memory(value.to_string()))
 }
 
-fn turning(value: &str) -> Result<bool, String> {
+fn turning(value: &str) -> Result<bool, Wrong> {
     match value {
         "yes" => Ok(true),
         "no" => Ok(false),
-        _ => Err(format!("--turning needs yes or no, and not {value}")),
+        _ => Err(Wrong::Turning(value.to_string())),
     }
 }

@@ -6,6 +6,7 @@ use crate::answers::{
     SawReport, StagedReport, Written,
 };
 use crate::job::{Choices, Job, TrueSizes};
+use crate::rounds::{self, first_plan, FoundWeights};
 use crate::slices;
 use crate::storage::{written, Error, Lender};
 use crate::tree::{Plan, Plate, Tree, TruePlan};
@@ -14,6 +15,18 @@ use crate::tree::{Plan, Plate, Tree, TruePlan};
 const MOST_SHARES: u64 = 4_096;
 
 /// A job and the storage for its calls.
+///
+/// ```
+/// use planner::{Choices, Error, Job, Kind, Planner};
+///
+/// let kind = Kind { length: 2, width: 2, price: 5, demand: 1, grain: false };
+/// let job = Job { length: 5, width: 3, kerf: 0, kinds: vec![kind] };
+/// assert_eq!(Planner::new(&job, Choices::default(), 1 << 20).bound(&[0])?.bound, 10);
+/// // A weight tells that one copy is enough, and needs a table of two shares.
+/// let mut short = Planner::new(&job, Choices::default(), 8);
+/// assert_eq!(short.bound(&[1]), Err(Error::Memory(12)));
+/// # Ok::<(), Error>(())
+/// ```
 pub struct Planner {
     block: Vec<u8>,
     choices: u32,
@@ -160,18 +173,27 @@ impl Planner {
         })
     }
 
-    /// Finds weights in rounds, from the profit of a plan, and gives one a kind, as the other calls take
-    /// them. A round that needs more memory than there may be ends the run.
-    pub fn find_weights(&mut self, plan: &Plan) -> Result<(Found, Vec<u8>), Error> {
-        let (found, _) = self.lender.lend_spare(MOST_SHARES, |storage| {
+    /// Finds weights in rounds, from the profit of a plan, and says why there were no more rounds. The table is lent for
+    /// the greatest capacity, or as much of it as the memory allows.
+    pub fn find_weights(&mut self, plan: &Plan) -> Result<FoundWeights, Error> {
+        let lower = self.check(plan)?.profit;
+        let (found, last) = self.lender.lend_spare(MOST_SHARES, |storage| {
             written(|arrays| {
                 let Plan { kinds, operands } = plan;
+                let nodes = arrays.kinds.len() as u64;
                 slices::find_weights(&self.block, self.choices, kinds, operands, storage, arrays)
-                    .map(|found| (found, 0))
+                    .map(|found| (found, nodes))
             })
         })?;
+        let ended = rounds::ended(self, &found, &first_plan(last), lower)?;
+        let Found { bound, rounds, weights } = found;
         let number_of_kinds = usize::from(self.block[4]);
-        let weights = found.weights[..number_of_kinds].iter().map(|&weight| weight as u8).collect();
-        Ok((found, weights))
+        let weights = weights[..number_of_kinds].iter().map(|&weight| weight as u8).collect();
+        Ok(FoundWeights { bound, rounds, weights, ended })
+    }
+
+    /// The job block and the word of choices.
+    pub(crate) fn input(&self) -> (&[u8], u32) {
+        (&self.block, self.choices)
     }
 }

@@ -2,6 +2,7 @@
 //! table that grows to what refusal 20 asks for, up to a limit.
 
 use crate::answers::{PlanArraysOf, Refusal, Storage};
+use crate::pages::ask_for_huge_pages;
 use crate::tree::{Operand, PlanOf};
 use std::fmt;
 
@@ -16,6 +17,7 @@ const TABLE_TOO_SHORT: u32 = 20;
 
 /// Why a call gave no answer.
 #[derive(Clone, Copy, Debug, PartialEq, Eq)]
+#[non_exhaustive]
 pub enum Error {
     /// The call refused what it was given.
     Refused(Refusal),
@@ -79,6 +81,7 @@ impl Lender {
         }
         self.table = Vec::new();
         self.table = vec![0; words.saturating_mul(times).min(self.most_words) as usize];
+        ask_for_huge_pages(&mut self.table);
         Ok(())
     }
 }

@@ -24,6 +24,16 @@ pub enum Direction {
 }
 
 /// What becomes of a rectangle.
+///
+/// ```
+/// use planner::{Direction, Plan, Tree};
+///
+/// let piece = |kind| Tree::Piece { kind, turned: false };
+/// let tree = Tree::cut(Direction::Length, 2, piece(0), Tree::Waste);
+/// let plan = tree.plan();
+/// assert_eq!(plan, Plan { kinds: vec![2, 1, 0], operands: vec![2, 0, 0] });
+/// assert_eq!(plan.tree(), Some(tree));
+/// ```
 pub enum TreeOf<P> {
     /// Nothing is made of it.
     Waste,

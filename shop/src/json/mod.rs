@@ -8,6 +8,13 @@ pub use reader::{read, text_of};
 
 use std::fmt;
 
+/// What a document should have held, and where.
+#[derive(Clone, Debug, PartialEq, Eq)]
+pub struct Expected {
+    pub place: Option<String>,
+    pub what: String,
+}
+
 #[derive(Clone, Debug, PartialEq, Eq)]
 pub enum Value {
     Null,
@@ -17,6 +24,26 @@ pub enum Value {
     List(Vec<Value>),
     Object(Vec<(String, Value)>),
 }
+
+impl Expected {
+    pub fn at(place: impl Into<String>, what: impl Into<String>) -> Expected {
+        Expected { place: Some(place.into()), what: what.into() }
+    }
+
+    /// Of the document as a whole.
+    pub fn of_all(what: impl Into<String>) -> Expected {
+        Expected { place: None, what: what.into() }
+    }
+}
+
+impl fmt::Display for Expected {
+    fn fmt(&self, f: &mut fmt::Formatter) -> fmt::Result {
+        let place = self.place.as_ref().map_or(String::new(), |place| format!("{place}: "));
+        write!(f, "{place}expected {}", self.what)
+    }
+}
+
+impl std::error::Error for Expected {}
 
 impl Value {
     pub fn number(number: impl ToString) -> Value {

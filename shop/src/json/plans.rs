@@ -1,6 +1,6 @@
 // Plans for machines: a judged plan as a JSON document, and the trees of a document that anybody has written.
 // docs/ORDERS.md says what such a document holds.
-use super::Value;
+use super::{Expected, Value};
 use crate::layout::{side_word, Part, Rect, Use};
 use crate::millimetres::Millimetres;
 use crate::order::Order;
@@ -122,7 +122,7 @@ pub fn evidence(part: &Modelled) -> Value {
 
 /// The plans of a document, or what was expected and where. A tree may stand alone, as the member `plan`, or in
 /// the list `boards`.
-pub fn filed(document: &Value, order: &Order) -> Result<Filed, String> {
+pub fn filed(document: &Value, order: &Order) -> Result<Filed, Expected> {
     let evidence = evidence_of(document)?;
     let boards = document.get("boards").and_then(list).unwrap_or_default();
     let one = document.get("plan").is_some() || document.get("boards").is_none();
@@ -134,10 +134,10 @@ pub fn filed(document: &Value, order: &Order) -> Result<Filed, String> {
     }
     let board = |(index, board): (usize, &Value)| {
         let place = format!("board {}", index + 1);
-        let plan = board.get("plan").ok_or_else(|| format!("{place}: expected a plan"))?;
+        let plan = board.get("plan").ok_or_else(|| Expected::at(&place, "a plan"))?;
         Ok((stock_of(board, order, &place)?, tree(plan, &place, order)?))
     };
-    let boards = boards.iter().enumerate().map(board).collect::<Result<_, String>>()?;
+    let boards = boards.iter().enumerate().map(board).collect::<Result<_, Expected>>()?;
     Ok(Filed { boards, one, evidence })
 }
 
@@ -147,16 +147,16 @@ fn first_plate(order: &Order) -> usize {
 }
 
 /// The line of the stock with the sides that a board says; the first plate where it says none.
-fn stock_of(board: &Value, order: &Order, place: &str) -> Result<usize, String> {
+fn stock_of(board: &Value, order: &Order, place: &str) -> Result<usize, Expected> {
     let Some(plate) = board.get("plate") else {
         return Ok(first_plate(order));
     };
     let side =
-        |name: &str| plate.get(name).and_then(length).ok_or_else(|| format!("{place}: expected a {name}"));
+        |name: &str| plate.get(name).and_then(length).ok_or_else(|| Expected::at(place, format!("a {name}")));
     let sides = [side("length")?, side("width")?];
     let offcut = board.get("offcut") == Some(&Value::Truth(true));
     let same = |plate: &crate::order::Plate| plate.sides() == sides && plate.offcut == offcut;
-    order.plates.iter().position(same).ok_or_else(|| format!("{place}: expected a plate of the stock"))
+    order.plates.iter().position(same).ok_or_else(|| Expected::at(place, "a plate of the stock"))
 }
 
 fn length(value: &Value) -> Option<u32> {
@@ -166,8 +166,8 @@ fn length(value: &Value) -> Option<u32> {
     }
 }
 
-fn tree(value: &Value, place: &str, order: &Order) -> Result<Tree, String> {
-    let expected = |what: &str| Err(format!("{place}: expected {what}"));
+fn tree(value: &Value, place: &str, order: &Order) -> Result<Tree, Expected> {
+    let expected = |what: &str| Err(Expected::at(place, what));
     if let Some(side) = value.get("cut") {
         let direction = match side {
             Value::Text(side) if side == "length" => Direction::Length,
@@ -202,14 +202,13 @@ fn tree(value: &Value, place: &str, order: &Order) -> Result<Tree, String> {
 }
 
 /// The evidence of a document. Whether it is of this order, the verdict finds out.
-fn evidence_of(document: &Value) -> Result<Vec<Modelled>, String> {
+fn evidence_of(document: &Value) -> Result<Vec<Modelled>, Expected> {
     let parts = match document.get("evidence") {
         Some(Value::List(parts)) => parts,
         None | Some(Value::Null) => return Ok(Vec::new()),
-        Some(_) => return Err("evidence: expected a list".to_string()),
+        Some(_) => return Err(Expected::at("evidence", "a list")),
     };
-    let wrong =
-        || "evidence: expected stock, plate, sides, prices and multipliers in whole numbers".to_string();
+    let wrong = || Expected::at("evidence", "stock, plate, sides, prices and multipliers in whole numbers");
     let part = |part: &Value| {
         let stock = usize::try_from(number(part.get("stock")?)?).ok()?;
         let plate = pair(part.get("plate")?)?;

@@ -1,12 +1,12 @@
 // Reads JSON. A fault says line, column and what was expected there.
-use super::Value;
+use super::{Expected, Value};
 
 /// The deepest nesting that is read: no plan of a board is deeper.
 const DEEPEST: usize = 40_000;
 
 /// The text of a file, without the mark that some programs put before it.
-pub fn text_of(bytes: &[u8]) -> Result<String, String> {
-    let text = std::str::from_utf8(bytes).map_err(|_| "expected UTF-8".to_string())?;
+pub fn text_of(bytes: &[u8]) -> Read<String> {
+    let text = std::str::from_utf8(bytes).map_err(|_| Expected::of_all("UTF-8"))?;
     Ok(text.strip_prefix('\u{feff}').unwrap_or(text).to_string())
 }
 
@@ -16,7 +16,7 @@ struct Reader<'a> {
     depth: usize,
 }
 
-type Read<T> = Result<T, String>;
+type Read<T> = Result<T, Expected>;
 
 pub fn read(text: &str) -> Read<Value> {
     let mut reader = Reader { text, at: 0, depth: 0 };
@@ -29,11 +29,11 @@ pub fn read(text: &str) -> Read<Value> {
 }
 
 impl Reader<'_> {
-    fn expected(&self, what: &str) -> String {
+    fn expected(&self, what: &str) -> Expected {
         let before = &self.text[..self.at];
         let line = before.split('\n').count();
         let column = before.rsplit('\n').next().map_or(0, |last| last.chars().count()) + 1;
-        format!("line {line}, column {column}: expected {what}")
+        Expected::at(format!("line {line}, column {column}"), what)
     }
 
     fn rest(&self) -> &str {

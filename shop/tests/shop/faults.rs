@@ -86,8 +86,8 @@ fn panels() {
         panel(&format!("b, 1, 1, 1, {price}"), 13, "a price");
     }
     panel("b, 1, 1, 1, 1, 1", 16, "no more than 5 cells");
-    let many: String = (1..=65).map(|i| format!("p{i}, {i}, 1, 1\n")).collect();
-    fault(&format!("{HEAD}{many}"), 67, 6, "no more than 64 sizes");
+    let many: String = (1..=1_001).map(|i| format!("p{i:04}, {i}, 1, 1\n")).collect();
+    fault(&format!("{HEAD}{many}"), 1_003, 8, "no more than 1000 sizes");
     let alike: String = (1..=99).map(|i| format!("p{i}, 7, 1, 1\n")).collect();
     assert!(read(format!("{HEAD}{alike}").as_bytes(), None).is_ok());
 }

@@ -84,8 +84,9 @@ impl Scratch {
 
 /// The command with these words.
 pub fn shop(words: &[&str]) -> Result<String, String> {
-    let Done { text, wrong, .. } =
-        run(&Options::read(words.iter().map(|word| word.to_string()))?).map_err(|wrong| wrong.to_string())?;
+    let options =
+        Options::read(words.iter().map(|word| word.to_string())).map_err(|wrong| wrong.to_string())?;
+    let Done { text, wrong, .. } = run(&options).map_err(|wrong| wrong.to_string())?;
     match wrong.first() {
         Some(wrong) => Err(wrong.to_string()),
         None => Ok(text),

@@ -1,7 +1,7 @@
 // What each call answers on job S, and one refusal of each with its place.
-use crate::{across, along, best, first_nodes, job_s, kind, piece, planner, AMPLE, WEIGHTS};
+use crate::{across, along, best, first_nodes, job_s, piece, planner, AMPLE, WEIGHTS};
 use planner::answers::{Bound, BoundTwo, Certificate, Exact, Refusal, Report};
-use planner::{Choices, Error, Job, Planner, Plate, Tree};
+use planner::{Choices, Ended, Error, FoundWeights, Job, Planner, Plate, Tree};
 
 fn refused<A>(number: u32, place: u64) -> Result<A, Error> {
     Err(Error::Refused(Refusal { number, place }))
@@ -120,15 +120,14 @@ fn plans_are_certified() {
 #[test]
 fn weights_are_found() {
     let planner = &mut planner(AMPLE);
-    let (found, weights) = planner.find_weights(&best().plan()).expect("weights");
-    assert_eq!((found.bound, found.rounds, &weights[..]), (16, 2, &[0, 1, 0][..]));
-    assert_eq!(planner.bound(&weights).expect("a bound").bound, 16);
-    let (found, weights) = planner.find_weights(&Tree::Waste.plan()).expect("weights");
-    assert_eq!((found.bound, found.rounds, &weights[..]), (16, 2, &[0, 4, 0][..]));
+    let found = |weights: [u8; 3]| FoundWeights {
+        bound: 16,
+        rounds: 2,
+        weights: weights.into(),
+        ended: Ended::Demands,
+    };
+    assert_eq!(planner.find_weights(&best().plan()), Ok(found([0, 1, 0])));
+    assert_eq!(planner.bound(&[0, 1, 0]).expect("a bound").bound, 16);
+    assert_eq!(planner.find_weights(&Tree::Waste.plan()), Ok(found([0, 4, 0])));
     assert_eq!(planner.find_weights(&piece(3).plan()), refused(13, 0));
-    let kinds = vec![kind(3, 1, 25, 2), kind(1, 2, 27, 1)];
-    let longer = &Job { length: 3, width: 3, kerf: 0, kinds };
-    let planner = &mut Planner::new(longer, Choices::default(), AMPLE);
-    let (found, weights) = planner.find_weights(&Tree::Waste.plan()).expect("weights");
-    assert_eq!((found.bound, found.rounds, &weights[..]), (75, 18, &[0, 9][..]));
 }

@@ -1,6 +1,6 @@
 // The table grows to what each call needs and no further, and what was lent before changes no answer.
 use crate::{best, planner, AMPLE, WEIGHTS};
-use planner::{Error, Planner};
+use planner::{Ended, Error, Planner};
 
 type Call = fn(&mut Planner) -> Result<u64, Error>;
 
@@ -13,7 +13,7 @@ const CALLS: [(u64, Call); 10] = [
     (300, |planner| Ok(planner.certify_staged(&WEIGHTS, 2, &best().plan())?.bound)),
     (120, |planner| Ok(planner.bound_two(&WEIGHTS, &[0, 0, 1])?.bound)),
     (240, |planner| Ok(planner.exact()?.0.optimum)),
-    (20, |planner| Ok(planner.find_weights(&best().plan())?.0.rounds)),
+    (20, |planner| Ok(planner.find_weights(&best().plan())?.rounds)),
     (60, |planner| Ok(planner.plates_needed(&WEIGHTS, 0)?.plates)),
     (60, |planner| Ok(planner.bound_lagrangian(&WEIGHTS, &[1, 2, 3])?.bound)),
 ];
@@ -37,12 +37,12 @@ fn one_planner_makes_all_calls() {
 #[test]
 fn rounds_go_as_far_as_the_memory() {
     let rounds = |planner: &mut Planner| {
-        let (found, weights) = planner.find_weights(&best().plan()).expect("round 0 has its table");
-        (found.bound, found.rounds, weights)
+        let found = planner.find_weights(&best().plan()).expect("round 0 has its table");
+        (found.bound, found.rounds, found.weights, found.ended)
     };
-    assert_eq!(rounds(&mut planner(8 * 59)), (19, 1, vec![0; 3]));
-    assert_eq!(rounds(&mut planner(8 * 60)), (16, 2, WEIGHTS.into()));
+    assert_eq!(rounds(&mut planner(8 * 59)), (19, 1, vec![0; 3], Ended::Memory(60)));
+    assert_eq!(rounds(&mut planner(8 * 60)), (16, 2, WEIGHTS.into(), Ended::Demands));
     let lent = &mut planner(8 * 60);
     lent.bound(&[0; 3]).expect("a table of one share");
-    assert_eq!(rounds(lent), (16, 2, WEIGHTS.into()));
+    assert_eq!(rounds(lent), (16, 2, WEIGHTS.into(), Ended::Demands));
 }

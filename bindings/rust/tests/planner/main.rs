@@ -5,6 +5,7 @@ mod choices;
 mod grain;
 mod lending;
 mod orders;
+mod rounds;
 mod true_sizes;
 mod types;
 

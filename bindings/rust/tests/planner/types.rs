@@ -1,7 +1,7 @@
 // Trees and plans, jobs and blocks, refusals in words.
 use crate::{best, first_nodes, job_s, piece, planner};
 use planner::answers::Refusal;
-use planner::{Choices, Error, Job, Plan, Tree, TrueSizes};
+use planner::{Choices, Error, Job, Plan, Reason, Tree, TrueSizes};
 
 #[test]
 fn trees_are_plans_in_preorder() {
@@ -106,12 +106,18 @@ fn places_are_of_one_sort() {
 }
 
 #[test]
-fn every_number_has_words_of_its_own() {
-    let numbers = (1..=38).chain([100, 101]);
-    let mut words: Vec<_> = numbers.map(|number| Refusal { number, place: 0 }.words()).collect();
-    words.push(Refusal { number: 99, place: 0 }.words());
-    let all = words.len();
+fn every_reason_has_a_number_and_words_of_its_own() {
+    let numbers: Vec<u32> = (1..=38).chain([100, 101]).collect();
+    let of_numbers: Vec<Reason> = numbers.iter().map(|number| Reason::of(*number)).collect();
+    assert_eq!(of_numbers, Reason::ALL);
+    assert!(Reason::ALL.iter().zip(&numbers).all(|(reason, number)| reason.number() == Some(*number)));
+    assert_eq!(
+        (Reason::of(0), Reason::of(39), Reason::Unknown.number()),
+        (Reason::Unknown, Reason::Unknown, None)
+    );
+    let mut words: Vec<_> =
+        Reason::ALL.iter().chain([&Reason::Unknown]).map(|reason| reason.words()).collect();
     words.sort_unstable();
     words.dedup();
-    assert_eq!(words.len(), all);
+    assert_eq!(words.len(), numbers.len() + 1);
 }
