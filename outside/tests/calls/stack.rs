@@ -54,9 +54,10 @@ pub fn fits_small_stack<A: Send>(what: &str, work: impl Fn() -> A + Sync) -> A {
 /// The bytes of stack that the work needs.
 fn measured<F: FnMut()>(mut work: F) -> usize {
     extern "C" fn run<F: FnMut()>(work: *mut c_void) {
-        // The work is borrowed below until the thread has ended.
+        // SAFETY: the work is borrowed below until the thread has ended.
         unsafe { (*work.cast::<F>())() }
     }
+    // SAFETY: the work runs on its thread alone, and that thread has ended when the call returns.
     unsafe { stack_used(AMPLE, run::<F>, (&raw mut work).cast()) }
 }
 
