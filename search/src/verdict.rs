@@ -124,17 +124,18 @@ impl Verdict {
     }
 }
 
-/// The most that a plan of a board is worth, by a model that stands for the board: by its Lagrangian bound, or without
-/// multipliers by its optimum.
+/// The most that a plan of a board is worth, by a model that stands for the board: by its bound under weights, by its
+/// Lagrangian bound, or without weights and multipliers by its optimum.
 fn most_worth(task: &Task, part: &Modelled, memory: u64) -> Option<u128> {
     let prices = Prices::new(&task.worths);
     let sides = task.stock[part.stock].sides;
     let mut priced = Priced::new(task, &held(task, sides), sides, &part.model, memory)?;
     priced.set_prices(&prices.prices);
-    let bound = match part.multipliers.is_empty() {
+    let bound = match (part.weights[0].is_empty(), part.multipliers.is_empty()) {
         _ if !priced.is_whole() => None,
-        true => priced.exact(),
-        false => priced.lagrangian(&part.multipliers),
+        (false, _) => priced.weighed(&part.weights),
+        (true, true) => priced.exact().map(|(optimum, _)| optimum),
+        (true, false) => priced.lagrangian(&part.multipliers),
     };
     Some(prices.worth(bound?))
 }
