@@ -72,6 +72,17 @@ pub const GRAIN: usize = 9492;
 // Of each kind the number of states of the kinds below it.
 pub const STRIDE: usize = 9500;
 
+// What other plates earn at most.
+pub const OTHER: usize = 9590;
+
+// How many multipliers there are; then the multipliers.
+pub const MULTIPLIERS: usize = 9599;
+
+pub const MULTIPLIER: usize = 9600;
+
+// The prices, while they are lowered.
+pub const WHOLE_PRICE: usize = 9700;
+
 // At most 1,021 positions each: up to a side of 1,000 and a kerf of 20.
 pub const NORMAL_LENGTHS: usize = 10000;
 

@@ -1,10 +1,14 @@
 // Jobs drawn at random. A shape is the row of a script: a least and a greatest number each for plate length, plate width, number of kinds,
 // kerf, kind length, kind width and price; the step of prices; a least and a greatest demand and weight; the greatest capacity; and the
-// form of the sizes: 0 free, 1 with a first kind of 1 by 1, 2 all as the first kind's.
+// form of the sizes: 0 free, 1 with a first kind of 1 by 1, 2 all as the first kind's. The row of an order has besides a least and a greatest
+// number for what other plates earn and for a multiplier.
 use crate::job::DEMAND;
 use crate::job::KIND_LENGTH;
 use crate::job::KINDS;
 use crate::job::LEFT;
+use crate::job::MULTIPLIER;
+use crate::job::MULTIPLIERS;
+use crate::job::OTHER;
 use crate::job::PLATE;
 use crate::job::PRICE;
 use crate::job::SECOND_WEIGHT;
@@ -138,4 +142,19 @@ pub fn draw_job(t: &mut Words) {
     draw_header(t);
     draw_kinds(t);
     draw_second_weights(t);
+}
+
+fn draw_multipliers(t: &mut Words) {
+    for i in 0..word(t, KINDS, 0) {
+        let x = draw(t, 23);
+        put(t, MULTIPLIER, i, x);
+    }
+}
+
+// Draws what other plates earn, and a multiplier of each kind.
+pub fn draw_order(t: &mut Words) {
+    let other = draw(t, 21);
+    put(t, OTHER, 0, other);
+    copy(t, MULTIPLIERS, KINDS, 1);
+    draw_multipliers(t);
 }

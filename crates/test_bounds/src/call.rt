@@ -1,5 +1,5 @@
-// The bound call on the job at hand, or the staged one, or that of two weights, or the exact call, with a part of marked memory lent; its
-// answer and what it left there go into words.
+// The bound call on the job at hand, or the staged one, or that of two weights, the exact call, the plates that its order needs or the bound
+// by multipliers, with a part of marked memory lent; its answer and what it left there go into words.
 use bound::BoundAnswer;
 use bound::BoundReport;
 use bound::bound;
@@ -9,8 +9,10 @@ use every_unit::EXACT;
 use every_unit::FIGURES;
 use every_unit::LENGTH_COUNT;
 use every_unit::LIMIT;
+use every_unit::MULTIPLIERS;
 use every_unit::NORMAL_LENGTHS;
 use every_unit::NORMAL_WIDTHS;
+use every_unit::OTHER;
 use every_unit::SECOND_WEIGHTS;
 use every_unit::TWO;
 use every_unit::WEIGHTS;
@@ -21,6 +23,12 @@ use exact::ExactAnswer;
 use exact::ExactReport;
 use exact::exact;
 use job::Choices;
+use multipliers::LagrangianAnswer;
+use multipliers::LagrangianReport;
+use multipliers::bound_lagrangian;
+use plates_needed::PlatesAnswer;
+use plates_needed::PlatesReport;
+use plates_needed::plates_needed;
 use refusal::Refusal;
 use staged_bound::bound_staged;
 use test_tools::Words;
@@ -28,12 +36,14 @@ use test_tools::bytes;
 use test_tools::different_entries;
 use test_tools::different_words;
 use test_tools::first_bytes;
+use test_tools::first_u32s;
 use test_tools::lend_numbers;
 use test_tools::lend_words;
 use test_tools::marked_list;
 use test_tools::marked_table;
 use test_tools::minus;
 use test_tools::put;
+use test_tools::u32s;
 use test_tools::word;
 use two_bound::TwoAnswer;
 use two_bound::TwoReport;
@@ -48,8 +58,13 @@ pub const LENT_WIDTHS: usize = 60001;
 pub const LENT_WORDS: usize = 60002;
 
 // A refusal's number and place; or 0 and bound, capacity, number of normal lengths, of normal widths, and the second capacity; of the exact
-// call the optimum, the last state, the two numbers, 0 and the plan's nodes.
+// call the optimum, the last state, the two numbers, 0 and the plan's nodes. Then the plates needed or the Lagrangian bound, where the bound is
+// the lowered job's, and the order's worth.
 pub const ANSWER: usize = 60010;
+
+pub const ORDER_ANSWER: usize = 60017;
+
+pub const WORTH: usize = 60018;
 
 // How many entries of the lengths, of the widths, and words of the table are not as expected.
 pub const OTHER_LENGTHS: usize = 60020;
@@ -57,6 +72,13 @@ pub const OTHER_LENGTHS: usize = 60020;
 pub const OTHER_WIDTHS: usize = 60021;
 
 pub const OTHER_WORDS: usize = 60022;
+
+// Which call for an order is made: PLATES, LAGRANGIAN, or 0 for none.
+pub const ORDER: usize = 60030;
+
+pub const PLATES: usize = 1;
+
+pub const LAGRANGIAN: usize = 2;
 
 // What a call answered: the values as they stand at ANSWER, those that it does not answer 0.
 struct Answer {
@@ -67,6 +89,8 @@ struct Answer {
     widths: usize,
     second: usize,
     nodes: usize,
+    order: usize,
+    worth: usize,
 }
 
 // The answer, and how many entries of the lengths, of the widths, and words of the table are not as expected.
@@ -90,6 +114,8 @@ fn refused(r: Refusal) -> Answer {
         widths: 0,
         second: 0,
         nodes: 0,
+        order: 0,
+        worth: 0,
     }
 }
 
@@ -103,6 +129,8 @@ fn answered(bound: u64, capacity: usize, p: u16, r: u16, second: u16, nodes: u64
         widths: widen(r),
         second: widen(second),
         nodes: nodes as usize,
+        order: 0,
+        worth: 0,
     }
 }
 
@@ -148,6 +176,34 @@ fn bound_answer(answer: BoundAnswer) -> Answer {
     }
 }
 
+fn plates_report(r: PlatesReport) -> Answer {
+    let mut a = answered(r.bound, 0, 0, 0, 0, 0);
+    a.order = r.plates as usize;
+    a.worth = r.worth as usize;
+    a
+}
+
+fn plates_answer(answer: PlatesAnswer) -> Answer {
+    match answer {
+        PlatesAnswer::Answered(r) => plates_report(r),
+        PlatesAnswer::Refused(r) => refused(r),
+    }
+}
+
+fn lagrangian_report(r: LagrangianReport) -> Answer {
+    let lowered = r.lowered;
+    let mut a = bound_report(lowered);
+    a.order = r.lagrangian as usize;
+    a
+}
+
+fn lagrangian_answer(answer: LagrangianAnswer) -> Answer {
+    match answer {
+        LagrangianAnswer::Answered(r) => lagrangian_report(r),
+        LagrangianAnswer::Refused(r) => refused(r),
+    }
+}
+
 fn note_answer(t: &mut Words, a: Answer) {
     put(t, ANSWER, 0, a.refusal);
     put(t, ANSWER, 1, a.bound);
@@ -156,6 +212,8 @@ fn note_answer(t: &mut Words, a: Answer) {
     put(t, ANSWER, 4, a.widths);
     put(t, ANSWER, 5, a.second);
     put(t, ANSWER, 6, a.nodes);
+    put(t, ORDER_ANSWER, 0, a.order);
+    put(t, WORTH, 0, a.worth);
 }
 
 // The choices for a call whose name says full demand: of it they say nothing.
@@ -222,7 +280,39 @@ fn call_exact(
     exact(block, c, lengths, widths, table, &mut kinds, &mut operands)
 }
 
-// The exact call, or that of two weights, or of one, by what is set.
+// The bound by the multipliers that are set.
+fn call_lagrangian(
+    t: &Words,
+    c: Choices,
+    block: &[u8],
+    weights: &[u8],
+    lengths: &mut [u16],
+    widths: &mut [u16],
+    table: &mut [u64],
+) -> LagrangianAnswer {
+    let multipliers = u32s(t, MULTIPLIERS);
+    let ms = first_u32s(t, MULTIPLIERS, &multipliers);
+    bound_lagrangian(block, c, weights, ms, lengths, widths, table)
+}
+
+// The plates that the order needs, or the bound by multipliers.
+fn call_order(
+    t: &Words,
+    c: Choices,
+    block: &[u8],
+    weights: &[u8],
+    lengths: &mut [u16],
+    widths: &mut [u16],
+    table: &mut [u64],
+) -> Answer {
+    if word(t, ORDER, 0) == PLATES {
+        let other = word(t, OTHER, 0) as u64;
+        return plates_answer(plates_needed(block, c, weights, other, lengths, widths, table));
+    }
+    lagrangian_answer(call_lagrangian(t, c, block, weights, lengths, widths, table))
+}
+
+// The exact call, or that of two weights, or one for the order, or the bound of one weight, by what is set.
 fn call_set(
     t: &Words,
     c: Choices,
@@ -238,6 +328,9 @@ fn call_set(
     }
     if word(t, TWO, 0) == 1 {
         return two_answer(call_two(c, block, first, second, lengths, widths, table));
+    }
+    if word(t, ORDER, 0) != 0 {
+        return call_order(t, c, block, first, lengths, widths, table);
     }
     let m = limit(t);
     bound_answer(call_bound(m, c, block, first, lengths, widths, table))

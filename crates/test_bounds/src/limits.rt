@@ -4,8 +4,12 @@
 // full demands, whether the block is written as an old one and whether it is read as an old one; then the limit of stages, 0 for none; 1 for two weights, the
 // second weight of every kind and the number of second weights; and 1 for the exact call.
 use crate::call::ANSWER;
+use crate::call::LAGRANGIAN;
 use crate::call::LENT_LENGTHS;
+use crate::call::ORDER;
+use crate::call::ORDER_ANSWER;
 use crate::call::OTHER_LENGTHS;
+use crate::call::PLATES;
 use crate::call::try_bound;
 use every_unit::EXACT;
 use every_unit::KIND_LENGTH;
@@ -67,8 +71,28 @@ fn print_second(t: &Words) {
     }
 }
 
+// The values of a call for an order that stand before the bound's.
+fn print_order(t: &Words) {
+    if word(t, ORDER, 0) == PLATES {
+        print_words(b"plates # worth # ", t, ORDER_ANSWER);
+    }
+    if word(t, ORDER, 0) == LAGRANGIAN {
+        print_words(b"lagrangian # ", t, ORDER_ANSWER);
+    }
+}
+
+// The bound, and unless it is that of an order's plates what is answered beside it.
+fn print_bound(t: &Words) {
+    if word(t, ORDER, 0) == PLATES {
+        print_words(b"bound #", t, plus(ANSWER, 1));
+    } else {
+        print_words(b"bound # capacity # lengths # widths #", t, plus(ANSWER, 1));
+    }
+}
+
 // The values of an answer, by the call.
 fn print_values(t: &Words) {
+    print_order(t);
     if word(t, EXACT, 0) == 1 {
         print_words(
             b"optimum # last state # lengths # widths #",
@@ -77,7 +101,7 @@ fn print_values(t: &Words) {
         );
         print_words(b" nodes #", t, plus(ANSWER, 6));
     } else {
-        print_words(b"bound # capacity # lengths # widths #", t, plus(ANSWER, 1));
+        print_bound(t);
         print_second(t);
     }
 }
@@ -100,13 +124,18 @@ fn row_choices(t: &Words) -> Choices {
     }
 }
 
-// Runs the case. No length, no width and no word is expected, so that every change differs.
-pub fn run_limit(t: &mut Words) {
-    make_job(t);
+// Runs the call on the job at hand. No length, no width and no word is expected, so that every change differs.
+pub fn run_lent(t: &mut Words, old: bool, c: Choices) {
     clear(t, LENGTH_COUNT, 4);
-    let old = word(t, ROW, 15) == 1;
-    let c = row_choices(t);
     try_bound(t, old, c);
     print_answer(t);
     print_words(b"; changed # # #", t, OTHER_LENGTHS);
+}
+
+// Runs the case.
+pub fn run_limit(t: &mut Words) {
+    make_job(t);
+    let old = word(t, ROW, 15) == 1;
+    let c = row_choices(t);
+    run_lent(t, old, c);
 }

@@ -8,5 +8,5 @@ pub other-answers-spec : {M : Type 1} → statement M
 other-answers-spec =
     tie.close
     (tie.spec
-    (λ t n₀ i₀ n i. i ≤ 5) (λ t n₀ i₀ n i. 5 - i) (search needs) (search needs) (search needs) (search needs) (search needs) (search needs)
-    (search needs) (search needs) (search needs) (search needs) (search needs))
+    (λ t n₀ i₀ i-end n i. i ≤ i-end) (λ t n₀ i₀ i-end n i. i-end - i)
+    (search needs) (search needs) (search needs) (search needs) (search needs) (search needs) (search needs) (search needs) (search needs) (search needs) (search needs) (search needs))
