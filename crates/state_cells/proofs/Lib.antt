@@ -1,3 +1,4 @@
 pub mod Placing
 pub mod Listing
 pub mod Making
+pub mod Reaching

@@ -27,7 +27,7 @@ use Rattle.table.specs.States.{Order, Covers}
 use Rattle.states.specs.States.{figure-in, note-in, mark-in, held, note, mark, under, Summed, Rises, Flagged, Low, Grown, Growing, Topped, cell}
 use Rattle.state_joins.specs.Joins.{Marked, Served, Ready, Cuttable, CutAt}
 use Rattle.state_cells.specs.Cells.{Level, Startable, Levelled, Told, Placed, Inherited, Steps, Finished, FlaggedBelow}
-use Rattle.state_cells.specs.Places.{tabled, Made, Spot}
+use Rattle.state_cells.specs.Places.{tabled, MadeTo, Made, SpotTo}
 use Rattle.states.proofs.Noted.{figure-small, figure-plain, note-plain}
 use Rattle.table.proofs.Across.{across, across-joins, state-above, state-low, more-side, piece-most}
 use Rattle.table.proofs.Covered.{Joins}
@@ -116,25 +116,39 @@ level-past le plain words flat top some f g rises low below c level s h l = go (
 pub level-later : {words flat high : ℕ} {f : ℕ → ℕ} → flat ≤ high → Level words flat f → Level words high f
 level-later {words} {flat} {high} {f} h level s k l = level s (omega arith) l ∙ sym (level high h (omega arith))
 
--- a cell that is made stays so where its words do
-pub made-same : {J : Job} {le : ℕ → ℕ → Bool} {own : ℕ → ℕ} {normal-lengths normal-widths : List ℕ} {words i j : ℕ} {old new : List ℕ}
-    → ((s : ℕ) → s < words → getD new (cell J words i j + s) 0 ≡ getD old (cell J words i j + s) 0) → Made J le own normal-lengths normal-widths words i j old → Made J le own normal-lengths normal-widths words i j new
-made-same {J} {le} {own} {normal-lengths} {normal-widths} {words} {i} {j} {old} {new} e w = record {
+-- a cell that is made at its states below n stays so where its words do
+pub made-to-same : {J : Job} {le : ℕ → ℕ → Bool} {own : ℕ → ℕ} {normal-lengths normal-widths : List ℕ} {words n i j : ℕ} {old new : List ℕ}
+    → ((s : ℕ) → s < n → getD new (cell J words i j + s) 0 ≡ getD old (cell J words i j + s) 0) → MadeTo J le own normal-lengths normal-widths words n i j old → MadeTo J le own normal-lengths normal-widths words n i j new
+made-to-same {J} {le} {own} {normal-lengths} {normal-widths} {words} {n} {i} {j} {old} {new} e w = record {
   figures = λ s l. ap figure-in (e s l) ∙ w .figures s l;
   notes = λ k l. omega (arith, ap note-in (e k l), w .notes k l);
   ended = λ x k l m z. ap note-in (e k m) ∙ w .ended x k l m (sym (ap note-in (e x (omega arith))) ∙ z);
   sorted = λ x k l m z. omega (arith, ap note-in (e x (omega arith)), ap note-in (e k m), w .sorted x k l m (omega (arith, ap note-in (e k m))));
-  longer = covers-more le words _ _ _ _ (λ t l s. marked-same _ t s) (w .longer);
-  wider = covers-more le words _ _ _ _ (λ t l s. marked-same _ t s) (w .wider);
+  longer = covers-more le n _ _ _ _ (λ t l s. marked-same _ t s) (w .longer);
+  wider = covers-more le n _ _ _ _ (λ t l s. marked-same _ t s) (w .wider);
 }
   where
-    marked-same : (skip t : ℕ) → Marked skip old (cell J words i j) words t → Marked skip new (cell J words i j) words t
+    marked-same : (skip t : ℕ) → Marked skip old (cell J words i j) n t → Marked skip new (cell J words i j) n t
     marked-same skip t s = (s .0, s .1, (ap note-in (e (s .0) (s .1)) ∙ s .2 .0, λ z. s .2 .1 (sym (ap mark-in (e (s .0) (s .1))) ∙ z)))
 
 -- so it does where words after it are written
-pub made-kept : {J : Job} {le : ℕ → ℕ → Bool} {own : ℕ → ℕ} {normal-lengths normal-widths : List ℕ} {words i j at end : ℕ} {old new : List ℕ}
-    → cell J words i j + words ≤ at → Outside at end old new → Made J le own normal-lengths normal-widths words i j old → Made J le own normal-lengths normal-widths words i j new
-made-kept {J} {le} {own} {normal-lengths} {normal-widths} {words} {i} {j} h o w = made-same (λ s l. o .before (cell J words i j + s) (omega arith)) w
+pub made-to-kept : {J : Job} {le : ℕ → ℕ → Bool} {own : ℕ → ℕ} {normal-lengths normal-widths : List ℕ} {words n i j at end : ℕ} {old new : List ℕ}
+    → cell J words i j + n ≤ at → Outside at end old new → MadeTo J le own normal-lengths normal-widths words n i j old → MadeTo J le own normal-lengths normal-widths words n i j new
+made-to-kept {J} {le} {own} {normal-lengths} {normal-widths} {words} {n} {i} {j} h o w = made-to-same (λ s l. o .before (cell J words i j + s) (omega arith)) w
+
+-- a cell that is made stays so where its words do
+pub made-same : {J : Job} {le : ℕ → ℕ → Bool} {own : ℕ → ℕ} {normal-lengths normal-widths : List ℕ} {words flat i j : ℕ} {old new : List ℕ}
+    → ((s : ℕ) → s < words → getD new (cell J words i j + s) 0 ≡ getD old (cell J words i j + s) 0) → Made J le own normal-lengths normal-widths words flat i j old → Made J le own normal-lengths normal-widths words flat i j new
+made-same e w = record { all = made-to-same e (w .all); short = λ k l. (omega (arith, ap note-in (e k l), w .short k l .0), λ m. ap note-in (e k l) ∙ w .short k l .1 m) }
+
+pub made-kept : {J : Job} {le : ℕ → ℕ → Bool} {own : ℕ → ℕ} {normal-lengths normal-widths : List ℕ} {words flat i j at end : ℕ} {old new : List ℕ}
+    → cell J words i j + words ≤ at → Outside at end old new → Made J le own normal-lengths normal-widths words flat i j old → Made J le own normal-lengths normal-widths words flat i j new
+made-kept {J} {le} {own} {normal-lengths} {normal-widths} {words} {flat} {i} {j} h o w = made-same (λ s l. o .before (cell J words i j + s) (omega arith)) w
+
+-- a list that is short stays so where more states are in reach
+pub made-later : {J : Job} {le : ℕ → ℕ → Bool} {own : ℕ → ℕ} {normal-lengths normal-widths : List ℕ} {words flat high i j : ℕ} {xs : List ℕ}
+    → flat ≤ high → Made J le own normal-lengths normal-widths words flat i j xs → Made J le own normal-lengths normal-widths words high i j xs
+made-later h w = record { all = w .all; short = λ k l. (omega (arith, w .short k l .0), λ m. w .short k l .1 (omega arith)) }
 
 -- the cuts of one side, along which a cell of length x has the figures h x
 module _ (J : Job) (le : ℕ → ℕ → Bool) (order : Order le) (fit : InTableRange J) (d : Direction) (count : ℕ) (positions floors : List ℕ) (given : Positions J d count positions floors)
@@ -170,7 +184,7 @@ module _ (J : Job) (le : ℕ → ℕ → Bool) (order : Order le) (fit : InTable
       taken i j l m e x t u f y z b = rw e (cuts .sums i t u l m (rw e at x) f (rw e at y) z b)
 
 -- the cell at its place
-module _ {J : Job} {own : ℕ → ℕ} {normal-lengths length-floors normal-widths width-floors blocks : List ℕ} {d words stride a b length-half-end width-half-end at column flat : ℕ} {t0 : List ℕ} (spot : Spot J own normal-lengths length-floors normal-widths width-floors blocks d words stride a b length-half-end width-half-end at column flat t0) where
+module _ {J : Job} {own : ℕ → ℕ} {normal-lengths length-floors normal-widths width-floors blocks : List ℕ} {d words n stride a b length-half-end width-half-end at column flat : ℕ} {t0 : List ℕ} (spot : SpotTo J own normal-lengths length-floors normal-widths width-floors blocks d words n stride a b length-half-end width-half-end at column flat t0) where
   abbrev le : ℕ → ℕ → Bool
   le = under blocks d
 
@@ -179,28 +193,29 @@ module _ {J : Job} {own : ℕ → ℕ} {normal-lengths length-floors normal-widt
   F i j s = tabled J (under blocks d) own normal-lengths normal-widths i j s
 
   order : Order (under blocks d)
-  order = order-of blocks d words (spot .lent .digits)
+  order = order-of blocks d n (spot .digits)
 
   fit : InTableRange J
-  fit = spot .lent .range
+  fit = spot .range
 
   -- a cell of an earlier row, and one before in the row, ends where this one begins or before
-  pub row-earlier : (i : ℕ) → i < a → cell J words i b + words ≤ at
-  row-earlier i h = omega (arith, spot .at-is, cell-before (i * position-count J Width + b) (a * position-count J Width + b) words (omega (arith, cell-before i a (position-count J Width) h)))
+  pub row-earlier : (i : ℕ) → i < a → cell J words i b + n ≤ at
+  row-earlier i h = omega (arith, spot .at-is, spot .within, cell-before (i * position-count J Width + b) (a * position-count J Width + b) words (omega (arith, cell-before i a (position-count J Width) h)))
 
-  pub cell-earlier : (j : ℕ) → j < b → cell J words a j + words ≤ at
-  cell-earlier j h = omega (arith, spot .at-is, cell-before (a * position-count J Width + j) (a * position-count J Width + b) words (omega arith))
+  pub cell-earlier : (j : ℕ) → j < b → cell J words a j + n ≤ at
+  cell-earlier j h = omega (arith, spot .at-is, spot .within, cell-before (a * position-count J Width + j) (a * position-count J Width + b) words (omega arith))
 
   -- it lies within the table
-  pub room : at + words ≤ length t0
+  pub room : at + n ≤ length t0
   room = omega (
     arith,
     spot .at-is,
-    spot .lent .room,
+    spot .within,
+    spot .room,
     cell-before (a * position-count J Width + b) (position-count J Length * position-count J Width) words (omega (arith, cell-before a (position-count J Length) (position-count J Width) (spot .length-in .1))),
   )
 
-  -- the words of the cells of its column and of its row, as the code counts them
+  -- the n of the cells of its column and of its row, as the code counts them
   pub row-word : (i : ℕ) → column + i * stride ≡ cell J words i b
   row-word i = ap₂ (λ x y. x + i * y) (spot .column-is) (spot .stride-is) ∙ omega arith
 
@@ -239,196 +254,196 @@ module _ {J : Job} {own : ℕ → ℕ} {normal-lengths length-floors normal-widt
 
   -- the cuts of its two sides
   pub length-cuts-are : Cuts normal-lengths length-floors a length-half-end
-  length-cuts-are = half-cuts normal-lengths length-floors (position-count J Length) (positions-axis J Length (position-count J Length) normal-lengths length-floors fit (spot .lent .lengths)) a length-half-end (spot .length-in .1) (spot .length-half)
+  length-cuts-are = half-cuts normal-lengths length-floors (position-count J Length) (positions-axis J Length (position-count J Length) normal-lengths length-floors fit (spot .lengths)) a length-half-end (spot .length-in .1) (spot .length-half)
 
   pub width-cuts-are : Cuts normal-widths width-floors b width-half-end
-  width-cuts-are = half-cuts normal-widths width-floors (position-count J Width) (positions-axis J Width (position-count J Width) normal-widths width-floors fit (spot .lent .widths)) b width-half-end (spot .width-in .1) (spot .width-half)
+  width-cuts-are = half-cuts normal-widths width-floors (position-count J Width) (positions-axis J Width (position-count J Width) normal-widths width-floors fit (spot .widths)) b width-half-end (spot .width-in .1) (spot .width-half)
 
   low : (i j s : ℕ) → i < position-count J Length → j < position-count J Width → F i j s ≤ most-wide-figure
   low i j s h m = omega (
     arith,
-    state-low J (under blocks d) own order fit (getD normal-lengths i 0) (getD normal-widths j 0) s (positions-axis J Length (position-count J Length) normal-lengths length-floors fit (spot .lent .lengths) .side i h .0),
-    positions-axis J Width (position-count J Width) normal-widths width-floors fit (spot .lent .widths) .side j m .0,
+    state-low J (under blocks d) own order fit (getD normal-lengths i 0) (getD normal-widths j 0) s (positions-axis J Length (position-count J Length) normal-lengths length-floors fit (spot .lengths) .side i h .0),
+    positions-axis J Width (position-count J Width) normal-widths width-floors fit (spot .widths) .side j m .0,
   )
 
-  rising : (i j : ℕ) → Rises (under blocks d) words (F i j)
+  pub rising : (i j : ℕ) → Rises (under blocks d) n (F i j)
   rising i j t s h l = state-above J (under blocks d) own order fit (getD normal-lengths i 0) (getD normal-widths j 0) t s l
 
-  ready : (i j : ℕ) (xs : List ℕ) → i < position-count J Length → j < position-count J Width → Made J (under blocks d) own normal-lengths normal-widths words i j xs → cell J words i j + words ≤ at → Ready xs (cell J words i j) words at
+  ready : (i j : ℕ) (xs : List ℕ) → i < position-count J Length → j < position-count J Width → MadeTo J (under blocks d) own normal-lengths normal-widths words n i j xs → cell J words i j + n ≤ at → Ready xs (cell J words i j) n at
   ready i j xs h l w before = record {
     before = before;
     small = λ s m. omega (arith, w .figures s m, low i j s h l);
-    most = λ s m. omega (arith, w .figures s m, w .figures (words - 1) (omega arith), rising i j s (words - 1) (omega arith) (last-state blocks d words (spot .lent .digits) s m));
+    most = λ s m. omega (arith, w .figures s m, w .figures (n - 1) (omega arith), rising i j s (n - 1) (omega arith) (last-state blocks d n (spot .digits) s m));
     notes = w .notes;
     ended = w .ended;
     sorted = w .sorted;
   }
 
-  -- cells of the column and of the row, in a table where words from here on were written
-  earlier-row : (xs : List ℕ) → Outside at (at + words) t0 xs → (i : ℕ) → i < a → Ready xs (cell J words i b) words at
-  earlier-row xs o i h = ready i b xs (omega (arith, spot .length-in .1)) (spot .width-in .1) (made-kept (row-earlier i h) o (spot .rows i b h (spot .width-in .1) (omega (arith, spot .width-in .0)))) (row-earlier i h)
+  -- cells of the column and of the row, in a table where n from here on were written
+  earlier-row : (xs : List ℕ) → Outside at (at + n) t0 xs → (i : ℕ) → i < a → Ready xs (cell J words i b) n at
+  earlier-row xs o i h = ready i b xs (omega (arith, spot .length-in .1)) (spot .width-in .1) (made-to-kept (row-earlier i h) o (spot .column-cells i h)) (row-earlier i h)
 
-  earlier-cell : (xs : List ℕ) → Outside at (at + words) t0 xs → (j : ℕ) → j < b → Ready xs (cell J words a j) words at
-  earlier-cell xs o j h = ready a j xs (spot .length-in .1) (omega (arith, spot .width-in .1)) (made-kept (cell-earlier j h) o (spot .cells j h)) (cell-earlier j h)
+  earlier-cell : (xs : List ℕ) → Outside at (at + n) t0 xs → (j : ℕ) → j < b → Ready xs (cell J words a j) n at
+  earlier-cell xs o j h = ready a j xs (spot .length-in .1) (omega (arith, spot .width-in .1)) (made-to-kept (cell-earlier j h) o (spot .row-cells j h)) (cell-earlier j h)
 
-  row-ready : (xs : List ℕ) → Outside at (at + words) t0 xs → (i : ℕ) → i < a → Ready xs (column + i * stride) words at
+  row-ready : (xs : List ℕ) → Outside at (at + n) t0 xs → (i : ℕ) → i < a → Ready xs (column + i * stride) n at
   row-ready xs o i h = rw (row-word i) (earlier-row xs o i h)
 
-  cell-ready : (xs : List ℕ) → Outside at (at + words) t0 xs → (j : ℕ) → j < b → Ready xs (at - column + j * words) words at
+  cell-ready : (xs : List ℕ) → Outside at (at + n) t0 xs → (j : ℕ) → j < b → Ready xs (at - column + j * words) n at
   cell-ready xs o j h = rw (cell-word j) (earlier-cell xs o j h)
 
   -- the digit sums stand before it
-  pub sums-there : (xs : List ℕ) → Outside at (at + words) t0 xs → Summed blocks d words at xs
-  sums-there xs o = summed-kept o (record { before = λ h. omega (arith, row-fits, cell-fits .0); sums = spot .summed .sums })
+  pub sums-there : (xs : List ℕ) → Outside at (at + n) t0 xs → Summed blocks d n at xs
+  sums-there xs o = summed-kept o (record { before = λ h. omega (arith, row-fits, cell-fits .0, spot .within); sums = spot .summed .sums })
 
   -- so the cuts of its two sides can be taken
-  pub length-cuttable : (xs : List ℕ) → Outside at (at + words) t0 xs → Growing blocks d words at xs → Cuttable blocks normal-lengths length-floors d words a 1 length-half-end column stride at xs
+  pub length-cuttable : (xs : List ℕ) → Outside at (at + n) t0 xs → Growing blocks d n at xs → Cuttable blocks normal-lengths length-floors d n a 1 length-half-end column stride at xs
   length-cuttable xs o g = record { growing = g; first = omega arith; cuts = length-cuts-are; ready = row-ready xs o; summed = sums-there xs o }
 
-  pub width-cuttable : (xs : List ℕ) → Outside at (at + words) t0 xs → Growing blocks d words at xs → Cuttable blocks normal-widths width-floors d words b 1 width-half-end (at - column) words at xs
+  pub width-cuttable : (xs : List ℕ) → Outside at (at + n) t0 xs → Growing blocks d n at xs → Cuttable blocks normal-widths width-floors d n b 1 width-half-end (at - column) words at xs
   width-cuttable xs o g = record { growing = g; first = omega arith; cuts = width-cuts-are; ready = cell-ready xs o; summed = sums-there xs o }
 
   -- the two cells before it
-  pub shorter-ready : (xs : List ℕ) → Outside at (at + words) t0 xs → Ready xs (at - stride) words at
+  pub shorter-ready : (xs : List ℕ) → Outside at (at + n) t0 xs → Ready xs (at - stride) n at
   shorter-ready xs o = rw shorter-word (earlier-row xs o (a - 1) (omega (arith, spot .length-in .0)))
 
-  pub narrower-ready : (xs : List ℕ) → Outside at (at + words) t0 xs → Ready xs (at - words) words at
+  pub narrower-ready : (xs : List ℕ) → Outside at (at + n) t0 xs → Ready xs (at - words) n at
   narrower-ready xs o = rw narrower-word (earlier-cell xs o (b - 1) (omega (arith, spot .width-in .0)))
 
   -- a longer and a wider cell have no less
-  longer : (i k j s : ℕ) → i ≤ k → k < position-count J Length → F i j s ≤ F k j s
+  pub longer : (i k j s : ℕ) → i ≤ k → k < position-count J Length → F i j s ≤ F k j s
   longer i k j s h l = more-side J (under blocks d) own order fit Length (getD normal-widths j 0) (getD normal-lengths i 0) (getD normal-lengths k 0) s (rise i k h l (decLe k i))
     where
       rise : (i k : ℕ) → i ≤ k → k < position-count J Length → Dec (k ≤ i) → getD normal-lengths i 0 ≤ getD normal-lengths k 0
       rise i k h l (yes m) = let e : i ≡ k = omega arith in omega (arith, ap (λ i. getD normal-lengths i 0) e)
-      rise i k h l (no m) = omega (arith, positions-axis J Length (position-count J Length) normal-lengths length-floors fit (spot .lent .lengths) .rise i k (omega arith) l)
+      rise i k h l (no m) = omega (arith, positions-axis J Length (position-count J Length) normal-lengths length-floors fit (spot .lengths) .rise i k (omega arith) l)
 
-  wider : (i j k s : ℕ) → j ≤ k → k < position-count J Width → F i j s ≤ F i k s
+  pub wider : (i j k s : ℕ) → j ≤ k → k < position-count J Width → F i j s ≤ F i k s
   wider i j k s h l = more-side J (under blocks d) own order fit Width (getD normal-lengths i 0) (getD normal-widths j 0) (getD normal-widths k 0) s (rise j k h l (decLe k j))
     where
       rise : (i k : ℕ) → i ≤ k → k < position-count J Width → Dec (k ≤ i) → getD normal-widths i 0 ≤ getD normal-widths k 0
       rise i k h l (yes m) = let e : i ≡ k = omega arith in omega (arith, ap (λ i. getD normal-widths i 0) e)
-      rise i k h l (no m) = omega (arith, positions-axis J Width (position-count J Width) normal-widths width-floors fit (spot .lent .widths) .rise i k (omega arith) l)
+      rise i k h l (no m) = omega (arith, positions-axis J Width (position-count J Width) normal-widths width-floors fit (spot .widths) .rise i k (omega arith) l)
 
   -- the figures of the two cells before it
-  shorter-figure : (s : ℕ) → s < words → held t0 (at - stride) s ≡ F (a - 1) b s
-  shorter-figure s h = rw shorter-word (spot .rows (a - 1) b (omega (arith, spot .length-in .0)) (spot .width-in .1) (omega (arith, spot .width-in .0)) .figures s h)
+  shorter-figure : (s : ℕ) → s < n → held t0 (at - stride) s ≡ F (a - 1) b s
+  shorter-figure s h = rw shorter-word (spot .column-cells (a - 1) (omega (arith, spot .length-in .0)) .figures s h)
 
-  narrower-figure : (s : ℕ) → s < words → held t0 (at - words) s ≡ F a (b - 1) s
-  narrower-figure s h = rw narrower-word (spot .cells (b - 1) (omega (arith, spot .width-in .0)) .figures s h)
+  narrower-figure : (s : ℕ) → s < n → held t0 (at - words) s ≡ F a (b - 1) s
+  narrower-figure s h = rw narrower-word (spot .row-cells (b - 1) (omega (arith, spot .width-in .0)) .figures s h)
 
   -- it can start from them
-  pub startable : Startable (at - stride) (at - words) at words flat t0
+  pub startable : Startable (at - stride) (at - words) at n flat t0
   startable = record {
-    first-before = shorter-ready t0 (outside-same at (at + words) t0) .before;
-    second-before = narrower-ready t0 (outside-same at (at + words) t0) .before;
+    first-before = shorter-ready t0 (outside-same at (at + n) t0) .before;
+    second-before = narrower-ready t0 (outside-same at (at + n) t0) .before;
     room = room;
     most = spot .flat-most;
-    first-level = λ s h l. shorter-figure s l ∙ (spot .level-rows (a - 1) b (omega (arith, spot .length-in .0)) (spot .width-in .1) s h l ∙ sym (shorter-figure flat (omega arith)));
-    second-level = λ s h l. narrower-figure s l ∙ (spot .level-cells (b - 1) (omega (arith, spot .width-in .0)) s h l ∙ sym (narrower-figure flat (omega arith)));
+    first-level = λ s h l. shorter-figure s l ∙ (spot .level-shorter s h l ∙ sym (shorter-figure flat (omega arith)));
+    second-level = λ s h l. narrower-figure s l ∙ (spot .level-narrower s h l ∙ sym (narrower-figure flat (omega arith)));
   }
 
   -- the start
-  module _ (t1 : List ℕ) (run : Run (λ s. max (held t0 (at - stride) s) (held t0 (at - words) s)) at words t0 t1) where
-    pub started : (s : ℕ) → s < words → held t1 at s ≡ max (F (a - 1) b s) (F a (b - 1) s)
+  module _ (t1 : List ℕ) (run : Run (λ s. max (held t0 (at - stride) s) (held t0 (at - words) s)) at n t0 t1) where
+    pub started : (s : ℕ) → s < n → held t1 at s ≡ max (F (a - 1) b s) (F a (b - 1) s)
     started s h = ap figure-in (run .here s h) ∙ (figure-plain _ (omega (arith, figure-small (getD t0 (at - stride + s) 0), figure-small (getD t0 (at - words + s) 0))) ∙ ap₂ max (shorter-figure s h) (narrower-figure s h))
 
     -- no state is flagged yet, so all that are flagged later lie below the number handed on
-    pub start-topped : (high : ℕ) (xs : List ℕ) → Topped at words 0 high t1 xs → FlaggedBelow at words high xs
+    pub start-topped : (high : ℕ) (xs : List ℕ) → Topped at n 0 high t1 xs → FlaggedBelow at n high xs
     start-topped high xs p = record { most = p .most (omega arith); flags = λ t h f. go t h (p .flags t h f) }
       where
-        go : (t : ℕ) → t < words → Flagged t1 at t ⊎ (t < high) → t < high
+        go : (t : ℕ) → t < n → Flagged t1 at t ⊎ (t < high) → t < high
         go t h (inr l) = l
         go t h (inl f) = absurd (omega (arith, ap note-in (run .here t h), note-plain (max (held t0 (at - stride) t) (held t0 (at - words) t)) (omega (arith, figure-small (getD t0 (at - stride + t) 0), figure-small (getD t0 (at - words + t) 0)))))
 
-    pub start-rises : Rises (under blocks d) words (held t1 at)
+    pub start-rises : Rises (under blocks d) n (held t1 at)
     start-rises t s h l = omega (arith, started s h, started t (omega (arith, order .less t s l)), rising (a - 1) b t s h l, rising a (b - 1) t s h l)
 
     -- after the two inheritances
-    module _ (t2 t3 : List ℕ) (first : Inherited (at - words) (at - stride) at words t1 t2) (second : Inherited (at - stride) (at - words) at words t2 t3) where
-      pub inherited-rest : Outside at (at + words) t0 t3
-      inherited-rest = outside-chain at (at + words) t0 t1 t3 (run .rest) (outside-chain at (at + words) t1 t2 t3 (first .rest) (second .rest))
+    module _ (t2 t3 : List ℕ) (first : Inherited (at - words) (at - stride) at n t1 t2) (second : Inherited (at - stride) (at - words) at n t2 t3) where
+      pub inherited-rest : Outside at (at + n) t0 t3
+      inherited-rest = outside-chain at (at + n) t0 t1 t3 (run .rest) (outside-chain at (at + n) t1 t2 t3 (first .rest) (second .rest))
 
-      same : (s : ℕ) → s < words → held t3 at s ≡ held t1 at s
+      same : (s : ℕ) → s < n → held t3 at s ≡ held t1 at s
       same s h = second .same s h ∙ first .same s h
 
-      inherited-rises : Rises (under blocks d) words (held t3 at)
+      inherited-rises : Rises (under blocks d) n (held t3 at)
       inherited-rises t s h l = omega (arith, same s h, same t (omega (arith, order .less t s l)), start-rises t s h l)
 
-      pub inherited-growing : length t3 ≡ length t0 → Growing blocks d words at t3
-      inherited-growing e = record { digits = spot .lent .digits; room = omega (arith, room); rises = inherited-rises }
+      pub inherited-growing : length t3 ≡ length t0 → Growing blocks d n at t3
+      inherited-growing e = record { digits = spot .digits; room = omega (arith, room); rises = inherited-rises }
 
-      inherited-low : Low (F a b) at words t3
+      inherited-low : Low (F a b) at n t3
       inherited-low s h = omega (arith, same s h, started s h, longer (a - 1) a b s (omega arith) (spot .length-in .1), wider a (b - 1) b s (omega arith) (spot .width-in .1))
 
       -- the flags cover the start over both cells before
-      covers-shorter : Covers (under blocks d) words (Flagged t3 at) (held t3 at) (F (a - 1) b)
-      covers-shorter = start-covers (under blocks d) words (Marked 2 t0 (cell J words a (b - 1)) words) (Flagged t3 at) (F a (b - 1)) (F (a - 1) b) (F (a - 1) (b - 1)) (held t3 at)
+      covers-shorter : Covers (under blocks d) n (Flagged t3 at) (held t3 at) (F (a - 1) b)
+      covers-shorter = start-covers (under blocks d) n (Marked 2 t0 (cell J words a (b - 1)) n) (Flagged t3 at) (F a (b - 1)) (F (a - 1) b) (F (a - 1) (b - 1)) (held t3 at)
           (λ s h. omega (arith, same s h, started s h)) (λ s. wider (a - 1) (b - 1) b s (omega arith) (spot .width-in .1)) (rising (a - 1) b)
-          (λ t h l m. second .kept t h (first .flags t (listed-kept at (at + words) t0 t1 (run .rest) (at - words) words t (narrower-ready t0 none .before) (rw narrower-word (l .0, l .1, l .2 .0)))
-          (omega (arith, shorter-figure t h, narrower-figure t h, held-kept at (at + words) t0 t1 (run .rest) (at - words) t (omega (arith, narrower-ready t0 none .before)), held-kept at (at + words) t0 t1 (run .rest) (at - stride) t (omega (arith, shorter-ready t0 none .before))))))
-          (spot .cells (b - 1) (omega (arith, spot .width-in .0)) .longer)
+          (λ t h l m. second .kept t h (first .flags t (listed-kept at (at + n) t0 t1 (run .rest) (at - words) n t (narrower-ready t0 none .before) (rw narrower-word (l .0, l .1, l .2 .0)))
+          (omega (arith, shorter-figure t h, narrower-figure t h, held-kept at (at + n) t0 t1 (run .rest) (at - words) t (omega (arith, narrower-ready t0 none .before)), held-kept at (at + n) t0 t1 (run .rest) (at - stride) t (omega (arith, shorter-ready t0 none .before))))))
+          (spot .row-cells (b - 1) (omega (arith, spot .width-in .0)) .longer)
         where
-          none : Outside at (at + words) t0 t0
+          none : Outside at (at + n) t0 t0
           none = record { before = λ i h. refl; after = λ i h. refl }
 
-      covers-narrower : Covers (under blocks d) words (Flagged t3 at) (held t3 at) (F a (b - 1))
-      covers-narrower = start-covers (under blocks d) words (Marked 1 t0 (cell J words (a - 1) b) words) (Flagged t3 at) (F (a - 1) b) (F a (b - 1)) (F (a - 1) (b - 1)) (held t3 at)
+      covers-narrower : Covers (under blocks d) n (Flagged t3 at) (held t3 at) (F a (b - 1))
+      covers-narrower = start-covers (under blocks d) n (Marked 1 t0 (cell J words (a - 1) b) n) (Flagged t3 at) (F (a - 1) b) (F a (b - 1)) (F (a - 1) (b - 1)) (held t3 at)
           (λ s h. omega (arith, same s h, started s h)) (λ s. longer (a - 1) a (b - 1) s (omega arith) (spot .length-in .1)) (rising a (b - 1))
-          (λ t h l m. second .flags t (listed-kept at (at + words) t0 t2 kept (at - stride) words t (shorter-ready t0 none .before) (rw shorter-word (l .0, l .1, l .2 .0)))
-          (omega (arith, shorter-figure t h, narrower-figure t h, held-kept at (at + words) t0 t2 kept (at - words) t (omega (arith, narrower-ready t0 none .before)), held-kept at (at + words) t0 t2 kept (at - stride) t (omega (arith, shorter-ready t0 none .before)))))
-          (spot .rows (a - 1) b (omega (arith, spot .length-in .0)) (spot .width-in .1) (omega (arith, spot .width-in .0)) .wider)
+          (λ t h l m. second .flags t (listed-kept at (at + n) t0 t2 kept (at - stride) n t (shorter-ready t0 none .before) (rw shorter-word (l .0, l .1, l .2 .0)))
+          (omega (arith, shorter-figure t h, narrower-figure t h, held-kept at (at + n) t0 t2 kept (at - words) t (omega (arith, narrower-ready t0 none .before)), held-kept at (at + n) t0 t2 kept (at - stride) t (omega (arith, shorter-ready t0 none .before)))))
+          (spot .column-cells (a - 1) (omega (arith, spot .length-in .0)) .wider)
         where
-          none : Outside at (at + words) t0 t0
+          none : Outside at (at + n) t0 t0
           none = record { before = λ i h. refl; after = λ i h. refl }
 
-          kept : Outside at (at + words) t0 t2
-          kept = outside-chain at (at + words) t0 t1 t2 (run .rest) (first .rest)
+          kept : Outside at (at + n) t0 t2
+          kept = outside-chain at (at + n) t0 t1 t2 (run .rest) (first .rest)
 
       -- the kinds and the cuts
-      module _ (t4 t5 t6 t7 : List ℕ) (kinds : Placed (under blocks d) J own (J .count) (getD normal-lengths a 0) (getD normal-widths b 0) at words t3 t4)
-          (length-cuts : CutAt (under blocks d) d 2 normal-lengths length-floors a 1 length-half-end column stride at words t4 t5) (width-cuts : CutAt (under blocks d) d 1 normal-widths width-floors b 1 width-half-end (at - column) words at words t5 t6) (done : Finished d at (at - stride) (at - words) words t6 t7) where
-        o4 : Outside at (at + words) t0 t4
-        o4 = outside-chain at (at + words) t0 t3 t4 inherited-rest (kinds .grown .rest)
+      module _ (t4 t5 t6 t7 : List ℕ) (kinds : Placed (under blocks d) J own (J .count) (getD normal-lengths a 0) (getD normal-widths b 0) at n t3 t4)
+          (length-cuts : CutAt (under blocks d) d 2 normal-lengths length-floors a 1 length-half-end column stride at n t4 t5) (width-cuts : CutAt (under blocks d) d 1 normal-widths width-floors b 1 width-half-end (at - column) words at n t5 t6) (done : Finished d at (at - stride) (at - words) n t6 t7) where
+        o4 : Outside at (at + n) t0 t4
+        o4 = outside-chain at (at + n) t0 t3 t4 inherited-rest (kinds .grown .rest)
 
-        o5 : Outside at (at + words) t0 t5
-        o5 = outside-chain at (at + words) t0 t4 t5 o4 (length-cuts .grown .rest)
+        o5 : Outside at (at + n) t0 t5
+        o5 = outside-chain at (at + n) t0 t4 t5 o4 (length-cuts .grown .rest)
 
-        grown : Grown (under blocks d) at words t3 t6
-        grown = grown-then (under blocks d) at words t3 t4 t6 (kinds .grown) (grown-then (under blocks d) at words t4 t5 t6 (length-cuts .grown) (width-cuts .grown))
+        grown : Grown (under blocks d) at n t3 t6
+        grown = grown-then (under blocks d) at n t3 t4 t6 (kinds .grown) (grown-then (under blocks d) at n t4 t5 t6 (length-cuts .grown) (width-cuts .grown))
 
-        pub made-rest : Outside at (at + words) t0 t7
-        made-rest = outside-chain at (at + words) t0 t6 t7 (outside-chain at (at + words) t0 t3 t6 inherited-rest (grown .rest)) (done .rest)
+        pub made-rest : Outside at (at + n) t0 t7
+        made-rest = outside-chain at (at + n) t0 t6 t7 (outside-chain at (at + n) t0 t3 t6 inherited-rest (grown .rest)) (done .rest)
 
-        length-figures : (i s : ℕ) → i < a → s < words → held t4 (column + i * stride) s ≡ F i b s
-        length-figures i s h l = rw (row-word i) (made-kept (row-earlier i h) o4 (spot .rows i b h (spot .width-in .1) (omega (arith, spot .width-in .0))) .figures s l)
+        length-figures : (i s : ℕ) → i < a → s < n → held t4 (column + i * stride) s ≡ F i b s
+        length-figures i s h l = rw (row-word i) (made-to-kept (row-earlier i h) o4 (spot .column-cells i h) .figures s l)
 
-        length-covers : (i : ℕ) → i < a → Covers (under blocks d) words (Served d 2 t4 (column + i * stride) words) (F i b) (F (i - 1) b)
-        length-covers i h = rw (row-word i) (covers-more (under blocks d) words (Marked 2 t4 (cell J words i b) words) (Served d 2 t4 (cell J words i b) words) (F i b) (F (i - 1) b) (λ t l m. ((m .0, m .1, m .2 .0), λ k. m)) (made-kept (row-earlier i h) o4 (spot .rows i b h (spot .width-in .1) (omega (arith, spot .width-in .0))) .longer))
+        length-covers : (i : ℕ) → i < a → Covers (under blocks d) n (Served d 2 t4 (column + i * stride) n) (F i b) (F (i - 1) b)
+        length-covers i h = rw (row-word i) (covers-more (under blocks d) n (Marked 2 t4 (cell J words i b) n) (Served d 2 t4 (cell J words i b) n) (F i b) (F (i - 1) b) (λ t l m. ((m .0, m .1, m .2 .0), λ k. m)) (made-to-kept (row-earlier i h) o4 (spot .column-cells i h) .longer))
 
-        width-figures : (j s : ℕ) → j < b → s < words → held t5 (at - column + j * words) s ≡ F a j s
-        width-figures j s h l = rw (cell-word j) (made-kept (cell-earlier j h) o5 (spot .cells j h) .figures s l)
+        width-figures : (j s : ℕ) → j < b → s < n → held t5 (at - column + j * words) s ≡ F a j s
+        width-figures j s h l = rw (cell-word j) (made-to-kept (cell-earlier j h) o5 (spot .row-cells j h) .figures s l)
 
-        width-covers : (j : ℕ) → j < b → Covers (under blocks d) words (Served d 1 t5 (at - column + j * words) words) (F a j) (F a (j - 1))
-        width-covers j h = rw (cell-word j) (covers-more (under blocks d) words (Marked 1 t5 (cell J words a j) words) (Served d 1 t5 (cell J words a j) words) (F a j) (F a (j - 1)) (λ t l m. ((m .0, m .1, m .2 .0), λ k. m)) (made-kept (cell-earlier j h) o5 (spot .cells j h) .wider))
+        width-covers : (j : ℕ) → j < b → Covers (under blocks d) n (Served d 1 t5 (at - column + j * words) n) (F a j) (F a (j - 1))
+        width-covers j h = rw (cell-word j) (covers-more (under blocks d) n (Marked 1 t5 (cell J words a j) n) (Served d 1 t5 (cell J words a j) n) (F a j) (F a (j - 1)) (λ t l m. ((m .0, m .1, m .2 .0), λ k. m)) (made-to-kept (cell-earlier j h) o5 (spot .row-cells j h) .wider))
 
         -- no figure is too large
-        sound : Low (F a b) at words t6
-        sound = side-low J (under blocks d) order fit Width (position-count J Width) normal-widths width-floors (spot .lent .widths) (across J (under blocks d) own Width (getD normal-lengths a 0)) (across-joins J (under blocks d) own order fit Width (getD normal-lengths a 0)) d 1 b width-half-end (at - column) words at words t5 t6 (spot .width-in .1) (spot .width-half) width-figures width-covers width-cuts
-            (side-low J (under blocks d) order fit Length (position-count J Length) normal-lengths length-floors (spot .lent .lengths) (across J (under blocks d) own Length (getD normal-widths b 0)) (across-joins J (under blocks d) own order fit Length (getD normal-widths b 0)) d 2 a length-half-end column stride at words t4 t5 (spot .length-in .1) (spot .length-half) length-figures length-covers length-cuts
+        sound : Low (F a b) at n t6
+        sound = side-low J (under blocks d) order fit Width (position-count J Width) normal-widths width-floors (spot .widths) (across J (under blocks d) own Width (getD normal-lengths a 0)) (across-joins J (under blocks d) own order fit Width (getD normal-lengths a 0)) d 1 b width-half-end (at - column) words at n t5 t6 (spot .width-in .1) (spot .width-half) width-figures width-covers width-cuts
+            (side-low J (under blocks d) order fit Length (position-count J Length) normal-lengths length-floors (spot .lengths) (across J (under blocks d) own Length (getD normal-widths b 0)) (across-joins J (under blocks d) own order fit Length (getD normal-widths b 0)) d 2 a length-half-end column stride at n t4 t5 (spot .length-in .1) (spot .length-half) length-figures length-covers length-cuts
             (kinds .low (F a b) (rising a b) (λ i h e f l. piece-most J (under blocks d) own order fit (upright i) (getD normal-lengths a 0) (getD normal-widths b 0) (own i) (table-lies J fit i h) (omega arith) (omega arith) (order .same (own i))) inherited-low))
 
-        rises : Rises (under blocks d) words (held t6 at)
+        rises : Rises (under blocks d) n (held t6 at)
         rises = grown .rises inherited-rises
 
         -- and none too small
-        full : (s : ℕ) → s < words → F a b s ≤ held t6 at s
-        full s h = complete J (under blocks d) own order fit (position-count J Length) (position-count J Width) normal-lengths length-floors normal-widths width-floors (spot .lent .lengths) (spot .lent .widths) a b s (held t6 at s) (spot .length-in .1) (spot .width-in .1)
-            above before (λ i l e f m. (let k : own i < words = omega (arith, order .less (own i) s m) in omega (arith, kinds .taken i l e f k, length-cuts .grown .more (own i) k, width-cuts .grown .more (own i) k, rises (own i) s h m)))
+        full : (s : ℕ) → s < n → F a b s ≤ held t6 at s
+        full s h = complete J (under blocks d) own order fit (position-count J Length) (position-count J Width) normal-lengths length-floors normal-widths width-floors (spot .lengths) (spot .widths) a b s (held t6 at s) (spot .length-in .1) (spot .width-in .1)
+            above before (λ i l e f m. (let k : own i < n = omega (arith, order .less (own i) s m) in omega (arith, kinds .taken i l e f k, length-cuts .grown .more (own i) k, width-cuts .grown .more (own i) k, rises (own i) s h m)))
             length-half-end width-half-end (spot .length-half) (spot .width-half)
-            (side-taken J (under blocks d) order fit Length (position-count J Length) normal-lengths length-floors (spot .lent .lengths) (across J (under blocks d) own Length (getD normal-widths b 0)) (across-joins J (under blocks d) own order fit Length (getD normal-widths b 0)) d 2 a length-half-end column stride at words t4 t5 (spot .length-in .1) (spot .length-half) length-figures length-covers length-cuts
+            (side-taken J (under blocks d) order fit Length (position-count J Length) normal-lengths length-floors (spot .lengths) (across J (under blocks d) own Length (getD normal-widths b 0)) (across-joins J (under blocks d) own order fit Length (getD normal-widths b 0)) d 2 a length-half-end column stride at n t4 t5 (spot .length-in .1) (spot .length-half) length-figures length-covers length-cuts
             s (held t6 at s) h above (λ t m. omega (arith, width-cuts .grown .more t (omega (arith, order .less t s m)), rises t s h m)))
-            (side-taken J (under blocks d) order fit Width (position-count J Width) normal-widths width-floors (spot .lent .widths) (across J (under blocks d) own Width (getD normal-lengths a 0)) (across-joins J (under blocks d) own order fit Width (getD normal-lengths a 0)) d 1 b width-half-end (at - column) words at words t5 t6 (spot .width-in .1) (spot .width-half) width-figures width-covers width-cuts
+            (side-taken J (under blocks d) order fit Width (position-count J Width) normal-widths width-floors (spot .widths) (across J (under blocks d) own Width (getD normal-lengths a 0)) (across-joins J (under blocks d) own order fit Width (getD normal-lengths a 0)) d 1 b width-half-end (at - column) words at n t5 t6 (spot .width-in .1) (spot .width-half) width-figures width-covers width-cuts
             s (held t6 at s) h before (λ t m. rises t s h m))
           where
             above : F (a - 1) b s ≤ held t6 at s
@@ -437,27 +452,27 @@ module _ {J : Job} {own : ℕ → ℕ} {normal-lengths length-floors normal-widt
             before : F a (b - 1) s ≤ held t6 at s
             before = omega (arith, grown .more s h, same s h, started s h)
 
-        figures : (s : ℕ) → s < words → held t6 at s ≡ F a b s
+        figures : (s : ℕ) → s < n → held t6 at s ≡ F a b s
         figures s h = omega (arith, sound s h, full s h)
 
         -- the flags cover the figures over those of the cells before
-        covers-length : Covers (under blocks d) words (Flagged t6 at) (F a b) (F (a - 1) b)
-        covers-length = covers-same (under blocks d) words (Flagged t6 at) (held t6 at) (F a b) (F (a - 1) b) figures (grown .covers (F (a - 1) b) inherited-rises covers-shorter)
+        covers-length : Covers (under blocks d) n (Flagged t6 at) (F a b) (F (a - 1) b)
+        covers-length = covers-same (under blocks d) n (Flagged t6 at) (held t6 at) (F a b) (F (a - 1) b) figures (grown .covers (F (a - 1) b) inherited-rises covers-shorter)
 
-        covers-width : Covers (under blocks d) words (Flagged t6 at) (F a b) (F a (b - 1))
-        covers-width = covers-same (under blocks d) words (Flagged t6 at) (held t6 at) (F a b) (F a (b - 1)) figures (grown .covers (F a (b - 1)) inherited-rises covers-narrower)
+        covers-width : Covers (under blocks d) n (Flagged t6 at) (F a b) (F a (b - 1))
+        covers-width = covers-same (under blocks d) n (Flagged t6 at) (held t6 at) (F a b) (F a (b - 1)) figures (grown .covers (F a (b - 1)) inherited-rises covers-narrower)
 
         -- and are the same past all flags, where those of the cells before are
-        pub levelled : {top high : ℕ} → FlaggedBelow at words top t6 → ((d ≡ 0) × (high ≡ max flat top)) ⊎ (high ≡ words) → Levelled words flat high (F a b)
+        pub levelled : {top high : ℕ} → FlaggedBelow at n top t6 → ((d ≡ 0) × (high ≡ max flat top)) ⊎ (high ≡ n) → Levelled n flat high (F a b)
         levelled {top} {high} below (inr e) = record { more = omega (arith, spot .flat-most); most = omega arith; level = λ s h l. absurd (omega arith) }
         levelled {top} {high} below (inl e) = record {
           more = omega (arith, e .1);
           most = omega (arith, e .1, below .most, spot .flat-most);
-          level = rw (e .1) (level-past (under blocks d) (under-zero blocks d (e .0)) words flat top (Flagged t6 at) (F a b) (F (a - 1) b) (rising a b) (λ s. longer (a - 1) a b s (omega arith) (spot .length-in .1)) (below .flags) covers-length
-              (spot .level-rows (a - 1) b (omega (arith, spot .length-in .0)) (spot .width-in .1)));
+          level = rw (e .1) (level-past (under blocks d) (under-zero blocks d (e .0)) n flat top (Flagged t6 at) (F a b) (F (a - 1) b) (rising a b) (λ s. longer (a - 1) a b s (omega arith) (spot .length-in .1)) (below .flags) covers-length
+              (spot .level-shorter));
         }
 
-        pub made : Made J (under blocks d) own normal-lengths normal-widths words a b t7
+        pub made : MadeTo J (under blocks d) own normal-lengths normal-widths words n a b t7
         made = record {
           figures = λ s h. rw (← spot .at-is) (done .same s h ∙ figures s h);
           notes = λ k h. rw (← spot .at-is) (done .notes k h);
@@ -467,18 +482,18 @@ module _ {J : Job} {own : ℕ → ℕ} {normal-lengths length-floors normal-widt
           wider = listed 1 (F a (b - 1)) (rising a (b - 1)) (λ t m h o r. o .wider (omega (arith, r, before (at - words) (narrower-ready t0 none .before) t h, narrower-figure t h, figures t h))) covers-width;
         }
           where
-            none : Outside at (at + words) t0 t0
-            none = outside-same at (at + words) t0
+            none : Outside at (at + n) t0 t0
+            none = outside-same at (at + n) t0
 
             -- the cells before are as they were
-            before : (x : ℕ) → x + words ≤ at → (t : ℕ) → t < words → held t6 x t ≡ held t0 x t
-            before x h t l = held-kept at (at + words) t0 t6 (outside-chain at (at + words) t0 t3 t6 inherited-rest (grown .rest)) x t (omega arith)
+            before : (x : ℕ) → x + n ≤ at → (t : ℕ) → t < n → held t6 x t ≡ held t0 x t
+            before x h t l = held-kept at (at + n) t0 t6 (outside-chain at (at + n) t0 t3 t6 inherited-rest (grown .rest)) x t (omega arith)
 
-            listed : (skip : ℕ) (g : ℕ → ℕ) → Rises (under blocks d) words g → ((t mark : ℕ) → t < words → Told (at - stride) (at - words) t6 t (held t6 at t) mark → g t < F a b t → mark ≡ skip → ⊥)
-                → Covers (under blocks d) words (Flagged t6 at) (F a b) g → Covers (under blocks d) words (Marked skip t7 (cell J words a b) words) (F a b) g
-            listed skip g r tells c = covers-more (under blocks d) words (λ t. (Flagged t6 at t × Steps d (F a b) t) × (g t < F a b t)) (Marked skip t7 (cell J words a b) words) (F a b) g
+            listed : (skip : ℕ) (g : ℕ → ℕ) → Rises (under blocks d) n g → ((t mark : ℕ) → t < n → Told (at - stride) (at - words) t6 t (held t6 at t) mark → g t < F a b t → mark ≡ skip → ⊥)
+                → Covers (under blocks d) n (Flagged t6 at) (F a b) g → Covers (under blocks d) n (Marked skip t7 (cell J words a b) n) (F a b) g
+            listed skip g r tells c = covers-more (under blocks d) n (λ t. (Flagged t6 at t × Steps d (F a b) t) × (g t < F a b t)) (Marked skip t7 (cell J words a b) n) (F a b) g
                 (λ t h f. rw (← spot .at-is) (entry t h (done .listed t h (f .0 .0) (λ e k. omega (arith, f .0 .1 e k, figures t h, figures (t - 1) (omega arith)))) (f .1)))
-                (covers-rising (under blocks d) words (λ t. Flagged t6 at t × Steps d (F a b) t) (F a b) g r (covers-steps (under blocks d) d words (Flagged t6 at) (F a b) g (under-zero blocks d) (order .less) r c))
+                (covers-rising (under blocks d) n (λ t. Flagged t6 at t × Steps d (F a b) t) (F a b) g r (covers-steps (under blocks d) d n (Flagged t6 at) (F a b) g (under-zero blocks d) (order .less) r c))
               where
-                entry : (t : ℕ) → t < words → (k : ℕ) × (k < words) × (note t7 at k ≡ t + 1) × Told (at - stride) (at - words) t6 t (held t6 at t) (mark t7 at k) → g t < F a b t → Marked skip t7 at words t
+                entry : (t : ℕ) → t < n → (k : ℕ) × (k < n) × (note t7 at k ≡ t + 1) × Told (at - stride) (at - words) t6 t (held t6 at t) (mark t7 at k) → g t < F a b t → Marked skip t7 at n t
                 entry t h q rise = (q .0, q .1, (q .2, tells t (mark t7 at (q .0)) h (q .3) rise))

@@ -1,6 +1,7 @@
 // One cell: it starts from the cells before it in length and in width and inherits what they list, takes the pieces of exactly its size
 // and the cuts of its sides, and lists its flagged states.
 use crate::shape::Shape;
+use crate::shape::first_states;
 use state_joins::Line;
 use state_joins::cut;
 use states::Cell;
@@ -14,7 +15,7 @@ use table::widen;
 ghost use mathlib.Core.Path.{_≡_};
 ghost use mathlib.Core.Logic.{_⊎_};
 ghost use mathlib.Core.Bool.{false};
-ghost use Prim.Native.Nat.{_+_, _-_, _≤_, _<_, max};
+ghost use Prim.Native.Nat.{_+_, _-_, _≤_, _<_, max, min};
 ghost use lib.ListN.{length, drop};
 ghost use Rattle.cutting.specs.Limits.{most-pieces};
 ghost use Rattle.cutting.specs.Listed.{listed-weight};
@@ -22,7 +23,7 @@ ghost use Rattle.table.specs.Words.{Outside, Run};
 ghost use Rattle.states.specs.States.{held, note, under, Summed, Growing, Taken, Topped};
 ghost use Rattle.state_joins.specs.Joins.{Ready};
 ghost use Rattle.state_cells.specs.Cells.{Startable, Levelled, Inherited, Placed, Told, Finished, FlaggedBelow};
-ghost use Rattle.state_cells.specs.Places.{job-in, length-line, width-line, tabled, Made, Spot};
+ghost use Rattle.state_cells.specs.Places.{job-in, length-line, width-line, tabled, reach-of, MadeTo, Made, Spot, SpotTo};
 
 // The first words of the cell become the greater of the figures of the cells before it.
 fn start(table: &mut [u64], at: usize, first: usize, second: usize, words: usize)
@@ -229,25 +230,25 @@ fn length_line(shape: Shape, place: Place) -> Line
     }
 }
 
-// Those that its width cuts read: of its length, along the widths.
-fn width_line(shape: Shape, place: Place) -> Line
+// Those that its width cuts read: of its length, along the widths, where a cell has `step` words.
+fn width_line(step: usize, place: Place) -> Line
     requires { ⌜ place .column ≤ place .at ⌝ }
-    ensures { λ r. ⌜ r ≡ width-line shape place ⌝ }
+    ensures { λ r. ⌜ r ≡ width-line step place ⌝ }
 {
     Line {
         index: place.b,
         half_end: place.width_half_end,
         at: place.at,
         base: place.at - place.column,
-        stride: shape.words,
+        stride: step,
         skip: 1,
     }
 }
 
-// A cell of the table from the cells before it in length and width, those that its cuts read among them. The state from which on the
-// figures of this one too are the same is handed on. The floors are those of the lengths from entry 0 on, and those of the widths from entry
-// 1021 on.
-pub fn make_cell(
+// The first words of a cell, so many as the shape says, from the cells before it in length and width, those that its cuts read among them.
+// A cell has `step` words. The state from which on the figures of this one too are the same is handed on. The floors are those of the
+// lengths from entry 0 on, and those of the widths from entry 1021 on.
+fn make_states(
     table: &mut [u64],
     pieces: &[u32; 640],
     normal_lengths: &[u16],
@@ -256,10 +257,11 @@ pub fn make_cell(
     blocks: &[u32],
     shape: Shape,
     place: Place,
+    step: usize,
 ) -> usize
-    requires { ⌜ Spot (job-in shape (now pieces)) (listed-weight (now pieces)) (now «normal_lengths») (now floors) (now «normal_widths») (drop 1021 (now floors)) (now blocks) (shape .d) (shape .words) (shape .stride)
+    requires { ⌜ SpotTo (job-in shape (now pieces)) (listed-weight (now pieces)) (now «normal_lengths») (now floors) (now «normal_widths») (drop 1021 (now floors)) (now blocks) (shape .d) step (shape .words) (shape .stride)
         (place .a) (place .b) (place .«length_half_end») (place .«width_half_end») (place .at) (place .column) (place .flat) (now table) ⌝ }
-    ensures { λ r. ⌜ Made (job-in shape (now (pieces .entry))) (under (now (blocks .entry)) (shape .d)) (listed-weight (now (pieces .entry))) (now («normal_lengths» .entry)) (now («normal_widths» .entry)) (shape .words) (place .a) (place .b) (now (table .exit))
+    ensures { λ r. ⌜ MadeTo (job-in shape (now (pieces .entry))) (under (now (blocks .entry)) (shape .d)) (listed-weight (now (pieces .entry))) (now («normal_lengths» .entry)) (now («normal_widths» .entry)) step (shape .words) (place .a) (place .b) (now (table .exit))
         × Outside (place .at) (place .at + shape .words) (now (table .entry)) (now (table .exit))
         × Levelled (shape .words) (place .flat) r (tabled (job-in shape (now (pieces .entry))) (under (now (blocks .entry)) (shape .d)) (listed-weight (now (pieces .entry))) (now («normal_lengths» .entry)) (now («normal_widths» .entry)) (place .a) (place .b)) ⌝ }
 {
@@ -268,7 +270,7 @@ pub fn make_cell(
     let a = place.a;
     let b = place.b;
     let shorter = at - shape.stride;
-    let narrower = at - words;
+    let narrower = at - step;
     begin(table, at, shorter, narrower, words, place.flat);
     let mut top = inherit(table, at, narrower, shorter, words, 0);
     top = inherit(table, at, shorter, narrower, words, top);
@@ -287,7 +289,7 @@ pub fn make_cell(
         top,
     );
     let rest = &floors[1021..];
-    let across = width_line(shape, place);
+    let across = width_line(step, place);
     top = cut(
         table,
         normal_widths,
@@ -300,4 +302,64 @@ pub fn make_cell(
     );
     finish(table, shape.d, at, shorter, narrower, words, top);
     flat_after(shape.d, words, place.flat, top)
+}
+
+// The number of states below which a cell is made one by one.
+fn reached(words: usize, flat: usize) -> usize
+    requires { ⌜ flat ≤ words × (words ≤ 65536) ⌝ }
+    ensures { λ r. ⌜ r ≡ min words (reach-of flat) ⌝ }
+{
+    let reach = 2 * flat + 1;
+    if words < reach { words } else { reach }
+}
+
+// A cell of the table from the cells before it in length and width. Past the states in reach its figures are the same: there the last one
+// is written, once. The state from which on the figures of this one too are the same is handed on.
+pub fn make_cell(
+    table: &mut [u64],
+    pieces: &[u32; 640],
+    normal_lengths: &[u16],
+    normal_widths: &[u16],
+    floors: &[u16],
+    blocks: &[u32],
+    shape: Shape,
+    place: Place,
+) -> usize
+    requires { ⌜ Spot (job-in shape (now pieces)) (listed-weight (now pieces)) (now «normal_lengths») (now floors) (now «normal_widths») (drop 1021 (now floors)) (now blocks) (shape .d) (shape .words) (shape .stride)
+        (place .a) (place .b) (place .«length_half_end») (place .«width_half_end») (place .at) (place .column) (place .flat) (now table) ⌝ }
+    ensures { λ r. ⌜ Made (job-in shape (now (pieces .entry))) (under (now (blocks .entry)) (shape .d)) (listed-weight (now (pieces .entry))) (now («normal_lengths» .entry)) (now («normal_widths» .entry)) (shape .words) r (place .a) (place .b) (now (table .exit))
+        × Outside (place .at) (place .at + shape .words) (now (table .entry)) (now (table .exit))
+        × Levelled (shape .words) (place .flat) r (tabled (job-in shape (now (pieces .entry))) (under (now (blocks .entry)) (shape .d)) (listed-weight (now (pieces .entry))) (now («normal_lengths» .entry)) (now («normal_widths» .entry)) (place .a) (place .b)) ⌝ }
+{
+    let words = shape.words;
+    let reach = reached(words, place.flat);
+    if words <= reach {
+        return make_states(
+            table,
+            pieces,
+            normal_lengths,
+            normal_widths,
+            floors,
+            blocks,
+            shape,
+            place,
+            words,
+        );
+    }
+    let digit = [reach as u32; 1];
+    let flat = make_states(
+        table,
+        pieces,
+        normal_lengths,
+        normal_widths,
+        floors,
+        &digit,
+        first_states(shape, reach),
+        place,
+        words,
+    );
+    let at = place.at;
+    let last = figure(table[at + (reach - 1)]);
+    set_run(table, at + reach, words - reach, last);
+    flat
 }

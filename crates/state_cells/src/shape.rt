@@ -3,7 +3,7 @@
 use table::TableSize;
 ghost use mathlib.Core.Path.{_≡_};
 ghost use Prim.Native.Nat.{_≤_};
-ghost use Rattle.state_cells.specs.Places.{shape-of};
+ghost use Rattle.state_cells.specs.Places.{shape-of, first-states};
 
 // The plate's length and width and the number of its pieces, the numbers of normal lengths and of normal widths, the last digit d of the
 // states, the words of a cell, and those from a cell to the one of the next normal length.
@@ -33,5 +33,21 @@ pub fn shape_of(size: TableSize, d: usize, words: usize) -> Shape
         d: d,
         words: words,
         stride: columns * words,
+    }
+}
+
+// The same shape, of the first n words of each cell.
+pub fn first_states(shape: Shape, n: usize) -> Shape
+    ensures { λ r. ⌜ r ≡ first-states shape n ⌝ }
+{
+    Shape {
+        length: shape.length,
+        width: shape.width,
+        count: shape.count,
+        length_count: shape.length_count,
+        columns: shape.columns,
+        d: shape.d,
+        words: n,
+        stride: shape.stride,
     }
 }

@@ -9,7 +9,7 @@ use native.Mathlib.Omega.{arith}
 use lib.ListN.{length, getD}
 use Rattle.cutting.specs.declared.Direction.the-variants.{Length, Width}
 use Rattle.cutting.specs.Job.{Job}
-use Rattle.cutting.specs.Listed.{InTableRange}
+use Rattle.cutting.specs.Listed.{InTableRange, listed-weight}
 use Rattle.cutting.proofs.Table.{positions-first, positions-some}
 use Rattle.table.specs.Table.{position-count, Kept}
 use Rattle.table.specs.Contracts.{Positions}
@@ -20,13 +20,13 @@ use Rattle.table.proofs.Figures.{entry-is, positions-axis}
 use Rattle.table.specs.States.{figure-at}
 use Rattle.states.specs.States.{figure-in, note-in, held, note, under, Digits, Summed, FirstRow, cell, Figures}
 use Rattle.state_cells.specs.Cells.{Level, Levelled}
-use Rattle.state_cells.specs.Places.{tabled, Made, Rows, Cells, LevelRows, LevelCells, CellsLent, Spot}
-use Rattle.state_fill.specs.Tables.{Counted, RowSpot, Bare, Plain}
+use Rattle.state_cells.specs.Places.{tabled, Made, Rows, Cells, LevelRows, LevelCells, CellsLent, FlatState, Spot}
+use Rattle.state_fill.specs.Tables.{Counted, PastPieces, RowSpot, Bare, Plain}
 use Rattle.states.proofs.Noted.{figure-plain, note-plain, plain-word}
 use Rattle.table.proofs.Across.{no-side}
 use Rattle.states.proofs.Growing.{outside-same, order-of}
 use Rattle.states.proofs.Carries.{summed-before}
-use Rattle.state_cells.proofs.Making.{made-same, made-kept, level-later}
+use Rattle.state_cells.proofs.Making.{made-same, made-kept, made-later, level-later}
 
 -- there is a state
 some-state : {blocks : List ℕ} {d words : ℕ} → Digits blocks d words → 1 ≤ words
@@ -36,6 +36,18 @@ some-state {blocks} {d} {words} given = omega (arith, given .states, given .digi
 pub lent-kept : {J : Job} {normal-lengths length-floors normal-widths width-floors blocks : List ℕ} {d words : ℕ} {old new : List ℕ}
     → length new ≡ length old → CellsLent J normal-lengths length-floors normal-widths width-floors blocks d words old → CellsLent J normal-lengths length-floors normal-widths width-floors blocks d words new
 lent-kept e w = record { range = w .range; digits = w .digits; lengths = w .lengths; widths = w .widths; room = omega (arith, e, w .room) }
+
+-- a later state serves too
+flat-later : {J : Job} {own : ℕ → ℕ} {d words flat high : ℕ} → flat ≤ high → high ≤ words → FlatState J own d words flat → FlatState J own d words high
+flat-later h m w = record { most = m; weighed = λ i k l. omega (arith, w .weighed i k l); several = λ k. omega (arith, w .several k) }
+
+-- one piece more has its state below a state no earlier, if it has one
+pub pieces-more : (pieces : List ℕ) (i : ℕ) {words flat next : ℕ} → flat ≤ next → (listed-weight pieces i < words → listed-weight pieces i < next) → PastPieces pieces i words flat → PastPieces pieces (i + 1) words next
+pieces-more pieces i {words} {flat} {next} h own w j l m = go (ℕ-discrete j i)
+  where
+    go : Dec (j ≡ i) → listed-weight pieces j < next
+    go (yes q) = rw q (own (rw q at m))
+    go (no q) = omega (arith, w j (omega arith) m)
 
 -- cell b of row a ends within the table
 pub cell-room : (J : Job) (words a b room : ℕ) → a < position-count J Length → b < position-count J Width
@@ -48,19 +60,25 @@ cell-room J words a b room h l w = omega (
 
 module _ {J : Job} (own : ℕ → ℕ) {normal-lengths length-floors normal-widths width-floors blocks : List ℕ} {d words : ℕ} {t0 : List ℕ} (lent : CellsLent J normal-lengths length-floors normal-widths width-floors blocks d words t0) where
   -- all cells of the rows below a are made
-  abbrev AllMade : ℕ → List ℕ → Type 0
-  AllMade a xs = (i j : ℕ) → i < a → j < position-count J Width → Made J (under blocks d) own normal-lengths normal-widths words i j xs
+  abbrev AllMade : ℕ → ℕ → List ℕ → Type 0
+  AllMade flat a xs = (i j : ℕ) → i < a → j < position-count J Width → Made J (under blocks d) own normal-lengths normal-widths words flat i j xs
 
   -- a cell of zeros, where the figures are 0, is made
-  zeros-made : (i j : ℕ) (xs : List ℕ) → ((s : ℕ) → tabled J (under blocks d) own normal-lengths normal-widths i j s ≡ 0) → ((s : ℕ) → s < words → getD xs (cell J words i j + s) 0 ≡ 0) → Made J (under blocks d) own normal-lengths normal-widths words i j xs
+  zeros-made : {flat : ℕ} (i j : ℕ) (xs : List ℕ) → ((s : ℕ) → tabled J (under blocks d) own normal-lengths normal-widths i j s ≡ 0) → ((s : ℕ) → s < words → getD xs (cell J words i j + s) 0 ≡ 0) → Made J (under blocks d) own normal-lengths normal-widths words flat i j xs
   zeros-made i j xs f z = record {
-    figures = λ s l. ap figure-in (z s l) ∙ (figure-plain 0 (omega arith) ∙ sym (f s));
-    notes = λ k l. omega (arith, ap note-in (z k l), note-plain 0 (omega arith));
-    ended = λ x k h l e. ap note-in (z k l) ∙ note-plain 0 (omega arith);
-    sorted = λ x k h l e. absurd (omega (arith, ap note-in (z k l), note-plain 0 (omega arith)));
-    longer = λ s l. inl (omega (arith, f s));
-    wider = λ s l. inl (omega (arith, f s));
+    all = record {
+      figures = λ s l. ap figure-in (z s l) ∙ (figure-plain 0 (omega arith) ∙ sym (f s));
+      notes = λ k l. omega (arith, unnoted k l);
+      ended = λ x k h l e. unnoted k l;
+      sorted = λ x k h l e. absurd (omega (arith, unnoted k l));
+      longer = λ s l. inl (omega (arith, f s));
+      wider = λ s l. inl (omega (arith, f s));
+    };
+    short = λ k l. (omega (arith, unnoted k l), λ m. unnoted k l);
   }
+    where
+      unnoted : (k : ℕ) → k < words → note xs (cell J words i j) k ≡ 0
+      unnoted k l = ap note-in (z k l) ∙ note-plain 0 (omega arith)
 
   first-length : getD normal-lengths 0 0 ≡ 0
   first-length = entry-is J Length (position-count J Length) normal-lengths length-floors (lent .range) (lent .lengths) 0 (positions-some J Length) ∙ positions-first J Length
@@ -83,38 +101,38 @@ module _ {J : Job} (own : ℕ → ℕ) {normal-lengths length-floors normal-widt
   level-first-cell a flat j l s k m = let e : j ≡ 0 = omega arith in rw e (zero-width a s ∙ sym (zero-width a flat))
 
   -- the row of length 0
-  pub first-row : (m : ℕ) (old new : List ℕ) → m ≡ position-count J Width * words → FirstRow blocks d words m old new → Rows J (under blocks d) own normal-lengths normal-widths words 1 new
-  first-row m old new e w i j l h some = go (ℕ-discrete i 0)
+  pub first-row : {flat : ℕ} (m : ℕ) (old new : List ℕ) → m ≡ position-count J Width * words → FirstRow blocks d words m old new → Rows J (under blocks d) own normal-lengths normal-widths words flat 1 new
+  first-row {flat} m old new e w i j l h some = go (ℕ-discrete i 0)
     where
-      go : Dec (i ≡ 0) → Made J (under blocks d) own normal-lengths normal-widths words i j new
+      go : Dec (i ≡ 0) → Made J (under blocks d) own normal-lengths normal-widths words flat i j new
       go (no q) = absurd (omega arith)
       go (yes q) = rw q (zeros-made 0 j new (zero-length j)
           (λ s k. w .zeros (cell J words 0 j + s) (omega (arith, cell-before 0 j words (omega arith))) (omega (arith, cell-before j (position-count J Width) words h))))
 
   -- the first cell of a row
-  pub first-cell : (a at : ℕ) (old new : List ℕ) → at ≡ cell J words a 0 → Run (λ j. 0) at words old new → Cells J (under blocks d) own normal-lengths normal-widths words a 1 new
-  first-cell a at old new p w j l = go (ℕ-discrete j 0)
+  pub first-cell : {flat : ℕ} (a at : ℕ) (old new : List ℕ) → at ≡ cell J words a 0 → Run (λ j. 0) at words old new → Cells J (under blocks d) own normal-lengths normal-widths words flat a 1 new
+  first-cell {flat} a at old new p w j l = go (ℕ-discrete j 0)
     where
-      go : Dec (j ≡ 0) → Made J (under blocks d) own normal-lengths normal-widths words a j new
+      go : Dec (j ≡ 0) → Made J (under blocks d) own normal-lengths normal-widths words flat a j new
       go (no q) = absurd (omega arith)
       go (yes q) = rw q (zeros-made a 0 new (zero-width a) (λ s k. rw (← p) (w .here s k)))
 
   -- earlier rows, where words from row a on are written
-  pub rows-kept : (a at end : ℕ) (old new : List ℕ) → cell J words a 0 ≤ at → Outside at end old new → Rows J (under blocks d) own normal-lengths normal-widths words a old → Rows J (under blocks d) own normal-lengths normal-widths words a new
+  pub rows-kept : {flat : ℕ} (a at end : ℕ) (old new : List ℕ) → cell J words a 0 ≤ at → Outside at end old new → Rows J (under blocks d) own normal-lengths normal-widths words flat a old → Rows J (under blocks d) own normal-lengths normal-widths words flat a new
   rows-kept a at end old new h o w i j l m some = made-kept before o (w i j l m some)
     where
       before : cell J words i j + words ≤ at
       before = omega (arith, cell-before (i * position-count J Width + j) (a * position-count J Width + 0) words (omega (arith, cell-before i a (position-count J Width) l)))
 
   -- one cell more
-  pub cells-more : (a b at : ℕ) (old new : List ℕ) → at ≡ cell J words a b → Cells J (under blocks d) own normal-lengths normal-widths words a b old → Made J (under blocks d) own normal-lengths normal-widths words a b new → Outside at (at + words) old new
-      → Cells J (under blocks d) own normal-lengths normal-widths words a (b + 1) new
-  cells-more a b at old new p w m o j l = go (ℕ-discrete j b)
+  pub cells-more : {flat : ℕ} (a b at : ℕ) (old new : List ℕ) → at ≡ cell J words a b → Cells J (under blocks d) own normal-lengths normal-widths words flat a b old → Made J (under blocks d) own normal-lengths normal-widths words flat a b new → Outside at (at + words) old new
+      → Cells J (under blocks d) own normal-lengths normal-widths words flat a (b + 1) new
+  cells-more {flat} a b at old new p w m o j l = go (ℕ-discrete j b)
     where
       before : (j ≡ b → ⊥) → cell J words a j + words ≤ at
       before q = omega (arith, p, cell-before (a * position-count J Width + j) (a * position-count J Width + b) words (omega arith))
 
-      go : Dec (j ≡ b) → Made J (under blocks d) own normal-lengths normal-widths words a j new
+      go : Dec (j ≡ b) → Made J (under blocks d) own normal-lengths normal-widths words flat a j new
       go (yes q) = rw q m
       go (no q) = made-kept (before q) o (w j (omega arith))
 
@@ -135,18 +153,18 @@ module _ {J : Job} (own : ℕ → ℕ) {normal-lengths length-floors normal-widt
       go (yes q) = rw q (m j (omega arith))
       go (no q) = w i j (omega arith) l
 
-  pub rows-more : (a columns : ℕ) (xs : List ℕ) → columns ≡ position-count J Width → Rows J (under blocks d) own normal-lengths normal-widths words a xs → Cells J (under blocks d) own normal-lengths normal-widths words a columns xs → Rows J (under blocks d) own normal-lengths normal-widths words (a + 1) xs
-  rows-more a columns xs e w m i j h l some = go (ℕ-discrete i a)
+  pub rows-more : {flat : ℕ} (a columns : ℕ) (xs : List ℕ) → columns ≡ position-count J Width → Rows J (under blocks d) own normal-lengths normal-widths words flat a xs → Cells J (under blocks d) own normal-lengths normal-widths words flat a columns xs → Rows J (under blocks d) own normal-lengths normal-widths words flat (a + 1) xs
+  rows-more {flat} a columns xs e w m i j h l some = go (ℕ-discrete i a)
     where
-      go : Dec (i ≡ a) → Made J (under blocks d) own normal-lengths normal-widths words i j xs
+      go : Dec (i ≡ a) → Made J (under blocks d) own normal-lengths normal-widths words flat i j xs
       go (yes q) = rw q (m j (omega arith))
       go (no q) = w i j (omega arith) l some
 
   -- with the first cell cleared, all cells are made
-  pub rows-all : (a : ℕ) (old new : List ℕ) → Rows J (under blocks d) own normal-lengths normal-widths words a old → Run (λ j. 0) 0 words old new → AllMade a new
-  rows-all a old new w run i j h l = go (decLe 1 (i + j))
+  pub rows-all : {flat : ℕ} (a : ℕ) (old new : List ℕ) → Rows J (under blocks d) own normal-lengths normal-widths words flat a old → Run (λ j. 0) 0 words old new → AllMade flat a new
+  rows-all {flat} a old new w run i j h l = go (decLe 1 (i + j))
     where
-      go : Dec (1 ≤ i + j) → Made J (under blocks d) own normal-lengths normal-widths words i j new
+      go : Dec (1 ≤ i + j) → Made J (under blocks d) own normal-lengths normal-widths words flat i j new
       go (yes some) = made-same (λ s k. run .rest .after (cell J words i j + s) (omega (arith, cell-before 0 (i * position-count J Width + j) words (past some)))) (w i j h l some)
         where
           past : 1 ≤ i + j → 0 < i * position-count J Width + j
@@ -157,18 +175,18 @@ module _ {J : Job} (own : ℕ → ℕ) {normal-lengths length-floors normal-widt
           rw (p, q) (zeros-made 0 0 new (zero-length 0) (λ s k. (let z : cell J words 0 0 + s ≡ 0 + s = omega arith in rw z (run .here s k))))
 
   -- nothing is noted past the ends of the lists
-  pub rows-bare : (s : ℕ) (xs : List ℕ) → s ≡ position-count J Length * position-count J Width → 1 ≤ position-count J Width → AllMade (position-count J Length) xs → Bare s words xs
+  pub rows-bare : {flat : ℕ} (s : ℕ) (xs : List ℕ) → s ≡ position-count J Length * position-count J Width → 1 ≤ position-count J Width → AllMade flat (position-count J Length) xs → Bare s words xs
   rows-bare s xs e some w i j k h l m z =
       let r = position-count J Width in
       let q = div-add-mod' i r in
       let y : i / r < position-count J Length = div-lt-iff-lt-mul {k = r} {x = i} {y = position-count J Length} some .1 (omega arith) in
-      rw q at (w (i / r) (i % r) y (mod-lt i {m = r} some) .ended j k l m (rw q z))
+      rw q at (w (i / r) (i % r) y (mod-lt i {m = r} some) .all .ended j k l m (rw q z))
 
   -- the table without its lists holds the figures
-  pub rows-figures : (s a : ℕ) (old new : List ℕ) → s ≡ position-count J Length * position-count J Width → a ≡ position-count J Length → AllMade a old → Plain s words old new → Figures J (under blocks d) own words new
+  pub rows-figures : {flat : ℕ} (s a : ℕ) (old new : List ℕ) → s ≡ position-count J Length * position-count J Width → a ≡ position-count J Length → AllMade flat a old → Plain s words old new → Figures J (under blocks d) own words new
   rows-figures s k old new e f w u a b c ha hb hc =
       u .plain (a * position-count J Width + b) c (omega (arith, cell-before a (position-count J Length) (position-count J Width) ha)) hc
-      ∙ w a b (omega arith) hb .figures c hc
+      ∙ w a b (omega arith) hb .all .figures c hc
       ∙ ap₂ (λ x y. figure-at J (under blocks d) own x y c) (entry-is J Length (position-count J Length) normal-lengths length-floors (lent .range) (lent .lengths) a ha) (entry-is J Width (position-count J Width) normal-widths width-floors (lent .range) (lent .widths) b hb)
 
 -- a run of which the rest is as it is to be
@@ -217,10 +235,10 @@ pub record InRow (J : Job) (own : ℕ → ℕ) (normal-lengths normal-widths blo
   pub half : (i : ℕ) → 1 ≤ i → i < width-half-end → b < columns → 2 * getD normal-widths i 0 ≤ getD normal-widths b 0
   pub column-is : column ≡ b * words
   pub same : length new ≡ length old
-  pub rows : Rows J (under blocks d) own normal-lengths normal-widths words a new
+  pub rows : Rows J (under blocks d) own normal-lengths normal-widths words flat a new
   pub summed : Summed blocks d words words new
-  pub cells : Cells J (under blocks d) own normal-lengths normal-widths words a b new
-  pub flat-most : flat ≤ words
+  pub cells : Cells J (under blocks d) own normal-lengths normal-widths words flat a b new
+  pub flat-state : FlatState J own d words flat
   pub level-rows : LevelRows J (under blocks d) own normal-lengths normal-widths words flat a
   pub level-cells : LevelCells J (under blocks d) own normal-lengths normal-widths words flat a b
   pub rest : Outside at (at + stride) old new
@@ -257,7 +275,7 @@ module _ {J : Job} {own : ℕ → ℕ} {normal-lengths length-floors normal-widt
     rows = rows-kept own (spot .lent) a at (at + words) t0 t1 (omega (arith, spot .at-is)) (w .rest) (spot .rows);
     summed = summed-before row-past (w .rest) (spot .summed);
     cells = first-cell own (spot .lent) a at t0 t1 (spot .at-is) w;
-    flat-most = spot .flat-most;
+    flat-state = spot .flat-state;
     level-rows = spot .level-rows;
     level-cells = level-first-cell own (spot .lent) a flat;
     rest = outside-same at (at + stride) t1;
@@ -281,7 +299,7 @@ module _ {J : Job} {own : ℕ → ℕ} {normal-lengths length-floors normal-widt
       rows = so .rows;
       summed = so .summed;
       cells = so .cells;
-      flat-most = so .flat-most;
+      flat-state = so .flat-state;
       level-rows = so .level-rows;
       level-cells = so .level-cells;
     }
@@ -290,18 +308,18 @@ module _ {J : Job} {own : ℕ → ℕ} {normal-lengths length-floors normal-widt
     row-fits = omega (arith, so .column-is, row-room b hb .0)
 
     -- one cell more
-    pub row-more : (half-end : ℕ) (t3 : List ℕ) → length t3 ≡ length t2 → Half normal-widths b half-end → Made J (under blocks d) own normal-lengths normal-widths words a b t3 → Outside (at + column) (at + column + words) t2 t3
-        → {next : ℕ} → Levelled words high next (tabled J (under blocks d) own normal-lengths normal-widths a b) → InRow J own normal-lengths normal-widths blocks d words columns stride a at half-end (column + words) next (b + 1) t1 t3
+    pub row-more : (half-end : ℕ) (t3 : List ℕ) → length t3 ≡ length t2 → Half normal-widths b half-end → {next : ℕ} → Made J (under blocks d) own normal-lengths normal-widths words next a b t3 → Outside (at + column) (at + column + words) t2 t3
+        → Levelled words high next (tabled J (under blocks d) own normal-lengths normal-widths a b) → InRow J own normal-lengths normal-widths blocks d words columns stride a at half-end (column + words) next (b + 1) t1 t3
     row-more half-end t3 e half made o flat-from = record {
       inside = (omega arith, omega arith);
       halved = (half .least, omega (arith, half .most));
       half = λ i l m h. half-next normal-widths width-floors columns row-axis b half-end half i l m h;
       column-is = omega (arith, so .column-is);
       same = e ∙ so .same;
-      rows = rows-kept own (spot .lent) a (at + column) (at + column + words) t2 t3 (omega (arith, spot .at-is)) o (so .rows);
+      rows = λ i j h l some. made-later (flat-from .more) (rows-kept own (spot .lent) a (at + column) (at + column + words) t2 t3 (omega (arith, spot .at-is)) o (so .rows) i j h l some);
       summed = summed-before (omega (arith, row-past)) o (so .summed);
-      cells = cells-more own (spot .lent) a b (at + column) t2 t3 (omega (arith, spot .at-is, so .column-is)) (so .cells) made o;
-      flat-most = flat-from .most;
+      cells = cells-more own (spot .lent) a b (at + column) t2 t3 (omega (arith, spot .at-is, so .column-is)) (λ j l. made-later (flat-from .more) (so .cells j l)) made o;
+      flat-state = flat-later (flat-from .more) (flat-from .most) (so .flat-state);
       level-rows = λ i j h l. level-later (flat-from .more) (so .level-rows i j h l);
       level-cells = level-cells-more own (spot .lent) a b flat-from (so .level-cells);
       rest = record {
@@ -312,11 +330,11 @@ module _ {J : Job} {own : ℕ → ℕ} {normal-lengths length-floors normal-widt
 
   -- the row is made
   pub row-end : {t1 t2 : List ℕ} {width-half-end column high b : ℕ} → Run (λ j. 0) at words t0 t1 → columns ≤ b → InRow J own normal-lengths normal-widths blocks d words columns stride a at width-half-end column high b t1 t2
-      → Rows J (under blocks d) own normal-lengths normal-widths words (a + 1) t2 × Outside at (at + stride) t0 t2 × (high ≤ words) × LevelRows J (under blocks d) own normal-lengths normal-widths words high (a + 1)
+      → Rows J (under blocks d) own normal-lengths normal-widths words high (a + 1) t2 × Outside at (at + stride) t0 t2 × FlatState J own d words high × LevelRows J (under blocks d) own normal-lengths normal-widths words high (a + 1)
   row-end {t1} {t2} {width-half-end} {column} {high} {b} w h so = (
     rows-more own (spot .lent) a columns t2 (spot .counted .widths) (so .rows) (λ j l. so .cells j (omega arith)),
     record { before = λ i l. so .rest .before i l ∙ w .rest .before i l; after = λ i l. so .rest .after i l ∙ w .rest .after i (omega (arith, row-room 0 row-some .1)) },
-    so .flat-most,
+    so .flat-state,
     level-rows-more own (spot .lent) (spot .counted .widths) (so .level-rows) (λ j l. so .level-cells j (omega arith)),
   )
 
@@ -327,9 +345,9 @@ pub record InTable (J : Job) (own : ℕ → ℕ) (normal-lengths normal-widths b
   pub half : (i : ℕ) → 1 ≤ i → i < length-half-end → a < length-count → 2 * getD normal-lengths i 0 ≤ getD normal-lengths a 0
   pub at-is : at ≡ a * stride
   pub same : length new ≡ length old
-  pub rows : Rows J (under blocks d) own normal-lengths normal-widths words a new
+  pub rows : Rows J (under blocks d) own normal-lengths normal-widths words flat a new
   pub summed : Summed blocks d words words new
-  pub flat-most : flat ≤ words
+  pub flat-state : FlatState J own d words flat
   pub level-rows : LevelRows J (under blocks d) own normal-lengths normal-widths words flat a
   pub rest : (i : ℕ) → length-count * stride ≤ i → getD new i 0 ≡ getD old i 0
 
@@ -359,8 +377,8 @@ module _ {J : Job} {normal-lengths length-floors normal-widths width-floors bloc
   pub table-first : Digits blocks d words × (words ≤ stride) × (stride ≤ length t0)
   table-first = (lent .digits, omega (arith, counted .stride-is, counted .widths, cell-before 0 columns words (omega (arith, counted .widths, positions-some J Width))), table-room)
 
-  pub table-start : (own : ℕ → ℕ) (t1 : List ℕ) → FirstRow blocks d words stride t0 t1 → InTable J own normal-lengths normal-widths blocks d words length-count stride stride 1 0 1 t1 t1
-  table-start own t1 w = record {
+  pub table-start : {own : ℕ → ℕ} {flat : ℕ} (t1 : List ℕ) → FirstRow blocks d words stride t0 t1 → FlatState J own d words flat → InTable J own normal-lengths normal-widths blocks d words length-count stride stride 1 flat 1 t1 t1
+  table-start {own} {flat} t1 w from = record {
     inside = (omega arith, table-some);
     halved = (omega arith, omega arith);
     half = λ i l m. absurd (omega arith);
@@ -368,8 +386,8 @@ module _ {J : Job} {normal-lengths length-floors normal-widths width-floors bloc
     same = refl;
     rows = first-row own lent stride t0 t1 (counted .stride-is ∙ ap (λ columns. columns * words) (counted .widths)) w;
     summed = record { before = λ h. omega arith; sums = λ h. w .sums };
-    flat-most = omega arith;
-    level-rows = level-first-row own lent 0;
+    flat-state = from;
+    level-rows = level-first-row own lent flat;
     rest = λ i h. refl;
   }
 
@@ -387,7 +405,7 @@ module _ {J : Job} {normal-lengths length-floors normal-widths width-floors bloc
       at-is = so .at-is ∙ (ap (λ x. a * x) (counted .stride-is ∙ ap (λ columns. columns * words) (counted .widths)) ∙ omega arith);
       rows = so .rows;
       summed = so .summed;
-      flat-most = so .flat-most;
+      flat-state = so .flat-state;
       level-rows = so .level-rows;
     }
 
@@ -395,7 +413,7 @@ module _ {J : Job} {normal-lengths length-floors normal-widths width-floors bloc
     table-fits = omega (arith, so .at-is, table-row-room a ha)
 
     -- one row more
-    pub table-more : (half-end : ℕ) (t3 : List ℕ) → length t3 ≡ length t2 → Half normal-lengths a half-end → Rows J (under blocks d) own normal-lengths normal-widths words (a + 1) t3 → Outside at (at + stride) t2 t3 → {high : ℕ} → high ≤ words → LevelRows J (under blocks d) own normal-lengths normal-widths words high (a + 1)
+    pub table-more : (half-end : ℕ) (t3 : List ℕ) → length t3 ≡ length t2 → Half normal-lengths a half-end → {high : ℕ} → Rows J (under blocks d) own normal-lengths normal-widths words high (a + 1) t3 → Outside at (at + stride) t2 t3 → FlatState J own d words high → LevelRows J (under blocks d) own normal-lengths normal-widths words high (a + 1)
         → InTable J own normal-lengths normal-widths blocks d words length-count stride (at + stride) half-end high (a + 1) t1 t3
     table-more half-end t3 e half made o most level = record {
       inside = (omega arith, omega arith);
@@ -405,7 +423,7 @@ module _ {J : Job} {normal-lengths length-floors normal-widths width-floors bloc
       same = e ∙ so .same;
       rows = made;
       summed = summed-before (omega (arith, so .at-is, so .inside .0, table-first .1, mul-le-mul-right {m = 1} {n = a} stride (so .inside .0))) o (so .summed);
-      flat-most = most;
+      flat-state = most;
       level-rows = level;
       rest = λ i h. o .after i (omega (arith, so .at-is, cell-before a length-count stride ha)) ∙ so .rest i h;
     }

@@ -5,18 +5,20 @@ use state_cells::make_cell;
 use states::figure;
 use states::first_row;
 use states::note;
+use states::past;
 use table::half;
 use table::set_run;
 ghost use mathlib.Core.Path.{_≡_};
 ghost use Prim.Native.Nat.{ℕ, _+_, _*_, _≤_, _<_};
 ghost use lib.ListN.{length, drop};
+ghost use Rattle.cutting.specs.Limits.{most-pieces};
 ghost use Rattle.cutting.specs.Listed.{listed-weight};
 ghost use Rattle.cutting.specs.declared.Direction.the-variants.{Length, Width};
 ghost use Rattle.table.specs.Table.{position-count, Kept};
 ghost use Rattle.table.specs.Words.{Outside, Run};
 ghost use Rattle.states.specs.States.{held, note, under, Figures};
-ghost use Rattle.state_cells.specs.Places.{job-in, Rows, LevelRows, CellsLent};
-ghost use Rattle.state_fill.specs.Tables.{Counted, RowSpot, Bare, Plain};
+ghost use Rattle.state_cells.specs.Places.{job-in, Rows, LevelRows, CellsLent, FlatState};
+ghost use Rattle.state_fill.specs.Tables.{Counted, PastPieces, RowSpot, Bare, Plain};
 
 // The place of a row: the index of its normal length, the end of that one's first half, its word, and the state from which on the
 // figures of all cells before it are the same.
@@ -40,8 +42,8 @@ fn fill_row(
 ) -> usize
     requires { ⌜ RowSpot (job-in shape (now pieces)) (listed-weight (now pieces)) (now «normal_lengths») (now floors) (now «normal_widths») (drop 1021 (now floors)) (now blocks) (shape .d) (shape .words)
         (shape .«length_count») (shape .columns) (shape .stride) (row .a) (row .«half_end») (row .at) (row .flat) (now table) ⌝ }
-    ensures { λ r. ⌜ Rows (job-in shape (now (pieces .entry))) (under (now (blocks .entry)) (shape .d)) (listed-weight (now (pieces .entry))) (now («normal_lengths» .entry)) (now («normal_widths» .entry)) (shape .words) (row .a + 1) (now (table .exit))
-        × Outside (row .at) (row .at + shape .stride) (now (table .entry)) (now (table .exit)) × (r ≤ shape .words)
+    ensures { λ r. ⌜ Rows (job-in shape (now (pieces .entry))) (under (now (blocks .entry)) (shape .d)) (listed-weight (now (pieces .entry))) (now («normal_lengths» .entry)) (now («normal_widths» .entry)) (shape .words) r (row .a + 1) (now (table .exit))
+        × Outside (row .at) (row .at + shape .stride) (now (table .entry)) (now (table .exit)) × FlatState (job-in shape (now (pieces .entry))) (listed-weight (now (pieces .entry))) (shape .d) (shape .words) r
         × LevelRows (job-in shape (now (pieces .entry))) (under (now (blocks .entry)) (shape .d)) (listed-weight (now (pieces .entry))) (now («normal_lengths» .entry)) (now («normal_widths» .entry)) (shape .words) r (row .a + 1) ⌝ }
 {
     set_run(table, row.at, shape.words, 0);
@@ -99,6 +101,33 @@ pub fn strip_all(table: &mut [u64], s: usize, words: usize)
     }
 }
 
+// The number past the state of a piece, where it has one, or `flat` where that is more.
+fn past_piece(flat: usize, state: u32, words: usize) -> usize
+    requires { ⌜ (flat ≤ words) × (words ≤ 65536) ⌝ }
+    ensures { λ r. ⌜ (flat ≤ r) × (r ≤ words) × (state < words → state < r) ⌝ }
+{
+    let t = state as usize;
+    if t < words {
+        return past(flat, t);
+    }
+    flat
+}
+
+// The state to begin with: past that of every piece that has one. Where states have several digits, it is past all states.
+fn first_flat(pieces: &[u32; 640], count: usize, d: usize, words: usize) -> usize
+    requires { ⌜ (count ≤ most-pieces) × (words ≤ 65536) ⌝ }
+    ensures { λ r. ⌜ (r ≤ words) × PastPieces (now (pieces .entry)) count words r × (1 ≤ d → r ≡ words) ⌝ }
+{
+    if 0 < d {
+        return words;
+    }
+    let mut flat: usize = 0;
+    for i in 0..count {
+        flat = past_piece(flat, pieces[5 * i + 3], words);
+    }
+    flat
+}
+
 // The table of a job over the states of the digits up to d: its words are the figures, and the rest is as it was.
 pub fn fill(
     table: &mut [u64],
@@ -117,7 +146,7 @@ pub fn fill(
     first_row(table, blocks, shape.d, shape.words, shape.stride);
     let mut at = shape.stride;
     let mut half_end: usize = 1;
-    let mut flat: usize = 0;
+    let mut flat = first_flat(pieces, shape.count, shape.d, shape.words);
     for a in 1..shape.length_count {
         half_end = half(normal_lengths, half_end, a);
         let row = Row {
