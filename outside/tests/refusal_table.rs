@@ -1,11 +1,11 @@
-// One table of refusals: the code and the definitions of crates/refusal, docs/SCOPE.md and include/planner.h
-// give every refusal the same number and the same place, and every call the same refusals.
+// One table of refusals: the code of crates/refusal, the definitions of crates/promises, docs/SCOPE.md and
+// include/planner.h give every refusal the same number and the same place, and every call the same refusals.
 use std::collections::{BTreeMap, BTreeSet};
 use std::path::Path;
 
 type Numbers = BTreeSet<u32>;
 
-/// A case of crates/refusal: its number, and whether it carries its place, which else is 0.
+/// A case of a refusal: its number, and whether it carries its place, which else is 0.
 type Cases = BTreeMap<String, (u32, bool)>;
 
 /// A row of a written table.
@@ -16,7 +16,7 @@ struct Row {
 }
 
 const CODE: &str = "crates/refusal/src/lib.rt";
-const DEFINITIONS: &str = "crates/refusal/specs/Refusals.antt";
+const DEFINITIONS: &str = "crates/promises/specs/Refusals.antt";
 const SCOPE: &str = "docs/SCOPE.md";
 const HEADER: &str = "include/planner.h";
 
@@ -87,21 +87,15 @@ fn code() -> Cases {
     text(CODE).lines().filter_map(line).collect()
 }
 
-/// The equations `number-of (Price k) = 6` and `place-of (Price k) = k`.
+/// The equations `line-of (Price k) = (6, k)`.
 fn definitions() -> Cases {
-    let text = text(DEFINITIONS);
-    let equations = |of: &'static str| {
-        let equations = text.lines().filter_map(move |line| line.strip_prefix(of)?.split_once(" = "));
-        equations.map(|(case, is)| (split_case(case), is))
+    let equation = |line: &str| {
+        let (case, told) = line.strip_prefix("line-of ")?.split_once(" = (")?;
+        let (number, place) = told.strip_suffix(')')?.split_once(", ")?;
+        let (name, carried) = split_case(case);
+        Some((name, (number.parse().expect("a number"), is_carried(place, &carried))))
     };
-    let places = equations("place-of ").map(|((name, carried), is)| (name, is_carried(is, &carried)));
-    let places: BTreeMap<String, bool> = places.collect();
-    let numbers = equations("number-of ");
-    let case = |((name, _), is): ((String, _), &str)| {
-        let carried = places[&name];
-        (name, (is.parse().expect("a number"), carried))
-    };
-    numbers.map(case).collect()
+    text(DEFINITIONS).lines().filter_map(equation).collect()
 }
 
 /// The cells of each row of the tables below a heading of the scope.

@@ -9,7 +9,7 @@ use lib.Seq.{sets, length-sets, sets-eq, paste, paste-suc, take-length}
 use Rattle.cutting.specs.Lists.{over}
 use Rattle.cutting.proofs.Lists.{over-sets}
 use Rattle.refusal.specs.Refusals.{Outcome, number-of, place-of, refused-as}
-use Rattle.refusal.specs.declared.Refusal.{Refusal}
+use Rattle.promises.specs.declared.Refusal.{Refusal}
 use Rattle.answer_words.specs.Words.{Gives}
 
 -- a run of stores keeps the length

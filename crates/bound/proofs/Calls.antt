@@ -11,11 +11,11 @@ use Rattle.cutting.specs.Limits.{most-capacity}
 use Rattle.cutting.specs.Listed.{listed-weight, pieces-job, PieceArray}
 use Rattle.cutting.proofs.Promises.{recursion, figures-most, normal-listed, floor-figures}
 use Rattle.refusal.specs.Refusals.{Check, next, first-refusal, by-check, outcome-by}
-use Rattle.refusal.specs.declared.Refusal.{Refusal}
-use Rattle.refusal.specs.declared.Checked.{Checked}
-use Rattle.refusal.specs.declared.Checked.the-variants.{Passed, Refused}
-use Rattle.job.specs.declared.Choices.{Choices}
-use Rattle.job.specs.declared.JobRecord.{JobRecord}
+use Rattle.promises.specs.declared.Refusal.{Refusal}
+use Rattle.promises.specs.declared.Checked.{Checked}
+use Rattle.promises.specs.declared.Checked.the-variants.{Passed, Refused}
+use Rattle.promises.specs.declared.Choices.{Choices}
+use Rattle.promises.specs.declared.JobRecord.{JobRecord}
 use Rattle.job.specs.Block.{job-of, ReadAlike}
 use Rattle.job.specs.Weights.{block-job, weight-in, weight-checks, Accepted}
 use Rattle.job.proofs.Checks.{passed-both}
@@ -24,9 +24,9 @@ use Rattle.job.proofs.Weights.{weights-passed, accepted-both, accepted-in-range
 use Rattle.job.proofs.Taken.{Taken}
 use Rattle.bound.specs.Bound.{Memory, Leaves, wide-job, answer-by, bound-report, memory-checks, report-values, block-capacity, block-report, accept-verdict, bound-verdict, bound-answer, bound-outcome, BoundLeaves, BoundSaid, BoundPromises}
 use Rattle.bound.specs.Contracts.{Boundable, Bounded, RecordBoundable}
-use Rattle.bound.specs.declared.BoundReport.{BoundReport}
-use Rattle.bound.specs.declared.BoundAnswer.{BoundAnswer}
-use Rattle.bound.specs.declared.BoundAnswer.the-variants as answer
+use Rattle.promises.specs.declared.BoundReport.{BoundReport}
+use Rattle.promises.specs.declared.BoundAnswer.{BoundAnswer}
+use Rattle.promises.specs.declared.BoundAnswer.the-variants as answer
 use Rattle.bound.proofs.Listed.{pieces-range, pieces-bounded}
 use Rattle.bound.proofs.Holds.{bound-held, answered-behind}
 

@@ -7,12 +7,12 @@ use Rattle.cutting.proofs.Members.{range-solid}
 use Rattle.cutting.proofs.Finer.{none-finer, within-finer}
 use Rattle.cutting.proofs.Bound.{capacity-less, bound-ceiling, bound-less}
 use Rattle.cutting.proofs.Promises.{bound-exact, none-above, none-heavier, plate-holds}
-use Rattle.refusal.specs.declared.Refusal.{Refusal}
-use Rattle.refusal.specs.declared.Checked.{Checked}
-use Rattle.refusal.specs.declared.Checked.the-variants.{Passed, Refused}
+use Rattle.promises.specs.declared.Refusal.{Refusal}
+use Rattle.promises.specs.declared.Checked.{Checked}
+use Rattle.promises.specs.declared.Checked.the-variants.{Passed, Refused}
 use Rattle.bound.specs.Bound.{BoundHolds, answer-by}
-use Rattle.bound.specs.declared.BoundReport.{BoundReport}
-use Rattle.bound.specs.declared.BoundAnswer.the-variants as answer
+use Rattle.promises.specs.declared.BoundReport.{BoundReport}
+use Rattle.promises.specs.declared.BoundAnswer.the-variants as answer
 
 -- the bound of a job in range holds at its capacity
 pub bound-held : (J : Job) (weight : ℕ → ℕ) → InRange J → BoundHolds J weight (capacity J weight) (bound-of J weight)

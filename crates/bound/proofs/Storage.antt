@@ -5,15 +5,15 @@ use Prim.Native.Nat.{ℕ, _+_}
 use native.Mathlib.Omega.{arith}
 use lib.ListN.{length}
 use Rattle.cutting.specs.Job.{Job}
-use Rattle.refusal.specs.declared.Refusal.{Refusal}
+use Rattle.promises.specs.declared.Refusal.{Refusal}
 use Rattle.table.specs.declared.TableSize.{TableSize}
 use Rattle.table.specs.Contracts.{FilledBy}
 use Rattle.storage.specs.declared.Layout.the-variants as layout
 use Rattle.storage.specs.Contracts.{LaidOut}
 use Rattle.storage.proofs.Storage.{refused-laid, ready-laid}
 use Rattle.bound.specs.Bound.{lent, answer-by, bound-report}
-use Rattle.bound.specs.declared.BoundAnswer.the-variants as answer
-use Rattle.bound.specs.declared.BoundReport.{BoundReport}
+use Rattle.promises.specs.declared.BoundAnswer.the-variants as answer
+use Rattle.promises.specs.declared.BoundReport.{BoundReport}
 use Rattle.bound.specs.Contracts.{Bounded}
 
 -- a report of the four figures

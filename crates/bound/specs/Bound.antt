@@ -6,20 +6,22 @@ use mathlib.Core.Bool.{false}
 use mathlib.Core.List.{List, [], _∷_, _++_}
 use Prim.Native.Nat.{ℕ, _≤_}
 use lib.ListN.{length}
-use Rattle.cutting.specs.declared.Direction.the-variants.{Length, Width}
+use Rattle.promises.specs.declared.Direction.the-variants.{Length, Width}
 use Rattle.cutting.specs.Limits.{most-figure}
 use Rattle.cutting.specs.Job.{Job, widened, capacity, at-full-demand, figure-of, bound-of, normal-positions}
 use Rattle.cutting.specs.Promises.{NoneAbove, NoneFiner, NoneHeavier, PlateHolds, FinerAmong, OfWeight, MostWithin, Recursion, NormalSums, FiguresMost, FloorFigures}
-use Rattle.refusal.specs.Refusals.{Check, Outcome, next, first-refusal, by-check, refused-as, outcome-by}
-use Rattle.refusal.specs.declared.Checked.{Checked}
-use Rattle.job.specs.declared.Choices.{Choices}
+use Rattle.refusal.specs.Refusals.{Check, Outcome, next, first-refusal, by-check, outcome-by}
+use Rattle.promises.specs.declared.Checked.{Checked}
+use Rattle.promises.specs.declared.Choices.{Choices}
 use Rattle.job.specs.Block.{with-old-block, job-checks, KerfNone}
 use Rattle.job.specs.Weights.{block-job, weight-in, weight-checks, Accepted}
 use Rattle.table.specs.Table.{position-count, words-needed, Figures, Kept}
 pub use Rattle.storage.specs.Storage.{list-check, room-check, list-after}
-use Rattle.bound.specs.declared.BoundReport.{BoundReport}
-use Rattle.bound.specs.declared.BoundAnswer.{BoundAnswer}
-use Rattle.bound.specs.declared.BoundAnswer.the-variants as answer
+use Rattle.promises.specs.declared.BoundReport.{BoundReport}
+use Rattle.promises.specs.declared.BoundAnswer.{BoundAnswer}
+use Rattle.promises.specs.declared.BoundAnswer.the-variants as answer
+pub use Rattle.promises.specs.Call.{Memory, lent}
+pub use Rattle.promises.specs.Calls.{bound-outcome}
 
 -- The lists, the table and the figures are those of the job with the kerf added to every side, cut without loss: J is that job in the
 -- definitions up to `Leaves`.
@@ -42,16 +44,6 @@ answer-by v b = by-check v (answer.Answered b) answer.Refused
 -- the table after the call: the figures, and later words as they were; on a refusal all as it was
 abbrev pub TableAfter : Checked → Job → (ℕ → ℕ) → ℕ → List ℕ → List ℕ → Type 0
 TableAfter v J weight q old new = by-check v (Figures J weight q new × Kept (words-needed J q) old new) (λ r. new ≡ old)
-
--- the memory that a call lends: two lists and a table
-pub record Memory : Type 0 where
-  pub lengths : List ℕ
-  pub widths : List ℕ
-  pub table : List ℕ
-
--- memory of two lists and a table
-abbrev pub lent : List ℕ → List ℕ → List ℕ → Memory
-lent lengths widths table = record { lengths = lengths; widths = widths; table = table }
 
 -- the storage checks of lent memory
 abbrev pub memory-checks : Job → ℕ → Memory → List Check
@@ -94,11 +86,6 @@ BoundLeaves s choices ws old new = Leaves (accept-verdict s choices ws) (wide-jo
 -- a report's values: the bound, Q, p and r
 abbrev pub report-values : BoundReport → List ℕ
 report-values b = b .bound ∷ b .capacity ∷ b .«length_count» ∷ b .columns ∷ []
-
--- an answer's number and values
-abbrev pub bound-outcome : BoundAnswer → Outcome
-bound-outcome (answer.Answered b) = (0, report-values b)
-bound-outcome (answer.Refused r) = refused-as r
 
 -- the number and values that the call answers
 abbrev pub bound-said : List ℕ → Choices → List ℕ → Memory → Outcome

@@ -7,11 +7,11 @@ use Rattle.cutting.specs.Limits.{most-capacity}
 use Rattle.cutting.specs.Job.{Job, InRange}
 use Rattle.cutting.specs.Listed.{InTableRange}
 use Rattle.refusal.specs.Refusals.{first-refusal}
-use Rattle.refusal.specs.declared.Checked.the-variants.{Passed}
+use Rattle.promises.specs.declared.Checked.the-variants.{Passed}
 use Rattle.storage.specs.Contracts.{BothMapped}
-use Rattle.bound.specs.declared.BoundReport.{BoundReport}
-use Rattle.bound.specs.declared.BoundAnswer.{BoundAnswer}
-use Rattle.bound.specs.declared.BoundAnswer.the-variants.{Answered}
+use Rattle.promises.specs.declared.BoundReport.{BoundReport}
+use Rattle.promises.specs.declared.BoundAnswer.{BoundAnswer}
+use Rattle.promises.specs.declared.BoundAnswer.the-variants.{Answered}
 use Rattle.bound.specs.Bound.{Memory, Leaves, memory-checks, answer-by, bound-report}
 
 -- what the bound of pieces asks: a plain job in range, a capacity, and room for the floors of both sides

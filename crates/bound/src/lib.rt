@@ -1,12 +1,14 @@
 // The bound call: a job block and weights are accepted or refused, the normal positions of both sides go into the lent lists, the
 // figures into the lent table, and the table's last word is the bound. Refusals 1 to 9, 27, 35, 19 and 20.
 use cutting::Sides;
-use job::Choices;
-use job::JobRecord;
 use pieces::list_pieces;
 use pieces::plate_of;
-use refusal::Checked;
-use refusal::Refusal;
+use promises::BoundAnswer;
+use promises::BoundReport;
+use promises::Checked;
+use promises::Choices;
+use promises::JobRecord;
+use promises::Refusal;
 use storage::Layout;
 use storage::lay_out;
 use table::TableSize;
@@ -18,21 +20,6 @@ ghost use Rattle.job.specs.Weights.{weight-in};
 ghost use Rattle.bound.specs.Bound.{lent, BoundPromises};
 ghost use Rattle.table.specs.Contracts.{size-job, Fillable, FilledBy};
 ghost use Rattle.bound.specs.Contracts.{Boundable, Bounded, RecordBoundable, RecordBounded};
-
-// What the bound call reports: the bound, the capacity Q, and the numbers p and r of normal lengths and widths. In the exact call the
-// optimum stands in the place of the bound and the last state in that of the capacity.
-pub struct BoundReport {
-    pub bound: u64,
-    pub capacity: u16,
-    pub length_count: u16,
-    pub columns: u16,
-}
-
-// What the bound call answers.
-pub enum BoundAnswer {
-    Answered(BoundReport),
-    Refused(Refusal),
-}
 
 // The figures of pieces, into a table that is long enough: the fill for one share or for many.
 pub fn fill_table(

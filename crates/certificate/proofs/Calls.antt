@@ -5,12 +5,12 @@ use Prim.Native.Nat.{ℕ, _≤_}
 use native.Mathlib.Omega.{arith}
 use Rattle.cutting.specs.Job.{bound-of}
 use Rattle.refusal.specs.Refusals.{next, first-refusal}
-use Rattle.refusal.specs.declared.Refusal.{Refusal}
-use Rattle.refusal.specs.declared.Checked.{Checked}
-use Rattle.refusal.specs.declared.Checked.the-variants.{Passed, Refused}
-use Rattle.job.specs.declared.Choices.{Choices}
-use Rattle.job.specs.declared.JobRecord.{JobRecord}
-use Rattle.job.specs.declared.JobAnswer.{JobAnswer}
+use Rattle.promises.specs.declared.Refusal.{Refusal}
+use Rattle.promises.specs.declared.Checked.{Checked}
+use Rattle.promises.specs.declared.Checked.the-variants.{Passed, Refused}
+use Rattle.promises.specs.declared.Choices.{Choices}
+use Rattle.promises.specs.declared.JobRecord.{JobRecord}
+use Rattle.promises.specs.declared.JobAnswer.{JobAnswer}
 use Rattle.job.specs.declared.WeightsAnswer.{WeightsAnswer}
 use Rattle.job.specs.declared.WeightsAnswer.the-variants as weights
 use Rattle.job.specs.Block.{read-of, job-of}
@@ -18,18 +18,18 @@ use Rattle.job.specs.Weights.{block-job, weight-in, weights-answer}
 use Rattle.job.proofs.Read.{answered, refused}
 use Rattle.job.proofs.Weights.{refusal-answered, accepted-both}
 use Rattle.job.proofs.Taken.{Taken, both-by}
-use Rattle.plan.specs.declared.PlanAnswer.{PlanAnswer}
+use Rattle.promises.specs.declared.PlanAnswer.{PlanAnswer}
 use Rattle.plan.specs.Plan.{plan-answer}
 use Rattle.bound.specs.Bound.{Memory, Leaves, memory-checks, wide-job, block-capacity, block-report, accept-verdict}
 use Rattle.bound.specs.Contracts.{Bounded}
 use Rattle.bound.proofs.Holds.{answered-behind, refused-behind}
-use Rattle.bound.specs.declared.BoundReport.{BoundReport}
-use Rattle.bound.specs.declared.BoundAnswer.{BoundAnswer}
-use Rattle.bound.specs.declared.BoundAnswer.the-variants as bound
+use Rattle.promises.specs.declared.BoundReport.{BoundReport}
+use Rattle.promises.specs.declared.BoundAnswer.{BoundAnswer}
+use Rattle.promises.specs.declared.BoundAnswer.the-variants as bound
 use Rattle.certificate.specs.Certificate.{plan-verdict, certify-verdict, certificate-of, compared, handed-on, certificate-outcome}
 use Rattle.certificate.specs.Contracts.{weights-verdict, storage-verdict}
 use Rattle.certificate.specs.Promises.{CertifyPromises}
-use Rattle.certificate.specs.declared.Certificate.{Certificate}
+use Rattle.promises.specs.declared.Certificate.{Certificate}
 use Rattle.certificate.proofs.Comparison.{said-by, handed-before, handed-after, handed-whole}
 use Rattle.certificate.proofs.Promises.{drawn-most, compares, plans-judged, certificates-hold}
 

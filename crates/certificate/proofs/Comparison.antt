@@ -7,16 +7,16 @@ use native.Mathlib.Omega.{arith}
 use lib.Dec.{eqb}
 use borrow.Author.Tests.{eqb-true, eqb-false}
 use Rattle.refusal.specs.Refusals.{next, outcome-by}
-use Rattle.refusal.specs.declared.Refusal.{Refusal}
-use Rattle.refusal.specs.declared.Checked.{Checked}
-use Rattle.refusal.specs.declared.Checked.the-variants.{Passed, Refused}
-use Rattle.bound.specs.declared.BoundAnswer.{BoundAnswer}
-use Rattle.bound.specs.declared.BoundAnswer.the-variants as bound
+use Rattle.promises.specs.declared.Refusal.{Refusal}
+use Rattle.promises.specs.declared.Checked.{Checked}
+use Rattle.promises.specs.declared.Checked.the-variants.{Passed, Refused}
+use Rattle.promises.specs.declared.BoundAnswer.{BoundAnswer}
+use Rattle.promises.specs.declared.BoundAnswer.the-variants as bound
 use Rattle.certificate.specs.Certificate.{handed-on, compared, compared-by, certificate-values, certificate-outcome}
 use Rattle.certificate.specs.Contracts.{storage-verdict}
 use Rattle.certificate.specs.Promises.{BestAmong, GapAmong}
-use Rattle.certificate.specs.declared.Certificate.{Certificate}
-use Rattle.certificate.specs.declared.Certificate.the-variants as certificate
+use Rattle.promises.specs.declared.Certificate.{Certificate}
+use Rattle.promises.specs.declared.Certificate.the-variants as certificate
 
 -- a certificate that is no refusal was handed on
 best-passed : (v : Checked) (c : Certificate) (n : ℕ) → handed-on v c ≡ certificate.Best n → (v ≡ Passed) × (c ≡ certificate.Best n)

@@ -12,14 +12,14 @@ use Rattle.cutting.proofs.Weights.{by-weight-monotone}
 use Rattle.cutting.proofs.Plan.{plan-bound, plan-idle}
 use Rattle.cutting.proofs.Promises as trees
 use Rattle.refusal.specs.Refusals.{first-refusal}
-use Rattle.refusal.specs.declared.Checked.the-variants.{Passed}
-use Rattle.job.specs.declared.Choices.{Choices}
+use Rattle.promises.specs.declared.Checked.the-variants.{Passed}
+use Rattle.promises.specs.declared.Choices.{Choices}
 use Rattle.job.specs.Block.{job-checks}
 use Rattle.job.specs.Weights.{block-job, weight-in, weight-checks}
 use Rattle.job.proofs.Checks.{passed-both, append-passed}
 use Rattle.job.proofs.Read.{read-in-range}
 use Rattle.job.proofs.Weights.{accepted-in-range}
-use Rattle.plan.specs.declared.Report.{Report}
+use Rattle.promises.specs.declared.Report.{Report}
 use Rattle.plan.specs.Plan.{plan-answer}
 use Rattle.plan.proofs.Plans.{plans-checked}
 use Rattle.bound.specs.Bound.{Memory, memory-checks, wide-job, block-capacity, accept-verdict}

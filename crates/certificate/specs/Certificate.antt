@@ -3,17 +3,18 @@
 -- docs/SCOPE.md: The certificate.
 use mathlib.Core.Bool.{Bool, true, false}
 use mathlib.Core.List.{List, [], _∷_}
-use Prim.Native.Nat.{ℕ, _+_, _-_}
+use Prim.Native.Nat.{ℕ, _-_}
 use lib.Dec.{eqb}
 use Rattle.cutting.specs.Job.{bound-of}
-use Rattle.refusal.specs.Refusals.{Outcome, next, first-refusal, by-check, refused-as, outcome-by}
-use Rattle.refusal.specs.declared.Checked.{Checked}
-use Rattle.job.specs.declared.Choices.{Choices}
+use Rattle.refusal.specs.Refusals.{Outcome, next, first-refusal, by-check, outcome-by}
+use Rattle.promises.specs.declared.Checked.{Checked}
+use Rattle.promises.specs.declared.Choices.{Choices}
 use Rattle.job.specs.Weights.{block-job, weight-in}
 use Rattle.plan.specs.Plan.{plan-answer}
 use Rattle.bound.specs.Bound.{Memory, memory-checks, wide-job, block-capacity, accept-verdict}
-use Rattle.certificate.specs.declared.Certificate.{Certificate}
-use Rattle.certificate.specs.declared.Certificate.the-variants as certificate
+use Rattle.promises.specs.declared.Certificate.{Certificate}
+use Rattle.promises.specs.declared.Certificate.the-variants as certificate
+pub use Rattle.promises.specs.Calls.{certificate-outcome}
 
 -- the verdict of the checks that stand before the storage's: 1 to 9, 27 and 35, then the plan's, 10 to 18, 36 and 26
 abbrev pub plan-verdict : List ℕ → Choices → List ℕ → List ℕ → List ℕ → Checked
@@ -45,12 +46,6 @@ certificate-of s choices ws kinds operands m =
 -- the values of a profit and a bound: the gap, the bound and the profit
 abbrev pub certificate-values : ℕ → ℕ → List ℕ
 certificate-values profit bound = (bound - profit) ∷ bound ∷ profit ∷ []
-
--- a certificate's number and values: the gap, 0 for best, the bound and the profit
-abbrev pub certificate-outcome : Certificate → Outcome
-certificate-outcome (certificate.Best profit) = (0, 0 ∷ profit ∷ profit ∷ [])
-certificate-outcome (certificate.Gap profit gap) = (0, gap ∷ (profit + gap) ∷ profit ∷ [])
-certificate-outcome (certificate.Refused r) = refused-as r
 
 -- the number and values that certify answers
 abbrev pub certificate-said : List ℕ → Choices → List ℕ → List ℕ → List ℕ → Memory → Outcome

@@ -6,25 +6,25 @@ use mathlib.Core.Path.{_≡_}
 use mathlib.Core.Bool.{true, false}
 use mathlib.Core.List.{List, _∷_, _++_, List·Memᴰ}
 use Prim.Native.Nat.{ℕ, _+_, _<_}
-use Rattle.cutting.specs.declared.Direction.the-variants.{Length, Width}
+use Rattle.promises.specs.declared.Direction.the-variants.{Length, Width}
 use Rattle.cutting.specs.Lists.{over}
 use Rattle.cutting.specs.Tree.{Tree, IdleFree}
 use Rattle.cutting.specs.Pieces.{Piece}
 use Rattle.cutting.specs.Job.{Job, profit, bound-of, normal-positions, bound-plan, by-kind}
 use Rattle.cutting.specs.Promises.{NoneBetter, EarnsWithin, PlanFollows}
 use Rattle.refusal.specs.Refusals.{Check, number-of, next, first-refusal}
-use Rattle.refusal.specs.declared.Refusal.{Refusal}
-use Rattle.refusal.specs.declared.Checked.{Checked}
-use Rattle.refusal.specs.declared.Checked.the-variants.{Passed, Refused}
-use Rattle.job.specs.declared.Choices.{Choices}
+use Rattle.promises.specs.declared.Refusal.{Refusal}
+use Rattle.promises.specs.declared.Checked.{Checked}
+use Rattle.promises.specs.declared.Checked.the-variants.{Passed, Refused}
+use Rattle.promises.specs.declared.Choices.{Choices}
 use Rattle.job.specs.Weights.{block-job, weight-in, Accepted}
 use Rattle.plan.specs.Plan.{walk-answer, plan-answer}
 use Rattle.plan.specs.Trees.{PlanOf, ChecksPlan}
 use Rattle.plan.specs.Calls.{JobPasses}
 use Rattle.bound.specs.Bound.{Memory, Leaves, wide-job, block-capacity, memory-checks, bound-answer, BoundSaid, BlockHolds}
 use Rattle.certificate.specs.Certificate.{plan-verdict, certificate-of, certificate-outcome, certificate-said}
-use Rattle.certificate.specs.declared.Certificate.{Certificate}
-use Rattle.certificate.specs.declared.Certificate.the-variants.{Best, Gap}
+use Rattle.promises.specs.declared.Certificate.{Certificate}
+use Rattle.promises.specs.declared.Certificate.the-variants.{Best, Gap}
 
 -- no condition of a list of checks holds
 abbrev pub NoneHolds : List Check → Type 0

@@ -1,27 +1,21 @@
 // The certificate: a checked plan's profit against the bound. "Best" is a statement about every guillotine tree that keeps the demands
 // (specs/Promises). The call hands on the first refusal met, 1 to 20, 26, 27, 35 or 36, and leaves lists and table as the bound call does.
-use bound::BoundAnswer;
-use job::Choices;
 use job::WeightsAnswer;
 use pieces::list_pieces;
 use pieces::plate_of;
-use refusal::Checked;
-use refusal::Refusal;
+use promises::BoundAnswer;
+use promises::Certificate;
+use promises::Checked;
+use promises::Choices;
+use promises::Refusal;
 ghost use mathlib.Core.Path.{_≡_};
 ghost use Prim.Native.Nat.{_≤_};
-ghost use Rattle.refusal.specs.declared.Checked.the-variants.{Passed};
+ghost use Rattle.promises.specs.declared.Checked.the-variants.{Passed};
 ghost use Rattle.job.specs.Block.{with-full-demand};
 ghost use Rattle.bound.specs.Bound.{lent};
 ghost use Rattle.certificate.specs.Certificate.{compared, handed-on};
 ghost use Rattle.certificate.specs.Contracts.{weights-verdict, storage-verdict};
 ghost use Rattle.certificate.specs.Promises.{CertifyPromises};
-
-// What certify answers: best, with the profit; or a gap, with the profit and the bound less the profit; or a refusal.
-pub enum Certificate {
-    Best(u64),
-    Gap(u64, u64),
-    Refused(Refusal),
-}
 
 // The verdict behind the weights' answer.
 fn weights_verdict(a: WeightsAnswer) -> Checked

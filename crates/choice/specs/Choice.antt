@@ -5,8 +5,8 @@ use mathlib.Core.Bool.{Bool}
 use mathlib.Core.List.{List}
 use Prim.Native.Nat.{ℕ, _+_, _≤_}
 use lib.ListN.{length, drop}
-use Rattle.cutting.specs.declared.Direction.the-variants.{Length, Width}
-use Rattle.cutting.specs.declared.Node.the-variants.{Waste, Cut}
+use Rattle.promises.specs.declared.Direction.the-variants.{Length, Width}
+use Rattle.promises.specs.declared.Node.the-variants.{Waste, Cut}
 use Rattle.cutting.specs.Limits.{most-capacity}
 use Rattle.cutting.specs.Pieces as laid
 use Rattle.cutting.specs.Choice.{Choice, as-waste, as-piece, as-cut}

@@ -4,7 +4,7 @@ use mathlib.Core.List.{List, List·Memᴰ}
 use Prim.Native.Nat.{ℕ, _+_, _-_, _≤_, _<_}
 use native.Mathlib.Nat.{add-sub-cancel, sub-zero}
 use native.Mathlib.Omega.{arith}
-use Rattle.cutting.specs.declared.Direction.{Direction}
+use Rattle.promises.specs.declared.Direction.{Direction}
 use Rattle.cutting.specs.Tree.{Rect, Shares, Monotone}
 use Rattle.cutting.specs.Figure.{figure}
 use Rattle.cutting.specs.Pieces.{wider, sized, Solid}

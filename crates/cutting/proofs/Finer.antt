@@ -7,8 +7,8 @@ use native.Mathlib.Nat.{mul-zero, mul-le-mul-left, le-of-mul-le-mul-left}
 use native.Mathlib.Decide.{decLe}
 use native.Mathlib.Omega.{arith}
 use lib.Dec.{eqb}
-use Rattle.cutting.specs.declared.Direction.{Direction}
-use Rattle.cutting.specs.declared.Direction.the-variants.{Length, Width}
+use Rattle.promises.specs.declared.Direction.{Direction}
+use Rattle.promises.specs.declared.Direction.the-variants.{Length, Width}
 use Rattle.cutting.specs.Lists.{only}
 use Rattle.cutting.specs.Tree.{Rect, Tree, waste, piece, cut, total, piece-count}
 use Rattle.cutting.specs.Pieces.{Piece, upright, turned, kind, times, _⊑_}

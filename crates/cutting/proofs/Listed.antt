@@ -8,8 +8,8 @@ use Prim.Native.Nat.{ℕ, zero, suc, _+_, _-_, _≤_, _<_}
 use native.Mathlib.Omega.{arith}
 use lib.Dec.{leb, eqb}
 use lib.ListN.{length}
-use Rattle.cutting.specs.declared.Direction.{Direction}
-use Rattle.cutting.specs.declared.Direction.the-variants.{Length, Width}
+use Rattle.promises.specs.declared.Direction.{Direction}
+use Rattle.promises.specs.declared.Direction.the-variants.{Length, Width}
 use Rattle.cutting.specs.Limits.{most-wide-side}
 use Rattle.cutting.specs.Lists.{range, filter, first, greatest, each, pairs}
 use Rattle.cutting.specs.Tree.{Rect, side, Shares}

@@ -7,8 +7,8 @@ use mathlib.Core.List.{List, List·Memᴰ}
 use Prim.Native.Nat.{ℕ, suc, _-_, _≤_, _<_}
 use native.Mathlib.Omega.{arith}
 use lib.Dec.{T, eqb}
-use Rattle.cutting.specs.declared.Direction.{Direction}
-use Rattle.cutting.specs.declared.Direction.the-variants.{Length, Width}
+use Rattle.promises.specs.declared.Direction.{Direction}
+use Rattle.promises.specs.declared.Direction.the-variants.{Length, Width}
 use Rattle.cutting.specs.Lists.{range, filter, pairs}
 use Rattle.cutting.specs.Tree.{side, Shares}
 use Rattle.cutting.specs.Pieces.{Piece}

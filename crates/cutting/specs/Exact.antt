@@ -2,42 +2,17 @@
 -- rectangle and a state, the optimum, and the plan that earns it by the order of choice.
 -- docs/SCOPE.md: The exact answer for short orders.
 use mathlib.Core.Path.{_≡_}
-use mathlib.Core.Bool.{Bool, _&&_}
+use mathlib.Core.Bool.{_&&_}
 use mathlib.Core.List.{List}
-use Prim.Native.Nat.{ℕ, zero, suc, _+_, _-_, _*_, _/_, _%_, _≤_, _<_, max}
-use Rattle.cutting.specs.declared.Direction.the-variants.{Length, Width}
+use Prim.Native.Nat.{ℕ, suc, _+_, _-_, _≤_, _<_, max}
+use Rattle.promises.specs.declared.Direction.the-variants.{Length, Width}
 use Rattle.cutting.specs.Lists.{range, only, filter, greatest}
-use Rattle.cutting.specs.Tree.{Tree, Shares}
+use Rattle.cutting.specs.Tree.{Tree}
 use Rattle.cutting.specs.Pieces.{Piece, kind, fits-in}
-use Rattle.cutting.specs.Shares.{below, by-state}
 use Rattle.cutting.specs.Job.{Job, laid, copies-of, KeepsDemands, widened, members, figure-under, normal-floor, plan-of}
 use Rattle.cutting.specs.Promises.{NoneAbove, EarnsAmong, MostAmong}
-
--- the number of states of the kinds below n: the product of their demands, each plus 1
-unfoldable pub states : (ℕ → ℕ) → ℕ → ℕ
-states demand zero = 1
-states demand (suc n) = states demand n * (demand n + 1)
-
--- the number of states of a job
-abbrev pub state-count : Job → ℕ
-state-count J = states (J .demand) (J .count)
-
--- the last state, in which every copy remains
-abbrev pub full-state : Job → ℕ
-full-state J = state-count J - 1
-
--- the state of one copy of kind i: the number of states of the kinds below it
-abbrev pub one-copy : Job → ℕ → ℕ
-one-copy J i = states (J .demand) i
-
--- whether state t has of no kind more copies than state s
-abbrev pub no-more : Job → ℕ → ℕ → Bool
-no-more J = below (λ i. states (J .demand) (suc i)) (J .count - 1)
-
--- the remaining copies as shares: a state admits a kind of which a copy remains, and is divided into a state that has of no kind more
--- copies and the rest, the first in the rising order of its number
-abbrev pub by-copies : Job → Shares Piece ℕ
-by-copies J = by-state (no-more J) (λ p. one-copy J (kind p))
+pub use Rattle.promises.specs.Systems.{state-count, full-state, one-copy, no-more, by-copies, copies-left}
+unfoldable pub use Rattle.promises.specs.Systems.{states}
 
 -- the figure of a rectangle and a state, for a job cut without loss
 unfoldable pub exact-figure : Job → ℕ → ℕ → ℕ → ℕ
@@ -74,10 +49,6 @@ EarnsExactly J n t = EarnsAmong J (KeepsDemands J) (J .plate .0) (J .plate .1) n
 -- n is the most that a guillotine tree on the plate that keeps every demand earns: none earns more, of whatever kinds, and one earns it
 abbrev pub MostExact : Job → ℕ → Type 0
 MostExact J n = NoneAbove J n × ((t : Tree Piece) × EarnsExactly J n t)
-
--- the copies of kind i that remain in a state, its digit of that kind
-abbrev pub copies-left : Job → ℕ → ℕ → ℕ
-copies-left J s i = s / one-copy J i % (J .demand i + 1)
 
 -- the trees that have of no kind more copies than remain in a state
 abbrev pub OfState : Job → ℕ → Tree Piece → Type 0

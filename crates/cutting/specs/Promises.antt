@@ -3,17 +3,14 @@
 -- docs/SCOPE.md: The bound; Normal positions; The written plan; What the plate can hold; Cuts between the marks.
 use mathlib.Core.Path.{_≡_}
 use mathlib.Core.Bool.{_&&_}
-use mathlib.Core.Logic.{_↔_}
-use mathlib.Core.List.{List·Memᴰ}
-use Prim.Native.Nat.{ℕ, suc, _+_, _-_, _≤_, _<_, max}
+use Prim.Native.Nat.{ℕ, suc, _+_, _-_, _≤_, max}
 use lib.Dec.{leb}
-use Rattle.cutting.specs.declared.Direction.{Direction}
-use Rattle.cutting.specs.declared.Direction.the-variants.{Length, Width}
+use Rattle.promises.specs.declared.Direction.the-variants.{Length, Width}
 use Rattle.cutting.specs.Lists.{range, only, greatest}
-use Rattle.cutting.specs.Tree.{side, Tree, Shares}
+use Rattle.cutting.specs.Tree.{Tree, Shares}
 use Rattle.cutting.specs.Pieces.{Piece, kind, fits-in}
-use Rattle.cutting.specs.Normal.{Sum, sides}
-use Rattle.cutting.specs.Job.{Job, laid, members, GuillotineTree, AnyOnPlate, OnPlate, KeepsDemands, profit, weight-of, copies-of, widened, finer, plate-copies, figure-of, normal-positions, normal-floor, plan-of, plan-choice, plan-after}
+use Rattle.cutting.specs.Job.{Job, laid, members, AnyOnPlate, KeepsDemands, profit, weight-of, widened, finer, figure-of, normal-floor, plan-of, plan-choice, plan-after}
+pub use Rattle.promises.specs.Systems.{PlateHolds, EarnsAmong, MostAmong, FinerAmong, NormalSums}
 
 -- no guillotine tree on the plate, of any kinds of the job, that keeps every demand earns more than n
 abbrev pub NoneAbove : Job → ℕ → Type 0
@@ -27,25 +24,9 @@ NoneFiner J n = (m : ℕ) → 1 ≤ m → NoneAbove (finer m J) n
 abbrev pub NoneBetter : Job → ℕ → Type 0
 NoneBetter J n = NoneAbove J n × NoneFiner J n
 
--- no guillotine tree on the plate has more copies of a kind than can lie there by the count of the capacity
-abbrev pub PlateHolds : Job → Type 0
-PlateHolds J = (t : Tree Piece) → OnPlate J t → (i : ℕ) → i < J .count → copies-of i t ≤ plate-copies J i
-
 -- a guillotine tree on the plate, of any kinds of the job, that keeps every demand weighs at most q
 abbrev pub NoneHeavier : Job → (ℕ → ℕ) → ℕ → Type 0
 NoneHeavier J weight q = (t : Tree Piece) → AnyOnPlate J t → KeepsDemands J t → weight-of weight t ≤ q
-
--- a guillotine tree on a rectangle, among those that `Among` holds of, that earns n
-abbrev pub EarnsAmong : Job → (Tree Piece → Type 0) → ℕ → ℕ → ℕ → Tree Piece → Type 0
-EarnsAmong J Among l w n t = GuillotineTree J l w t × Among t × (profit J t ≡ n)
-
--- n is the most that a guillotine tree on a rectangle among those earns: none earns more, and one earns it
-abbrev pub MostAmong : Job → (Tree Piece → Type 0) → ℕ → ℕ → ℕ → Type 0
-MostAmong J Among l w n = ((t : Tree Piece) → GuillotineTree J l w t → Among t → profit J t ≤ n) × ((t : Tree Piece) × EarnsAmong J Among l w n t)
-
--- no guillotine tree on the plate among those, cut at multiples of one m-th of a unit, earns more than n, for every whole m of at least 1
-abbrev pub FinerAmong : Job → (Tree Piece → Type 0) → ℕ → Type 0
-FinerAmong J Among n = (m : ℕ) → 1 ≤ m → (t : Tree Piece) → OnPlate (finer m J) t → Among t → profit J t ≤ n
 
 -- the trees of weight at most q
 abbrev pub OfWeight : (ℕ → ℕ) → ℕ → Tree Piece → Type 0
@@ -70,11 +51,6 @@ Recursion J weight = (l w c : ℕ) → figure-of J weight l w c ≡
     max (greatest (λ p. only (fits-in (laid J p) (l, w) && leb (weight (kind p)) c) (J .price (kind p))) (members J))
     (max (greatest (λ x. greatest (λ a. figure-of J weight x w a + figure-of J weight (l - x) w (c - a)) (range 0 (suc c))) (range 1 (l - 1)))
     (greatest (λ x. greatest (λ a. figure-of J weight l x a + figure-of J weight l (w - x) (c - a)) (range 0 (suc c))) (range 1 (w - 1))))
-
--- the normal positions of a side are exactly 0 and the sums, repetition allowed, of that side of the pieces that fit the plate as
--- they lie, up to it
-abbrev pub NormalSums : Job → Type 0
-NormalSums J = (d : Direction) (n : ℕ) → List·Memᴰ n (normal-positions J d) ↔ ((n ≤ side d (J .plate)) × Sum (sides (members J) (laid J) (J .plate) d) n)
 
 -- the figure of a rectangle on the plate is that of the largest normal length and width not above its sides
 abbrev pub FloorFigures : Job → (ℕ → ℕ) → Type 0

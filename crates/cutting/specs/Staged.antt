@@ -3,33 +3,18 @@
 -- docs/SCOPE.md: No more than so many stages; Cuts between the marks.
 use mathlib.Core.Path.{_≡_}
 use mathlib.Core.Bool.{_&&_}
-use mathlib.Core.List.{List, [], _∷_, _++_, map}
 use Prim.Native.Nat.{ℕ, zero, suc, _+_, _-_, _≤_, max}
 use lib.Dec.{leb}
-use Rattle.cutting.specs.declared.Direction.{Direction}
-use Rattle.cutting.specs.declared.Direction.the-variants.{Length, Width}
+use Rattle.promises.specs.declared.Direction.{Direction}
+use Rattle.promises.specs.declared.Direction.the-variants.{Length, Width}
 use Rattle.cutting.specs.Lists.{range, only, greatest}
-use Rattle.cutting.specs.Tree.{side, Tree, waste, piece, cut}
+use Rattle.cutting.specs.Tree.{side, Tree}
 use Rattle.cutting.specs.Pieces.{Piece, kind, fits-in}
-use Rattle.cutting.specs.Shares.{change, other, stages, stages-below}
+use Rattle.cutting.specs.Shares.{other, stages, stages-below}
 use Rattle.cutting.specs.Job.{Job, laid, AnyOnPlate, OnPlate, profit, weight-of, KeepsDemands, widened, finer, capacity, members, normal-floor}
 use Rattle.cutting.specs.Promises.{MostAmong}
-
--- the directions of the cuts on each path down through a tree's cuts
-unfoldable pub paths : {P : Type 0} → Tree P → List (List Direction)
-paths waste = [] ∷ []
-paths (piece p) = [] ∷ []
-paths (cut d x a b) = map (λ p. d ∷ p) (paths a ++ paths b)
-
--- the changes of direction on a path that goes on below a cut
-unfoldable pub changes : Direction → List Direction → ℕ
-changes d [] = 0
-changes d (e ∷ p) = change d e + changes e p
-
--- the stages of a path: its changes of direction plus one, and none without a cut (stages-paths of proofs/Staged: a tree has its paths' most)
-abbrev pub path-stages : List Direction → ℕ
-path-stages [] = 0
-path-stages (d ∷ p) = changes d p + 1
+pub use Rattle.promises.specs.Job.{path-stages}
+unfoldable pub use Rattle.promises.specs.Job.{paths, changes}
 
 -- without a cut: the greatest price of a piece that fits and weighs at most the share
 abbrev pub no-cut : Job → (ℕ → ℕ) → ℕ → ℕ → ℕ → ℕ

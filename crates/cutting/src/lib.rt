@@ -1,6 +1,8 @@
 // The node of a plan, the sides of a rectangle and the parts of a cut, shared by specifications and code. Everything else of this crate
 // is mathematics: specs/ defines guillotine trees, the relaxed recursion, normal positions and the plan behind the bound; proofs/ has
 // the theory.
+use promises::Direction;
+use promises::Node;
 ghost use mathlib.Core.Path.{_≡_};
 ghost use Prim.Native.Nat.{_+_, _-_, _≤_};
 ghost use Rattle.cutting.specs.Limits.{most-side, most-kerf};
@@ -8,20 +10,6 @@ ghost use Rattle.cutting.specs.Tree.{side, part};
 ghost use Rattle.cutting.specs.Pieces.{quarter, wider, fits-in};
 ghost use Rattle.cutting.specs.Sides.{rect-of, sides-of};
 ghost use Rattle.cutting.specs.Preorder.{kind-of, operand-of};
-
-// What a cut divides: the length or the width.
-pub enum Direction {
-    Length,
-    Width,
-}
-
-// A node of a plan: a piece, upright or turned, carries its kind's number, a cut its direction and its position.
-pub enum Node {
-    Waste,
-    Piece(u16),
-    Turned(u16),
-    Cut(Direction, u16),
-}
 
 // A node's kind as a number.
 pub fn kind_number(node: Node) -> u8

@@ -8,7 +8,7 @@ use native.Mathlib.Omega.{arith}
 use borrow.Author.Tests.{ltb-false}
 use lib.Dec.{ltb}
 use lib.ListN.{length, getD}
-use Rattle.cutting.specs.declared.Direction.the-variants.{Length, Width}
+use Rattle.promises.specs.declared.Direction.the-variants.{Length, Width}
 use Rattle.cutting.specs.Lists.{over}
 use Rattle.cutting.specs.Tree.{Tree}
 use Rattle.cutting.specs.Pieces.{Piece, kind}
@@ -22,32 +22,32 @@ use Rattle.cutting.proofs.Members.{range-solid, widened-above}
 use Rattle.cutting.proofs.Listed.{listed-above, state-figure}
 use Rattle.cutting.proofs.Laid.{laid-plan}
 use Rattle.refusal.specs.Refusals.{next, first-refusal}
-use Rattle.refusal.specs.declared.Refusal.{Refusal}
-use Rattle.refusal.specs.declared.Refusal.the-variants.{TableShort}
-use Rattle.refusal.specs.declared.Checked.{Checked}
-use Rattle.refusal.specs.declared.Checked.the-variants.{Passed, Refused}
+use Rattle.promises.specs.declared.Refusal.{Refusal}
+use Rattle.promises.specs.declared.Refusal.the-variants.{TableShort}
+use Rattle.promises.specs.declared.Checked.{Checked}
+use Rattle.promises.specs.declared.Checked.the-variants.{Passed, Refused}
 use Rattle.job.proofs.Checks.{cons-passed}
 use Rattle.table.specs.Table.{words-needed, Kept}
 use Rattle.table.specs.States.{by-state, Order, figure-at}
 use Rattle.table.proofs.Shares.{by-state-monotone}
 use Rattle.states.specs.States.{under, Digits}
 use Rattle.states.proofs.Digits.{digits-order}
-use Rattle.bound.specs.declared.BoundReport.{BoundReport}
-use Rattle.bound.specs.declared.BoundAnswer.{BoundAnswer}
-use Rattle.bound.specs.declared.BoundAnswer.the-variants as bounded
+use Rattle.promises.specs.declared.BoundReport.{BoundReport}
+use Rattle.promises.specs.declared.BoundAnswer.{BoundAnswer}
+use Rattle.promises.specs.declared.BoundAnswer.the-variants as bounded
 use Rattle.bound.specs.Bound as bound
 use Rattle.bound.proofs.Listed.{pieces-range, same-positions, same-count, same-position, same-words}
 use Rattle.bound.proofs.Storage.{report-is}
 use Rattle.bound.proofs.Holds.{answered-behind, refused-behind}
 use Rattle.choice.specs.Choice.{ChoiceInput}
 use Rattle.choice.proofs.Numbers.{array-numbered}
-use Rattle.writer.specs.declared.WriteAnswer.{WriteAnswer}
+use Rattle.promises.specs.declared.WriteAnswer.{WriteAnswer}
 use Rattle.writer.specs.Write.{nodes-verdict, reported, write-answer-by}
 use Rattle.writer.specs.Contracts.{table-of, whole-plan, Thick, Planned}
 use Rattle.writer.proofs.Write.{one-passed, listed-over}
-use Rattle.exact.specs.declared.ExactReport.{ExactReport}
-use Rattle.exact.specs.declared.ExactAnswer.{ExactAnswer}
-use Rattle.exact.specs.declared.ExactAnswer.the-variants as answer
+use Rattle.promises.specs.declared.ExactReport.{ExactReport}
+use Rattle.promises.specs.declared.ExactAnswer.{ExactAnswer}
+use Rattle.promises.specs.declared.ExactAnswer.the-variants as answer
 use Rattle.exact.specs.Exact.{StateFigures, StatesAfter, ExactLeaves, exact-answer-by}
 use Rattle.exact.specs.Contracts.{Countable, state-report, Filled, Short, exact-of, job-report, job-plan, room-verdict, Drawn}
 use Rattle.exact.proofs.Pieces.{order-same, digits-listed}

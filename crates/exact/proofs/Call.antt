@@ -12,13 +12,13 @@ use Rattle.cutting.specs.Job.{Job, InRange, widened}
 use Rattle.cutting.specs.Exact.{state-count, full-state, exact-figure, optimum, optimum-plan, ExactFiguresMost}
 use Rattle.cutting.proofs.Promises.{normal-listed}
 use Rattle.refusal.specs.Refusals.{next, refuse-when, first-refusal, outcome-by}
-use Rattle.refusal.specs.declared.Refusal.{Refusal}
-use Rattle.refusal.specs.declared.Refusal.the-variants.{DemandProduct}
-use Rattle.refusal.specs.declared.Checked.{Checked}
-use Rattle.refusal.specs.declared.Checked.the-variants.{Passed, Refused}
-use Rattle.job.specs.declared.Choices.{Choices}
-use Rattle.job.specs.declared.JobRecord.{JobRecord}
-use Rattle.job.specs.declared.JobAnswer.{JobAnswer}
+use Rattle.promises.specs.declared.Refusal.{Refusal}
+use Rattle.promises.specs.declared.Refusal.the-variants.{DemandProduct}
+use Rattle.promises.specs.declared.Checked.{Checked}
+use Rattle.promises.specs.declared.Checked.the-variants.{Passed, Refused}
+use Rattle.promises.specs.declared.Choices.{Choices}
+use Rattle.promises.specs.declared.JobRecord.{JobRecord}
+use Rattle.promises.specs.declared.JobAnswer.{JobAnswer}
 use Rattle.job.specs.Block.{job-checks, job-of, record-of, read-of}
 use Rattle.job.specs.Weights.{block-job}
 use Rattle.job.proofs.Checks.{passed-both, first-append, append-passed, cons-passed}
@@ -29,9 +29,9 @@ use Rattle.plan.proofs.Calls.{read-range}
 use Rattle.bound.specs.Bound as bound
 use Rattle.writer.specs.Write.{nodes-verdict, nodes-check}
 use Rattle.writer.proofs.Write.{none-long}
-use Rattle.exact.specs.declared.ExactReport.{ExactReport}
-use Rattle.exact.specs.declared.ExactAnswer.{ExactAnswer}
-use Rattle.exact.specs.declared.ExactAnswer.the-variants as answer
+use Rattle.promises.specs.declared.ExactReport.{ExactReport}
+use Rattle.promises.specs.declared.ExactAnswer.{ExactAnswer}
+use Rattle.promises.specs.declared.ExactAnswer.the-variants as answer
 use Rattle.exact.specs.Exact.{state-check, ExactLeaves, short-verdict, ShortOrder, exact-verdict, exact-report, exact-answer-by, exact-values, exact-outcome, OptimumHolds, OptimumPlanned, OptimumWritten, ExactPromises}
 use Rattle.exact.specs.Contracts.{StatesCounted, Short, job-report, job-plan, room-verdict, Drawn}
 use Rattle.exact.proofs.States.{states-some}

@@ -6,12 +6,12 @@ use mathlib.Core.List.{List}
 use Prim.Native.Nat.{ℕ, _+_, _-_}
 use native.Mathlib.Omega.{arith}
 use lib.ListN.{length, getD}
-use Rattle.cutting.specs.declared.Direction.the-variants.{Length, Width}
+use Rattle.promises.specs.declared.Direction.the-variants.{Length, Width}
 use Rattle.cutting.specs.Job.{Job}
 use Rattle.cutting.specs.Listed.{InTableRange}
 use Rattle.cutting.proofs.Members.{table-solid}
 use Rattle.cutting.proofs.Table.{positions-some, floor-under}
-use Rattle.refusal.specs.declared.Refusal.{Refusal}
+use Rattle.promises.specs.declared.Refusal.{Refusal}
 use Rattle.table.specs.declared.TableSize.{TableSize}
 use Rattle.table.specs.Table.{position-count, words-needed, Kept}
 use Rattle.table.specs.States.{by-state, Order, figure-at}
@@ -19,8 +19,8 @@ use Rattle.table.proofs.Shares.{by-state-monotone}
 use Rattle.storage.specs.declared.Layout.the-variants as layout
 use Rattle.storage.specs.Contracts.{LaidOut}
 use Rattle.storage.proofs.Storage.{refused-laid, ready-laid}
-use Rattle.bound.specs.declared.BoundReport.{BoundReport}
-use Rattle.bound.specs.declared.BoundAnswer.the-variants as answer
+use Rattle.promises.specs.declared.BoundReport.{BoundReport}
+use Rattle.promises.specs.declared.BoundAnswer.the-variants as answer
 use Rattle.bound.specs.Bound.{lent, answer-by}
 use Rattle.bound.proofs.Storage.{unreported}
 use Rattle.bound.proofs.Last.{last-position, word-last}

@@ -4,7 +4,7 @@ use mathlib.Core.Path.{_≡_}
 use mathlib.Core.List.{List}
 use Prim.Native.Nat.{ℕ, zero, suc, _+_, _*_, _/_, _≤_, _<_}
 use lib.ListN.{length, getD}
-use Rattle.cutting.specs.declared.Direction.the-variants.{Length, Width}
+use Rattle.promises.specs.declared.Direction.the-variants.{Length, Width}
 use Rattle.cutting.specs.Limits.{most-capacity, most-pieces}
 use Rattle.cutting.specs.Tree.{Tree}
 use Rattle.cutting.specs.Pieces.{Piece}
@@ -13,21 +13,21 @@ use Rattle.cutting.specs.Job.{Job, InRange, widened, plan-of}
 use Rattle.cutting.specs.Exact.{states, state-count, by-copies, exact-figure}
 use Rattle.cutting.specs.Listed.{InTableRange, listed-weight, node-in}
 use Rattle.refusal.specs.Refusals.{next, first-refusal}
-use Rattle.refusal.specs.declared.Checked.{Checked}
-use Rattle.refusal.specs.declared.Checked.the-variants.{Passed}
+use Rattle.promises.specs.declared.Checked.{Checked}
+use Rattle.promises.specs.declared.Checked.the-variants.{Passed}
 use Rattle.table.specs.Table.{position-count}
 use Rattle.storage.specs.Contracts.{BothMapped}
 use Rattle.states.specs.States.{Digits}
-use Rattle.bound.specs.declared.BoundReport.{BoundReport}
-use Rattle.bound.specs.declared.BoundAnswer.{BoundAnswer}
-use Rattle.bound.specs.declared.BoundAnswer.the-variants.{Answered}
+use Rattle.promises.specs.declared.BoundReport.{BoundReport}
+use Rattle.promises.specs.declared.BoundAnswer.{BoundAnswer}
+use Rattle.promises.specs.declared.BoundAnswer.the-variants.{Answered}
 use Rattle.bound.specs.Bound as bound
-use Rattle.writer.specs.declared.WriteAnswer.{WriteAnswer}
-use Rattle.writer.specs.declared.WriteAnswer.the-variants as written
+use Rattle.promises.specs.declared.WriteAnswer.{WriteAnswer}
+use Rattle.promises.specs.declared.WriteAnswer.the-variants as written
 use Rattle.writer.specs.Write.{nodes-verdict}
-use Rattle.exact.specs.declared.ExactReport.{ExactReport}
-use Rattle.exact.specs.declared.ExactAnswer.{ExactAnswer}
-use Rattle.exact.specs.declared.ExactAnswer.the-variants as exact
+use Rattle.promises.specs.declared.ExactReport.{ExactReport}
+use Rattle.promises.specs.declared.ExactAnswer.{ExactAnswer}
+use Rattle.promises.specs.declared.ExactAnswer.the-variants as exact
 use Rattle.exact.specs.Exact.{most-states, ExactLeaves, exact-answer-by}
 
 -- the entries of the kinds below n are the numbers of states that the kinds up to each have together

@@ -4,9 +4,8 @@
 use mathlib.Core.Path.{_≡_}
 use mathlib.Core.List.{List, [], _∷_, _++_}
 use Prim.Native.Nat.{ℕ, _+_, _≤_, _<_}
-use lib.Dec.{T, ltb}
 use lib.ListN.{length, getD}
-use Rattle.cutting.specs.declared.Direction.the-variants.{Length, Width}
+use Rattle.promises.specs.declared.Direction.the-variants.{Length, Width}
 use Rattle.cutting.specs.Lists.{over}
 use Rattle.cutting.specs.Tree.{Tree, IdleFree}
 use Rattle.cutting.specs.Pieces.{Piece}
@@ -14,12 +13,11 @@ use Rattle.cutting.specs.Preorder.{kinds-of, operands-of, node-count}
 use Rattle.cutting.specs.Job.{Job, at-full-demand, bound-of, normal-positions}
 use Rattle.cutting.specs.Promises.{NoneFiner, NormalSums, PlanFollows}
 use Rattle.cutting.specs.Two.{two-bound}
-use Rattle.cutting.specs.Exact.{state-count, full-state, one-copy, no-more, copies-left, by-copies, exact-figure, optimum, optimum-plan, ExactRecursion, ExactFloors, EarnsExactly, MostExact, ExactFiguresMost}
-use Rattle.refusal.specs.Refusals.{Check, Outcome, next, first-refusal, by-check, refused-as, outcome-by}
-use Rattle.refusal.specs.declared.Checked.{Checked}
-use Rattle.refusal.specs.declared.Checked.the-variants.{Passed}
-use Rattle.refusal.specs.declared.Refusal.the-variants.{DemandProduct}
-use Rattle.job.specs.declared.Choices.{Choices}
+use Rattle.cutting.specs.Exact.{state-count, full-state, by-copies, exact-figure, optimum, optimum-plan, ExactRecursion, ExactFloors, EarnsExactly, MostExact, ExactFiguresMost}
+use Rattle.refusal.specs.Refusals.{Outcome, next, first-refusal, by-check, outcome-by}
+use Rattle.promises.specs.declared.Checked.{Checked}
+use Rattle.promises.specs.declared.Checked.the-variants.{Passed}
+use Rattle.promises.specs.declared.Choices.{Choices}
 use Rattle.job.specs.Block.{job-checks}
 use Rattle.job.specs.Weights.{block-job}
 use Rattle.table.specs.Table.{position-count, position, words-needed, word, Kept}
@@ -27,17 +25,13 @@ use Rattle.bound.specs.Bound.{Memory, list-check, list-after, memory-checks, wi
 use Rattle.plan.specs.Plan.{plan-answer}
 use Rattle.plan.specs.Trees.{PlanOf}
 use Rattle.writer.specs.Write.{nodes-verdict}
-use Rattle.exact.specs.declared.ExactReport.{ExactReport}
-use Rattle.exact.specs.declared.ExactAnswer.{ExactAnswer}
-use Rattle.exact.specs.declared.ExactAnswer.the-variants as answer
-
--- the most states
-abbrev pub most-states : ℕ
-most-states = 4096
-
--- check 30: the product of the demands, each plus 1, above 4,096
-abbrev pub state-check : Job → Check
-state-check J = (ltb most-states (state-count J), DemandProduct)
+use Rattle.promises.specs.declared.ExactReport.{ExactReport}
+use Rattle.promises.specs.declared.ExactAnswer.{ExactAnswer}
+use Rattle.promises.specs.declared.ExactAnswer.the-variants as answer
+pub use Rattle.promises.specs.Block.{state-check}
+pub use Rattle.promises.specs.Refusals.{most-states}
+pub use Rattle.promises.specs.Systems.{CopiesByDigits}
+pub use Rattle.promises.specs.Calls.{exact-outcome}
 
 -- The table has the layout of the bound call's with the last state in place of the capacity: a word a state. In the definitions up to
 -- `ExactLeaves`, J is the job with the kerf added to every side, F gives its figures, and q is the last state.
@@ -91,11 +85,6 @@ exact-answer s choices m kinds operands = exact-answer-by (exact-verdict s choic
 abbrev pub exact-values : ExactReport → List ℕ
 exact-values b = b .optimum ∷ b .states ∷ b .«length_count» ∷ b .columns ∷ b .nodes ∷ []
 
--- an answer's number and values
-abbrev pub exact-outcome : ExactAnswer → Outcome
-exact-outcome (answer.Answered b) = (0, exact-values b)
-exact-outcome (answer.Refused r) = refused-as r
-
 -- the number and values that the call answers
 abbrev pub exact-said : List ℕ → Choices → Memory → List ℕ → List ℕ → Outcome
 exact-said s choices m kinds operands = outcome-by (exact-verdict s choices m kinds operands) (exact-values (exact-report s choices))
@@ -103,14 +92,6 @@ exact-said s choices m kinds operands = outcome-by (exact-verdict s choices m ki
 -- a plan array after the call: the plan over its old contents where all checks pass, and else as it was
 abbrev pub exact-array-after : List ℕ → Choices → Memory → List ℕ → List ℕ → List ℕ → List ℕ → List ℕ
 exact-array-after s choices m kinds operands xs old = list-after (exact-verdict s choices m kinds operands) xs old
-
--- what the numbers of states say of copies: a state has of no kind more copies than another exactly if no digit of it is above, and the
--- state of one copy of an ordered kind has no more exactly where a copy of the kind remains
-pub record CopiesByDigits (J : Job) : Type 0 where
-  pub fewer : (t s i : ℕ) → t < state-count J → s < state-count J → i < J .count → T (no-more J t s) → copies-left J t i ≤ copies-left J s i
-  pub none-more : (t s : ℕ) → t < state-count J → s < state-count J → ((i : ℕ) → i < J .count → copies-left J t i ≤ copies-left J s i) → T (no-more J t s)
-  pub remains : (s i : ℕ) → s < state-count J → i < J .count → 1 ≤ J .demand i → T (no-more J (one-copy J i) s) → 1 ≤ copies-left J s i
-  pub one-more : (s i : ℕ) → s < state-count J → i < J .count → 1 ≤ J .demand i → 1 ≤ copies-left J s i → T (no-more J (one-copy J i) s)
 
 -- what an optimum n of a job is: the most that a guillotine tree on the plate that keeps every demand earns, of whatever kinds of the job, and
 -- no less than one cut finer earns; every bound of one weight a kind or of two, in either form of the capacity, lies at or above it; the last word's figure

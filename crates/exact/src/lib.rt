@@ -1,19 +1,21 @@
 // The exact call for short orders: the optimum over the remaining copies of every kind, and the plan that earns it. A state is a number in
 // mixed radix, a digit a kind, kind 0 lowest. Refusals 1 to 7, 27, 35, 30 and 19 to 21.
-use bound::BoundAnswer;
-use bound::BoundReport;
 use cutting::Sides;
-use job::Choices;
-use job::JobRecord;
 use pieces::list_pieces;
 use pieces::plate_of;
-use refusal::Checked;
-use refusal::Refusal;
+use promises::BoundAnswer;
+use promises::BoundReport;
+use promises::Checked;
+use promises::Choices;
+use promises::ExactAnswer;
+use promises::ExactReport;
+use promises::JobRecord;
+use promises::Refusal;
+use promises::WriteAnswer;
 use state_fill::fill_states;
 use storage::Layout;
 use storage::lay_out;
 use writer::Sawing;
-use writer::WriteAnswer;
 use writer::plan_of_pieces;
 use writer::table_of;
 ghost use mathlib.Core.Path.{_≡_};
@@ -23,29 +25,13 @@ ghost use Rattle.cutting.specs.Job.{InRange, widened};
 ghost use Rattle.cutting.specs.Sides.{rect-of};
 ghost use Rattle.cutting.specs.Exact.{exact-figure};
 ghost use Rattle.cutting.specs.Listed.{listed-weight, pieces-job};
-ghost use Rattle.refusal.specs.declared.Checked.the-variants.{Passed};
+ghost use Rattle.promises.specs.declared.Checked.the-variants.{Passed};
 ghost use Rattle.job.specs.Block.{job-of};
 ghost use Rattle.table.specs.States.{figure-at};
 ghost use Rattle.states.specs.States.{under};
 ghost use Rattle.bound.specs.Bound.{lent};
 ghost use Rattle.exact.specs.Exact.{ExactLeaves, ExactPromises};
 ghost use Rattle.exact.specs.Contracts.{StatesCounted, stride, Statable, Stated, Countable, Filled, Short, exact-of, job-report, job-plan, room-verdict, Drawn};
-
-// What the call reports: the optimum, the number of states, the numbers p and r of normal lengths and widths, and the number of the plan's
-// nodes.
-pub struct ExactReport {
-    pub optimum: u64,
-    pub states: u32,
-    pub length_count: u16,
-    pub columns: u16,
-    pub nodes: u64,
-}
-
-// What the call answers.
-pub enum ExactAnswer {
-    Answered(ExactReport),
-    Refused(Refusal),
-}
 
 // The product of the demands, each plus 1, and for each kind that of the kinds up to it. It stops growing above 4,096.
 fn count_states(job: JobRecord, blocks: &mut [u32; 64]) -> u32

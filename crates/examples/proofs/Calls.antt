@@ -9,7 +9,7 @@ use native.Mathlib.Omega.{arith}
 use lib.Dec.{ltb}
 use lib.ListN.{length}
 use borrow.Author.Tests.{lt-ltb, le-ltb}
-use Rattle.cutting.specs.declared.Direction.the-variants.{Length, Width}
+use Rattle.promises.specs.declared.Direction.the-variants.{Length, Width}
 use Rattle.cutting.specs.Limits.{most-limit}
 use Rattle.cutting.specs.Figure.{figure}
 use Rattle.cutting.specs.Saws.{saw-normal}
@@ -22,9 +22,9 @@ use Rattle.cutting.proofs.Finer.{staged-finer}
 use Rattle.cutting.proofs.Staged.{staged-holds}
 use Rattle.cutting.proofs.Table.{figure-normal}
 use Rattle.refusal.specs.Refusals.{first-refusal}
-use Rattle.refusal.specs.declared.Checked.the-variants.{Passed, Refused}
-use Rattle.refusal.specs.declared.Refusal.the-variants.{TableShort}
-use Rattle.job.specs.declared.Choices.{Choices}
+use Rattle.promises.specs.declared.Checked.the-variants.{Passed, Refused}
+use Rattle.promises.specs.declared.Refusal.the-variants.{TableShort}
+use Rattle.promises.specs.declared.Choices.{Choices}
 use Rattle.job.specs.Block.{outside}
 use Rattle.job.specs.Weights.{block-job, weight-in, Accepted}
 use Rattle.job.proofs.Weights.{accepted-in-range}

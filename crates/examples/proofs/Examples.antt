@@ -6,8 +6,8 @@ use mathlib.Core.List.{List, [], _∷_, List·Memᴰ, List·Memᴰ·not-nil, Lis
 use Prim.Native.Nat.{ℕ, _≤_}
 use native.Mathlib.Omega.{arith}
 use borrow.Author.Tests.{le-ltb}
-use Rattle.cutting.specs.declared.Direction.{Direction}
-use Rattle.cutting.specs.declared.Direction.the-variants.{Length, Width}
+use Rattle.promises.specs.declared.Direction.{Direction}
+use Rattle.promises.specs.declared.Direction.the-variants.{Length, Width}
 use Rattle.cutting.specs.Limits.{most-limit}
 use Rattle.cutting.specs.Lists.{range, sum, filter, each, any, greatest}
 use Rattle.cutting.specs.Tree.{total}
@@ -23,7 +23,7 @@ use Rattle.cutting.specs.Preorder.{preorder, kinds-of, operands-of, node-count}
 use Rattle.cutting.specs.Neat.{used, neat}
 use Rattle.cutting.specs.Job.{finer, ordered, members, pieces, normal-positions, lossless-plan, plan-of}
 use Rattle.refusal.specs.Refusals.{first-refusal}
-use Rattle.refusal.specs.declared.Checked.the-variants.{Passed}
+use Rattle.promises.specs.declared.Checked.the-variants.{Passed}
 use Rattle.table.specs.Staged.{staged-words}
 use Rattle.bound.specs.Bound.{wide-job, report-values}
 use Rattle.staged_bound.specs.Staged.{staged-block-report}

@@ -5,17 +5,17 @@ use mathlib.Core.Bool.{true, false}
 use mathlib.Core.List.{List, [], _∷_, _++_}
 use Prim.Native.Nat.{ℕ, _-_, _≤_, _<_}
 use lib.ListN.{length, replicate}
-use Rattle.cutting.specs.declared.Direction.{Direction}
-use Rattle.cutting.specs.declared.Direction.the-variants.{Length, Width}
+use Rattle.promises.specs.declared.Direction.{Direction}
+use Rattle.promises.specs.declared.Direction.the-variants.{Length, Width}
 use Rattle.cutting.specs.Limits.{most-kinds, most-nodes}
 use Rattle.cutting.specs.Job.{finer, bound-of, normal-positions}
 use Rattle.cutting.specs.Preorder.{kinds-of, operands-of}
 use Rattle.cutting.specs.Promises.{NoneAbove}
 use Rattle.cutting.specs.Staged.{staged-bound, NoneStaged}
 use Rattle.refusal.specs.Refusals.{number-of, place-of, refused-as}
-use Rattle.refusal.specs.declared.Checked.{Checked}
-use Rattle.refusal.specs.declared.Checked.the-variants.{Passed, Refused}
-use Rattle.job.specs.declared.Choices.{Choices}
+use Rattle.promises.specs.declared.Checked.{Checked}
+use Rattle.promises.specs.declared.Checked.the-variants.{Passed, Refused}
+use Rattle.promises.specs.declared.Choices.{Choices}
 use Rattle.job.specs.Block.{with-full-demand}
 use Rattle.job.specs.Weights.{block-job, weight-in, Accepted}
 use Rattle.plan.specs.Plan.{plan-answer}
@@ -27,8 +27,8 @@ use Rattle.staged_plan.specs.Check.{staged-check-said}
 use Rattle.bound.specs.Bound.{Memory, wide-job, bound-said}
 use Rattle.staged_bound.specs.Staged.{staged-said}
 use Rattle.writer.specs.Write.{block-plan, write-said}
-use Rattle.certificate.specs.declared.Certificate.{Certificate}
-use Rattle.certificate.specs.declared.Certificate.the-variants.{Best, Gap}
+use Rattle.promises.specs.declared.Certificate.{Certificate}
+use Rattle.promises.specs.declared.Certificate.the-variants.{Best, Gap}
 use Rattle.certificate.specs.Certificate.{certificate-of, certificate-said}
 
 -- what a line can say of a call, with its choices where it weighs; a plan is given by its kinds and operands, and `words` are the table

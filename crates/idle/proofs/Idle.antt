@@ -6,16 +6,16 @@ use Prim.Native.Nat.{ℕ, zero, suc, _+_, _-_}
 use native.Mathlib.Omega.{arith}
 use lib.Dec.{ltb, eqb}
 use borrow.Author.Tests.{lt-ltb, eqb-false, ne-eqb}
-use Rattle.cutting.specs.declared.Direction.{Direction}
-use Rattle.cutting.specs.declared.Direction.the-variants.{Length, Width}
-use Rattle.cutting.specs.declared.Node.the-variants.{Cut}
+use Rattle.promises.specs.declared.Direction.{Direction}
+use Rattle.promises.specs.declared.Direction.the-variants.{Length, Width}
+use Rattle.promises.specs.declared.Node.the-variants.{Cut}
 use Rattle.cutting.specs.Tree.{Tree, waste, piece, cut, total, piece-count, IdleFree}
 use Rattle.cutting.specs.Pieces as laid
 use Rattle.cutting.specs.Preorder.{preorder, kind-of, node-count, kinds-of}
 use Rattle.cutting.proofs.Preorder.{kinds-cut, count-cut}
 use Rattle.refusal.specs.Refusals.{first-refusal}
-use Rattle.refusal.specs.declared.Refusal.the-variants.{IdleCut}
-use Rattle.refusal.specs.declared.Checked.the-variants.{Passed}
+use Rattle.promises.specs.declared.Refusal.the-variants.{IdleCut}
+use Rattle.promises.specs.declared.Checked.the-variants.{Passed}
 use Rattle.job.proofs.Checks.{cons-passed, append-passed, passed-append}
 use Rattle.node.specs.Nodes.{node-of}
 use Rattle.idle.specs.Idle.{pieceless-from, pieceless, is-idle, idle-checks, tree-checks}

@@ -6,12 +6,12 @@ use native.Mathlib.Numerals.{add-one}
 use native.Mathlib.Omega.{arith}
 use lib.ListN.{length, drop, getD, length-drop}
 use lib.Seq.{drop-length, drop-cons}
-use Rattle.cutting.specs.declared.Node.{Node}
-use Rattle.cutting.specs.declared.Node.the-variants.{Waste, Piece, Turned, Cut}
+use Rattle.promises.specs.declared.Node.{Node}
+use Rattle.promises.specs.declared.Node.the-variants.{Waste, Piece, Turned, Cut}
 use Rattle.refusal.specs.Refusals.{next, refuse-when, first-refusal}
-use Rattle.refusal.specs.declared.Refusal.the-variants.{IdleCut}
-use Rattle.refusal.specs.declared.Checked.{Checked}
-use Rattle.refusal.specs.declared.Checked.the-variants.{Passed}
+use Rattle.promises.specs.declared.Refusal.the-variants.{IdleCut}
+use Rattle.promises.specs.declared.Checked.{Checked}
+use Rattle.promises.specs.declared.Checked.the-variants.{Passed}
 use Rattle.node.specs.Nodes.{node-of}
 use Rattle.idle.specs.Idle.{pieceless-from, pieceless, is-idle, idle-checks}
 

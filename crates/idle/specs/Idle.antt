@@ -1,17 +1,15 @@
 -- Check 26: an idle cut, neither of whose parts holds a piece, over the kinds of a plan and over the nodes of a tree.
 -- docs/SCOPE.md: No idle cuts.
 use mathlib.Core.Bool.{Bool, false}
-use mathlib.Core.List.{List, [], _∷_, _++_}
+use mathlib.Core.List.{List, [], _∷_}
 use Prim.Native.Nat.{ℕ, _+_, _-_}
-use lib.Dec.{ltb, eqb}
-use Rattle.cutting.specs.declared.Node.{Node}
-use Rattle.cutting.specs.declared.Node.the-variants.{Waste, Piece, Turned, Cut}
-use Rattle.cutting.specs.Tree.{Tree, waste, piece, cut, piece-count}
-use Rattle.cutting.specs.Pieces as laid
-use Rattle.cutting.specs.Preorder.{node-count}
-use Rattle.refusal.specs.declared.Refusal.the-variants.{IdleCut}
+use lib.Dec.{ltb}
+use Rattle.promises.specs.declared.Node.{Node}
+use Rattle.promises.specs.declared.Node.the-variants.{Waste, Piece, Turned, Cut}
+use Rattle.promises.specs.declared.Refusal.the-variants.{IdleCut}
 use Rattle.refusal.specs.Refusals.{Check}
 use Rattle.node.specs.Nodes.{node-of}
+unfoldable pub use Rattle.promises.specs.Plan.{tree-checks}
 
 -- the trees without a piece that begin at a node, from those that begin after it: waste is one more, a cut makes one tree of two, and a
 -- piece ends them
@@ -37,9 +35,3 @@ is-idle (Cut d x) after = ltb 1 after
 unfoldable pub idle-checks : ℕ → List ℕ → List Check
 idle-checks k [] = []
 idle-checks k (n ∷ ns) = (is-idle (node-of n 0) (pieceless ns), IdleCut k) ∷ idle-checks (k + 1) ns
-
--- check 26 of a tree's nodes in preorder, its own numbered k: a cut is idle where its parts hold no piece
-unfoldable pub tree-checks : ℕ → Tree laid.Piece → List Check
-tree-checks k waste = (false, IdleCut k) ∷ []
-tree-checks k (piece p) = (false, IdleCut k) ∷ []
-tree-checks k (cut d x a b) = (eqb (piece-count a + piece-count b) 0, IdleCut k) ∷ (tree-checks (k + 1) a ++ tree-checks (k + 1 + node-count a) b)

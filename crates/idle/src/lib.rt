@@ -1,15 +1,15 @@
 // Check 26: the first idle cut of a plan, neither of whose parts holds a piece. The nodes from any node on are a row of trees. One scan,
 // from the last node to the first, keeps one number: how many trees at the front of that row hold no piece. A cut is idle where its two
 // parts are among them.
-use cutting::Node;
 use node::decode;
-use refusal::Checked;
-use refusal::Refusal;
+use promises::Checked;
+use promises::Node;
+use promises::Refusal;
 ghost use mathlib.Core.Path.{_≡_};
 ghost use Prim.Native.Nat.{_+_, _≤_};
 ghost use lib.ListN.{length};
 ghost use Rattle.cutting.specs.Limits.{most-nodes};
-ghost use Rattle.refusal.specs.declared.Refusal.the-variants.{IdleCut};
+ghost use Rattle.promises.specs.declared.Refusal.the-variants.{IdleCut};
 ghost use Rattle.refusal.specs.Refusals.{next, refuse-when, first-refusal};
 ghost use Rattle.idle.specs.Idle.{pieceless-from, is-idle, idle-checks};
 

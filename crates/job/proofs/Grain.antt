@@ -9,8 +9,8 @@ use lib.ListN.{length, getD}
 use Rattle.cutting.specs.Limits.{most-kinds, most-kerf}
 use Rattle.cutting.specs.Job.{turns}
 use Rattle.cutting.proofs.Grain.{loose-turns, alike-members, alike-copies}
-use Rattle.refusal.specs.declared.Refusal.the-variants.{KindCount, Kerf, BlockLength}
-use Rattle.job.specs.declared.Choices.{Choices}
+use Rattle.promises.specs.declared.Refusal.the-variants.{KindCount, Kerf, BlockLength}
+use Rattle.promises.specs.declared.Choices.{Choices}
 use Rattle.job.specs.Block.{count-at, kerf-at, sizes-end, kind-bytes, outside, size-check, each-kind, array-checks, grains-of, record-of}
 use Rattle.job.specs.Weights.{block-job}
 use Rattle.job.specs.Grain.{Ungrained}

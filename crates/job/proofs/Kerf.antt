@@ -9,9 +9,9 @@ use borrow.Author.Tests.{lt-ltb, le-ltb, eq-eqb, ne-eqb}
 use lib.Dec.{ltb, eqb}
 use lib.ListN.{length, getD}
 use Rattle.refusal.specs.Refusals.{Check}
-use Rattle.refusal.specs.declared.Refusal.the-variants.{ShortHeader, PlateSide, KindCount, Kerf, BlockLength, KindSide, Price, Demand, Grain}
-use Rattle.job.specs.declared.Choices.{Choices}
-use Rattle.job.specs.declared.JobRecord.{JobRecord}
+use Rattle.promises.specs.declared.Refusal.the-variants.{ShortHeader, PlateSide, KindCount, Kerf, BlockLength, KindSide, Price, Demand, Grain}
+use Rattle.promises.specs.declared.Choices.{Choices}
+use Rattle.promises.specs.declared.JobRecord.{JobRecord}
 use Rattle.job.specs.Block.{with-old-block, u16-at, u32-at, plate-length-at, plate-width-at, count-at, kerf-at, length-at, width-at, price-at, demand-at, grain-at, kind-bytes, outside, sides-outside, header-checks, plateless-checks, demand-check, pair-checks, each-kind, grain-checks, array-checks, checks-by, job-checks, entries, grains-of, record-of, KerfNone, ReadAlike, KerfNoneRead}
 
 -- a length two greater against a header two greater

@@ -9,14 +9,14 @@ use lib.Dec.{ltb, eqb}
 use lib.ListN.{length, getD}
 use Rattle.cutting.specs.Job.{InRange}
 use Rattle.refusal.specs.Refusals.{Check, next, first-refusal, outcome-by}
-use Rattle.refusal.specs.declared.Checked.{Checked}
-use Rattle.refusal.specs.declared.Checked.the-variants.{Passed, Refused}
-use Rattle.refusal.specs.declared.Refusal.{Refusal}
+use Rattle.promises.specs.declared.Checked.{Checked}
+use Rattle.promises.specs.declared.Checked.the-variants.{Passed, Refused}
+use Rattle.promises.specs.declared.Refusal.{Refusal}
 use Rattle.job.specs.Block.{plate-length-at, plate-width-at, count-at, kerf-at, sizes-end, length-at, width-at, price-at, demand-at, kind-bytes, outside, sides-outside, count-checks, header-checks, plateless-checks, size-check, pair-checks, each-kind, grain-checks, checks-by, job-checks, record-of, empty-record, read-by, read-of, job-values, job-outcome, job-from, job-of}
 use Rattle.job.specs.Contracts.{HoldsGrains, header-by}
-use Rattle.job.specs.declared.Choices.{Choices}
-use Rattle.job.specs.declared.JobAnswer.{JobAnswer}
-use Rattle.job.specs.declared.JobRecord.{JobRecord}
+use Rattle.promises.specs.declared.Choices.{Choices}
+use Rattle.promises.specs.declared.JobAnswer.{JobAnswer}
+use Rattle.promises.specs.declared.JobRecord.{JobRecord}
 use Rattle.job.proofs.Checks.{passed-both, first-append, cons-passed, each-passed}
 use Rattle.job.proofs.Entries.{entries-in}
 

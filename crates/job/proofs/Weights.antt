@@ -11,13 +11,13 @@ use lib.ListN.{length}
 use Rattle.cutting.specs.Job.{Job, counted-of, capacity, InRange}
 use Rattle.cutting.specs.Lists.{sum}
 use Rattle.refusal.specs.Refusals.{first-refusal, by-check, outcome-by}
-use Rattle.refusal.specs.declared.Checked.{Checked}
-use Rattle.refusal.specs.declared.Checked.the-variants.{Passed, Refused}
-use Rattle.refusal.specs.declared.Refusal.{Refusal}
-use Rattle.refusal.specs.declared.Refusal.the-variants as refusal
+use Rattle.promises.specs.declared.Checked.{Checked}
+use Rattle.promises.specs.declared.Checked.the-variants.{Passed, Refused}
+use Rattle.promises.specs.declared.Refusal.{Refusal}
+use Rattle.promises.specs.declared.Refusal.the-variants as refusal
 use Rattle.job.specs.Block.{job-checks}
 use Rattle.job.specs.Weights.{weight-in, weight-checks, weights-answer, weights-outcome, weights-said, block-job, Accepted}
-use Rattle.job.specs.declared.Choices.{Choices}
+use Rattle.promises.specs.declared.Choices.{Choices}
 use Rattle.job.specs.declared.WeightsAnswer.{WeightsAnswer}
 use Rattle.job.specs.declared.WeightsAnswer.the-variants as answer
 use Rattle.job.proofs.Checks.{cons-passed, append-passed, passed-append}

@@ -5,7 +5,7 @@ use mathlib.Core.List.{List, [], _∷_}
 use Prim.Native.Nat.{ℕ, _+_, _*_, _≤_}
 use lib.ListN.{length}
 use Rattle.refusal.specs.Refusals.{Check}
-use Rattle.job.specs.declared.Choices.{Choices}
+use Rattle.promises.specs.declared.Choices.{Choices}
 use Rattle.job.specs.Block.{count-at, sizes-end, kind-bytes, header-checks, plateless-checks, demand-check, pair-checks}
 
 -- a block whose sizes end at byte h and that has all the bytes of its n kinds

@@ -11,8 +11,8 @@ use Rattle.cutting.specs.Lists.{each}
 use Rattle.cutting.specs.Pieces.{ways}
 use Rattle.cutting.specs.Job.{turns, widened, copies-on, plate-copies, ordered, members}
 use Rattle.refusal.specs.Refusals.{Check}
-use Rattle.refusal.specs.declared.Refusal.the-variants.{KindCount, Kerf, BlockLength}
-use Rattle.job.specs.declared.Choices.{Choices}
+use Rattle.promises.specs.declared.Refusal.the-variants.{KindCount, Kerf, BlockLength}
+use Rattle.promises.specs.declared.Choices.{Choices}
 use Rattle.job.specs.Block.{count-at, kerf-at, sizes-end, outside, count-checks, size-check, each-kind, array-checks}
 use Rattle.job.specs.Weights.{block-job}
 

@@ -2,29 +2,17 @@
 -- are accepted.
 -- docs/SCOPE.md: Weights and capacity; The table of refusals.
 use mathlib.Core.Path.{_≡_}
-use mathlib.Core.Bool.{not}
 use mathlib.Core.List.{List, [], _∷_, _++_}
 use Prim.Native.Nat.{ℕ}
-use lib.Dec.{ltb, eqb}
-use lib.ListN.{length, getD}
-use Rattle.cutting.specs.Limits.{most-capacity}
 use Rattle.cutting.specs.Job.{Job, capacity}
-use Rattle.refusal.specs.Refusals.{Check, Outcome, first-refusal, by-check, refused-as, outcome-by}
-use Rattle.refusal.specs.declared.Checked.the-variants.{Passed, Refused}
-use Rattle.refusal.specs.declared.Refusal.the-variants as refusal
-use Rattle.job.specs.Block.{job-checks, record-of, empty-record, job-values, job-of}
-use Rattle.job.specs.declared.Choices.{Choices}
+use Rattle.refusal.specs.Refusals.{Outcome, first-refusal, by-check, refused-as, outcome-by}
+use Rattle.promises.specs.declared.Checked.the-variants.{Passed, Refused}
+use Rattle.job.specs.Block.{job-checks, record-of, empty-record, job-values}
+use Rattle.promises.specs.declared.Choices.{Choices}
 use Rattle.job.specs.declared.Acceptance.{Acceptance}
 use Rattle.job.specs.declared.WeightsAnswer.{WeightsAnswer}
 use Rattle.job.specs.declared.WeightsAnswer.the-variants as answer
-
--- the weight of each kind, from the list of weights
-abbrev pub weight-in : List ℕ → ℕ → ℕ
-weight-in ws i = getD ws i 0
-
--- checks 8 and 9
-abbrev pub weight-checks : Job → List ℕ → List Check
-weight-checks J ws = (not (eqb (length ws) (J .count)), refusal.WeightCount) ∷ (ltb most-capacity (capacity J (weight-in ws)), refusal.Capacity) ∷ []
+pub use Rattle.promises.specs.Block.{weight-in, weight-checks, block-job}
 
 -- what the weights of a job answer: the capacity, or the first refusal
 abbrev pub weights-answer : Job → List ℕ → WeightsAnswer
@@ -38,10 +26,6 @@ weights-outcome (answer.Refused r) = refused-as r
 -- the number and values that the weights of a job answer
 abbrev pub weights-said : Job → List ℕ → Outcome
 weights-said J ws = outcome-by (first-refusal (weight-checks J ws)) (capacity J (weight-in ws) ∷ [])
-
--- the job of a block, with the choices of a call
-abbrev pub block-job : List ℕ → Choices → Job
-block-job s choices = job-of (record-of s choices)
 
 -- a job block and weights that no check before the plan's refuses
 abbrev pub Accepted : List ℕ → Choices → List ℕ → Type 0

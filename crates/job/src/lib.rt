@@ -4,8 +4,11 @@ use cutting::Sides;
 use cutting::fits;
 use cutting::turn;
 use cutting::widen;
-use refusal::Checked;
-use refusal::Refusal;
+use promises::Checked;
+use promises::Choices;
+use promises::JobAnswer;
+use promises::JobRecord;
+use promises::Refusal;
 use refusal::refuse_if;
 ghost use mathlib.Core.Path.{_≡_};
 ghost use mathlib.Core.Bool.{true, false, _||_, _&&_, not};
@@ -22,15 +25,6 @@ ghost use Rattle.job.specs.Block.{with-old-block, u16-at, u32-at, count-
 ghost use Rattle.job.specs.Weights.{weight-in, weights-answer, weights-outcome, weights-said, acceptance-of, acceptance-outcome, acceptance-said};
 ghost use Rattle.job.specs.Contracts.{HoldsKinds, HoldsGrains, HoldsBlock, header-by, pairs-by};
 
-// What a call chooses beside the job: whether pieces may be turned, whether the capacity is that of the full demands, whether the block is
-// the old one, which has no kerf, and whether it says of each kind if it keeps its grain.
-pub struct Choices {
-    pub turning: bool,
-    pub full_demand: bool,
-    pub old_block: bool,
-    pub grain: bool,
-}
-
 // The same choices, and the old block.
 fn with_old_block(choices: Choices) -> Choices
     ensures { λ r. ⌜ r ≡ with-old-block choices ⌝ }
@@ -41,28 +35,6 @@ fn with_old_block(choices: Choices) -> Choices
         old_block: true,
         grain: choices.grain,
     }
-}
-
-// The job record: the plate's sides, the number of kinds, the kerf, the choices, and for each kind its sides, price, demand and grain byte; 0
-// past the last kind.
-pub struct JobRecord {
-    pub length: u16,
-    pub width: u16,
-    pub count: u16,
-    pub kerf: u16,
-    pub turning: bool,
-    pub full_demand: bool,
-    pub lengths: [u16; 64],
-    pub widths: [u16; 64],
-    pub prices: [u32; 64],
-    pub demands: [u16; 64],
-    pub grains: [u8; 64],
-}
-
-// What reading a job block answers: where it is refused, the record is empty.
-pub struct JobAnswer {
-    pub verdict: Checked,
-    pub job: JobRecord,
 }
 
 // What the weights of a job answer.

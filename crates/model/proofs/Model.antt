@@ -5,18 +5,18 @@ use mathlib.Core.List.{List, []}
 use Prim.Native.Nat.{ℕ}
 use native.Mathlib.Omega.{arith}
 use lib.Dec.{T}
-use Rattle.cutting.specs.declared.Direction.the-variants.{Length, Width}
+use Rattle.promises.specs.declared.Direction.the-variants.{Length, Width}
 use Rattle.cutting.specs.Job.{Job, InRange, SolidKinds}
 use Rattle.cutting.specs.Relaxation.{Relaxes, ChainsFit}
 use Rattle.cutting.specs.Chains.{chains-fit}
 use Rattle.cutting.proofs.Relaxation.{relaxed-none, relaxed-staged}
 use Rattle.cutting.proofs.Chains.{chains-test, tested-relaxes}
 use Rattle.refusal.specs.Refusals.{refuse-when, next, first-refusal, outcome-by}
-use Rattle.refusal.specs.declared.Checked.{Checked}
-use Rattle.refusal.specs.declared.Checked.the-variants.{Passed, Refused}
-use Rattle.refusal.specs.declared.Refusal.{Refusal}
-use Rattle.refusal.specs.declared.Refusal.the-variants.{NoModel}
-use Rattle.job.specs.declared.Choices.{Choices}
+use Rattle.promises.specs.declared.Checked.{Checked}
+use Rattle.promises.specs.declared.Checked.the-variants.{Passed, Refused}
+use Rattle.promises.specs.declared.Refusal.{Refusal}
+use Rattle.promises.specs.declared.Refusal.the-variants.{NoModel}
+use Rattle.promises.specs.declared.Choices.{Choices}
 use Rattle.job.specs.Block.{count-at, job-checks, job-of}
 use Rattle.job.specs.Weights.{block-job}
 use Rattle.job.proofs.Checks.{passed-both, next-passes, cons-passed}

@@ -9,8 +9,8 @@ use borrow.Author.Tests.{lt-ltb, le-ltb, le-leb, lt-leb}
 use lib.Dec.{ltb, leb}
 use lib.ListN.{length, set, length-set, take, replicate, length-replicate, List·getD-eq-default}
 use lib.Seq.{getD-set-same, getD-set-other, length-take-le}
-use Rattle.cutting.specs.declared.Direction.{Direction}
-use Rattle.cutting.specs.declared.Direction.the-variants.{Length, Width}
+use Rattle.promises.specs.declared.Direction.{Direction}
+use Rattle.promises.specs.declared.Direction.the-variants.{Length, Width}
 use Rattle.cutting.specs.Limits.{most-true-side, most-true-kerf}
 use Rattle.cutting.specs.Tree.{Rect, side}
 use Rattle.cutting.specs.Lists.{keep, filter}
@@ -18,7 +18,7 @@ use Rattle.cutting.specs.Pieces.{upright, turned, ways, quarter, fits-in}
 use Rattle.cutting.specs.Job.{Job, laid, turns, InRange}
 use Rattle.cutting.specs.Relaxation.{taken, room}
 use Rattle.cutting.specs.Chains.{lowest, fitting-ways, without, one-more, copies-more, least, chains-fit}
-use Rattle.job.specs.declared.JobRecord.{JobRecord}
+use Rattle.promises.specs.declared.JobRecord.{JobRecord}
 use Rattle.job.specs.Block.{job-of}
 use Rattle.sizes.specs.declared.TrueSizes.{TrueSizes}
 use Rattle.sizes.specs.Sizes.{true-job, TrueRange}

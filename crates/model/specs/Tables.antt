@@ -6,13 +6,13 @@ use mathlib.Core.List.{List}
 use Prim.Native.Nat.{ℕ, zero, suc, _+_, _≤_, _<_}
 use lib.Dec.{leb}
 use lib.ListN.{length, getD}
-use Rattle.cutting.specs.declared.Direction.{Direction}
+use Rattle.promises.specs.declared.Direction.{Direction}
 use Rattle.cutting.specs.Tree.{side}
 use Rattle.cutting.specs.Pieces.{Piece, upright, turned, fits-in}
 use Rattle.cutting.specs.Job.{Job, laid, turns}
 use Rattle.cutting.specs.Relaxation.{taken}
 use Rattle.cutting.specs.Chains.{copies-more}
-use Rattle.job.specs.declared.JobRecord.{JobRecord}
+use Rattle.promises.specs.declared.JobRecord.{JobRecord}
 use Rattle.sizes.specs.declared.TrueSizes.{TrueSizes}
 use Rattle.chains.specs.Table.{most-entry, entry}
 use Rattle.model.specs.declared.Span.{Span}

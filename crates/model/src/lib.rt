@@ -2,12 +2,12 @@
 // kind, has in its last entry the least that a chain takes in truth which is too long for the model's plate: it must be too long for the
 // true one. One set of functions serves both directions.
 use chains::passes;
-use cutting::Direction;
-use job::Choices;
-use job::JobRecord;
 use job::may_turn;
-use refusal::Checked;
-use refusal::Refusal;
+use promises::Checked;
+use promises::Choices;
+use promises::Direction;
+use promises::JobRecord;
+use promises::Refusal;
 use refusal::refuse_if;
 use sizes::TrueSizes;
 use sizes::read_true_job;

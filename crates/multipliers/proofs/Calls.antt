@@ -11,12 +11,12 @@ use Rattle.cutting.specs.Job.{Job, InRange, widened, capacity, bound-of}
 use Rattle.cutting.proofs.Bound.{bound-ceiling}
 use Rattle.cutting.proofs.Promises.{figures-most}
 use Rattle.refusal.specs.Refusals.{Check, next, first-refusal, outcome-by}
-use Rattle.refusal.specs.declared.Refusal.{Refusal}
-use Rattle.refusal.specs.declared.Refusal.the-variants.{MultiplierCount}
-use Rattle.refusal.specs.declared.Checked.{Checked}
-use Rattle.refusal.specs.declared.Checked.the-variants.{Passed, Refused}
-use Rattle.job.specs.declared.Choices.{Choices}
-use Rattle.job.specs.declared.JobRecord.{JobRecord}
+use Rattle.promises.specs.declared.Refusal.{Refusal}
+use Rattle.promises.specs.declared.Refusal.the-variants.{MultiplierCount}
+use Rattle.promises.specs.declared.Checked.{Checked}
+use Rattle.promises.specs.declared.Checked.the-variants.{Passed, Refused}
+use Rattle.promises.specs.declared.Choices.{Choices}
+use Rattle.promises.specs.declared.JobRecord.{JobRecord}
 use Rattle.job.specs.Block.{job-of, record-of, each-kind}
 use Rattle.job.specs.Weights.{block-job, weight-in}
 use Rattle.job.proofs.Checks.{Decides, begins, passes, ends, cons-passed, each-passed, passed-both, next-passed}
@@ -26,16 +26,16 @@ use Rattle.job.proofs.Taken.{Taken}
 use Rattle.orders.specs.Orders.{Summable}
 use Rattle.bound.specs.Bound.{Memory, Leaves, memory-checks, accept-verdict, block-capacity, bound-report, bound-answer, answer-by, BoundLeaves}
 use Rattle.bound.specs.Contracts.{RecordBoundable, RecordBounded}
-use Rattle.bound.specs.declared.BoundReport.{BoundReport}
-use Rattle.bound.specs.declared.BoundAnswer.{BoundAnswer}
-use Rattle.bound.specs.declared.BoundAnswer.the-variants as bound
+use Rattle.promises.specs.declared.BoundReport.{BoundReport}
+use Rattle.promises.specs.declared.BoundAnswer.{BoundAnswer}
+use Rattle.promises.specs.declared.BoundAnswer.the-variants as bound
 use Rattle.bound.proofs.Calls.{record-ready}
 use Rattle.bound.proofs.Holds.{answered-behind, refused-behind}
 use Rattle.multipliers.specs.Multipliers.{lowered, multiplier-in, multiplier-worth, multiplier-check, multiplier-checks, most-multiplier, lowered-job, multiplied-verdict, AllAccepted, lagrangian-verdict, lagrangian-report, lagrangian-by, block-lagrangian, lagrangian-answer, lagrangian-values, lagrangian-outcome, LagrangianLeaves, LagrangianHolds, as-lagrangian, LagrangianPromises}
 use Rattle.multipliers.specs.Contracts.{Multipliable, Multiplied}
-use Rattle.multipliers.specs.declared.LagrangianReport.{LagrangianReport}
-use Rattle.multipliers.specs.declared.LagrangianAnswer.{LagrangianAnswer}
-use Rattle.multipliers.specs.declared.LagrangianAnswer.the-variants as answer
+use Rattle.promises.specs.declared.LagrangianReport.{LagrangianReport}
+use Rattle.promises.specs.declared.LagrangianAnswer.{LagrangianAnswer}
+use Rattle.promises.specs.declared.LagrangianAnswer.the-variants as answer
 use Rattle.multipliers.proofs.Lagrange.{lowered-range, lagrangian-held, lowered-same, worth-none}
 
 -- checks of kinds that each pass, pass

@@ -3,7 +3,7 @@
 use mathlib.Core.Path.{_≡_, refl}
 use Prim.Native.Nat.{ℕ, zero, suc, _+_, _-_, _*_, _≤_}
 use native.Mathlib.Omega.{arith}
-use Rattle.cutting.specs.declared.Direction.the-variants.{Length, Width}
+use Rattle.promises.specs.declared.Direction.the-variants.{Length, Width}
 use Rattle.cutting.specs.Lists.{sum}
 use Rattle.cutting.specs.Tree.{Tree, waste, piece, cut, total}
 use Rattle.cutting.specs.Pieces.{Piece, upright, turned, kind, sized}

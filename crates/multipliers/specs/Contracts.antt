@@ -5,12 +5,12 @@ use Prim.Native.Nat.{ℕ, _-_, _≤_, _<_}
 use lib.ListN.{length, getD}
 use Rattle.cutting.specs.Job.{Job, widened, capacity}
 use Rattle.refusal.specs.Refusals.{first-refusal}
-use Rattle.refusal.specs.declared.Checked.the-variants.{Passed}
+use Rattle.promises.specs.declared.Checked.the-variants.{Passed}
 use Rattle.job.specs.Weights.{weight-in}
 use Rattle.bound.specs.Bound.{Memory, Leaves, memory-checks}
 use Rattle.bound.specs.Contracts.{RecordBoundable}
 use Rattle.multipliers.specs.Multipliers.{lowered, multiplier-in, most-multiplier, lagrangian-report, lagrangian-by}
-use Rattle.multipliers.specs.declared.LagrangianAnswer.{LagrangianAnswer}
+use Rattle.promises.specs.declared.LagrangianAnswer.{LagrangianAnswer}
 
 -- prices that were lowered in place: each less its multiplier, 0 where that is more
 pub record PricesLowered (multipliers old new : List ℕ) : Type 0 where

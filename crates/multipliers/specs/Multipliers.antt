@@ -6,24 +6,26 @@ use mathlib.Core.Bool.{not}
 use mathlib.Core.List.{List, [], _∷_}
 use Prim.Native.Nat.{ℕ, _+_, _-_}
 use lib.Dec.{ltb, eqb}
-use lib.ListN.{length, getD}
+use lib.ListN.{length}
 use Rattle.cutting.specs.Job.{Job, widened, capacity, bound-of}
 use Rattle.cutting.specs.Promises.{NoneAbove, NoneFiner, NoneBetter, FiguresMost}
 use Rattle.cutting.specs.Relaxation.{Relaxes}
-use Rattle.refusal.specs.Refusals.{Check, Outcome, next, first-refusal, by-check, refused-as, outcome-by}
-use Rattle.refusal.specs.declared.Checked.{Checked}
-use Rattle.refusal.specs.declared.Checked.the-variants.{Passed}
-use Rattle.refusal.specs.declared.Refusal.the-variants.{MultiplierCount, Multiplier}
-use Rattle.job.specs.declared.Choices.{Choices}
+use Rattle.refusal.specs.Refusals.{Check, Outcome, next, first-refusal, by-check, outcome-by}
+use Rattle.promises.specs.declared.Checked.{Checked}
+use Rattle.promises.specs.declared.Checked.the-variants.{Passed}
+use Rattle.promises.specs.declared.Refusal.the-variants.{MultiplierCount, Multiplier}
+use Rattle.promises.specs.declared.Choices.{Choices}
 use Rattle.job.specs.Block.{each-kind}
 use Rattle.job.specs.Weights.{block-job, weight-in}
 use Rattle.orders.specs.Orders.{worth-at}
 use Rattle.bound.specs.Bound.{Memory, Leaves, memory-checks, accept-verdict, block-capacity, bound-report, report-values, bound-answer, BoundLeaves, BoundHolds}
-use Rattle.bound.specs.declared.BoundAnswer.{BoundAnswer}
-use Rattle.bound.specs.declared.BoundAnswer.the-variants as bound
-use Rattle.multipliers.specs.declared.LagrangianReport.{LagrangianReport}
-use Rattle.multipliers.specs.declared.LagrangianAnswer.{LagrangianAnswer}
-use Rattle.multipliers.specs.declared.LagrangianAnswer.the-variants as answer
+use Rattle.promises.specs.declared.BoundAnswer.{BoundAnswer}
+use Rattle.promises.specs.declared.BoundAnswer.the-variants as bound
+use Rattle.promises.specs.declared.LagrangianReport.{LagrangianReport}
+use Rattle.promises.specs.declared.LagrangianAnswer.{LagrangianAnswer}
+use Rattle.promises.specs.declared.LagrangianAnswer.the-variants as answer
+pub use Rattle.promises.specs.Orders.{multiplier-in, lagrangian-outcome}
+pub use Rattle.promises.specs.Refusals.{most-multiplier}
 
 -- the same job at other prices
 abbrev pub repriced : (ℕ → ℕ) → Job → Job
@@ -36,14 +38,6 @@ lowered multiplier J = repriced (λ i. J .price i - multiplier i) J
 -- what the multipliers come to: demand times multiplier, summed over the kinds
 abbrev pub multiplier-worth : (ℕ → ℕ) → Job → ℕ
 multiplier-worth multiplier J = worth-at J multiplier
-
--- the multiplier of each kind, from the list of multipliers
-abbrev pub multiplier-in : List ℕ → ℕ → ℕ
-multiplier-in ms i = getD ms i 0
-
--- the greatest multiplier
-abbrev pub most-multiplier : ℕ
-most-multiplier = 1000000
 
 -- check 38, of one kind
 abbrev pub multiplier-check : List ℕ → ℕ → Check
@@ -90,11 +84,6 @@ lagrangian-answer s choices ws ms m = lagrangian-by (lagrangian-verdict s choice
 -- a report's values: the Lagrangian bound, the lowered job's bound, Q, p and r
 abbrev pub lagrangian-values : LagrangianReport → List ℕ
 lagrangian-values b = b .lagrangian ∷ report-values (b .lowered)
-
--- an answer's number and values
-abbrev pub lagrangian-outcome : LagrangianAnswer → Outcome
-lagrangian-outcome (answer.Answered b) = (0, lagrangian-values b)
-lagrangian-outcome (answer.Refused r) = refused-as r
 
 -- the number and values that the call answers
 abbrev pub lagrangian-said : List ℕ → Choices → List ℕ → List ℕ → Memory → Outcome

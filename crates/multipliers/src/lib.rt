@@ -1,13 +1,15 @@
 // A bound of one plate by multipliers in place of demands: each price is lowered by its multiplier, and the lowered job's bound with demand
 // times multiplier beside it bounds what a tree that keeps the demands earns. Refusals 1 to 9, 27, 35, 37, 38, 19 and 20.
-use bound::BoundAnswer;
-use bound::BoundReport;
 use bound::bound_of_record;
-use job::Choices;
-use job::JobRecord;
 use orders::worth;
-use refusal::Checked;
-use refusal::Refusal;
+use promises::BoundAnswer;
+use promises::BoundReport;
+use promises::Checked;
+use promises::Choices;
+use promises::JobRecord;
+use promises::LagrangianAnswer;
+use promises::LagrangianReport;
+use promises::Refusal;
 use refusal::refuse_if;
 ghost use mathlib.Core.Path.{_≡_};
 ghost use mathlib.Core.List.{[], _∷_};
@@ -21,18 +23,6 @@ ghost use Rattle.bound.specs.Bound.{lent};
 ghost use Rattle.multipliers.specs.Multipliers as by;
 ghost use Rattle.multipliers.specs.Multipliers.{multiplier-in, multiplier-check, multiplier-checks, LagrangianPromises};
 ghost use Rattle.multipliers.specs.Contracts.{PricesLowered, Multipliable, Multiplied};
-
-// What the call reports: the Lagrangian bound, and what the bound call reports of the lowered job.
-pub struct LagrangianReport {
-    pub lagrangian: u64,
-    pub lowered: BoundReport,
-}
-
-// What the call answers.
-pub enum LagrangianAnswer {
-    Answered(LagrangianReport),
-    Refused(Refusal),
-}
 
 // Refusal 38, of one kind.
 fn check_multiplier(multipliers: &[u32], i: u16) -> Checked

@@ -18,13 +18,13 @@ use Rattle.cutting.proofs.Members.{range-solid}
 use Rattle.cutting.proofs.Relaxation.{every-map, plate-lies}
 use Rattle.cutting.proofs.Neat.{neat-total, neat-waste, neat-stages, neat-idle, neat-again, neat-nodes, neat-count, neat-on, used-on, used-none}
 use Rattle.refusal.specs.Refusals.{next, first-refusal, outcome-by}
-use Rattle.refusal.specs.declared.Refusal.{Refusal}
-use Rattle.refusal.specs.declared.Refusal.the-variants.{PlanLong}
-use Rattle.refusal.specs.declared.Checked.{Checked}
-use Rattle.refusal.specs.declared.Checked.the-variants.{Passed, Refused}
-use Rattle.job.specs.declared.Choices.{Choices}
-use Rattle.job.specs.declared.JobRecord.{JobRecord}
-use Rattle.job.specs.declared.JobAnswer.{JobAnswer}
+use Rattle.promises.specs.declared.Refusal.{Refusal}
+use Rattle.promises.specs.declared.Refusal.the-variants.{PlanLong}
+use Rattle.promises.specs.declared.Checked.{Checked}
+use Rattle.promises.specs.declared.Checked.the-variants.{Passed, Refused}
+use Rattle.promises.specs.declared.Choices.{Choices}
+use Rattle.promises.specs.declared.JobRecord.{JobRecord}
+use Rattle.promises.specs.declared.JobAnswer.{JobAnswer}
 use Rattle.job.specs.Block.{read-of, job-of}
 use Rattle.job.specs.Weights.{block-job}
 use Rattle.job.proofs.Read as read
@@ -34,8 +34,8 @@ use Rattle.plan.specs.Trees.{trees-in, tree-in, DrawnAs, PlanOf}
 use Rattle.plan.proofs.Preorder.{kinds-length, operands-length}
 use Rattle.plan.proofs.Plans.{plans-checked}
 use Rattle.plan.proofs.Drawn.{nodes-are, trees-are, drawn-is, plan-is}
-use Rattle.neat.specs.declared.NeatAnswer.{NeatAnswer}
-use Rattle.neat.specs.declared.NeatAnswer.the-variants as answer
+use Rattle.promises.specs.declared.NeatAnswer.{NeatAnswer}
+use Rattle.promises.specs.declared.NeatAnswer.the-variants as answer
 use Rattle.neat.specs.Neat.{neat-tree, output-check, neat-checked, neat-verdict, block-neat, neat-answer-by, neat-outcome, NeatPlan, NeatJudged, NeatPromises}
 use Rattle.neat.specs.Scan.{unless-none, neat-nodes as nodes-written, pieces-in, nodes-for, Fair, Known, Within, AllMake, Scannable, Writable, Neatened}
 use Rattle.neat.proofs.Trees.{pieces-tree, Shared, known-parts, within-parts, tree-makes}

@@ -7,8 +7,8 @@ use native.Mathlib.Numerals.{add-one}
 use native.Mathlib.Omega.{arith}
 use lib.ListN.{length, take, drop, set, getD, length-set, length-map, length-append, length-drop, take-append-drop}
 use lib.Seq.{drop-length, drop-cons, getD-set-same, take-suc, length-take-le, set-at}
-use Rattle.cutting.specs.declared.Node.{Node}
-use Rattle.cutting.specs.declared.Node.the-variants.{Waste, Piece, Turned, Cut}
+use Rattle.promises.specs.declared.Node.{Node}
+use Rattle.promises.specs.declared.Node.the-variants.{Waste, Piece, Turned, Cut}
 use Rattle.cutting.specs.Limits.{most-kinds}
 use Rattle.cutting.specs.Lists.{only, keep, over}
 use Rattle.cutting.specs.Tree.{Rect, Tree}

@@ -14,18 +14,19 @@ use Rattle.cutting.specs.Preorder.{kinds-of, operands-of, node-count}
 use Rattle.cutting.specs.Shares.{stages}
 use Rattle.cutting.specs.Job.{Job, profit, copies-of}
 use Rattle.cutting.specs.Neat.{neat-of}
-use Rattle.refusal.specs.Refusals.{Check, Outcome, next, first-refusal, by-check, refused-as, outcome-by}
-use Rattle.refusal.specs.declared.Checked.{Checked}
-use Rattle.refusal.specs.declared.Checked.the-variants.{Passed}
-use Rattle.refusal.specs.declared.Refusal.the-variants.{PlanLong}
-use Rattle.job.specs.declared.Choices.{Choices}
+use Rattle.refusal.specs.Refusals.{Check, Outcome, next, first-refusal, by-check, outcome-by}
+use Rattle.promises.specs.declared.Checked.{Checked}
+use Rattle.promises.specs.declared.Checked.the-variants.{Passed}
+use Rattle.promises.specs.declared.Refusal.the-variants.{PlanLong}
+use Rattle.promises.specs.declared.Choices.{Choices}
 use Rattle.job.specs.Block.{job-checks}
 use Rattle.job.specs.Weights.{block-job}
 use Rattle.plan.specs.Plan.{plan-answer}
 use Rattle.plan.specs.Trees.{tree-in, DrawnAs, PlanOf}
 use Rattle.plan.specs.Calls.{JobPasses}
-use Rattle.neat.specs.declared.NeatAnswer.{NeatAnswer}
-use Rattle.neat.specs.declared.NeatAnswer.the-variants as answer
+use Rattle.promises.specs.declared.NeatAnswer.{NeatAnswer}
+use Rattle.promises.specs.declared.NeatAnswer.the-variants as answer
+pub use Rattle.promises.specs.Calls.{neat-outcome}
 
 -- the neat plan of a plan's arrays
 abbrev pub neat-tree : Job → List ℕ → List ℕ → Tree laid.Piece
@@ -51,11 +52,6 @@ block-neat s choices kinds operands = neat-tree (block-job s choices) kinds oper
 -- the number of nodes, or the refusal
 abbrev pub neat-answer-by : Checked → ℕ → NeatAnswer
 neat-answer-by v n = by-check v (answer.Written n) answer.Refused
-
--- an answer's number and values: the nodes
-abbrev pub neat-outcome : NeatAnswer → Outcome
-neat-outcome (answer.Written n) = (0, n ∷ [])
-neat-outcome (answer.Refused r) = refused-as r
 
 -- what the call answers
 abbrev pub neat-answer : List ℕ → Choices → (kinds operands old-kinds old-operands : List ℕ) → NeatAnswer

@@ -5,9 +5,9 @@ use mathlib.Core.Bool.{Bool, true, false}
 use mathlib.Core.List.{List, [], _∷_, _++_}
 use Prim.Native.Nat.{ℕ, zero, suc, _+_, _-_, _*_, _≤_, _<_, min}
 use lib.ListN.{length, getD, set}
-use Rattle.cutting.specs.declared.Direction.{Direction}
-use Rattle.cutting.specs.declared.Node.{Node}
-use Rattle.cutting.specs.declared.Node.the-variants.{Waste, Piece, Turned, Cut}
+use Rattle.promises.specs.declared.Direction.{Direction}
+use Rattle.promises.specs.declared.Node.{Node}
+use Rattle.promises.specs.declared.Node.the-variants.{Waste, Piece, Turned, Cut}
 use Rattle.cutting.specs.Limits.{most-kinds, most-true-side, most-true-kerf}
 use Rattle.cutting.specs.Tree.{Rect, side, Tree, cut, piece, piece-count}
 use Rattle.cutting.specs.Pieces as laid
@@ -15,7 +15,7 @@ use Rattle.cutting.specs.Pieces.{_⊑_, lying}
 use Rattle.cutting.specs.Preorder.{preorder, kind-of, operand-of, node-count}
 use Rattle.cutting.specs.Neat.{joined, used, neat}
 use Rattle.cutting.specs.Relaxation.{Every}
-use Rattle.refusal.specs.declared.Checked.{Checked}
+use Rattle.promises.specs.declared.Checked.{Checked}
 use Rattle.node.specs.Nodes.{of-piece}
 use Rattle.plan.specs.Plan.{node-of, nodes-in}
 use Rattle.plan.specs.Walk.{waiting, Walkable}
@@ -23,7 +23,7 @@ use Rattle.plan.specs.Trees.{trees-in}
 use Rattle.neat.specs.declared.Used.{Used}
 use Rattle.neat.specs.declared.Entry.{Entry}
 use Rattle.neat.specs.declared.Step.{Step}
-use Rattle.neat.specs.declared.NeatAnswer.{NeatAnswer}
+use Rattle.promises.specs.declared.NeatAnswer.{NeatAnswer}
 use Rattle.neat.specs.Neat.{neat-answer-by, NeatLeaves}
 
 -- the rectangle of a used size

@@ -2,17 +2,18 @@
 // the number of pieces, so that they are known before anything is written. One scan from the last node to the first keeps the used size of
 // each tree that is complete, and writes what remains from its end to its start: the work is linear in the nodes, and no plan needs more
 // stack than another.
-use cutting::Direction;
-use cutting::Node;
 use cutting::kind_number;
 use cutting::operand;
-use job::Choices;
-use job::JobRecord;
 use job::read_job;
 use node::decode;
 use plan::check_nodes;
-use refusal::Checked;
-use refusal::Refusal;
+use promises::Checked;
+use promises::Choices;
+use promises::Direction;
+use promises::JobRecord;
+use promises::NeatAnswer;
+use promises::Node;
+use promises::Refusal;
 ghost use mathlib.Core.Path.{_≡_};
 ghost use mathlib.Core.Bool.{true};
 ghost use mathlib.Core.List.{map};
@@ -32,12 +33,6 @@ ghost use Rattle.plan.specs.Walk.{waiting};
 ghost use Rattle.plan.specs.Trees.{trees-in};
 ghost use Rattle.neat.specs.Neat.{neat-tree, neat-checked, NeatPromises};
 ghost use Rattle.neat.specs.Scan.{used-rect, as-used, entry-of, most-kept, Kept, most-told, told-side, told, told-sides, moved, Numbered, node-size, Ready, Stepped, Advanced, put-when, remains, neat-nodes, pieces-in, nodes-for, Writable, Neatened};
-
-// What the call answers: the number of the neat plan's nodes, which it has written.
-pub enum NeatAnswer {
-    Written(u64),
-    Refused(Refusal),
-}
 
 // A used size, in any unit: a side above 100,000,000 is told as one more, so that no sum is too great for its word.
 pub struct Used {

@@ -9,18 +9,18 @@ use lib.Dec.{T, leb, ltb, eqb}
 use lib.ListN.{getD}
 use borrow.Author.Tests.{le-leb, lt-leb, le-ltb, lt-ltb, eqb-true, eqb-false, leb-true, leb-false, ltb-false, not-false}
 use Rattle.cutting.specs.Tree.{Rect, side}
-use Rattle.cutting.specs.declared.Direction.{Direction}
-use Rattle.cutting.specs.declared.Direction.the-variants.{Length, Width}
-use Rattle.cutting.specs.declared.Node.{Node}
-use Rattle.cutting.specs.declared.Node.the-variants.{Waste, Piece, Turned, Cut}
+use Rattle.promises.specs.declared.Direction.{Direction}
+use Rattle.promises.specs.declared.Direction.the-variants.{Length, Width}
+use Rattle.promises.specs.declared.Node.{Node}
+use Rattle.promises.specs.declared.Node.the-variants.{Waste, Piece, Turned, Cut}
 use Rattle.cutting.specs.Preorder.{kind-of, operand-of}
 use Rattle.cutting.specs.Pieces as laid
 use Rattle.cutting.specs.Pieces.{fits-in}
 use Rattle.cutting.specs.Job.{Job, laid, MayLie}
 use Rattle.cutting.proofs.Pieces.{true-fits-in}
 use Rattle.refusal.specs.Refusals.{next, first-refusal, refuse-when}
-use Rattle.refusal.specs.declared.Refusal.the-variants.{NodeKind, PieceNumber, AgainstGrain, Operand, Misfit, Excess}
-use Rattle.refusal.specs.declared.Checked.the-variants.{Passed, Refused}
+use Rattle.promises.specs.declared.Refusal.the-variants.{NodeKind, PieceNumber, AgainstGrain, Operand, Misfit, Excess}
+use Rattle.promises.specs.declared.Checked.the-variants.{Passed, Refused}
 use Rattle.job.specs.Block.{outside}
 use Rattle.job.proofs.Checks.{next-passed, cons-passed}
 use Rattle.node.specs.Nodes.{node-of, most-kind, unnumbered, against-grain, misplaced, misfit, excess, node-checks}

@@ -4,13 +4,13 @@ use mathlib.Core.Bool.{Bool, true, false}
 use mathlib.Core.List.{List}
 use Prim.Native.Nat.{ℕ, _+_, _*_, _≤_, _^_}
 use Rattle.cutting.specs.Tree.{Rect}
-use Rattle.cutting.specs.declared.Node.{Node}
-use Rattle.cutting.specs.declared.Node.the-variants.{Piece, Turned}
+use Rattle.promises.specs.declared.Node.{Node}
+use Rattle.promises.specs.declared.Node.the-variants.{Piece, Turned}
 use Rattle.cutting.specs.Pieces.{quarter}
 use Rattle.cutting.specs.Job.{Job}
 use Rattle.refusal.specs.Refusals.{first-refusal}
-use Rattle.refusal.specs.declared.Refusal.{Refusal}
-use Rattle.refusal.specs.declared.Checked.the-variants.{Passed, Refused}
+use Rattle.promises.specs.declared.Refusal.{Refusal}
+use Rattle.promises.specs.declared.Checked.the-variants.{Passed, Refused}
 use Rattle.node.specs.declared.Tally.{Tally}
 use Rattle.node.specs.declared.NodeAnswer.{NodeAnswer}
 use Rattle.node.specs.Nodes.{node-of, node-checks, tallied, copied}

@@ -1,20 +1,20 @@
 // One node of a plan on the rectangle that it fills: refusals 12 to 16 and 36, and what the node adds to the sums and to the copies of its
 // kind. The job's arrays and the copies are lent, so that a walk over many nodes copies none of them.
-use cutting::Direction;
-use cutting::Node;
 use cutting::Sides;
 use cutting::cut_side;
 use cutting::fits;
 use cutting::turn;
-use refusal::Checked;
-use refusal::Refusal;
+use promises::Checked;
+use promises::Direction;
+use promises::Node;
+use promises::Refusal;
 use refusal::refuse_if;
 ghost use mathlib.Core.Path.{_≡_};
 ghost use mathlib.Core.Bool.{Bool, true, _&&_};
 ghost use mathlib.Core.List.{List};
 ghost use Prim.Native.Nat.{ℕ, _+_, _-_, _≤_, _<_, _^_};
 ghost use lib.Dec.{eqb};
-ghost use Rattle.cutting.specs.declared.Node.the-variants.{Cut};
+ghost use Rattle.promises.specs.declared.Node.the-variants.{Cut};
 ghost use Rattle.cutting.specs.Tree.{side};
 ghost use Rattle.cutting.specs.Sides.{rect-of, sides-of};
 ghost use Rattle.cutting.specs.Pieces.{fits-in};

@@ -7,17 +7,17 @@ use Rattle.cutting.specs.Pieces.{Piece}
 use Rattle.cutting.specs.Preorder.{kinds-of, operands-of, node-count}
 use Rattle.cutting.specs.Job.{Job, widened, capacity, bound-of, bound-plan}
 use Rattle.refusal.specs.Refusals.{Check, next, first-refusal}
-use Rattle.refusal.specs.declared.Checked.{Checked}
-use Rattle.job.specs.declared.Choices.{Choices}
-use Rattle.job.specs.declared.JobRecord.{JobRecord}
+use Rattle.promises.specs.declared.Checked.{Checked}
+use Rattle.promises.specs.declared.Choices.{Choices}
+use Rattle.promises.specs.declared.JobRecord.{JobRecord}
 use Rattle.job.specs.Block.{job-of, ReadAlike}
 use Rattle.job.specs.Weights.{weight-in, weight-checks}
 use Rattle.job.proofs.Kerf.{kerf-none-read}
 use Rattle.plan.specs.Plan.{proceed, plan-answer}
 use Rattle.bound.specs.Bound.{Memory, Leaves, list-after, bound-report, memory-checks}
-use Rattle.writer.specs.declared.WriteAnswer.{WriteAnswer}
+use Rattle.promises.specs.declared.WriteAnswer.{WriteAnswer}
 use Rattle.writer.specs.Write.{nodes-verdict, reported, write-answer-by}
-use Rattle.certificate.specs.declared.Certificate.{Certificate}
+use Rattle.promises.specs.declared.Certificate.{Certificate}
 use Rattle.certificate.specs.Certificate.{compared, handed-on}
 use Rattle.old_blocks.specs.OldBlocks.{CallsAlike, KerfNoneCalls}
 

@@ -6,14 +6,14 @@ use mathlib.Core.Bool.{false}
 use mathlib.Core.List.{List}
 use Prim.Native.Nat.{ℕ}
 use Rattle.cutting.specs.Preorder.{kinds-of, operands-of}
-use Rattle.job.specs.declared.Choices.{Choices}
+use Rattle.promises.specs.declared.Choices.{Choices}
 use Rattle.job.specs.Block.{with-old-block, KerfNone}
 use Rattle.job.specs.Weights.{weight-in}
 use Rattle.plan.specs.Calls.{arrays-answer}
 use Rattle.bound.specs.Bound.{Memory, Leaves, BoundLeaves, wide-job, block-capacity}
-use Rattle.writer.specs.declared.WriteAnswer.{WriteAnswer}
+use Rattle.promises.specs.declared.WriteAnswer.{WriteAnswer}
 use Rattle.writer.specs.Write.{block-plan, write-answer, array-after, WritePromises}
-use Rattle.certificate.specs.declared.Certificate.{Certificate}
+use Rattle.promises.specs.declared.Certificate.{Certificate}
 use Rattle.certificate.specs.Certificate.{plan-verdict, certificate-of}
 use Rattle.certificate.specs.Promises.{CertifyPromises}
 

@@ -12,35 +12,20 @@ use Rattle.cutting.specs.Limits.{most-kinds, most-demand, most-price}
 use Rattle.cutting.specs.Lists.{sum, only}
 use Rattle.cutting.specs.Tree.{Rect, Tree}
 use Rattle.cutting.specs.Pieces.{Piece}
-use Rattle.cutting.specs.Job.{Job, copies-of}
+use Rattle.cutting.specs.Job.{Job}
 use Rattle.cutting.specs.Promises.{NoneBetter}
 use Rattle.cutting.specs.Relaxation.{Relaxes, SameKinds}
 use Rattle.orders.specs.Racks.{plated, AnyOnPlates, AnyOnFinerPlates, rack-profit}
-
--- demand times an amount of each kind, summed over the kinds
-abbrev pub worth-at : Job → (ℕ → ℕ) → ℕ
-worth-at J amount = sum (J .count) (λ i. J .demand i * amount i)
-
--- what the whole order is worth: demand times price, summed over the kinds
-abbrev pub order-worth : Job → ℕ
-order-worth J = worth-at J (J .price)
+pub use Rattle.promises.specs.Orders.{worth-at, order-worth, HoldsOrder, HoldsBeside}
 
 -- no order is worth more: 64 kinds of 255 copies at 1,000,000
 abbrev pub most-worth : ℕ
 most-worth = most-kinds * most-demand * most-price
 
--- n plans hold the whole order: each kind has as many copies in all of them together as its demand
-abbrev pub HoldsOrder : Job → ℕ → (ℕ → Tree Piece) → Type 0
-HoldsOrder J n tree = (i : ℕ) → i < J .count → sum n (λ p. copies-of i (tree p)) ≡ J .demand i
-
 -- n plates cannot hold the whole order, cut at whole units or at multiples of one m-th of a unit
 pub record NotHeld (J : Job) (n : ℕ) (plate : ℕ → Rect) : Type 0 where
   pub whole : (tree : ℕ → Tree Piece) → AnyOnPlates J n plate tree → HoldsOrder J n tree → ⊥
   pub finer : (m : ℕ) → 1 ≤ m → (tree : ℕ → Tree Piece) → AnyOnFinerPlates J m n plate tree → HoldsOrder J n tree → ⊥
-
--- n plans and k others hold the whole order together
-abbrev pub HoldsBeside : Job → ℕ → (ℕ → Tree Piece) → ℕ → (ℕ → Tree Piece) → Type 0
-HoldsBeside J n tree k others = (i : ℕ) → i < J .count → sum n (λ p. copies-of i (tree p)) + sum k (λ p. copies-of i (others p)) ≡ J .demand i
 
 -- n of the job's plates cannot hold the whole order together with any other trees, of any plates, that earn at most `other` in all
 pub record NotHeldBeside (J : Job) (n other : ℕ) : Type 0 where

@@ -4,8 +4,8 @@
 use cutting::Sides;
 use cutting::turn;
 use cutting::widen;
-use job::JobRecord;
 use job::may_turn;
+use promises::JobRecord;
 ghost use mathlib.Core.Path.{_≡_};
 ghost use mathlib.Core.List.{List, [], _++_};
 ghost use Prim.Native.Nat.{ℕ, _≤_, _<_};

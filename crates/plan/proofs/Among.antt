@@ -10,9 +10,9 @@ use Rattle.cutting.specs.Tree.{Tree}
 use Rattle.cutting.specs.Pieces as laid
 use Rattle.cutting.specs.Preorder.{node-count}
 use Rattle.cutting.specs.Job.{Job, OnPlate, KeepsDemands}
-use Rattle.refusal.specs.declared.Checked.the-variants.{Passed}
-use Rattle.plan.specs.declared.Report.{Report}
-use Rattle.plan.specs.declared.PlanAnswer.{PlanAnswer}
+use Rattle.promises.specs.declared.Checked.the-variants.{Passed}
+use Rattle.promises.specs.declared.Report.{Report}
+use Rattle.promises.specs.declared.PlanAnswer.{PlanAnswer}
 use Rattle.plan.specs.declared.TreeAnswer.{TreeAnswer}
 use Rattle.plan.specs.Plan.{tree-passed, tree-walk, walk, empty-report}
 use Rattle.plan.specs.Trees.{tree-report}

@@ -10,17 +10,17 @@ use Rattle.cutting.specs.Lists.{range}
 use Rattle.cutting.specs.Job.{Job, InRange}
 use Rattle.cutting.proofs.Lists.{range-length}
 use Rattle.refusal.specs.Refusals.{first-refusal}
-use Rattle.refusal.specs.declared.Refusal.{Refusal}
-use Rattle.refusal.specs.declared.Refusal.the-variants.{PlanLength, NodeCount}
-use Rattle.refusal.specs.declared.Checked.{Checked}
-use Rattle.refusal.specs.declared.Checked.the-variants.{Passed, Refused}
-use Rattle.job.specs.declared.Choices.{Choices}
-use Rattle.job.specs.declared.JobRecord.{JobRecord}
-use Rattle.job.specs.declared.JobAnswer.{JobAnswer}
+use Rattle.promises.specs.declared.Refusal.{Refusal}
+use Rattle.promises.specs.declared.Refusal.the-variants.{PlanLength, NodeCount}
+use Rattle.promises.specs.declared.Checked.{Checked}
+use Rattle.promises.specs.declared.Checked.the-variants.{Passed, Refused}
+use Rattle.promises.specs.declared.Choices.{Choices}
+use Rattle.promises.specs.declared.JobRecord.{JobRecord}
+use Rattle.promises.specs.declared.JobAnswer.{JobAnswer}
 use Rattle.job.specs.Block.{u16-at, job-checks, read-of, job-of}
 use Rattle.job.specs.Weights.{block-job}
 use Rattle.job.proofs.Read as read
-use Rattle.plan.specs.declared.PlanAnswer.{PlanAnswer}
+use Rattle.promises.specs.declared.PlanAnswer.{PlanAnswer}
 use Rattle.plan.specs.Plan.{plan-answer, unreported, refused, proceed}
 use Rattle.plan.specs.Trees.{ChecksPlan}
 use Rattle.plan.specs.Calls.{arrays-answer, arrays-before-idle, plan-count, plan-kinds, plan-operands, block-checks, plan-block-answer, block-answer, block-before-idle, JobPasses, BlockPasses, plan-outcome, said-after, arrays-said, block-said}

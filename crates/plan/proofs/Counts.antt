@@ -7,15 +7,15 @@ use native.Mathlib.Omega.{arith}
 use lib.ListN.{length, getD, set, length-set}
 use lib.Seq.{getD-set-same, getD-set-other}
 use borrow.Author.Tests.{eq-eqb, ne-eqb}
-use Rattle.cutting.specs.declared.Direction.{Direction}
-use Rattle.cutting.specs.declared.Direction.the-variants.{Length, Width}
-use Rattle.cutting.specs.declared.Node.the-variants.{Waste, Piece, Turned, Cut}
+use Rattle.promises.specs.declared.Direction.{Direction}
+use Rattle.promises.specs.declared.Direction.the-variants.{Length, Width}
+use Rattle.promises.specs.declared.Node.the-variants.{Waste, Piece, Turned, Cut}
 use Rattle.cutting.specs.Tree.{Rect, side, part, Tree, waste, piece, cut, total}
 use Rattle.cutting.specs.Pieces as laid
 use Rattle.cutting.specs.Areas.{pieces-area, waste-area, trim-area, sawdust-area}
 use Rattle.cutting.specs.Job.{Job, profit, copies-of, pieces-area-of, waste-area-of, trim-area-of, sawdust-area-of}
 use Rattle.cutting.proofs.Job.{waste-area-length, waste-area-width, trim-area-length, trim-area-width, sawdust-area-length, sawdust-area-width}
-use Rattle.plan.specs.declared.Report.{Report}
+use Rattle.promises.specs.declared.Report.{Report}
 use Rattle.plan.specs.Plan.{report-after}
 
 -- a cut's second part

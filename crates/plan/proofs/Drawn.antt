@@ -2,12 +2,12 @@
 use mathlib.Core.Path.{_≡_, refl, sym, _∙_, ap, ap₂, subst}
 use mathlib.Core.List.{List, [], _∷_, _++_, append-nil}
 use Prim.Native.Nat.{ℕ, _≤_}
-use Rattle.cutting.specs.declared.Node.the-variants.{Cut}
+use Rattle.promises.specs.declared.Node.the-variants.{Cut}
 use Rattle.cutting.specs.Tree.{Tree, waste, piece, cut}
 use Rattle.cutting.specs.Pieces as laid
 use Rattle.cutting.specs.Preorder.{preorder}
 use Rattle.cutting.specs.Job.{Job}
-use Rattle.refusal.specs.declared.Checked.the-variants.{Passed}
+use Rattle.promises.specs.declared.Checked.the-variants.{Passed}
 use Rattle.node.proofs.Nodes.{node-back}
 use Rattle.plan.specs.Plan.{nodes-in, plan-answer}
 use Rattle.plan.specs.Trees.{with-node, trees-in, first-tree, tree-in, DrawnAs, PlanOf}

@@ -9,11 +9,11 @@ use borrow.Author.Tests.{lt-ltb, le-ltb}
 use Rattle.cutting.specs.Tree.{Rect}
 use Rattle.cutting.specs.Job.{Job}
 use Rattle.refusal.specs.Refusals.{by-check, next, first-refusal}
-use Rattle.refusal.specs.declared.Refusal.{Refusal}
-use Rattle.refusal.specs.declared.Checked.{Checked}
-use Rattle.refusal.specs.declared.Checked.the-variants.{Passed, Refused}
-use Rattle.plan.specs.declared.Report.{Report}
-use Rattle.plan.specs.declared.PlanAnswer.{PlanAnswer}
+use Rattle.promises.specs.declared.Refusal.{Refusal}
+use Rattle.promises.specs.declared.Checked.{Checked}
+use Rattle.promises.specs.declared.Checked.the-variants.{Passed, Refused}
+use Rattle.promises.specs.declared.Report.{Report}
+use Rattle.promises.specs.declared.PlanAnswer.{PlanAnswer}
 use Rattle.plan.specs.declared.TreeAnswer.{TreeAnswer}
 use Rattle.plan.specs.Plan.{node-of, node-checks, parts, report-after, passed, proceed, tree-passed, tree-stopped, tree-walk, left-check, only-tree, walk, nodes-in, unreported, empty-report}
 use Rattle.plan.proofs.Walk.{nodes-length}

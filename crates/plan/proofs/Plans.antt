@@ -9,7 +9,7 @@ use native.Mathlib.Omega.{arith}
 use borrow.Author.Tests.{ne-eqb}
 use lib.ListN.{length, getD, length-replicate, getD-replicate}
 use lib.Seq.{ext-getD}
-use Rattle.cutting.specs.declared.Direction.the-variants.{Length, Width}
+use Rattle.promises.specs.declared.Direction.the-variants.{Length, Width}
 use Rattle.cutting.specs.Tree.{Rect, Tree, waste, piece, cut, total, IdleFree}
 use Rattle.cutting.specs.Pieces as laid
 use Rattle.cutting.specs.Preorder.{preorder, node-count}
@@ -17,16 +17,16 @@ use Rattle.cutting.specs.Job.{Job, GuillotineTree, OnPlate, copies-of}
 use Rattle.cutting.proofs.Members.{lie-kind}
 use Rattle.cutting.proofs.Job.{areas-sum}
 use Rattle.refusal.specs.Refusals.{next, first-refusal}
-use Rattle.refusal.specs.declared.Refusal.{Refusal}
-use Rattle.refusal.specs.declared.Checked.{Checked}
-use Rattle.refusal.specs.declared.Checked.the-variants.{Passed, Refused}
+use Rattle.promises.specs.declared.Refusal.{Refusal}
+use Rattle.promises.specs.declared.Checked.{Checked}
+use Rattle.promises.specs.declared.Checked.the-variants.{Passed, Refused}
 use Rattle.job.specs.Block.{entries}
 use Rattle.job.proofs.Checks.{passed-both}
 use Rattle.job.proofs.Entries.{entries-length, entries-in, entries-past}
 use Rattle.idle.specs.Idle.{idle-checks, tree-checks}
 use Rattle.idle.proofs.Idle.{idle-tree, passed-free, free-passed}
-use Rattle.plan.specs.declared.Report.{Report}
-use Rattle.plan.specs.declared.PlanAnswer.{PlanAnswer}
+use Rattle.promises.specs.declared.Report.{Report}
+use Rattle.promises.specs.declared.PlanAnswer.{PlanAnswer}
 use Rattle.plan.specs.Plan.{plan-checks, walk-answer, plan-answer, walk, node-of, node-checks, parts, report-after, nodes-in, passed, proceed, empty-report}
 use Rattle.plan.specs.Trees.{DrawnAs, tree-report, Reports, ChecksPlan}
 use Rattle.plan.proofs.Walk.{nodes-length}

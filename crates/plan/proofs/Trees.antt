@@ -5,10 +5,10 @@ use Prim.Native.Nat.{ℕ, _+_, _≤_, _<_}
 use native.Mathlib.Omega.{arith}
 use lib.ListN.{length, getD}
 use borrow.Author.Tests.{le-leb, eq-eqb}
-use Rattle.cutting.specs.declared.Direction.{Direction}
-use Rattle.cutting.specs.declared.Direction.the-variants.{Length, Width}
-use Rattle.cutting.specs.declared.Node.{Node}
-use Rattle.cutting.specs.declared.Node.the-variants.{Waste, Piece, Turned, Cut}
+use Rattle.promises.specs.declared.Direction.{Direction}
+use Rattle.promises.specs.declared.Direction.the-variants.{Length, Width}
+use Rattle.promises.specs.declared.Node.{Node}
+use Rattle.promises.specs.declared.Node.the-variants.{Waste, Piece, Turned, Cut}
 use Rattle.cutting.specs.Tree.{Rect, side, part, Tree, waste, piece, cut, total}
 use Rattle.cutting.specs.Pieces as laid
 use Rattle.cutting.specs.Preorder.{preorder, kind-of, operand-of, node-count}
@@ -16,7 +16,7 @@ use Rattle.cutting.specs.Job.{Job, laid, GuillotineTree, copies-of}
 use Rattle.cutting.proofs.Members.{lie-kind}
 use Rattle.cutting.proofs.Preorder.{count-cut}
 use Rattle.node.proofs.Nodes.{node-back, pair-of, PieceFits, NodeFits, node-passes}
-use Rattle.plan.specs.declared.Report.{Report}
+use Rattle.promises.specs.declared.Report.{Report}
 use Rattle.plan.specs.Plan.{node-of, parts, report-after, proceed, walk}
 use Rattle.plan.proofs.Counts.{second, added, added-copies, added-length}
 use Rattle.plan.proofs.Preorder.{written, written-cut}

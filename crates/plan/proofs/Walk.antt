@@ -7,18 +7,18 @@ use native.Mathlib.Omega.{arith}
 use native.Mathlib.Numerals.{add-one}
 use lib.ListN.{length, getD, set, drop, replicate, drop-of-length-le, length-set}
 use lib.Seq.{getD-set-same, getD-set-other}
-use Rattle.cutting.specs.declared.Direction.{Direction}
-use Rattle.cutting.specs.declared.Node.{Node}
-use Rattle.cutting.specs.declared.Node.the-variants.{Waste, Piece, Turned, Cut}
+use Rattle.promises.specs.declared.Direction.{Direction}
+use Rattle.promises.specs.declared.Node.{Node}
+use Rattle.promises.specs.declared.Node.the-variants.{Waste, Piece, Turned, Cut}
 use Rattle.cutting.specs.declared.Sides.{Sides}
 use Rattle.cutting.specs.Tree.{Rect, side, part}
 use Rattle.cutting.specs.Sides.{rect-of, sides-of}
 use Rattle.cutting.specs.Job.{Job}
 use Rattle.refusal.specs.Refusals.{by-check}
-use Rattle.refusal.specs.declared.Refusal.{Refusal}
-use Rattle.refusal.specs.declared.Refusal.the-variants.{NodeMissing}
-use Rattle.refusal.specs.declared.Checked.the-variants.{Passed, Refused}
-use Rattle.job.specs.declared.JobRecord.{JobRecord}
+use Rattle.promises.specs.declared.Refusal.{Refusal}
+use Rattle.promises.specs.declared.Refusal.the-variants.{NodeMissing}
+use Rattle.promises.specs.declared.Checked.the-variants.{Passed, Refused}
+use Rattle.promises.specs.declared.JobRecord.{JobRecord}
 use Rattle.job.specs.Block.{job-from, job-of}
 use Rattle.node.specs.declared.Tally.{Tally}
 use Rattle.node.specs.declared.NodeEntry.{NodeEntry}
@@ -26,7 +26,7 @@ use Rattle.node.specs.declared.NodeAnswer.{NodeAnswer}
 use Rattle.node.specs.declared.Rules.{Rules}
 use Rattle.node.specs.Placed.{Sized, Placed}
 use Rattle.node.proofs.Nodes.{NodeFits, node-passed}
-use Rattle.plan.specs.declared.Report.{Report}
+use Rattle.promises.specs.declared.Report.{Report}
 use Rattle.plan.specs.declared.TreeAnswer.{TreeAnswer}
 use Rattle.plan.specs.Plan.{node-of, parts, report-after, plan-report, empty-report, tree-passed, tree-stopped, tree-walk, nodes-in}
 use Rattle.plan.specs.Walk.{waiting, no-sums, rules-of, entry-at, CutInside, Held, Opens}

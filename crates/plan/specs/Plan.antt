@@ -1,27 +1,24 @@
 -- A plan's check in the scope's words: the walk over the nodes in preorder, then the idle cuts, and what the whole plan answers.
 -- docs/SCOPE.md: Plans; The report.
-use mathlib.Core.Bool.{not}
 use mathlib.Core.List.{List, [], _∷_, _++_}
 use Prim.Native.Nat.{ℕ, _+_}
-use lib.Dec.{ltb, eqb}
-use lib.ListN.{length, replicate}
-use Rattle.cutting.specs.declared.Node.{Node}
+use Rattle.promises.specs.declared.Node.{Node}
 use Rattle.cutting.specs.Tree.{Rect}
-use Rattle.cutting.specs.Limits.{most-kinds, most-nodes}
 use Rattle.cutting.specs.Job.{Job}
-use Rattle.refusal.specs.declared.Refusal.{Refusal}
-use Rattle.refusal.specs.declared.Refusal.the-variants.{PlanLength, NodeCount, NodeMissing, NodeLeft}
-use Rattle.refusal.specs.declared.Checked.{Checked}
-use Rattle.refusal.specs.declared.Checked.the-variants.{Passed, Refused}
-use Rattle.refusal.specs.Refusals.{Check, by-check, next, first-refusal}
-use Rattle.job.specs.Block.{outside}
+use Rattle.promises.specs.declared.Refusal.{Refusal}
+use Rattle.promises.specs.declared.Refusal.the-variants.{NodeMissing, NodeLeft}
+use Rattle.promises.specs.declared.Checked.{Checked}
+use Rattle.promises.specs.declared.Checked.the-variants.{Passed, Refused}
+use Rattle.refusal.specs.Refusals.{by-check, next, first-refusal}
 use Rattle.node.specs.declared.Tally.{Tally}
 use Rattle.node.specs.Nodes.{tallied, copied}
 pub use Rattle.node.specs.Nodes.{node-of, node-checks, parts}
 use Rattle.idle.specs.Idle.{idle-checks}
-use Rattle.plan.specs.declared.Report.{Report}
-use Rattle.plan.specs.declared.PlanAnswer.{PlanAnswer}
+use Rattle.promises.specs.declared.Report.{Report}
+use Rattle.promises.specs.declared.PlanAnswer.{PlanAnswer}
 use Rattle.plan.specs.declared.TreeAnswer.{TreeAnswer}
+pub use Rattle.promises.specs.Check.{left-check, plan-checks}
+pub use Rattle.promises.specs.Plan.{empty-report, nodes-in}
 
 -- the sums of a report
 abbrev pub sums-of : Report → Tally
@@ -34,10 +31,6 @@ plan-report t copies = record { profit = t .profit; copies = copies; pieces = t 
 -- a report with one node more
 abbrev pub report-after : Job → Node → Rect → Report → Report
 report-after J n r s = plan-report (tallied J n r (sums-of s)) (copied n (s .copies))
-
--- the report before any node: the copies of 64 kinds, and every figure, are 0
-abbrev pub empty-report : Report
-empty-report = record { profit = 0; copies = replicate most-kinds 0; pieces = 0; waste = 0; trim = 0; sawdust = 0 }
 
 -- a passed plan with its report
 abbrev pub passed : Report → PlanAnswer
@@ -84,23 +77,9 @@ tree-walk J k (n ∷ ns) (r ∷ rs) s =
     (tree-walk J (k + 1) ns (parts (J .kerf) (node-of (n .0) (n .1)) r ++ rs) (report-after J (node-of (n .0) (n .1)) r s))
     (λ x. tree-stopped (Refused x))
 
--- 18: nodes left over, of n, after the walks have ended before node k
-abbrev pub left-check : ℕ → ℕ → Check
-left-check n k = (ltb k n, NodeLeft k)
-
 -- the walk over a plan's only tree, of n nodes, as that of the plan (walk-ends of proofs/Ends)
 abbrev pub only-tree : ℕ → TreeAnswer → PlanAnswer
 only-tree n a = proceed (next (a .verdict) (first-refusal (left-check n (a .past) ∷ []))) (passed (a .report))
-
--- the nodes of two arrays, each a kind and an operand
-abbrev pub nodes-in : List ℕ → List ℕ → List (ℕ × ℕ)
-nodes-in [] os = []
-nodes-in (k ∷ ks) [] = []
-nodes-in (k ∷ ks) (o ∷ os) = (k, o) ∷ nodes-in ks os
-
--- checks 10 and 11
-abbrev pub plan-checks : List ℕ → List ℕ → List Check
-plan-checks kinds operands = (not (eqb (length kinds) (length operands)), PlanLength) ∷ (outside 1 most-nodes (length kinds), NodeCount) ∷ []
 
 -- what 10 to 18 and 36 answer for a plan's arrays: checks 10 and 11, then the walk from the plate
 unfoldable pub walk-answer : Job → List ℕ → List ℕ → PlanAnswer

@@ -1,12 +1,9 @@
 // The check of a plan drawn by anybody: refusals 10 to 18, 36 and 26, and what a passed plan reports. The nodes are read once, in their order,
 // with a list of the rectangles that wait to be filled, so that no plan needs more stack than another; then once more for idle cuts.
-use cutting::Node;
 use cutting::Sides;
 use cutting::first_part;
 use cutting::second_part;
 use idle::idle_cut;
-use job::Choices;
-use job::JobRecord;
 use job::read_job;
 use job::read_u16;
 use node::NodeEntry;
@@ -14,8 +11,13 @@ use node::Rules;
 use node::Tally;
 use node::check_node;
 use node::decode;
-use refusal::Checked;
-use refusal::Refusal;
+use promises::Checked;
+use promises::Choices;
+use promises::JobRecord;
+use promises::Node;
+use promises::PlanAnswer;
+use promises::Refusal;
+use promises::Report;
 ghost use mathlib.Core.Path.{_≡_};
 ghost use mathlib.Core.List.{List, [], _∷_, _++_};
 ghost use Prim.Native.Nat.{ℕ, _+_, _*_, _-_, _≤_, _<_};
@@ -30,22 +32,6 @@ ghost use Rattle.plan.specs.Plan.{parts, plan-report, empty-report, unre
 ghost use Rattle.plan.specs.Walk.{waiting, no-sums, rules-of, entry-at, Held, Opens, Walkable};
 ghost use Rattle.plan.specs.Trees.{ChecksPlan};
 ghost use Rattle.plan.specs.Calls.{arrays-answer, arrays-before-idle, plan-count, plan-kinds, plan-operands, plan-block-answer, block-answer, block-before-idle, JobPasses, BlockPasses, plan-outcome, arrays-said, block-said};
-
-// What a passed plan reports: profit, copies of each of 64 kinds, and the areas of pieces, waste nodes, trim and sawdust.
-pub struct Report {
-    pub profit: u64,
-    pub copies: [u16; 64],
-    pub pieces: u64,
-    pub waste: u64,
-    pub trim: u64,
-    pub sawdust: u64,
-}
-
-// What the check of a plan answers: where it is refused, the report is all zeros.
-pub struct PlanAnswer {
-    pub verdict: Checked,
-    pub report: Report,
-}
 
 // What the walk over one tree answers: its report, and the number of the node after its last; zeros where it is refused.
 pub struct TreeAnswer {

@@ -8,16 +8,16 @@ use Rattle.cutting.specs.Promises.{NoneBetter}
 use Rattle.cutting.specs.Staged.{NoneStagedBetter}
 use Rattle.cutting.proofs.Bound.{bound-ceiling}
 use Rattle.cutting.proofs.Staged.{staged-ceiling}
-use Rattle.refusal.specs.declared.Checked.{Checked}
-use Rattle.refusal.specs.declared.Checked.the-variants.{Passed}
-use Rattle.job.specs.declared.Choices.{Choices}
+use Rattle.promises.specs.declared.Checked.{Checked}
+use Rattle.promises.specs.declared.Checked.the-variants.{Passed}
+use Rattle.promises.specs.declared.Choices.{Choices}
 use Rattle.job.specs.Weights.{block-job, weight-in}
 use Rattle.job.proofs.Checks.{passed-both}
 use Rattle.job.proofs.Read.{read-in-range}
 use Rattle.job.proofs.Weights.{accepted-in-range}
 use Rattle.bound.specs.Bound.{Memory, accept-verdict}
 use Rattle.staged_bound.specs.Staged.{limit-verdict}
-use Rattle.certificate.specs.declared.Certificate.{Certificate}
+use Rattle.promises.specs.declared.Certificate.{Certificate}
 use Rattle.certificate.specs.Certificate.{handed-on, certify-verdict}
 use Rattle.certificate.specs.Promises.{GapAmong, CertifyPromises, Earns}
 use Rattle.certificate.proofs.Comparison.{gap-passed}

@@ -9,7 +9,7 @@ use lib.ListN.{length}
 use borrow.Author.Tests.{ltb-false, le-ltb}
 use Rattle.cutting.specs.Lists.{over}
 use Rattle.refusal.specs.Refusals.{Outcome}
-use Rattle.job.specs.declared.Choices.{Choices}
+use Rattle.promises.specs.declared.Choices.{Choices}
 use Rattle.answer_words.specs.Words.{Gives}
 use Rattle.planner_c.specs.Exports.{unknown, returned-by, returned, early, answered-by, answered, Left-by, Left}
 

@@ -6,8 +6,8 @@ use native.Mathlib.Omega.{arith}
 use lib.ListN.{length}
 use Rattle.cutting.specs.Lists.{over}
 use Rattle.refusal.specs.Refusals.{Outcome, outcome-by}
-use Rattle.refusal.specs.declared.Checked.{Checked}
-use Rattle.refusal.specs.declared.Checked.the-variants.{Passed, Refused}
+use Rattle.promises.specs.declared.Checked.{Checked}
+use Rattle.promises.specs.declared.Checked.the-variants.{Passed, Refused}
 use Rattle.refusal.proofs.Numbers.{number-some}
 use Rattle.job.proofs.Checks.{passed-both}
 use Rattle.sizes.specs.Sizes.{true-verdict}

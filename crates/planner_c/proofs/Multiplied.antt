@@ -5,9 +5,9 @@ use Prim.Native.Nat.{ℕ}
 use native.Mathlib.Omega.{arith}
 use Rattle.cutting.specs.Job.{Job}
 use Rattle.refusal.proofs.Numbers.{number-some}
-use Rattle.multipliers.specs.declared.LagrangianReport.{LagrangianReport}
-use Rattle.multipliers.specs.declared.LagrangianAnswer.{LagrangianAnswer}
-use Rattle.multipliers.specs.declared.LagrangianAnswer.the-variants as lagrangian
+use Rattle.promises.specs.declared.LagrangianReport.{LagrangianReport}
+use Rattle.promises.specs.declared.LagrangianAnswer.{LagrangianAnswer}
+use Rattle.promises.specs.declared.LagrangianAnswer.the-variants as lagrangian
 use Rattle.multipliers.specs.Multipliers.{lagrangian-outcome, LagrangianHolds}
 use Rattle.answer_words.specs.Words.{Gives}
 use Rattle.planner_c.specs.Exports.{answer-word}

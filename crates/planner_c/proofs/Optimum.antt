@@ -7,12 +7,12 @@ use Rattle.cutting.specs.Lists.{over}
 use Rattle.cutting.specs.Exact.{optimum-plan}
 use Rattle.refusal.specs.Refusals.{Outcome, outcome-by}
 use Rattle.refusal.proofs.Numbers.{number-some}
-use Rattle.refusal.specs.declared.Checked.{Checked}
-use Rattle.refusal.specs.declared.Checked.the-variants.{Passed, Refused}
-use Rattle.job.specs.declared.Choices.{Choices}
+use Rattle.promises.specs.declared.Checked.{Checked}
+use Rattle.promises.specs.declared.Checked.the-variants.{Passed, Refused}
+use Rattle.promises.specs.declared.Choices.{Choices}
 use Rattle.job.specs.Weights.{block-job}
 use Rattle.bound.specs.Bound.{Memory}
-use Rattle.exact.specs.declared.ExactAnswer.{ExactAnswer}
+use Rattle.promises.specs.declared.ExactAnswer.{ExactAnswer}
 use Rattle.exact.specs.Exact.{exact-verdict, exact-report, exact-answer-by, exact-values, exact-outcome, ExactPromises}
 use Rattle.answer_words.specs.Words.{Gives}
 use Rattle.planner_c.specs.Exact.{ExactGiven}

@@ -5,9 +5,9 @@ use Prim.Native.Nat.{ℕ}
 use native.Mathlib.Omega.{arith}
 use Rattle.cutting.specs.Job.{Job, capacity}
 use Rattle.refusal.proofs.Numbers.{number-some}
-use Rattle.plates_needed.specs.declared.PlatesReport.{PlatesReport}
-use Rattle.plates_needed.specs.declared.PlatesAnswer.{PlatesAnswer}
-use Rattle.plates_needed.specs.declared.PlatesAnswer.the-variants as plates
+use Rattle.promises.specs.declared.PlatesReport.{PlatesReport}
+use Rattle.promises.specs.declared.PlatesAnswer.{PlatesAnswer}
+use Rattle.promises.specs.declared.PlatesAnswer.the-variants as plates
 use Rattle.plates_needed.specs.Plates.{plates-outcome, PlatesHold}
 use Rattle.answer_words.specs.Words.{Gives}
 use Rattle.planner_c.specs.Exports.{answer-word}

@@ -5,9 +5,9 @@ use Prim.Native.Nat.{ℕ}
 use native.Mathlib.Omega.{arith}
 use Rattle.cutting.specs.Job.{Job}
 use Rattle.refusal.proofs.Numbers.{number-some}
-use Rattle.two_bound.specs.declared.TwoReport.{TwoReport}
-use Rattle.two_bound.specs.declared.TwoAnswer.{TwoAnswer}
-use Rattle.two_bound.specs.declared.TwoAnswer.the-variants as two
+use Rattle.promises.specs.declared.TwoReport.{TwoReport}
+use Rattle.promises.specs.declared.TwoAnswer.{TwoAnswer}
+use Rattle.promises.specs.declared.TwoAnswer.the-variants as two
 use Rattle.two_bound.specs.Two.{two-outcome, TwoHolds}
 use Rattle.answer_words.specs.Words.{Gives}
 use Rattle.planner_c.specs.Exports.{answer-word}

@@ -10,12 +10,12 @@ use borrow.Author.Tests.{eq-eqb, ne-eqb}
 use Rattle.cutting.specs.Lists.{over}
 use Rattle.refusal.specs.Refusals.{number-of, place-of, by-check, next, first-refusal, outcome-by}
 use Rattle.refusal.proofs.Numbers.{number-some}
-use Rattle.refusal.specs.declared.Refusal.{Refusal}
-use Rattle.refusal.specs.declared.Checked.{Checked}
-use Rattle.refusal.specs.declared.Checked.the-variants.{Passed, Refused}
-use Rattle.refusal.specs.declared.Refusal.the-variants.{RackSize}
-use Rattle.job.specs.declared.Choices.{Choices}
-use Rattle.rack.specs.declared.RackAnswer.{RackAnswer}
+use Rattle.promises.specs.declared.Refusal.{Refusal}
+use Rattle.promises.specs.declared.Checked.{Checked}
+use Rattle.promises.specs.declared.Checked.the-variants.{Passed, Refused}
+use Rattle.promises.specs.declared.Refusal.the-variants.{RackSize}
+use Rattle.promises.specs.declared.Choices.{Choices}
+use Rattle.promises.specs.declared.RackAnswer.{RackAnswer}
 use Rattle.rack.specs.Check.{rack-answer}
 use Rattle.rack.specs.Promises.{RackChecks}
 use Rattle.rack.proofs.Before.{before-passed, size-passed}

@@ -8,12 +8,12 @@ use lib.Seq.{take-append-seam}
 use Rattle.cutting.specs.Lists.{over}
 use Rattle.refusal.specs.Refusals.{Outcome, outcome-by}
 use Rattle.refusal.proofs.Numbers.{number-some}
-use Rattle.refusal.specs.declared.Checked.{Checked}
-use Rattle.refusal.specs.declared.Checked.the-variants.{Passed, Refused}
-use Rattle.job.specs.declared.Choices.{Choices}
+use Rattle.promises.specs.declared.Checked.{Checked}
+use Rattle.promises.specs.declared.Checked.the-variants.{Passed, Refused}
+use Rattle.promises.specs.declared.Choices.{Choices}
 use Rattle.job.specs.Weights.{block-job}
 use Rattle.job.proofs.Entries.{entries-length}
-use Rattle.rounds.specs.declared.WeightsFound.{WeightsFound}
+use Rattle.promises.specs.declared.WeightsFound.{WeightsFound}
 use Rattle.rounds.specs.Rounds.{Lent, answer-of, lower-figure, found-values, found-outcome, LeastMet, BoundAgain, FindPromises}
 use Rattle.answer_words.specs.Words.{Gives}
 use Rattle.planner_c.specs.Found.{FoundGiven}

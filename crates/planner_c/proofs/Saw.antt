@@ -6,20 +6,20 @@ use Prim.Native.Nat.{ℕ, _+_, _-_, _≤_, _<_}
 use native.Mathlib.Omega.{arith}
 use lib.Dec.{ltb}
 use lib.ListN.{length, take, drop}
-use Rattle.cutting.specs.declared.Node.{Node}
+use Rattle.promises.specs.declared.Node.{Node}
 use Rattle.cutting.specs.Lists.{over}
 use Rattle.cutting.specs.Tree.{Tree}
 use Rattle.cutting.specs.Pieces.{Piece}
 use Rattle.cutting.specs.Preorder.{node-count}
 use Rattle.refusal.specs.Refusals.{Outcome, outcome-by}
-use Rattle.refusal.specs.declared.Checked.{Checked}
-use Rattle.refusal.specs.declared.Checked.the-variants.{Passed, Refused}
+use Rattle.promises.specs.declared.Checked.{Checked}
+use Rattle.promises.specs.declared.Checked.the-variants.{Passed, Refused}
 use Rattle.refusal.proofs.Numbers.{number-some}
-use Rattle.refusal.specs.declared.Refusal.the-variants.{Price}
+use Rattle.promises.specs.declared.Refusal.the-variants.{Price}
 use Rattle.plan.specs.Trees.{PlanOf}
 use Rattle.plan.specs.Calls.{arrays-answer}
-use Rattle.saw.specs.declared.Part.{Part}
-use Rattle.saw.specs.declared.SawAnswer.{SawAnswer}
+use Rattle.promises.specs.declared.Part.{Part}
+use Rattle.promises.specs.declared.SawAnswer.{SawAnswer}
 use Rattle.saw.specs.Saw.{saw-of, saw-answer, saw-before-idle, saw-values, saw-outcome, saw-said, SawReports, SawChecks}
 use Rattle.saw.specs.Prices.{OnlyPrices}
 use Rattle.saw.specs.Parts.{tree-at, part-by, node-part, part-said}

@@ -12,26 +12,26 @@ use Rattle.cutting.proofs.Promises.{figures-most}
 use Rattle.cutting.specs.Preorder.{node-count, kinds-of, operands-of}
 use Rattle.refusal.specs.Refusals.{Outcome, first-refusal, outcome-by}
 use Rattle.refusal.proofs.Numbers.{number-some}
-use Rattle.refusal.specs.declared.Checked.{Checked}
-use Rattle.refusal.specs.declared.Checked.the-variants.{Passed, Refused}
-use Rattle.plan.specs.declared.PlanAnswer.{PlanAnswer}
+use Rattle.promises.specs.declared.Checked.{Checked}
+use Rattle.promises.specs.declared.Checked.the-variants.{Passed, Refused}
+use Rattle.promises.specs.declared.PlanAnswer.{PlanAnswer}
 use Rattle.plan.specs.Trees.{DrawnAs, ChecksPlan, Reports}
-use Rattle.job.specs.declared.Choices.{Choices}
+use Rattle.promises.specs.declared.Choices.{Choices}
 use Rattle.job.specs.Block.{job-checks}
 use Rattle.job.specs.Weights.{block-job, weight-in, Accepted}
 use Rattle.job.proofs.Weights.{accepted-in-range}
 use Rattle.job.proofs.Checks.{passed-both}
 use Rattle.plan.specs.Plan.{plan-answer}
-use Rattle.neat.specs.declared.NeatAnswer.{NeatAnswer}
+use Rattle.promises.specs.declared.NeatAnswer.{NeatAnswer}
 use Rattle.neat.specs.Neat.{neat-verdict, block-neat, neat-outcome, written-by, NeatPromises}
-use Rattle.bound.specs.declared.BoundAnswer.{BoundAnswer}
-use Rattle.bound.specs.declared.BoundAnswer.the-variants as bound
+use Rattle.promises.specs.declared.BoundAnswer.{BoundAnswer}
+use Rattle.promises.specs.declared.BoundAnswer.the-variants as bound
 use Rattle.bound.specs.Bound.{bound-outcome, BoundHolds, BoundSaid}
-use Rattle.writer.specs.declared.WriteAnswer.{WriteAnswer}
-use Rattle.writer.specs.declared.WriteAnswer.the-variants as write
+use Rattle.promises.specs.declared.WriteAnswer.{WriteAnswer}
+use Rattle.promises.specs.declared.WriteAnswer.the-variants as write
 use Rattle.writer.specs.Write.{write-outcome, block-plan, PlanWritten, BoundWritten}
-use Rattle.certificate.specs.declared.Certificate.{Certificate}
-use Rattle.certificate.specs.declared.Certificate.the-variants as certificate
+use Rattle.promises.specs.declared.Certificate.{Certificate}
+use Rattle.promises.specs.declared.Certificate.the-variants as certificate
 use Rattle.certificate.specs.Certificate.{certificate-outcome}
 use Rattle.certificate.specs.Promises.{BestAmong, GapAmong}
 use Rattle.plan.specs.Calls.{plan-values, plan-outcome}

@@ -6,17 +6,17 @@ use native.Mathlib.Omega.{arith}
 use Rattle.cutting.specs.Lists.{over}
 use Rattle.cutting.specs.Preorder.{kinds-of, operands-of, node-count}
 use Rattle.refusal.specs.Refusals.{Outcome, first-refusal, outcome-by}
-use Rattle.refusal.specs.declared.Checked.{Checked}
-use Rattle.refusal.specs.declared.Checked.the-variants.{Passed, Refused}
+use Rattle.promises.specs.declared.Checked.{Checked}
+use Rattle.promises.specs.declared.Checked.the-variants.{Passed, Refused}
 use Rattle.refusal.proofs.Numbers.{number-some}
-use Rattle.job.specs.declared.Choices.{Choices}
+use Rattle.promises.specs.declared.Choices.{Choices}
 use Rattle.job.specs.Block.{job-checks}
 use Rattle.job.specs.Weights.{block-job}
 use Rattle.job.proofs.Checks.{passed-both}
 use Rattle.sizes.specs.Sizes.{sizes-checks}
 use Rattle.plan.specs.Plan.{plan-answer}
 use Rattle.neat.specs.Neat.{written-by}
-use Rattle.true_plan.specs.declared.TruePlanAnswer.{TruePlanAnswer}
+use Rattle.promises.specs.declared.TruePlanAnswer.{TruePlanAnswer}
 use Rattle.true_plan.specs.TruePlan.{true-verdict, block-neat, block-used, true-outcome, TruePromises}
 use Rattle.answer_words.specs.Words.{Gives}
 use Rattle.planner_c.specs.Exports.{answer-word}

@@ -13,17 +13,17 @@ use Rattle.cutting.proofs.Members.{range-solid}
 use Rattle.cutting.proofs.Staged.{stages-paths, block-most}
 use Rattle.refusal.specs.Refusals.{outcome-by}
 use Rattle.refusal.proofs.Numbers.{number-some}
-use Rattle.refusal.specs.declared.Checked.{Checked}
-use Rattle.refusal.specs.declared.Checked.the-variants.{Passed, Refused}
-use Rattle.job.specs.declared.Choices.{Choices}
+use Rattle.promises.specs.declared.Checked.{Checked}
+use Rattle.promises.specs.declared.Checked.the-variants.{Passed, Refused}
+use Rattle.promises.specs.declared.Choices.{Choices}
 use Rattle.job.specs.Weights.{block-job, weight-in, Accepted}
 use Rattle.job.proofs.Weights.{accepted-in-range}
 use Rattle.plan.specs.Trees.{DrawnAs, Reports}
-use Rattle.bound.specs.declared.BoundReport.{BoundReport}
-use Rattle.bound.specs.declared.BoundAnswer.{BoundAnswer}
-use Rattle.bound.specs.declared.BoundAnswer.the-variants as bound
+use Rattle.promises.specs.declared.BoundReport.{BoundReport}
+use Rattle.promises.specs.declared.BoundAnswer.{BoundAnswer}
+use Rattle.promises.specs.declared.BoundAnswer.the-variants as bound
 use Rattle.bound.specs.Bound.{bound-outcome}
-use Rattle.staged_plan.specs.declared.StagedAnswer.{StagedAnswer}
+use Rattle.promises.specs.declared.StagedAnswer.{StagedAnswer}
 use Rattle.staged_plan.specs.Check.{LimitPasses, staged-before-idle, staged-values, staged-check-outcome, ChecksStaged}
 use Rattle.staged_bound.specs.Staged.{StagedHolds}
 use Rattle.answer_words.specs.Words.{Gives}

@@ -9,7 +9,7 @@ use Rattle.cutting.specs.Pieces.{Piece}
 use Rattle.cutting.specs.Preorder.{kinds-of, operands-of, node-count}
 use Rattle.cutting.specs.Job.{Job}
 use Rattle.cutting.specs.Exact.{state-count, full-state, exact-figure, optimum-plan, EarnsExactly}
-use Rattle.job.specs.declared.Choices.{Choices}
+use Rattle.promises.specs.declared.Choices.{Choices}
 use Rattle.job.specs.Weights.{block-job}
 use Rattle.plan.specs.Trees.{PlanOf}
 use Rattle.bound.specs.Bound.{Memory, wide-job}

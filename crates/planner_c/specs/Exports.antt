@@ -3,8 +3,8 @@
 use mathlib.Core.Path.{_≡_}
 use mathlib.Core.Bool.{Bool, true, false, _||_}
 use mathlib.Core.List.{List, [], _∷_}
-use Prim.Native.Nat.{ℕ, _+_, _/_, _%_, _≤_}
-use lib.Dec.{ltb, eqb}
+use Prim.Native.Nat.{ℕ, _+_, _≤_}
+use lib.Dec.{ltb}
 use lib.ListN.{length, getD}
 use Rattle.cutting.specs.Lists.{over}
 use Rattle.cutting.specs.Tree.{Tree, IdleFree}
@@ -13,9 +13,9 @@ use Rattle.cutting.specs.Job.{Job, bound-of}
 use Rattle.cutting.specs.Promises.{NoneBetter, EarnsWithin}
 use Rattle.cutting.specs.Preorder.{kinds-of, operands-of, node-count}
 use Rattle.refusal.specs.Refusals.{Outcome, first-refusal}
-use Rattle.refusal.specs.declared.Refusal.the-variants.{IdleCut}
-use Rattle.refusal.specs.declared.Checked.the-variants.{Refused}
-use Rattle.job.specs.declared.Choices.{Choices}
+use Rattle.promises.specs.declared.Refusal.the-variants.{IdleCut}
+use Rattle.promises.specs.declared.Checked.the-variants.{Refused}
+use Rattle.promises.specs.declared.Choices.{Choices}
 use Rattle.job.specs.Weights.{block-job, weight-in}
 use Rattle.idle.specs.Idle.{tree-checks}
 use Rattle.plan.specs.Calls.{plan-values}
@@ -25,14 +25,11 @@ use Rattle.neat.specs.Neat.{neat-tree, neat-verdict, block-neat, NeatLeaves, Ne
 use Rattle.writer.specs.Write.{array-after, block-plan}
 use Rattle.certificate.specs.Certificate.{plan-verdict}
 use Rattle.certificate.specs.Promises.{Earns}
+pub use Rattle.promises.specs.C.{bit}
 
 -- a word of choices has a bit that is no choice
 abbrev pub unknown : ℕ → Bool
 unknown choices = ltb 15 choices
-
--- whether a word has the bit of value n
-abbrev pub bit : ℕ → ℕ → Bool
-bit n word = eqb (word / n % 2) 1
 
 -- the choices of a word: bit 1 is turning, bit 2 full demand, bit 4 the old block, bit 8 grain
 abbrev pub choices-of : ℕ → Choices

@@ -5,9 +5,9 @@ use Prim.Native.Nat.{ℕ, _≤_}
 use lib.ListN.{take, drop}
 use Rattle.cutting.specs.Limits.{most-kinds}
 use Rattle.cutting.specs.Promises.{NoneAbove, NoneFiner}
-use Rattle.job.specs.declared.Choices.{Choices}
+use Rattle.promises.specs.declared.Choices.{Choices}
 use Rattle.job.specs.Weights.{block-job}
-use Rattle.rounds.specs.declared.WeightsFound.{WeightsFound}
+use Rattle.promises.specs.declared.WeightsFound.{WeightsFound}
 use Rattle.weight_steps.specs.Step.{most-rounds}
 use Rattle.rounds.specs.Rounds.{answer-of, LeastMet, BoundAgain}
 use Rattle.planner_c.specs.Exports.{answer-word}

@@ -6,7 +6,7 @@ use Prim.Native.Nat.{ℕ}
 use lib.ListN.{length}
 use Rattle.cutting.specs.Job.{Job}
 use Rattle.refusal.specs.Refusals.{Outcome}
-use Rattle.job.specs.declared.Choices.{Choices}
+use Rattle.promises.specs.declared.Choices.{Choices}
 use Rattle.bound.specs.Bound.{Memory, bound-answer, BoundLeaves}
 use Rattle.multipliers.specs.Multipliers.{multiplier-in, lagrangian-outcome, LagrangianHolds, as-lagrangian}
 use Rattle.planner_c.specs.Exports.{choices-of, job-with, returned, answered, Left, answer-word}

@@ -7,7 +7,7 @@ use Prim.Native.Nat.{ℕ, _≤_}
 use lib.ListN.{length}
 use Rattle.cutting.specs.Job.{Job}
 use Rattle.cutting.specs.Relaxation.{ChainsFit}
-use Rattle.refusal.specs.declared.Checked.the-variants.{Passed}
+use Rattle.promises.specs.declared.Checked.the-variants.{Passed}
 use Rattle.sizes.specs.Sizes.{true-verdict, block-true-job}
 use Rattle.model.specs.Model.{StandsFor}
 use Rattle.planner_c.specs.Exports.{unknown, choices-of, job-with}

@@ -11,9 +11,9 @@ use Rattle.cutting.specs.Tree.{Tree}
 use Rattle.cutting.specs.Pieces.{Piece}
 use Rattle.cutting.specs.Job.{profit}
 use Rattle.refusal.specs.Refusals.{Check, Outcome, by-check, next, first-refusal, outcome-by}
-use Rattle.refusal.specs.declared.Checked.{Checked}
-use Rattle.refusal.specs.declared.Refusal.the-variants.{RackSize}
-use Rattle.job.specs.declared.Choices.{Choices}
+use Rattle.promises.specs.declared.Checked.{Checked}
+use Rattle.promises.specs.declared.Refusal.the-variants.{RackSize}
+use Rattle.promises.specs.declared.Choices.{Choices}
 use Rattle.orders.specs.Racks.{NoneTogether, NoneTogetherFiner, rack-bound}
 use Rattle.rack.specs.Check.{plate-at, rack-answer}
 use Rattle.rack.specs.Promises.{OrderPasses, BeforePasses, RackOf, IdleAt, OverAt, OnlyPlate}

@@ -11,8 +11,8 @@ use Rattle.cutting.specs.Pieces.{Piece}
 use Rattle.cutting.specs.Job.{Job}
 use Rattle.cutting.specs.Preorder.{node-count}
 use Rattle.refusal.specs.Refusals.{Outcome, first-refusal}
-use Rattle.refusal.specs.declared.Refusal.the-variants.{Price, IdleCut}
-use Rattle.refusal.specs.declared.Checked.the-variants.{Refused}
+use Rattle.promises.specs.declared.Refusal.the-variants.{Price, IdleCut}
+use Rattle.promises.specs.declared.Checked.the-variants.{Refused}
 use Rattle.idle.specs.Idle.{tree-checks}
 use Rattle.plan.specs.Trees.{DrawnAs, PlanOf, tree-report}
 use Rattle.plan.specs.Calls.{arrays-answer}

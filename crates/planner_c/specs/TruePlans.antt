@@ -6,7 +6,7 @@ use Prim.Native.Nat.{ℕ}
 use Rattle.cutting.specs.Lists.{over}
 use Rattle.cutting.specs.Pieces.{_⊑_}
 use Rattle.cutting.specs.Preorder.{kinds-of, operands-of, node-count}
-use Rattle.job.specs.declared.Choices.{Choices}
+use Rattle.promises.specs.declared.Choices.{Choices}
 use Rattle.job.specs.Weights.{block-job}
 use Rattle.plan.specs.Trees.{tree-in}
 use Rattle.neat.specs.Neat.{NeatLeaves}

@@ -7,7 +7,7 @@ use Prim.Native.Nat.{ℕ}
 use lib.ListN.{length}
 use Rattle.cutting.specs.Job.{Job}
 use Rattle.refusal.specs.Refusals.{Outcome}
-use Rattle.job.specs.declared.Choices.{Choices}
+use Rattle.promises.specs.declared.Choices.{Choices}
 use Rattle.job.specs.Weights.{weight-in}
 use Rattle.bound.specs.Bound.{Memory, wide-job, block-capacity, bound-answer, BoundLeaves}
 use Rattle.two_bound.specs.Two.{weighed-verdict, block-figure, two-outcome, TwoLeaves, TwoHolds, with-second-none}

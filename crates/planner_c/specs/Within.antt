@@ -12,9 +12,9 @@ use Rattle.cutting.specs.Shares.{stages}
 use Rattle.cutting.specs.Job.{Job}
 use Rattle.cutting.specs.Staged.{paths, path-stages, staged-bound, NoneStagedBetter}
 use Rattle.refusal.specs.Refusals.{first-refusal}
-use Rattle.refusal.specs.declared.Refusal.the-variants.{ManyStages}
-use Rattle.refusal.specs.declared.Checked.the-variants.{Refused}
-use Rattle.job.specs.declared.Choices.{Choices}
+use Rattle.promises.specs.declared.Refusal.the-variants.{ManyStages}
+use Rattle.promises.specs.declared.Checked.the-variants.{Refused}
+use Rattle.promises.specs.declared.Choices.{Choices}
 use Rattle.job.specs.Weights.{weight-in}
 use Rattle.stages.specs.Stages.{path-checks}
 use Rattle.plan.specs.Trees.{DrawnAs, PlanOf, tree-report, Reports}

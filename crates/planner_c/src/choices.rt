@@ -1,6 +1,6 @@
 // The word of choices, a bit for each, and the two tests that stand before every call: words enough for the answer, and no bit without
 // meaning.
-use job::Choices;
+use promises::Choices;
 ghost use mathlib.Core.Path.{_≡_};
 ghost use Prim.Native.Nat.{_≤_};
 ghost use Rattle.planner_c.specs.Exports.{unknown, bit, choices-of, early};

@@ -1,7 +1,7 @@
 // The check of a rack of plates over three slices of one length: plate lengths, plate widths and the profits, which a pass writes. Thin over
 // `rack::check_plates`.
 use crate::choices;
-use refusal::Refusal;
+use promises::Refusal;
 ghost use mathlib.Core.Path.{_≡_};
 ghost use Rattle.planner_c.specs.Exports.{choices-of, returned, answered, Left};
 ghost use Rattle.planner_c.specs.Racks.{racked-said, ProfitsLeft, RackGiven};

@@ -9,11 +9,11 @@ use Rattle.cutting.specs.Job.{Job, InRange, widened, capacity, bound-of}
 use Rattle.cutting.proofs.Members.{range-solid}
 use Rattle.cutting.proofs.Bound.{bound-ceiling}
 use Rattle.refusal.specs.Refusals.{next, first-refusal, outcome-by}
-use Rattle.refusal.specs.declared.Refusal.{Refusal}
-use Rattle.refusal.specs.declared.Checked.{Checked}
-use Rattle.refusal.specs.declared.Checked.the-variants.{Passed, Refused}
-use Rattle.job.specs.declared.Choices.{Choices}
-use Rattle.job.specs.declared.JobRecord.{JobRecord}
+use Rattle.promises.specs.declared.Refusal.{Refusal}
+use Rattle.promises.specs.declared.Checked.{Checked}
+use Rattle.promises.specs.declared.Checked.the-variants.{Passed, Refused}
+use Rattle.promises.specs.declared.Choices.{Choices}
+use Rattle.promises.specs.declared.JobRecord.{JobRecord}
 use Rattle.job.specs.Block.{record-of, job-of}
 use Rattle.job.specs.Weights.{block-job, weight-in, Accepted}
 use Rattle.job.proofs.Checks.{passed-both}
@@ -25,16 +25,16 @@ use Rattle.orders.proofs.Orders.{costs-not-held}
 use Rattle.orders.proofs.Needed.{fewest, no-fewer}
 use Rattle.bound.specs.Bound.{Memory, Leaves, memory-checks, accept-verdict, bound-verdict, block-capacity, bound-report, BoundLeaves}
 use Rattle.bound.specs.Contracts.{RecordBounded}
-use Rattle.bound.specs.declared.BoundReport.{BoundReport}
-use Rattle.bound.specs.declared.BoundAnswer.{BoundAnswer}
-use Rattle.bound.specs.declared.BoundAnswer.the-variants as bound
+use Rattle.promises.specs.declared.BoundReport.{BoundReport}
+use Rattle.promises.specs.declared.BoundAnswer.{BoundAnswer}
+use Rattle.promises.specs.declared.BoundAnswer.the-variants as bound
 use Rattle.bound.proofs.Calls.{record-ready}
 use Rattle.bound.proofs.Holds.{bound-held, answered-behind, refused-behind}
 use Rattle.plates_needed.specs.Plates.{plates-report, plates-by, block-plates, plates-answer, plates-values, plates-outcome, PlatesHold, NeededPromises}
 use Rattle.plates_needed.specs.Contracts.{Countable, Counted}
-use Rattle.plates_needed.specs.declared.PlatesReport.{PlatesReport}
-use Rattle.plates_needed.specs.declared.PlatesAnswer.{PlatesAnswer}
-use Rattle.plates_needed.specs.declared.PlatesAnswer.the-variants as answer
+use Rattle.promises.specs.declared.PlatesReport.{PlatesReport}
+use Rattle.promises.specs.declared.PlatesAnswer.{PlatesAnswer}
+use Rattle.promises.specs.declared.PlatesAnswer.the-variants as answer
 
 -- the plates needed of a job in range, at its own bound
 plates-held : (J : Job) (weight : ℕ → ℕ) (other : ℕ) → InRange J → PlatesHold J weight other (capacity J weight) (plates-needed J (bound-of J weight) other) (bound-of J weight) (order-worth J)

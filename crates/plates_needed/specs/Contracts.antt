@@ -4,12 +4,12 @@ use mathlib.Core.List.{List}
 use Prim.Native.Nat.{ℕ}
 use Rattle.cutting.specs.Job.{Job, widened, capacity}
 use Rattle.refusal.specs.Refusals.{first-refusal}
-use Rattle.refusal.specs.declared.Checked.the-variants.{Passed}
+use Rattle.promises.specs.declared.Checked.the-variants.{Passed}
 use Rattle.job.specs.Weights.{weight-in}
 use Rattle.bound.specs.Bound.{Memory, Leaves, memory-checks}
 use Rattle.bound.specs.Contracts.{RecordBoundable}
 use Rattle.plates_needed.specs.Plates.{plates-report, plates-by}
-use Rattle.plates_needed.specs.declared.PlatesAnswer.{PlatesAnswer}
+use Rattle.promises.specs.declared.PlatesAnswer.{PlatesAnswer}
 
 -- a job in range with its weights and their capacity
 pub record Countable (J : Job) (q : ℕ) (weights : List ℕ) : Type 0 where

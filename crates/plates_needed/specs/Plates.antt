@@ -4,15 +4,16 @@ use mathlib.Core.Path.{_≡_}
 use mathlib.Core.List.{List, [], _∷_}
 use Prim.Native.Nat.{ℕ}
 use Rattle.cutting.specs.Job.{Job, widened, bound-of}
-use Rattle.refusal.specs.Refusals.{Outcome, by-check, refused-as, outcome-by}
-use Rattle.refusal.specs.declared.Checked.{Checked}
-use Rattle.job.specs.declared.Choices.{Choices}
+use Rattle.refusal.specs.Refusals.{Outcome, by-check, outcome-by}
+use Rattle.promises.specs.declared.Checked.{Checked}
+use Rattle.promises.specs.declared.Choices.{Choices}
 use Rattle.job.specs.Weights.{block-job, weight-in, Accepted}
 use Rattle.orders.specs.Orders.{order-worth, left-beside, plates-needed, Fewest, NoFewer, CheaperNotHeld}
 use Rattle.bound.specs.Bound.{Memory, bound-verdict, block-capacity, bound-report, BoundLeaves, BoundHolds}
-use Rattle.plates_needed.specs.declared.PlatesReport.{PlatesReport}
-use Rattle.plates_needed.specs.declared.PlatesAnswer.{PlatesAnswer}
-use Rattle.plates_needed.specs.declared.PlatesAnswer.the-variants as answer
+use Rattle.promises.specs.declared.PlatesReport.{PlatesReport}
+use Rattle.promises.specs.declared.PlatesAnswer.{PlatesAnswer}
+use Rattle.promises.specs.declared.PlatesAnswer.the-variants as answer
+pub use Rattle.promises.specs.Orders.{plates-outcome}
 
 -- what the call reports of a job, weights and a capacity, beside other plates: the plates needed, the bound and the order's worth
 abbrev pub plates-report : Job → (ℕ → ℕ) → (other q : ℕ) → PlatesReport
@@ -34,11 +35,6 @@ plates-answer s choices ws other m = plates-by (bound-verdict s choices ws m) (b
 -- a report's values: the plates needed, the bound and the order's worth
 abbrev pub plates-values : PlatesReport → List ℕ
 plates-values b = b .plates ∷ b .bound ∷ b .worth ∷ []
-
--- an answer's number and values
-abbrev pub plates-outcome : PlatesAnswer → Outcome
-plates-outcome (answer.Answered b) = (0, plates-values b)
-plates-outcome (answer.Refused r) = refused-as r
 
 -- the number and values that the call answers
 abbrev pub plates-said : List ℕ → Choices → List ℕ → ℕ → Memory → Outcome

@@ -1,11 +1,13 @@
 // How many plates a whole order needs: the bound of one plate, what the order is worth at the job's prices, and the least number of plates
 // whose bounds come to that, beside what other plates earn. The numbers and the memory of the bound call.
-use bound::BoundAnswer;
 use bound::bound_of_record;
-use job::Choices;
-use job::JobRecord;
-use refusal::Checked;
-use refusal::Refusal;
+use promises::BoundAnswer;
+use promises::Checked;
+use promises::Choices;
+use promises::JobRecord;
+use promises::PlatesAnswer;
+use promises::PlatesReport;
+use promises::Refusal;
 ghost use mathlib.Core.Path.{_≡_};
 ghost use lib.ListN.{length};
 ghost use Rattle.cutting.specs.Limits.{most-kinds};
@@ -14,19 +16,6 @@ ghost use Rattle.job.specs.Weights.{weight-in};
 ghost use Rattle.bound.specs.Bound.{lent};
 ghost use Rattle.plates_needed.specs.Plates.{NeededPromises};
 ghost use Rattle.plates_needed.specs.Contracts.{Countable, Counted};
-
-// What the call reports: the plates needed, the bound of one, and what the order is worth.
-pub struct PlatesReport {
-    pub plates: u64,
-    pub bound: u64,
-    pub worth: u64,
-}
-
-// What the call answers.
-pub enum PlatesAnswer {
-    Answered(PlatesReport),
-    Refused(Refusal),
-}
 
 // The plates that the order of a record in range needs: refusals 19 and 20, then the lists, the table and the report.
 fn plates_of_record(

@@ -7,7 +7,7 @@ use native.Mathlib.Numerals.{add-one}
 use native.Mathlib.Omega.{arith}
 use lib.ListN.{length, getD, take}
 use lib.Seq.{getD-take, length-take-le}
-use Rattle.cutting.specs.declared.Direction.{Direction}
+use Rattle.promises.specs.declared.Direction.{Direction}
 use Rattle.cutting.specs.Tree.{side}
 use Rattle.cutting.specs.Job.{Job, normal-positions, normal-floor}
 use Rattle.cutting.proofs.Table.{positions-first, positions-rise, positions-some, positions-floor}

@@ -8,7 +8,7 @@ use native.Mathlib.Omega.{arith}
 use lib.Dec.{T}
 use lib.ListN.{length, getD, take, List·getD-eq-default}
 use lib.Seq.{getD-take, length-take-le}
-use Rattle.cutting.specs.Normal.{Sum, none, more, normal?}
+use Rattle.cutting.specs.Normal.{Sum, empty, more, normal?}
 use Rattle.cutting.proofs.Normal.{normal-sum}
 use Rattle.cutting.proofs.Positions.{getD-mem, mem-getD}
 use Rattle.positions.specs.Contracts.{entry, Positive, Marked}
@@ -23,7 +23,7 @@ is-false false n = refl
 
 -- 0 is a sum
 pub sum-zero : (zs : List ℕ) → normal? zs 0 ≡ true
-sum-zero zs = is-true (normal? zs 0) (normal-sum zs 0 .1 none)
+sum-zero zs = is-true (normal? zs 0) (normal-sum zs 0 .1 empty)
 
 -- where no entry is 0, none is past the end
 positive-length : (fit : List ℕ) (n : ℕ) → Positive (entry fit) n → n ≤ length fit
@@ -53,7 +53,7 @@ module _ (fit : List ℕ) (n x : ℕ) (marks : List Bool) (positive : Positive (
   sum-missing p leads = is-false (normal? zs x) (λ t. go (normal-sum zs x .0 t) refl)
     where
       go : {k : ℕ} → Sum zs k → k ≡ x → ⊥
-      go none e = omega arith
+      go empty e = omega arith
       go (more {n = k} a m s f) e =
           let i = mem-getD zs a 0 m in
           let l : i .0 < n = omega (arith, i .1, zs-length) in

@@ -5,10 +5,10 @@ use mathlib.Core.List.{List}
 use Prim.Native.Nat.{ℕ}
 use native.Mathlib.Omega.{arith}
 use Rattle.cutting.specs.Job.{Job}
-use Rattle.refusal.specs.declared.Refusal.{Refusal}
-use Rattle.refusal.specs.declared.Checked.{Checked}
-use Rattle.refusal.specs.declared.Checked.the-variants.{Passed, Refused}
-use Rattle.plan.specs.declared.PlanAnswer.{PlanAnswer}
+use Rattle.promises.specs.declared.Refusal.{Refusal}
+use Rattle.promises.specs.declared.Checked.{Checked}
+use Rattle.promises.specs.declared.Checked.the-variants.{Passed, Refused}
+use Rattle.promises.specs.declared.PlanAnswer.{PlanAnswer}
 use Rattle.plan.specs.Trees.{ChecksPlan}
 use Rattle.printer.specs.Printer.{DemandsKept}
 

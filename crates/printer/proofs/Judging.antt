@@ -12,8 +12,8 @@ use Rattle.cutting.specs.Tree.{Tree}
 use Rattle.cutting.specs.Pieces.{Piece}
 use Rattle.cutting.specs.Preorder.{kinds-of, operands-of}
 use Rattle.cutting.specs.Job.{Job}
-use Rattle.refusal.specs.declared.Refusal.{Refusal}
-use Rattle.job.specs.declared.Choices.{Choices}
+use Rattle.promises.specs.declared.Refusal.{Refusal}
+use Rattle.promises.specs.declared.Choices.{Choices}
 use Rattle.job.specs.Weights.{block-job}
 use Rattle.job.proofs.Weights.{accepted-both}
 use Rattle.plan.specs.Trees.{trees-in, first-tree, tree-in, PlanOf}
@@ -21,9 +21,9 @@ use Rattle.plan.specs.Calls.{JobPasses}
 use Rattle.plan.proofs.Preorder.{written, arrays-written, kinds-length, operands-length}
 use Rattle.plan.proofs.Drawn.{trees-tree, drawn-is}
 use Rattle.bound.specs.Bound.{Memory}
-use Rattle.writer.specs.declared.WriteReport.{WriteReport}
-use Rattle.writer.specs.declared.WriteAnswer.{WriteAnswer}
-use Rattle.writer.specs.declared.WriteAnswer.the-variants as write
+use Rattle.promises.specs.declared.WriteReport.{WriteReport}
+use Rattle.promises.specs.declared.WriteAnswer.{WriteAnswer}
+use Rattle.promises.specs.declared.WriteAnswer.the-variants as write
 use Rattle.writer.specs.Write.{block-plan, write-answer, WritePromises}
 use Rattle.writer.proofs.Call.{written-fits, written-accepted}
 use Rattle.printer.specs.declared.Judged.{Judged}

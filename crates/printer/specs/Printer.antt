@@ -10,13 +10,13 @@ use Rattle.cutting.specs.Limits.{most-nodes}
 use Rattle.cutting.specs.Preorder.{kinds-of, operands-of, node-count}
 use Rattle.cutting.specs.Job.{Job, KeepsDemands, profit}
 use Rattle.cutting.specs.Promises.{NoneBetter}
-use Rattle.refusal.specs.declared.Refusal.{Refusal}
-use Rattle.job.specs.declared.Choices.{Choices}
+use Rattle.promises.specs.declared.Refusal.{Refusal}
+use Rattle.promises.specs.declared.Choices.{Choices}
 use Rattle.job.specs.Block.{count-at}
 use Rattle.job.specs.Weights.{block-job}
 use Rattle.plan.specs.Trees.{PlanOf}
 use Rattle.bound.specs.Bound.{Memory}
-use Rattle.writer.specs.declared.WriteAnswer.the-variants as write
+use Rattle.promises.specs.declared.WriteAnswer.the-variants as write
 use Rattle.writer.specs.Write.{block-plan, write-answer}
 use Rattle.printer.specs.declared.Judged.{Judged}
 use Rattle.printer.specs.declared.Judgement.{Judgement}

@@ -1,14 +1,14 @@
 // The bound printer: splits the input into an old job block and weights, and prints the bound and the plan behind it, or the refusal.
 // What decides is proved here or in the crates below: where the job ends, the plan with its profit, whether it is best.
-use job::Choices;
 use job::read_job;
 use job::read_u16;
 use libc::STDOUT_FILENO;
 use plan::check_plan;
-use refusal::Checked;
-use refusal::Refusal;
-use writer::WriteAnswer;
-use writer::WriteReport;
+use promises::Checked;
+use promises::Choices;
+use promises::Refusal;
+use promises::WriteAnswer;
+use promises::WriteReport;
 use writer::write_plan;
 ghost use mathlib.Core.Path.{_≡_};
 ghost use Prim.Native.Nat.{_≤_};

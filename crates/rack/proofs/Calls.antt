@@ -15,12 +15,12 @@ use Rattle.cutting.specs.Job.{Job, OnPlate, profit, SolidKinds}
 use Rattle.cutting.proofs.AnyKinds.{any-on}
 use Rattle.cutting.proofs.Demands.{sum-le}
 use Rattle.refusal.specs.Refusals.{number-of, place-of, next, first-refusal, outcome-by}
-use Rattle.refusal.specs.declared.Refusal.{Refusal}
-use Rattle.refusal.specs.declared.Refusal.the-variants.{IdleCut, RackDemand}
-use Rattle.refusal.specs.declared.Checked.{Checked}
-use Rattle.refusal.specs.declared.Checked.the-variants.{Passed, Refused}
-use Rattle.job.specs.declared.Choices.{Choices}
-use Rattle.job.specs.declared.JobRecord.{JobRecord}
+use Rattle.promises.specs.declared.Refusal.{Refusal}
+use Rattle.promises.specs.declared.Refusal.the-variants.{IdleCut, RackDemand}
+use Rattle.promises.specs.declared.Checked.{Checked}
+use Rattle.promises.specs.declared.Checked.the-variants.{Passed, Refused}
+use Rattle.promises.specs.declared.Choices.{Choices}
+use Rattle.promises.specs.declared.JobRecord.{JobRecord}
 use Rattle.job.specs.Block.{count-at, plateless-checks, pair-checks, record-of, job-of}
 use Rattle.job.specs.Contracts.{HoldsBlock}
 use Rattle.job.specs.Weights.{block-job}
@@ -31,7 +31,7 @@ use Rattle.plan.specs.Plan.{nodes-in, left-check, plan-checks}
 use Rattle.plan.proofs.Parse.{no-pass}
 use Rattle.plan.proofs.Preorder.{written, firsts, seconds, arrays-written, kinds-length, operands-length}
 use Rattle.plan.proofs.Whole.{whole-counts}
-use Rattle.rack.specs.declared.RackAnswer.{RackAnswer}
+use Rattle.promises.specs.declared.RackAnswer.{RackAnswer}
 use Rattle.rack.specs.Check.{plate-at, rack-size-check, order-checks, plate-checks, rack-checks, own-answer, total-checks, with-own, rack-passed, rack-stopped, rack-by, rack-walk, plans-answer, rack-answer, rack-outcome}
 use Rattle.rack.specs.Promises.{OrderPasses, BeforePasses, RackOf, RackUpTo, IdleAt, OverAt, RackChecks, PlatesPromises}
 use Rattle.orders.specs.Racks.{plated, SharesDemands, chained}

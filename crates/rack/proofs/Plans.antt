@@ -7,12 +7,12 @@ use lib.ListN.{length, set, replicate, length-set, length-replicate}
 use Rattle.cutting.specs.Tree.{Rect}
 use Rattle.cutting.specs.Job.{Job}
 use Rattle.refusal.specs.Refusals.{next, first-refusal}
-use Rattle.refusal.specs.declared.Refusal.{Refusal}
-use Rattle.refusal.specs.declared.Checked.{Checked}
-use Rattle.refusal.specs.declared.Checked.the-variants.{Passed, Refused}
+use Rattle.promises.specs.declared.Refusal.{Refusal}
+use Rattle.promises.specs.declared.Checked.{Checked}
+use Rattle.promises.specs.declared.Checked.the-variants.{Passed, Refused}
 use Rattle.plan.specs.declared.TreeAnswer.{TreeAnswer}
 use Rattle.plan.specs.Plan.{left-check}
-use Rattle.rack.specs.declared.RackAnswer.{RackAnswer}
+use Rattle.promises.specs.declared.RackAnswer.{RackAnswer}
 use Rattle.orders.specs.Racks.{plated}
 use Rattle.rack.specs.Check.{own-answer, total-checks, with-own, rack-passed, rack-stopped, rack-by, rack-walk, plans-answer}
 use Rattle.rack.proofs.Own.{own-inside, own-passed}

@@ -10,15 +10,15 @@ use lib.ListN.{length, take, getD, set, length-set, length-map}
 use lib.Seq.{take-suc, take-length, take-suc-set}
 use borrow.Author.Tests.{lt-ltb, le-ltb}
 use Rattle.refusal.specs.Refusals.{by-check, refuse-when}
-use Rattle.refusal.specs.declared.Refusal.the-variants.{RackSize}
-use Rattle.refusal.specs.declared.Checked.{Checked}
-use Rattle.refusal.specs.declared.Checked.the-variants.{Passed, Refused}
-use Rattle.job.specs.declared.Choices.{Choices}
+use Rattle.promises.specs.declared.Refusal.the-variants.{RackSize}
+use Rattle.promises.specs.declared.Checked.{Checked}
+use Rattle.promises.specs.declared.Checked.the-variants.{Passed, Refused}
+use Rattle.promises.specs.declared.Choices.{Choices}
 use Rattle.job.specs.Weights.{block-job}
 use Rattle.job.proofs.Checks.{check-stops}
-use Rattle.rack.specs.declared.Plate.{Plate}
+use Rattle.promises.specs.declared.Plate.{Plate}
 use Rattle.rack.specs.declared.RackSides.{RackSides}
-use Rattle.rack.specs.declared.RackAnswer.{RackAnswer}
+use Rattle.promises.specs.declared.RackAnswer.{RackAnswer}
 use Rattle.rack.specs.Check.{plate-at, rack-size-check, rack-checks, rack-by, rack-stopped, plans-answer, rack-answer}
 use Rattle.rack.specs.Records.{blank, paid, paid-count, lengths-of, widths-of, records-answer, RackPromises}
 use Rattle.rack.specs.Read.{too-many, read-count, no-sides, with-plate, sides-of, first-answer}

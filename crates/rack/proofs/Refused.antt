@@ -15,10 +15,10 @@ use Rattle.cutting.specs.Pieces.{Piece}
 use Rattle.cutting.specs.Preorder.{node-count}
 use Rattle.cutting.specs.Job.{Job, OnPlate, copies-of, KeepsDemands}
 use Rattle.refusal.specs.Refusals.{Check, number-of, by-check, next, first-refusal}
-use Rattle.refusal.specs.declared.Refusal.{Refusal}
-use Rattle.refusal.specs.declared.Refusal.the-variants.{RackDemand}
-use Rattle.refusal.specs.declared.Checked.{Checked}
-use Rattle.refusal.specs.declared.Checked.the-variants.{Passed, Refused}
+use Rattle.promises.specs.declared.Refusal.{Refusal}
+use Rattle.promises.specs.declared.Refusal.the-variants.{RackDemand}
+use Rattle.promises.specs.declared.Checked.{Checked}
+use Rattle.promises.specs.declared.Checked.the-variants.{Passed, Refused}
 use Rattle.job.specs.Block.{each-kind}
 use Rattle.job.proofs.Checks.{first-append}
 use Rattle.job.proofs.Entries.{entries-in}
@@ -30,7 +30,7 @@ use Rattle.plan.specs.Trees.{tree-report}
 use Rattle.plan.proofs.Preorder.{written, count-written}
 use Rattle.plan.proofs.Parse.{no-pass}
 use Rattle.plan.proofs.Among.{tree-drawn}
-use Rattle.rack.specs.declared.RackAnswer.{RackAnswer}
+use Rattle.promises.specs.declared.RackAnswer.{RackAnswer}
 use Rattle.orders.specs.Racks.{plated, chained}
 use Rattle.rack.specs.Check.{walked-at, own-answer, total-check, total-checks, with-own, rack-passed, rack-by, rack-walk}
 use Rattle.orders.proofs.Racks.{sum-first}

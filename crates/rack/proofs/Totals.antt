@@ -11,8 +11,8 @@ use lib.ListN.{length, getD, set, length-set}
 use lib.Seq.{getD-set-same, getD-set-other}
 use borrow.Author.Tests.{ltb-false}
 use Rattle.refusal.specs.Refusals.{Check, refuse-when, first-refusal}
-use Rattle.refusal.specs.declared.Refusal.the-variants.{RackDemand}
-use Rattle.refusal.specs.declared.Checked.the-variants.{Passed, Refused}
+use Rattle.promises.specs.declared.Refusal.the-variants.{RackDemand}
+use Rattle.promises.specs.declared.Checked.the-variants.{Passed, Refused}
 use Rattle.job.specs.Block.{each-kind}
 use Rattle.job.proofs.Checks.{Decides, begins, passes, stops, ends, check-last, cons-passed, each-passed}
 use Rattle.plan.proofs.Parse.{no-pass}

@@ -14,9 +14,9 @@ use Rattle.cutting.specs.Pieces.{Piece}
 use Rattle.cutting.specs.Preorder.{preorder, node-count, kinds-of}
 use Rattle.cutting.specs.Job.{Job, OnPlate, profit, copies-of, KeepsDemands}
 use Rattle.refusal.specs.Refusals.{Check, by-check, next, first-refusal}
-use Rattle.refusal.specs.declared.Refusal.the-variants.{RackDemand}
-use Rattle.refusal.specs.declared.Checked.{Checked}
-use Rattle.refusal.specs.declared.Checked.the-variants.{Passed, Refused}
+use Rattle.promises.specs.declared.Refusal.the-variants.{RackDemand}
+use Rattle.promises.specs.declared.Checked.{Checked}
+use Rattle.promises.specs.declared.Checked.the-variants.{Passed, Refused}
 use Rattle.node.proofs.Nodes.{pair-of}
 use Rattle.job.specs.Block.{each-kind}
 use Rattle.job.proofs.Checks.{cons-passed, passed-both, passed-append}
@@ -30,7 +30,7 @@ use Rattle.plan.proofs.Walk.{nodes-length}
 use Rattle.plan.proofs.Preorder.{written, firsts, count-written}
 use Rattle.plan.proofs.Parse.{no-pass}
 use Rattle.plan.proofs.Among.{Drawn, tree-drawn, drawn-tree}
-use Rattle.rack.specs.declared.RackAnswer.{RackAnswer}
+use Rattle.promises.specs.declared.RackAnswer.{RackAnswer}
 use Rattle.orders.specs.Racks.{plated, chained}
 use Rattle.rack.specs.Check.{walked-at, idle-at, own-answer, total-check, total-checks, with-own, rack-passed, rack-by, rack-walk}
 use Rattle.orders.proofs.Racks.{sum-first}

@@ -9,9 +9,9 @@ use lib.Dec.{ltb, eqb}
 use lib.ListN.{length, getD, set}
 use Rattle.cutting.specs.Tree.{Rect}
 use Rattle.cutting.specs.Job.{Job}
-use Rattle.refusal.specs.declared.Refusal.the-variants.{ShortHeader, KindCount, Kerf, BlockLength, KindSide, Price, Demand, Grain}
+use Rattle.promises.specs.declared.Refusal.the-variants.{ShortHeader, KindCount, Kerf, BlockLength, KindSide, Price, Demand, Grain}
 use Rattle.refusal.specs.Refusals.{next, first-refusal}
-use Rattle.job.specs.declared.Choices.{Choices}
+use Rattle.promises.specs.declared.Choices.{Choices}
 use Rattle.job.specs.Block.{u16-at, u32-at, plate-length-at, plate-width-at, count-at, kerf-at, sizes-end, length-at, width-at, price-at, demand-at, outside, sides-outside, each-kind, entries, record-of, job-from, grain-at, kind-bytes, grain-checks, grains-of}
 use Rattle.job.specs.Weights.{block-job}
 use Rattle.job.proofs.Read.{sizes-least}

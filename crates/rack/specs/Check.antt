@@ -10,21 +10,19 @@ use Rattle.cutting.specs.Limits.{most-kinds}
 use Rattle.cutting.specs.Tree.{Rect}
 use Rattle.cutting.specs.Job.{Job}
 use Rattle.refusal.specs.Refusals.{Check, Outcome, by-check, next, first-refusal, outcome-by}
-use Rattle.refusal.specs.declared.Refusal.the-variants.{RackSize, RackSide, RackDemand}
-use Rattle.refusal.specs.declared.Checked.{Checked}
-use Rattle.refusal.specs.declared.Checked.the-variants.{Passed, Refused}
-use Rattle.job.specs.declared.Choices.{Choices}
-use Rattle.job.specs.Block.{outside, sides-outside, plateless-checks, pair-checks, each-kind, checks-by}
+use Rattle.promises.specs.declared.Refusal.the-variants.{RackSize, RackSide, RackDemand}
+use Rattle.promises.specs.declared.Checked.{Checked}
+use Rattle.promises.specs.declared.Checked.the-variants.{Passed, Refused}
+use Rattle.promises.specs.declared.Choices.{Choices}
+use Rattle.job.specs.Block.{outside, sides-outside, each-kind}
 use Rattle.job.specs.Weights.{block-job}
 use Rattle.idle.specs.Idle.{idle-checks}
 use Rattle.plan.specs.declared.TreeAnswer.{TreeAnswer}
 use Rattle.plan.specs.Plan.{nodes-in, empty-report, tree-stopped, tree-walk, left-check, plan-checks}
-use Rattle.rack.specs.declared.RackAnswer.{RackAnswer}
+use Rattle.promises.specs.declared.RackAnswer.{RackAnswer}
 use Rattle.orders.specs.Racks.{plated}
-
--- the most plates of a rack
-abbrev pub most-plates : ℕ
-most-plates = 16
+pub use Rattle.promises.specs.Refusals.{most-plates}
+unfoldable pub use Rattle.promises.specs.Block.{order-checks}
 
 -- plate i of a rack, from the arrays of its sides
 abbrev pub plate-at : List ℕ → List ℕ → ℕ → Rect
@@ -33,10 +31,6 @@ plate-at lengths widths i = (getD lengths i 0, getD widths i 0)
 -- 28: not 1 to 16 plates, or not as many lengths as widths
 abbrev pub rack-size-check : List ℕ → List ℕ → Check
 rack-size-check lengths widths = (not (eqb (length lengths) (length widths)) || outside 1 most-plates (length lengths), RackSize)
-
--- the checks of a job block whose plate is not read: 1, 3, 27, 4, then 5 to 7 and 35 and 35
-unfoldable pub order-checks : List ℕ → Choices → List Check
-order-checks s choices = checks-by plateless-checks pair-checks s choices
 
 -- 2, of plate i
 abbrev pub plate-check : (ℕ → Rect) → ℕ → List Check

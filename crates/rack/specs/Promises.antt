@@ -12,16 +12,17 @@ use Rattle.cutting.specs.Preorder.{node-count, kinds-of, operands-of}
 use Rattle.cutting.specs.Job.{Job, profit, copies-of, KeepsDemands}
 use Rattle.cutting.specs.Promises.{NoneAbove, NoneFiner}
 use Rattle.refusal.specs.Refusals.{first-refusal}
-use Rattle.refusal.specs.declared.Refusal.{Refusal}
-use Rattle.refusal.specs.declared.Refusal.the-variants.{IdleCut, RackDemand}
-use Rattle.refusal.specs.declared.Checked.the-variants.{Passed, Refused}
-use Rattle.job.specs.declared.Choices.{Choices}
+use Rattle.promises.specs.declared.Refusal.{Refusal}
+use Rattle.promises.specs.declared.Refusal.the-variants.{IdleCut, RackDemand}
+use Rattle.promises.specs.declared.Checked.the-variants.{Passed, Refused}
+use Rattle.promises.specs.declared.Choices.{Choices}
 use Rattle.job.specs.Block.{plate-length-at, plate-width-at}
 use Rattle.job.specs.Weights.{block-job}
 use Rattle.idle.specs.Idle.{tree-checks}
-use Rattle.rack.specs.declared.RackAnswer.{RackAnswer}
+use Rattle.promises.specs.declared.RackAnswer.{RackAnswer}
 use Rattle.orders.specs.Racks.{plated, OnPlates, SharesDemands, NoneTogether, NoneTogetherFiner, rack-bound, chained}
 use Rattle.rack.specs.Check.{most-plates, plate-at, order-checks, rack-checks, rack-answer, rack-outcome, rack-said}
+pub use Rattle.promises.specs.Block.{OnlyPlate}
 
 -- no check of a job block beside its plate's refuses it
 abbrev pub OrderPasses : List ℕ → Choices → Type 0
@@ -60,11 +61,6 @@ IdleAt J n plate kinds operands k = (tree : ℕ → Tree Piece) × (i : ℕ) × 
 abbrev pub OverAt : Job → ℕ → (ℕ → Rect) → List ℕ → List ℕ → ℕ → Type 0
 OverAt J n plate kinds operands i = (tree : ℕ → Tree Piece) × (i < n) × RackUpTo J i plate tree kinds operands × IdleFree (tree i)
     × ((j : ℕ) × (j < J .count) × (J .demand j < sum (suc i) (λ p. copies-of j (tree p))))
-
--- two blocks of one length that differ only in the sides of their plates, the first four bytes
-pub record OnlyPlate (s z : List ℕ) : Type 0 where
-  pub same-length : length s ≡ length z
-  pub same-bytes : (k : ℕ) → 4 ≤ k → getD s k 0 ≡ getD z k 0
 
 -- what the check promises of a rack. Where no check before any plan's refuses, it passes exactly for the plans of
 -- trees; it then has the profits of those trees, and else zeros. It gives 26 and 29 exactly where those checks pass and trees, one a plate, have

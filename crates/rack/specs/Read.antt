@@ -5,11 +5,11 @@ use Prim.Native.Nat.{ℕ, zero, suc}
 use lib.Dec.{ltb}
 use lib.ListN.{take, getD, set, replicate}
 use Rattle.refusal.specs.Refusals.{by-check, refuse-when}
-use Rattle.refusal.specs.declared.Refusal.the-variants.{RackSize}
-use Rattle.refusal.specs.declared.Checked.{Checked}
-use Rattle.job.specs.declared.Choices.{Choices}
-use Rattle.rack.specs.declared.Plate.{Plate}
-use Rattle.rack.specs.declared.RackAnswer.{RackAnswer}
+use Rattle.promises.specs.declared.Refusal.the-variants.{RackSize}
+use Rattle.promises.specs.declared.Checked.{Checked}
+use Rattle.promises.specs.declared.Choices.{Choices}
+use Rattle.promises.specs.declared.Plate.{Plate}
+use Rattle.promises.specs.declared.RackAnswer.{RackAnswer}
 use Rattle.rack.specs.declared.RackSides.{RackSides}
 use Rattle.rack.specs.Check.{most-plates, rack-by, rack-answer}
 use Rattle.rack.specs.Records.{blank}

@@ -1,8 +1,6 @@
 // A rack of plates for one order: plans stand one after another in the two arrays, each is checked on its own plate, and their copies add
 // up against one demand. The job's own plate is not read.
 use idle::idle_cut;
-use job::Choices;
-use job::JobRecord;
 use job::check_block;
 use job::read_record;
 use job::sides_outside;
@@ -11,8 +9,12 @@ use plan::check_left;
 use plan::check_whole;
 use plan::stop_tree;
 use plan::walk_tree;
-use refusal::Checked;
-use refusal::Refusal;
+use promises::Checked;
+use promises::Choices;
+use promises::JobRecord;
+use promises::Plate;
+use promises::RackAnswer;
+use promises::Refusal;
 use refusal::refuse_if;
 ghost use mathlib.Core.Path.{_≡_};
 ghost use mathlib.Core.List.{[], _∷_};
@@ -28,19 +30,6 @@ ghost use Rattle.rack.specs.Promises.{PlatesPromises};
 ghost use Rattle.rack.specs.Plates.{on-plate, OneEach, TotalsAfter};
 ghost use Rattle.rack.specs.Records.{paid, paid-count, RackPromises};
 ghost use Rattle.rack.specs.Read.{read-count, no-sides, with-plate, sides-of, first-answer};
-
-// A plate of a rack: its sides, and how much profit its checked plan brought.
-pub struct Plate {
-    pub length: u16,
-    pub width: u16,
-    pub profit: u64,
-}
-
-// What the check of a rack answers: where it passes, the profit of each of at most 16 plates, and 0 past the last; else zeros.
-pub struct RackAnswer {
-    pub verdict: Checked,
-    pub profits: [u64; 16],
-}
 
 // The sides of at most 16 plates as they were read, and 0 past the last.
 pub struct RackSides {

@@ -1,56 +1,9 @@
 // Refusals: a named case for each condition of the table of refusals, with its place where it has one, and the answer of a check.
 // Numbers and places are given once, by specs/Refusals; every other crate hands refusals on as they are.
+use promises::Checked;
+use promises::Refusal;
 ghost use mathlib.Core.Path.{_≡_};
 ghost use Rattle.refusal.specs.Refusals.{number-of, place-of, refuse-when};
-
-// The conditions of the table, in the order of their numbers; 2 is the job's own plate, or a plate of a rack.
-pub enum Refusal {
-    ShortHeader,
-    PlateSide,
-    RackSide(u16),
-    KindCount,
-    BlockLength,
-    KindSide(u16),
-    Price(u16),
-    Demand(u16),
-    WeightCount,
-    Capacity,
-    PlanLength,
-    NodeCount,
-    NodeKind(u16),
-    PieceNumber(u16),
-    Operand(u16),
-    Misfit(u16),
-    Excess(u16),
-    NodeMissing(u16),
-    NodeLeft(u16),
-    ListShort,
-    TableShort(u64),
-    PlanLong(u64),
-    StageLimit,
-    ManyStages(u16),
-    SecondCount,
-    CapacityProduct,
-    IdleCut(u16),
-    Kerf,
-    RackSize,
-    RackDemand(u16),
-    DemandProduct,
-    SizesLength,
-    TrueSize(u16),
-    NoModel(u16),
-    TrueMisfit(u16),
-    Grain(u16),
-    AgainstGrain(u16),
-    MultiplierCount,
-    Multiplier(u16),
-}
-
-// What a check answers: passed, or the first refusal met.
-pub enum Checked {
-    Passed,
-    Refused(Refusal),
-}
 
 // A line of the table: the number and the place.
 struct Line(u16, u64);

@@ -5,7 +5,7 @@ use mathlib.Core.List.{List}
 use Prim.Native.Nat.{ℕ, _+_, _≤_, _<_}
 use borrow.Author.Tests.{lt-ltb, le-ltb, eq-eqb, ne-eqb}
 use lib.Dec.{ltb, eqb}
-use Rattle.rounds.specs.declared.WeightsFound.{WeightsFound}
+use Rattle.promises.specs.declared.WeightsFound.{WeightsFound}
 use Rattle.rounds.specs.Contracts.{better}
 
 -- a later round whose bound is not less

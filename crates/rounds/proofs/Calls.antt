@@ -18,21 +18,21 @@ use Rattle.cutting.proofs.AnyKinds.{any-on}
 use Rattle.cutting.proofs.Finer.{none-finer}
 use Rattle.cutting.proofs.Promises.{none-above}
 use Rattle.refusal.specs.Refusals.{next, first-refusal, outcome-by}
-use Rattle.refusal.specs.declared.Refusal.{Refusal}
-use Rattle.refusal.specs.declared.Checked.{Checked}
-use Rattle.refusal.specs.declared.Checked.the-variants.{Passed, Refused}
-use Rattle.job.specs.declared.Choices.{Choices}
+use Rattle.promises.specs.declared.Refusal.{Refusal}
+use Rattle.promises.specs.declared.Checked.{Checked}
+use Rattle.promises.specs.declared.Checked.the-variants.{Passed, Refused}
+use Rattle.promises.specs.declared.Choices.{Choices}
 use Rattle.job.specs.Block.{job-checks}
 use Rattle.job.specs.Weights.{block-job, weight-in}
 use Rattle.job.proofs.Entries.{entries-length}
 use Rattle.job.proofs.Read.{read-in-range}
 use Rattle.job.proofs.Weights.{both-accepted}
-use Rattle.plan.specs.declared.Report.{Report}
-use Rattle.plan.specs.declared.PlanAnswer.{PlanAnswer}
+use Rattle.promises.specs.declared.Report.{Report}
+use Rattle.promises.specs.declared.PlanAnswer.{PlanAnswer}
 use Rattle.plan.specs.Plan.{proceed, plan-answer}
 use Rattle.plan.specs.Calls.{arrays-answer}
 use Rattle.plan.proofs.Plans.{plans-checked}
-use Rattle.rounds.specs.declared.WeightsFound.{WeightsFound}
+use Rattle.promises.specs.declared.WeightsFound.{WeightsFound}
 use Rattle.weight_steps.specs.Step.{pick-number}
 use Rattle.rounds.specs.Rounds.{Lent, weight-at, round-verdict, rounds-by, rounds-run, bound-at, best-round, found, refused-answer, find-answer-by, before-verdict, lower-figure, run-answer, find-verdict, find-found, find-answer, found-values, found-outcome, find-said, refuses, last-here, last-round, within, plan-copies, RunLeaves, LeastMet, RoundHolds, BoundAgain, FindPromises}
 use Rattle.weight_steps.proofs.Rules.{step-rules}

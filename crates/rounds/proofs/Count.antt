@@ -9,9 +9,9 @@ use lib.ListN.{length, getD, set, drop, length-map, List·getD-map, List·getD-a
 use lib.Seq.{getD-set-same, getD-set-other}
 use native.Mathlib.Decide.{ℕ-discrete}
 use borrow.Author.Tests.{eq-eqb, ne-eqb}
-use Rattle.cutting.specs.declared.Node.{Node}
-use Rattle.cutting.specs.declared.Direction.the-variants.{Length, Width}
-use Rattle.cutting.specs.declared.Node.the-variants.{Waste}
+use Rattle.promises.specs.declared.Node.{Node}
+use Rattle.promises.specs.declared.Direction.the-variants.{Length, Width}
+use Rattle.promises.specs.declared.Node.the-variants.{Waste}
 use Rattle.cutting.specs.Lists.{sum, only, over}
 use Rattle.cutting.specs.Tree.{Tree, waste, piece, cut, total}
 use Rattle.cutting.specs.Pieces as laid

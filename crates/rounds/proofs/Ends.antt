@@ -11,8 +11,8 @@ use lib.ListN.{length, getD, take, List·getD-eq-default}
 use lib.Seq.{length-take-le, getD-take}
 use Rattle.cutting.specs.Lists.{range, only, any}
 use Rattle.cutting.specs.Job.{Job, capacity}
-use Rattle.refusal.specs.declared.Refusal.{Refusal}
-use Rattle.job.specs.declared.JobRecord.{JobRecord}
+use Rattle.promises.specs.declared.Refusal.{Refusal}
+use Rattle.promises.specs.declared.JobRecord.{JobRecord}
 use Rattle.job.specs.declared.WeightsAnswer.{WeightsAnswer}
 use Rattle.job.specs.declared.WeightsAnswer.the-variants as weighed
 use Rattle.job.specs.Block.{entries, job-of}

@@ -8,8 +8,8 @@ use borrow.Author.Tests.{ltb-true, ltb-false, le-ltb, eq-eqb, not-true, not-fals
 use lib.Dec.{ltb, eqb}
 use Rattle.cutting.specs.Lists.{range, sum, any}
 use Rattle.cutting.specs.Job.{Job, capacity}
-use Rattle.refusal.specs.declared.Checked.{Checked}
-use Rattle.refusal.specs.declared.Checked.the-variants.{Passed, Refused}
+use Rattle.promises.specs.declared.Checked.{Checked}
+use Rattle.promises.specs.declared.Checked.the-variants.{Passed, Refused}
 use Rattle.weight_steps.specs.Step.{distance, pick-number}
 use Rattle.rounds.specs.Rounds.{plan-copies, squares, weight-at, within, Lent, round-verdict, refuses, last-here, last-from, last-round, rounds-by, rounds-run, StopRules}
 use Rattle.weight_steps.proofs.Sums.{any-none, any-more, none-passes}

@@ -12,23 +12,23 @@ use Rattle.cutting.specs.Lists.{range, sum, only, over}
 use Rattle.cutting.specs.Preorder.{kinds-of, operands-of, node-count}
 use Rattle.cutting.specs.Job.{Job, widened, counted, capacity, bound-of, bound-plan}
 use Rattle.refusal.specs.Refusals.{next, first-refusal}
-use Rattle.refusal.specs.declared.Refusal.{Refusal}
-use Rattle.refusal.specs.declared.Checked.{Checked}
-use Rattle.refusal.specs.declared.Checked.the-variants.{Passed, Refused}
-use Rattle.job.specs.declared.Choices.{Choices}
-use Rattle.job.specs.declared.JobRecord.{JobRecord}
+use Rattle.promises.specs.declared.Refusal.{Refusal}
+use Rattle.promises.specs.declared.Checked.{Checked}
+use Rattle.promises.specs.declared.Checked.the-variants.{Passed, Refused}
+use Rattle.promises.specs.declared.Choices.{Choices}
+use Rattle.promises.specs.declared.JobRecord.{JobRecord}
 use Rattle.job.specs.Block.{job-checks, entries, record-of, job-of}
 use Rattle.job.specs.Weights.{block-job, weight-in, weight-checks}
 use Rattle.job.proofs.Entries.{entries-length, entries-none}
 use Rattle.job.proofs.Read.{read-in-range}
 use Rattle.job.proofs.Weights.{both-accepted}
 use Rattle.bound.specs.Bound.{Leaves, memory-checks, storage-checks, bound-report, list-after, accept-verdict, BoundLeaves}
-use Rattle.writer.specs.declared.WriteReport.{WriteReport}
-use Rattle.writer.specs.declared.WriteAnswer.{WriteAnswer}
-use Rattle.writer.specs.declared.WriteAnswer.the-variants as write
+use Rattle.promises.specs.declared.WriteReport.{WriteReport}
+use Rattle.promises.specs.declared.WriteAnswer.{WriteAnswer}
+use Rattle.promises.specs.declared.WriteAnswer.the-variants as write
 use Rattle.writer.specs.Write.{nodes-check, nodes-verdict, reported, write-answer-by, block-plan, write-verdict, write-answer, array-after}
 use Rattle.writer.proofs.Call.{written-fits}
-use Rattle.rounds.specs.declared.WeightsFound.{WeightsFound}
+use Rattle.promises.specs.declared.WeightsFound.{WeightsFound}
 use Rattle.weight_steps.specs.Step.{pick-number}
 use Rattle.rounds.specs.Rounds.{plan-copies, next-weight, weight-at, within, stops-after, Lent, round-verdict, refuses, last-here, last-from, last-round, rounds-by, rounds-run, bound-at, best-round, answer-of, found, find-answer-by, run-answer, RoundLeaves, RoundsLeave, RunLeaves}
 use Rattle.rounds.specs.Contracts.{pieces-in, Made, RoundEnded, better, ended}

@@ -9,13 +9,13 @@ use lib.ListN.{length, getD}
 use Rattle.cutting.specs.Limits.{most-nodes, most-kinds, most-capacity}
 use Rattle.cutting.specs.Lists.{sum, only}
 use Rattle.cutting.specs.Job.{Job, InRange, capacity, bound-of}
-use Rattle.refusal.specs.declared.Checked.the-variants.{Refused}
+use Rattle.promises.specs.declared.Checked.the-variants.{Refused}
 use Rattle.job.specs.Block.{entries}
-use Rattle.writer.specs.declared.WriteAnswer.{WriteAnswer}
-use Rattle.writer.specs.declared.WriteAnswer.the-variants as write
+use Rattle.promises.specs.declared.WriteAnswer.{WriteAnswer}
+use Rattle.promises.specs.declared.WriteAnswer.the-variants as write
 use Rattle.weight_steps.specs.Step.{most-rounds, final-round}
 use Rattle.rounds.specs.Rounds.{plan-copies, next-weight, within, answer-of, refused-answer}
-use Rattle.rounds.specs.declared.WeightsFound.{WeightsFound}
+use Rattle.promises.specs.declared.WeightsFound.{WeightsFound}
 
 -- whether a node's kind is that of a piece, upright or turned
 abbrev pub lays : ℕ → Bool

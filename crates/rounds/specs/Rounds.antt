@@ -2,36 +2,33 @@
 -- function of the job, the lower figure and k; lent memory decides only whether a round is refused.
 -- docs/SCOPE.md: Weights found.
 use mathlib.Core.Path.{_≡_}
-use mathlib.Core.Bool.{Bool, true, false, _||_, not}
+use mathlib.Core.Bool.{Bool, true, false, _||_}
 use mathlib.Core.List.{List, _∷_}
-use Prim.Native.Nat.{ℕ, zero, suc, _+_, _-_, _*_, _≤_, _<_}
+use Prim.Native.Nat.{ℕ, zero, suc, _+_, _-_, _≤_, _<_}
 use lib.Dec.{ltb, eqb}
 use lib.ListN.{replicate, take}
 use Rattle.cutting.specs.Limits.{most-kinds, most-capacity}
-use Rattle.cutting.specs.Lists.{range, sum, only, any}
+use Rattle.cutting.specs.Lists.{only}
 use Rattle.cutting.specs.Tree.{IdleFree}
 use Rattle.cutting.specs.Preorder.{kinds-of, operands-of}
 use Rattle.cutting.specs.Job.{Job, KeepsDemands, copies-of, widened, capacity, bound-of, bound-plan}
 use Rattle.cutting.specs.Promises.{NoneAbove, NoneFiner}
 use Rattle.refusal.specs.Refusals.{Outcome, next, first-refusal, by-check, outcome-by}
-use Rattle.refusal.specs.declared.Checked.{Checked}
-use Rattle.refusal.specs.declared.Checked.the-variants.{Passed, Refused}
-use Rattle.job.specs.declared.Choices.{Choices}
+use Rattle.promises.specs.declared.Checked.{Checked}
+use Rattle.promises.specs.declared.Checked.the-variants.{Passed, Refused}
+use Rattle.promises.specs.declared.Choices.{Choices}
 use Rattle.job.specs.Block.{entries}
 use Rattle.job.specs.Weights.{block-job, weight-in, Accepted}
 use Rattle.plan.specs.Calls.{arrays-answer}
 use Rattle.bound.specs.Bound.{Memory, lent, Leaves, memory-checks, list-after}
 use Rattle.writer.specs.Write.{nodes-verdict}
-use Rattle.weight_steps.specs.Step.{most-rounds, final-round, factor, distance, pick-number, adjusted, StepRules}
-use Rattle.rounds.specs.declared.WeightsFound.{WeightsFound}
+use Rattle.weight_steps.specs.Step.{most-rounds, final-round, factor, pick-number, adjusted, StepRules}
+use Rattle.promises.specs.declared.WeightsFound.{WeightsFound}
+unfoldable pub use Rattle.promises.specs.Rounds.{squares, within}
 
 -- the copies of kind i in the plan behind the bound
 abbrev pub plan-copies : Job → (ℕ → ℕ) → ℕ → ℕ
 plan-copies J weight i = copies-of i (bound-plan J weight)
-
--- the summed squares of all d
-unfoldable pub squares : Job → (ℕ → ℕ) → ℕ
-squares J copies = sum (J .count) (λ i. distance (copies i) (J .demand i) * distance (copies i) (J .demand i))
 
 -- the gap: the round's bound less the lower figure
 abbrev pub gap : Job → ℕ → (ℕ → ℕ) → ℕ
@@ -49,10 +46,6 @@ weight-at J lower (suc k) = next-weight J lower k (weight-at J lower k)
 -- the bound of round k
 abbrev pub bound-at : Job → ℕ → ℕ → ℕ
 bound-at J lower k = bound-of J (weight-at J lower k)
-
--- whether copies keep all demands
-unfoldable pub within : Job → (ℕ → ℕ) → Bool
-within J copies = not (any (λ i. ltb (J .demand i) (copies i)) (range 0 (J .count)))
 
 -- whether the run stops after round k: its plan keeps all demands, it is round 17, or the next capacity passes 4,095
 abbrev pub stops-after : Job → ℕ → ℕ → Bool

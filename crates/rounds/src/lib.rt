@@ -2,32 +2,24 @@
 // between the rounds are those of crate `weight_steps`.
 mod copies;
 
-use job::Choices;
-use job::JobRecord;
 use job::WeightsAnswer;
-use refusal::Checked;
+use promises::Checked;
+use promises::Choices;
+use promises::JobRecord;
+use promises::WeightsFound;
+use promises::WriteAnswer;
 use weight_steps::next_weights;
-use writer::WriteAnswer;
 ghost use mathlib.Core.Path.{_≡_};
 ghost use mathlib.Core.Bool.{_||_};
 ghost use Prim.Native.Nat.{ℕ, _+_, _≤_, _<_};
 ghost use lib.Dec.{ltb, eqb};
 ghost use Rattle.cutting.specs.Job.{bound-of};
-ghost use Rattle.refusal.specs.declared.Checked.the-variants.{Passed};
+ghost use Rattle.promises.specs.declared.Checked.the-variants.{Passed};
 ghost use Rattle.refusal.specs.Refusals.{first-refusal};
 ghost use Rattle.job.specs.Block.{with-full-demand, job-checks, record-of, job-of};
 ghost use Rattle.job.specs.Weights.{block-job, weight-in};
 ghost use Rattle.rounds.specs.Rounds.{lent-all, answer-of, refused-answer, run-answer, RunLeaves, FindPromises};
 ghost use Rattle.rounds.specs.Contracts.{Made, RoundEnded, better, ended};
-
-// What the weight rounds answer: the least bound met, the rounds run, and the weights that first gave the bound, 0 past the job's kinds.
-// Where a check refuses, all are 0.
-pub struct WeightsFound {
-    pub verdict: Checked,
-    pub bound: u64,
-    pub rounds: u16,
-    pub weights: [u8; 64],
-}
 
 // Whether the run stops after a round, and else the weights of the next one.
 struct RoundEnd {

@@ -8,7 +8,7 @@ use native.Mathlib.Decide.{decLe}
 use native.Mathlib.Omega.{arith}
 use lib.Dec.{T, leb}
 use lib.ListN.{getD}
-use Rattle.cutting.specs.declared.Direction.{Direction}
+use Rattle.promises.specs.declared.Direction.{Direction}
 use Rattle.cutting.specs.Tree.{side}
 use Rattle.cutting.specs.Job.{Job}
 use Rattle.cutting.specs.Listed.{InTableRange}

@@ -5,23 +5,23 @@ use Prim.Native.Nat.{ℕ}
 use native.Mathlib.Omega.{arith}
 use borrow.Author.Tests.{ltb-false}
 use Rattle.cutting.specs.Job.{InRange}
-use Rattle.refusal.specs.declared.Refusal.{Refusal}
-use Rattle.refusal.specs.declared.Checked.{Checked}
-use Rattle.refusal.specs.declared.Checked.the-variants.{Passed, Refused}
+use Rattle.promises.specs.declared.Refusal.{Refusal}
+use Rattle.promises.specs.declared.Checked.{Checked}
+use Rattle.promises.specs.declared.Checked.the-variants.{Passed, Refused}
 use Rattle.refusal.specs.Refusals.{next, first-refusal, outcome-by}
-use Rattle.job.specs.declared.Choices.{Choices}
-use Rattle.job.specs.declared.JobRecord.{JobRecord}
-use Rattle.job.specs.declared.JobAnswer.{JobAnswer}
+use Rattle.promises.specs.declared.Choices.{Choices}
+use Rattle.promises.specs.declared.JobRecord.{JobRecord}
+use Rattle.promises.specs.declared.JobAnswer.{JobAnswer}
 use Rattle.job.specs.Block.{plate-length-at, plate-width-at, count-at, sizes-end, demand-at, header-checks, entries, record-of, read-by, job-outcome, job-of}
 use Rattle.job.specs.Contracts.{HoldsKinds, HoldsBlock}
 use Rattle.job.proofs.Checks.{cons-passed}
 use Rattle.job.proofs.Entries.{entries-past}
 use Rattle.job.proofs.Read.{header-passed, header-holds, block-passed, pair-passed, range-by, said-by, answered-by, refused-by}
-use Rattle.plan.specs.declared.PlanAnswer.{PlanAnswer}
+use Rattle.promises.specs.declared.PlanAnswer.{PlanAnswer}
 use Rattle.plan.specs.Plan.{empty-report, proceed, walk-answer, plan-answer}
 use Rattle.plan.specs.Trees.{ChecksPlan}
 use Rattle.plan.proofs.Plans.{plans-checked, checked-after}
-use Rattle.saw.specs.declared.SawAnswer.{SawAnswer}
+use Rattle.promises.specs.declared.SawAnswer.{SawAnswer}
 use Rattle.saw.specs.Saw.{demand-checks, saw-checks, SawPasses, saw-record, saw-job, saw-read, saw-read-said, without-profit, saw-of, saw-values, saw-answer, saw-outcome, saw-said, NeverSix, SawChecks}
 use Rattle.saw.specs.Prices.{AtAnyPrices, PricesFree, BesideOffice}
 use Rattle.saw.proofs.Prices.{same-read, same-answer, prices-free}

@@ -6,29 +6,29 @@ use mathlib.Core.List.{List, [], _∷_, _++_}
 use Prim.Native.Nat.{ℕ, zero, suc, _+_, _-_, _*_}
 use lib.Dec.{ltb}
 use lib.ListN.{getD, set}
-use Rattle.cutting.specs.declared.Node.{Node}
-use Rattle.cutting.specs.declared.Node.the-variants.{Waste, Piece, Turned, Cut}
+use Rattle.promises.specs.declared.Node.{Node}
+use Rattle.promises.specs.declared.Node.the-variants.{Waste, Piece, Turned, Cut}
 use Rattle.cutting.specs.Limits.{most-price, most-demand}
 use Rattle.cutting.specs.Areas.{area, breadth}
 use Rattle.cutting.specs.Tree.{Rect}
 use Rattle.cutting.specs.Pieces as laid
 use Rattle.cutting.specs.Job.{Job, laid}
-use Rattle.refusal.specs.declared.Refusal.the-variants.{Price, Demand}
-use Rattle.refusal.specs.declared.Checked.{Checked}
-use Rattle.refusal.specs.declared.Checked.the-variants.{Passed, Refused}
+use Rattle.promises.specs.declared.Refusal.the-variants.{Price, Demand}
+use Rattle.promises.specs.declared.Checked.{Checked}
+use Rattle.promises.specs.declared.Checked.the-variants.{Passed, Refused}
 use Rattle.refusal.specs.Refusals.{next, refuse-when, first-refusal}
-use Rattle.job.specs.declared.Choices.{Choices}
+use Rattle.promises.specs.declared.Choices.{Choices}
 use Rattle.job.specs.Block.{price-at, demand-at, sizes-end, count-at, header-checks, size-check, pair-checks, each-kind, grain-checks, job-checks}
 use Rattle.job.specs.Weights.{block-job}
 use Rattle.job.proofs.Read.{block-parts}
 use Rattle.idle.specs.Idle.{idle-checks}
-use Rattle.plan.specs.declared.Report.{Report}
-use Rattle.plan.specs.declared.PlanAnswer.{PlanAnswer}
+use Rattle.promises.specs.declared.Report.{Report}
+use Rattle.promises.specs.declared.PlanAnswer.{PlanAnswer}
 use Rattle.plan.specs.Plan.{node-of, node-checks, parts, report-after, empty-report, proceed, walk, plan-checks, nodes-in, walk-answer, plan-answer}
 use Rattle.plan.specs.Calls.{arrays-answer}
 use Rattle.plan.proofs.Parse.{no-pass}
-use Rattle.saw.specs.declared.SawReport.{SawReport}
-use Rattle.saw.specs.declared.SawAnswer.{SawAnswer}
+use Rattle.promises.specs.declared.SawReport.{SawReport}
+use Rattle.promises.specs.declared.SawAnswer.{SawAnswer}
 use Rattle.saw.specs.Saw.{demand-checks, saw-checks, saw-job, without-profit, saw-of, saw-answer}
 use Rattle.saw.specs.Prices.{BesideOffice}
 

@@ -9,24 +9,24 @@ use lib.ListN.{length, take, drop, getD, length-append, length-map, drop-of-leng
 use lib.Seq.{drop-cons, drop-append-add, take-at, getD-append-add}
 use borrow.Author.Tests.{lt-ltb, le-ltb}
 use denote.Ref.{RefT, ptr, now}
-use Rattle.cutting.specs.declared.Direction.{Direction}
-use Rattle.cutting.specs.declared.Direction.the-variants.{Length, Width}
-use Rattle.cutting.specs.declared.Node.{Node}
-use Rattle.cutting.specs.declared.Node.the-variants.{Cut}
+use Rattle.promises.specs.declared.Direction.{Direction}
+use Rattle.promises.specs.declared.Direction.the-variants.{Length, Width}
+use Rattle.promises.specs.declared.Node.{Node}
+use Rattle.promises.specs.declared.Node.the-variants.{Cut}
 use Rattle.cutting.specs.Lists.{only}
 use Rattle.cutting.specs.Tree.{Tree, waste, piece, cut}
 use Rattle.cutting.specs.Pieces as laid
 use Rattle.cutting.specs.Preorder.{preorder, kind-of, node-count, kinds-of}
 use Rattle.cutting.proofs.Preorder.{count-cut}
-use Rattle.refusal.specs.declared.Refusal.{Refusal}
-use Rattle.refusal.specs.declared.Checked.{Checked}
-use Rattle.refusal.specs.declared.Checked.the-variants.{Passed, Refused}
-use Rattle.job.specs.declared.Choices.{Choices}
+use Rattle.promises.specs.declared.Refusal.{Refusal}
+use Rattle.promises.specs.declared.Checked.{Checked}
+use Rattle.promises.specs.declared.Checked.the-variants.{Passed, Refused}
+use Rattle.promises.specs.declared.Choices.{Choices}
 use Rattle.node.specs.Nodes.{node-of}
 use Rattle.plan.specs.Trees.{PlanOf}
 use Rattle.plan.proofs.Preorder.{kinds-length, operands-length}
-use Rattle.saw.specs.declared.Part.{Part}
-use Rattle.saw.specs.declared.SawAnswer.{SawAnswer}
+use Rattle.promises.specs.declared.Part.{Part}
+use Rattle.promises.specs.declared.SawAnswer.{SawAnswer}
 use Rattle.saw.specs.Saw.{SawPasses, saw-job, saw-answer, SawChecks}
 use Rattle.saw.specs.Parts.{subtrees, tree-at, left-after, extent, end-of, between, part-if, part-by, node-part, IsPart, AtEnd, HandsBack}
 use Rattle.saw.proofs.Prices.{same-answer}

@@ -10,9 +10,9 @@ use lib.ListN.{length, getD, set, length-set}
 use lib.Seq.{getD-set-same, getD-set-other}
 use borrow.Author.Tests.{ltb-true}
 use Rattle.cutting.specs.Lists.{range, only}
-use Rattle.refusal.specs.declared.Refusal.the-variants.{ShortHeader, PlateSide, KindCount, Kerf, BlockLength, KindSide, Demand, Grain}
+use Rattle.promises.specs.declared.Refusal.the-variants.{ShortHeader, PlateSide, KindCount, Kerf, BlockLength, KindSide, Demand, Grain}
 use Rattle.refusal.specs.Refusals.{Check, first-refusal}
-use Rattle.job.specs.declared.Choices.{Choices}
+use Rattle.promises.specs.declared.Choices.{Choices}
 use Rattle.job.specs.Block.{u16-at, u32-at, price-at, plate-length-at, plate-width-at, count-at, kerf-at, sizes-end, length-at, width-at, demand-at, outside, header-checks, size-check, each-kind, entries, record-of, read-by, job-of, grain-at, kind-bytes, grain-checks, grains-of}
 use Rattle.job.proofs.Read.{sizes-least}
 use Rattle.plan.specs.Plan.{proceed, plan-answer}

@@ -2,33 +2,28 @@
 -- docs/SCOPE.md: Saw and office.
 use mathlib.Core.Path.{_≡_}
 use mathlib.Core.Bool.{Bool, true, false}
-use mathlib.Core.List.{List, [], _∷_, _++_}
+use mathlib.Core.List.{List, [], _∷_}
 use Prim.Native.Nat.{ℕ, suc, _+_, _-_, _*_, _≤_, _<_}
 use lib.Dec.{ltb}
 use lib.ListN.{length, take, drop, getD}
 use denote.Ref.{RefT, ptr, now}
-use Rattle.cutting.specs.declared.Node.{Node}
-use Rattle.cutting.specs.declared.Node.the-variants.{Waste, Piece, Turned, Cut}
+use Rattle.promises.specs.declared.Node.{Node}
+use Rattle.promises.specs.declared.Node.the-variants.{Waste, Piece, Turned, Cut}
 use Rattle.cutting.specs.Lists.{only}
-use Rattle.cutting.specs.Tree.{Tree, waste, piece, cut}
+use Rattle.cutting.specs.Tree.{Tree, waste}
 use Rattle.cutting.specs.Pieces as laid
 use Rattle.cutting.specs.Preorder.{node-count}
-use Rattle.refusal.specs.declared.Refusal.{Refusal}
-use Rattle.refusal.specs.declared.Checked.{Checked}
-use Rattle.refusal.specs.declared.Checked.the-variants.{Refused}
+use Rattle.promises.specs.declared.Refusal.{Refusal}
+use Rattle.promises.specs.declared.Checked.{Checked}
+use Rattle.promises.specs.declared.Checked.the-variants.{Refused}
 use Rattle.refusal.specs.Refusals.{Outcome, by-check}
-use Rattle.job.specs.declared.Choices.{Choices}
+use Rattle.promises.specs.declared.Choices.{Choices}
 use Rattle.node.specs.Nodes.{node-of}
 use Rattle.plan.specs.Trees.{PlanOf}
-use Rattle.saw.specs.declared.Part.{Part}
+use Rattle.promises.specs.declared.Part.{Part}
 use Rattle.saw.specs.Saw.{SawPasses, saw-job, saw-answer}
 use Rattle.saw.specs.Prices.{AtAnyPrices}
-
--- a tree and the trees below it, in preorder
-unfoldable pub subtrees : Tree laid.Piece → List (Tree laid.Piece)
-subtrees waste = waste ∷ []
-subtrees (piece p) = piece p ∷ []
-subtrees (cut d x a b) = cut d x a b ∷ (subtrees a ++ subtrees b)
+unfoldable pub use Rattle.promises.specs.Saw.{subtrees}
 
 -- the tree at a node
 abbrev pub tree-at : Tree laid.Piece → ℕ → Tree laid.Piece

@@ -2,46 +2,30 @@
 -- the areas. Each answer has a number and values too.
 -- docs/SCOPE.md: Saw and office.
 use mathlib.Core.Path.{_≡_}
-use mathlib.Core.List.{List, [], _∷_, _++_}
+use mathlib.Core.List.{List}
 use Prim.Native.Nat.{ℕ, _+_, _*_}
 use Rattle.cutting.specs.Tree.{Tree, IdleFree}
 use Rattle.cutting.specs.Pieces.{Piece}
 use Rattle.cutting.specs.Job.{Job}
-use Rattle.refusal.specs.declared.Refusal.{Refusal}
-use Rattle.refusal.specs.declared.Checked.{Checked}
-use Rattle.refusal.specs.declared.Checked.the-variants.{Passed, Refused}
-use Rattle.refusal.specs.Refusals.{Check, Outcome, next, first-refusal, outcome-by}
-use Rattle.job.specs.declared.Choices.{Choices}
-use Rattle.job.specs.declared.JobRecord.{JobRecord}
-use Rattle.job.specs.declared.JobAnswer.{JobAnswer}
-use Rattle.job.specs.Block.{header-checks, demand-check, checks-by, record-of, unpriced, read-by, job-values, job-of}
+use Rattle.promises.specs.declared.Refusal.{Refusal}
+use Rattle.promises.specs.declared.Checked.the-variants.{Passed, Refused}
+use Rattle.refusal.specs.Refusals.{Outcome, next, first-refusal, outcome-by}
+use Rattle.promises.specs.declared.Choices.{Choices}
+use Rattle.promises.specs.declared.JobAnswer.{JobAnswer}
+use Rattle.job.specs.Block.{read-by, job-values}
 use Rattle.idle.specs.Idle.{tree-checks}
-use Rattle.plan.specs.declared.Report.{Report}
-use Rattle.plan.specs.declared.PlanAnswer.{PlanAnswer}
+use Rattle.promises.specs.declared.PlanAnswer.{PlanAnswer}
 use Rattle.plan.specs.Plan.{empty-report, proceed, walk-answer, plan-answer}
 use Rattle.plan.specs.Trees.{DrawnAs, PlanOf, tree-report}
-use Rattle.saw.specs.declared.SawReport.{SawReport}
-use Rattle.saw.specs.declared.SawAnswer.{SawAnswer}
-
--- check 7 alone, of one kind
-abbrev pub demand-checks : ℕ → List ℕ → ℕ → List Check
-demand-checks h s i = demand-check h s i ∷ []
-
--- the checks of a job block as the saw reads it: of each pair the demand alone, so that none gives 6
-unfoldable pub saw-checks : List ℕ → Choices → List Check
-saw-checks s choices = checks-by header-checks demand-checks s choices
+use Rattle.promises.specs.declared.SawReport.{SawReport}
+use Rattle.promises.specs.declared.SawAnswer.{SawAnswer}
+pub use Rattle.promises.specs.Block.{demand-checks, saw-record, saw-job}
+pub use Rattle.promises.specs.Saw.{without-profit, saw-values, NeverSix}
+unfoldable pub use Rattle.promises.specs.Block.{saw-checks}
 
 -- no check of the saw refuses a job block
 abbrev pub SawPasses : List ℕ → Choices → Type 0
 SawPasses s choices = first-refusal (saw-checks s choices) ≡ Passed
-
--- the saw's record: every price is 0
-abbrev pub saw-record : List ℕ → Choices → JobRecord
-saw-record s choices = unpriced (record-of s choices)
-
--- the job of that record
-abbrev pub saw-job : List ℕ → Choices → Job
-saw-job s choices = job-of (saw-record s choices)
 
 -- what the saw's reading of a block answers
 abbrev pub saw-read : List ℕ → Choices → JobAnswer
@@ -50,10 +34,6 @@ saw-read s choices = read-by (first-refusal (saw-checks s choices)) (saw-record 
 -- its number and values
 abbrev pub saw-read-said : List ℕ → Choices → Outcome
 saw-read-said s choices = outcome-by (first-refusal (saw-checks s choices)) (job-values (saw-record s choices))
-
--- a report without its profit
-abbrev pub without-profit : Report → SawReport
-without-profit r = record { copies = r .copies; pieces = r .pieces; waste = r .waste; trim = r .trim; sawdust = r .sawdust }
 
 -- a plan check's answer without its profit
 abbrev pub saw-of : PlanAnswer → SawAnswer
@@ -66,14 +46,6 @@ saw-answer s choices kinds operands = saw-of (proceed (first-refusal (saw-checks
 -- and what it answers without 26
 abbrev pub saw-before-idle : List ℕ → Choices → List ℕ → List ℕ → SawAnswer
 saw-before-idle s choices kinds operands = saw-of (proceed (first-refusal (saw-checks s choices)) (walk-answer (saw-job s choices) kinds operands))
-
--- a verdict's number is not 6
-abbrev pub NeverSix : Checked → Type 0
-NeverSix v = outcome-by v [] .0 ≡ 6 → ⊥
-
--- a report in words: the areas of pieces, waste nodes and trim, the copies of each kind, and the sawdust's area
-abbrev pub saw-values : SawReport → List ℕ
-saw-values r = r .pieces ∷ r .waste ∷ r .trim ∷ (r .copies ++ (r .sawdust ∷ []))
 
 -- the number and values of an answer
 abbrev pub saw-outcome : SawAnswer → Outcome

@@ -1,40 +1,28 @@
 // The saw beside the office: it reads the same job block without its prices, checks a plan and reports copies and areas, and hands back
 // the part of the caller's arrays that belongs to a node and all below it. No answer depends on a price.
-use cutting::Node;
-use job::Choices;
-use job::JobAnswer;
 use job::check_block;
 use job::empty_record;
 use job::read_unpriced;
 use node::decode;
-use plan::PlanAnswer;
 use plan::check_nodes;
-use refusal::Checked;
+use promises::Checked;
+use promises::Choices;
+use promises::JobAnswer;
+use promises::Node;
+use promises::Part;
+use promises::PlanAnswer;
+use promises::SawAnswer;
+use promises::SawReport;
 ghost use mathlib.Core.Path.{_≡_};
 ghost use Prim.Native.Nat.{_+_, _≤_, _<_, _^_};
 ghost use lib.ListN.{length};
 ghost use Rattle.cutting.specs.Preorder.{kinds-of, operands-of};
 ghost use Rattle.job.specs.Block.{job-outcome};
 ghost use Rattle.plan.specs.Plan.{empty-report};
-ghost use Rattle.refusal.specs.declared.Checked.the-variants.{Passed};
+ghost use Rattle.promises.specs.declared.Checked.the-variants.{Passed};
 ghost use Rattle.saw.specs.Saw.{saw-read, saw-read-said, saw-of, without-profit, saw-answer, saw-outcome, saw-said, NeverSix, SawChecks};
 ghost use Rattle.saw.specs.Prices.{AtAnyPrices, PricesFree, BesideOffice};
 ghost use Rattle.saw.specs.Parts.{left-after, end-of, part-by, HandsBack};
-
-// What the saw reports of a passed plan: copies of each of 64 kinds, and the areas of pieces, waste nodes, trim and sawdust.
-pub struct SawReport {
-    pub copies: [u16; 64],
-    pub pieces: u64,
-    pub waste: u64,
-    pub trim: u64,
-    pub sawdust: u64,
-}
-
-// What the saw answers for a plan: where it is refused, the report is all zeros.
-pub struct SawAnswer {
-    pub verdict: Checked,
-    pub report: SawReport,
-}
 
 // A job block as the saw reads it, or refused with 1 to 5, 7, 27 or 35: no price is read, and in the record every price is 0.
 pub fn read_saw_job(block: &[u8], choices: Choices) -> JobAnswer
@@ -138,12 +126,6 @@ fn tree_end(kinds: &[u8], node: usize) -> usize
         i += 1;
     }
     i
-}
-
-// The part of an array that belongs to a node: its first entry, and one past its last.
-pub struct Part {
-    pub first: usize,
-    pub past: usize,
 }
 
 // For the two calls below and for C: the part of a node in one of the two arrays, which has `count` entries: empty, at the array's end,

@@ -11,12 +11,12 @@ use Rattle.cutting.specs.Limits.{most-true-side, most-true-kerf}
 use Rattle.cutting.specs.Job.{Job, InRange}
 use Rattle.cutting.specs.Relaxation.{SameKinds}
 use Rattle.refusal.specs.Refusals.{refuse-when, next, first-refusal}
-use Rattle.refusal.specs.declared.Checked.{Checked}
-use Rattle.refusal.specs.declared.Checked.the-variants.{Passed, Refused}
-use Rattle.refusal.specs.declared.Refusal.{Refusal}
-use Rattle.refusal.specs.declared.Refusal.the-variants.{SizesLength}
-use Rattle.job.specs.declared.Choices.{Choices}
-use Rattle.job.specs.declared.JobAnswer.{JobAnswer}
+use Rattle.promises.specs.declared.Checked.{Checked}
+use Rattle.promises.specs.declared.Checked.the-variants.{Passed, Refused}
+use Rattle.promises.specs.declared.Refusal.{Refusal}
+use Rattle.promises.specs.declared.Refusal.the-variants.{SizesLength}
+use Rattle.promises.specs.declared.Choices.{Choices}
+use Rattle.promises.specs.declared.JobAnswer.{JobAnswer}
 use Rattle.job.specs.Block.{count-at, outside, each-kind, job-checks, record-of, read-of}
 use Rattle.job.specs.Weights.{block-job}
 use Rattle.job.proofs.Checks.{passed-both, passed-false, cons-passed, each-passed}

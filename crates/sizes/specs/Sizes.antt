@@ -1,7 +1,7 @@
 -- The sizes block: where each field stands, when a block is refused, the sizes that a good one gives, and the true job that they make of a
 -- model: the model's kinds at other sizes, on a plate and with a kerf of their own.
 -- docs/SCOPE.md: True sizes; The table of refusals.
-use mathlib.Core.Bool.{Bool, _||_, not}
+use mathlib.Core.Bool.{_||_, not}
 use mathlib.Core.List.{List, [], _∷_}
 use Prim.Native.Nat.{ℕ, _+_, _*_, _≤_, _<_}
 use lib.Dec.{ltb, eqb}
@@ -9,16 +9,17 @@ use lib.ListN.{length, getD}
 use Rattle.cutting.specs.Limits.{most-true-side, most-true-kerf}
 use Rattle.cutting.specs.Job.{Job}
 use Rattle.refusal.specs.Refusals.{Check, next, first-refusal, by-check}
-use Rattle.refusal.specs.declared.Checked.{Checked}
-use Rattle.refusal.specs.declared.Checked.the-variants.{Passed, Refused}
-use Rattle.refusal.specs.declared.Refusal.the-variants.{SizesLength, TrueSize}
-use Rattle.job.specs.declared.Choices.{Choices}
-use Rattle.job.specs.declared.JobRecord.{JobRecord}
-use Rattle.job.specs.Block.{u32-at, count-at, outside, each-kind, job-checks, entries, record-of, empty-record}
+use Rattle.promises.specs.declared.Checked.{Checked}
+use Rattle.promises.specs.declared.Checked.the-variants.{Passed, Refused}
+use Rattle.promises.specs.declared.Refusal.the-variants.{SizesLength, TrueSize}
+use Rattle.promises.specs.declared.Choices.{Choices}
+use Rattle.promises.specs.declared.JobRecord.{JobRecord}
+use Rattle.job.specs.Block.{u32-at, count-at, each-kind, job-checks, entries, record-of, empty-record}
 use Rattle.job.specs.Weights.{block-job}
 use Rattle.sizes.specs.declared.TrueSizes.{TrueSizes}
 use Rattle.sizes.specs.declared.SizesAnswer.{SizesAnswer}
 use Rattle.sizes.specs.declared.TrueAnswer.{TrueAnswer}
+pub use Rattle.promises.specs.True.{true-sides-outside}
 
 -- the plate's length stands first
 abbrev pub true-plate-length-at : List ℕ → ℕ
@@ -39,10 +40,6 @@ true-length-at s i = u32-at s (12 + 8 * i)
 -- the width of kind i
 abbrev pub true-width-at : List ℕ → ℕ → ℕ
 true-width-at s i = u32-at s (16 + 8 * i)
-
--- one of two true sides lies outside 1 to 100,000,000
-abbrev pub true-sides-outside : ℕ → ℕ → Bool
-true-sides-outside l w = outside 1 most-true-side l || outside 1 most-true-side w
 
 -- check 31, for n kinds
 abbrev pub bytes-check : ℕ → List ℕ → Check

@@ -7,8 +7,8 @@ use native.Mathlib.Decide.{ℕ-discrete}
 use native.Mathlib.Omega.{arith}
 use lib.Dec.{leb}
 use lib.ListN.{length, getD, drop}
-use Rattle.cutting.specs.declared.Direction.{Direction}
-use Rattle.cutting.specs.declared.Direction.the-variants.{Length, Width}
+use Rattle.promises.specs.declared.Direction.{Direction}
+use Rattle.promises.specs.declared.Direction.the-variants.{Length, Width}
 use Rattle.cutting.specs.Job.{Job}
 use Rattle.cutting.specs.Staged.{block}
 use Rattle.cutting.specs.Listed.{InTableRange, listed-weight}

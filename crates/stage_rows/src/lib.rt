@@ -16,7 +16,7 @@ use table::set_run;
 ghost use mathlib.Core.Path.{_≡_};
 ghost use Prim.Native.Nat.{_+_, _*_, _≤_, max};
 ghost use lib.ListN.{getD};
-ghost use Rattle.cutting.specs.declared.Direction.the-variants.{Length};
+ghost use Rattle.promises.specs.declared.Direction.the-variants.{Length};
 ghost use Rattle.cutting.specs.Limits.{most-limit};
 ghost use Rattle.cutting.specs.Listed.{listed-weight};
 ghost use Rattle.table.specs.Contracts.{size-job, StagedFillable, StagedBy};

@@ -4,8 +4,8 @@ use mathlib.Core.Bool.{true, false}
 use mathlib.Core.List.{List, [], _∷_}
 use Prim.Native.Nat.{ℕ, _≤_}
 use native.Mathlib.Omega.{arith}
-use Rattle.cutting.specs.declared.Direction.{Direction}
-use Rattle.cutting.specs.declared.Direction.the-variants.{Length, Width}
+use Rattle.promises.specs.declared.Direction.{Direction}
+use Rattle.promises.specs.declared.Direction.the-variants.{Length, Width}
 use Rattle.cutting.specs.declared.Sides.{Sides}
 use Rattle.cutting.specs.Sides.{rect-of, sides-of}
 use Rattle.cutting.specs.Limits.{most-limit}
@@ -18,12 +18,12 @@ use Rattle.cutting.proofs.Bound.{capacity-less}
 use Rattle.cutting.proofs.Staged.{block-figure, block-recursion, block-floor, block-most, staged-under-most, staged-under-earned, staged-most, staged-holds, staged-more, staged-less, staged-ceiling}
 use Rattle.cutting.proofs.Promises.{normal-listed}
 use Rattle.refusal.specs.Refusals.{next, first-refusal, outcome-by}
-use Rattle.refusal.specs.declared.Refusal.{Refusal}
-use Rattle.refusal.specs.declared.Refusal.the-variants.{StageLimit}
-use Rattle.refusal.specs.declared.Checked.{Checked}
-use Rattle.refusal.specs.declared.Checked.the-variants.{Passed, Refused}
-use Rattle.job.specs.declared.Choices.{Choices}
-use Rattle.job.specs.declared.JobRecord.{JobRecord}
+use Rattle.promises.specs.declared.Refusal.{Refusal}
+use Rattle.promises.specs.declared.Refusal.the-variants.{StageLimit}
+use Rattle.promises.specs.declared.Checked.{Checked}
+use Rattle.promises.specs.declared.Checked.the-variants.{Passed, Refused}
+use Rattle.promises.specs.declared.Choices.{Choices}
+use Rattle.promises.specs.declared.JobRecord.{JobRecord}
 use Rattle.job.specs.Block.{outside, job-of}
 use Rattle.job.specs.Weights.{block-job, weight-in, Accepted}
 use Rattle.job.proofs.Checks.{passed-both}
@@ -32,9 +32,9 @@ use Rattle.job.proofs.Taken.{Taken}
 use Rattle.stages.specs.Stages.{limit-check}
 use Rattle.stages.proofs.Limit.{limit-by, limit-inside}
 use Rattle.bound.specs.Bound.{Memory, answer-by, wide-job, block-capacity, accept-verdict, report-values, bound-outcome}
-use Rattle.bound.specs.declared.BoundReport.{BoundReport}
-use Rattle.bound.specs.declared.BoundAnswer.{BoundAnswer}
-use Rattle.bound.specs.declared.BoundAnswer.the-variants as answer
+use Rattle.promises.specs.declared.BoundReport.{BoundReport}
+use Rattle.promises.specs.declared.BoundAnswer.{BoundAnswer}
+use Rattle.promises.specs.declared.BoundAnswer.the-variants as answer
 use Rattle.bound.proofs.Holds.{answered-behind}
 use Rattle.bound.proofs.Listed.{pieces-range}
 use Rattle.bound.proofs.Calls.{range-taken}

@@ -7,8 +7,8 @@ use native.Mathlib.Nat.{mul-le-mul-right}
 use native.Mathlib.Omega.{arith}
 use lib.Dec.{ltb, leb}
 use lib.ListN.{length, getD}
-use Rattle.cutting.specs.declared.Direction.{Direction}
-use Rattle.cutting.specs.declared.Direction.the-variants.{Length, Width}
+use Rattle.promises.specs.declared.Direction.{Direction}
+use Rattle.promises.specs.declared.Direction.the-variants.{Length, Width}
 use Rattle.cutting.specs.Limits.{most-wide-figure}
 use Rattle.cutting.specs.Job.{Job}
 use Rattle.cutting.specs.Staged.{block}
@@ -17,15 +17,15 @@ use Rattle.cutting.proofs.Members.{table-solid}
 use Rattle.cutting.proofs.Table.{positions-some}
 use Rattle.cutting.proofs.Staged.{block-floor, listed-block}
 use Rattle.refusal.specs.Refusals.{first-refusal}
-use Rattle.refusal.specs.declared.Checked.{Checked}
-use Rattle.refusal.specs.declared.Checked.the-variants.{Passed, Refused}
-use Rattle.refusal.specs.declared.Refusal.the-variants.{TableShort}
+use Rattle.promises.specs.declared.Checked.{Checked}
+use Rattle.promises.specs.declared.Checked.the-variants.{Passed, Refused}
+use Rattle.promises.specs.declared.Refusal.the-variants.{TableShort}
 use Rattle.table.specs.Table.{position-count, position, words-needed, Kept}
 use Rattle.table.specs.Staged.{block-number, staged-words, StagedFigures}
 use Rattle.table.proofs.Weighed.{plain-order}
 use Rattle.table.proofs.Staged.{block-low, block-one}
 use Rattle.bound.specs.Bound.{Memory, list-check, list-after, answer-by}
-use Rattle.bound.specs.declared.BoundAnswer.{BoundAnswer}
+use Rattle.promises.specs.declared.BoundAnswer.{BoundAnswer}
 use Rattle.bound.proofs.Storage.{report-is}
 use Rattle.bound.proofs.Last.{last-position, word-last, words-some}
 use Rattle.bound.proofs.Listed.{same-positions, same-count, same-position, same-words}

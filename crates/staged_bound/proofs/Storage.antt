@@ -5,8 +5,8 @@ use Prim.Native.Nat.{ℕ, _+_, _*_}
 use native.Mathlib.Omega.{arith}
 use lib.ListN.{length}
 use Rattle.cutting.specs.Job.{Job}
-use Rattle.refusal.specs.declared.Refusal.{Refusal}
-use Rattle.refusal.specs.declared.Checked.{Checked}
+use Rattle.promises.specs.declared.Refusal.{Refusal}
+use Rattle.promises.specs.declared.Checked.{Checked}
 use Rattle.table.specs.declared.TableSize.{TableSize}
 use Rattle.table.specs.Staged.{staged-words}
 use Rattle.table.specs.Contracts.{StagedBy}
@@ -14,8 +14,8 @@ use Rattle.storage.specs.declared.Layout.the-variants as layout
 use Rattle.storage.specs.Contracts.{cell-words, storage-verdict, LaidOut}
 use Rattle.storage.proofs.Storage.{refused-laid, ready-laid}
 use Rattle.bound.specs.Bound.{lent, answer-by}
-use Rattle.bound.specs.declared.BoundAnswer.the-variants as answer
-use Rattle.bound.specs.declared.BoundReport.{BoundReport}
+use Rattle.promises.specs.declared.BoundAnswer.the-variants as answer
+use Rattle.promises.specs.declared.BoundReport.{BoundReport}
 use Rattle.staged_bound.specs.Staged.{staged-report}
 use Rattle.staged_bound.specs.Contracts.{Staged}
 

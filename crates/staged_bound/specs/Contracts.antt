@@ -5,8 +5,8 @@ use Rattle.cutting.specs.Limits.{most-capacity, most-limit}
 use Rattle.cutting.specs.Job.{Job}
 use Rattle.cutting.specs.Listed.{InTableRange}
 use Rattle.refusal.specs.Refusals.{first-refusal}
-use Rattle.refusal.specs.declared.Checked.the-variants.{Passed}
-use Rattle.bound.specs.declared.BoundAnswer.{BoundAnswer}
+use Rattle.promises.specs.declared.Checked.the-variants.{Passed}
+use Rattle.promises.specs.declared.BoundAnswer.{BoundAnswer}
 use Rattle.bound.specs.Bound.{Memory, answer-by}
 use Rattle.staged_bound.specs.Staged.{StagedLeaves, staged-checks, staged-report}
 

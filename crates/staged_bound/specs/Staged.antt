@@ -5,21 +5,21 @@ use mathlib.Core.Path.{_≡_}
 use mathlib.Core.List.{List, [], _∷_}
 use Prim.Native.Nat.{ℕ, _≤_, max}
 use lib.ListN.{length}
-use Rattle.cutting.specs.declared.Direction.the-variants.{Length, Width}
+use Rattle.promises.specs.declared.Direction.the-variants.{Length, Width}
 use Rattle.cutting.specs.Limits.{most-figure}
 use Rattle.cutting.specs.Job.{Job, capacity, at-full-demand, bound-of, normal-positions}
 use Rattle.cutting.specs.Promises.{FinerAmong, NormalSums}
 use Rattle.cutting.specs.Staged.{block, staged-under, staged-bound, OfStages, MostStaged, NoneStaged, NoneStagedFiner, StagedRecursion, StagedFloors, StagedFiguresMost}
 use Rattle.refusal.specs.Refusals.{Check, Outcome, next, first-refusal, by-check, outcome-by}
-use Rattle.refusal.specs.declared.Checked.{Checked}
-use Rattle.job.specs.declared.Choices.{Choices}
+use Rattle.promises.specs.declared.Checked.{Checked}
+use Rattle.promises.specs.declared.Choices.{Choices}
 use Rattle.job.specs.Weights.{block-job, weight-in, Accepted}
 use Rattle.stages.specs.Stages.{limit-check}
 use Rattle.table.specs.Table.{position-count, Kept}
 use Rattle.table.specs.Staged.{staged-words, StagedFigures}
-use Rattle.bound.specs.declared.BoundReport.{BoundReport}
-use Rattle.bound.specs.declared.BoundAnswer.{BoundAnswer}
-use Rattle.bound.specs.declared.BoundAnswer.the-variants as answer
+use Rattle.promises.specs.declared.BoundReport.{BoundReport}
+use Rattle.promises.specs.declared.BoundAnswer.{BoundAnswer}
+use Rattle.promises.specs.declared.BoundAnswer.the-variants as answer
 use Rattle.bound.specs.Bound.{Memory, list-check, room-check, list-after, answer-by, wide-job, block-capacity, accept-verdict, report-values, bound-outcome}
 
 -- check 20: a table shorter than (2n + 1) · p · r · (Q + 1), with the words needed

@@ -1,13 +1,13 @@
 // The staged bound call: the bound within a limit on the stages of a plan, the greater of length first and width first at the limit.
 // Refusals 1 to 9, 27, 35, 22, 19 and 20.
-use bound::BoundAnswer;
-use bound::BoundReport;
 use cutting::Sides;
-use job::Choices;
 use pieces::list_pieces;
 use pieces::plate_of;
-use refusal::Checked;
-use refusal::Refusal;
+use promises::BoundAnswer;
+use promises::BoundReport;
+use promises::Checked;
+use promises::Choices;
+use promises::Refusal;
 use stages::limit_outside;
 use storage::Layout;
 use storage::lay_out;

@@ -14,12 +14,12 @@ use Rattle.cutting.proofs.AnyKinds.{any-on}
 use Rattle.cutting.proofs.Finer.{staged-finer}
 use Rattle.cutting.proofs.Staged.{staged-holds}
 use Rattle.refusal.specs.Refusals.{next, first-refusal}
-use Rattle.refusal.specs.declared.Refusal.{Refusal}
-use Rattle.refusal.specs.declared.Refusal.the-variants.{StageLimit}
-use Rattle.refusal.specs.declared.Checked.{Checked}
-use Rattle.refusal.specs.declared.Checked.the-variants.{Passed, Refused}
-use Rattle.job.specs.declared.Choices.{Choices}
-use Rattle.job.specs.declared.JobRecord.{JobRecord}
+use Rattle.promises.specs.declared.Refusal.{Refusal}
+use Rattle.promises.specs.declared.Refusal.the-variants.{StageLimit}
+use Rattle.promises.specs.declared.Checked.{Checked}
+use Rattle.promises.specs.declared.Checked.the-variants.{Passed, Refused}
+use Rattle.promises.specs.declared.Choices.{Choices}
+use Rattle.promises.specs.declared.JobRecord.{JobRecord}
 use Rattle.job.specs.Block.{outside, job-of}
 use Rattle.job.specs.Weights.{block-job, weight-in, Accepted}
 use Rattle.job.proofs.Checks.{passed-both}
@@ -28,25 +28,25 @@ use Rattle.job.proofs.Weights.{accepted-both, accepted-in-range}
 use Rattle.job.proofs.Taken.{Taken}
 use Rattle.stages.specs.Stages.{limit-check}
 use Rattle.stages.proofs.Limit.{limit-by}
-use Rattle.plan.specs.declared.Report.{Report}
+use Rattle.promises.specs.declared.Report.{Report}
 use Rattle.plan.specs.Plan.{plan-answer}
 use Rattle.plan.specs.Calls.{JobPasses}
 use Rattle.plan.specs.Trees.{tree-in}
-use Rattle.staged_plan.specs.declared.StagedAnswer.{StagedAnswer}
+use Rattle.promises.specs.declared.StagedAnswer.{StagedAnswer}
 use Rattle.staged_plan.specs.Check.{within-verdict, within-answer, staged-by}
 use Rattle.staged_plan.proofs.Within.{verdict-by, staged-tree}
 use Rattle.staged_plan.proofs.Calls.{check-met}
-use Rattle.bound.specs.declared.BoundReport.{BoundReport}
-use Rattle.bound.specs.declared.BoundAnswer.{BoundAnswer}
-use Rattle.bound.specs.declared.BoundAnswer.the-variants as bound
+use Rattle.promises.specs.declared.BoundReport.{BoundReport}
+use Rattle.promises.specs.declared.BoundAnswer.{BoundAnswer}
+use Rattle.promises.specs.declared.BoundAnswer.the-variants as bound
 use Rattle.bound.specs.Bound.{Memory, wide-job, block-capacity, accept-verdict}
 use Rattle.bound.proofs.Holds.{answered-behind, refused-behind}
 use Rattle.staged_bound.specs.Staged.{limit-verdict, staged-checks, staged-block-report, StagedLeaves}
 use Rattle.staged_bound.specs.Contracts.{Staged}
 use Rattle.certificate.specs.Certificate.{compared, handed-on, certificate-outcome}
 use Rattle.certificate.specs.Contracts.{storage-verdict}
-use Rattle.certificate.specs.declared.Certificate.{Certificate}
-use Rattle.certificate.specs.declared.Certificate.the-variants as certificate
+use Rattle.promises.specs.declared.Certificate.{Certificate}
+use Rattle.promises.specs.declared.Certificate.the-variants as certificate
 use Rattle.certificate.proofs.Comparison.{said-by, best-among, gap-among, handed-before, handed-after, handed-whole}
 use Rattle.staged_certificate.specs.Certificate.{staged-plan-verdict, certify-staged-verdict, staged-certificate, EarnsStaged, CertifyStagedPromises}
 

@@ -9,8 +9,8 @@ use Rattle.cutting.specs.Pieces.{Piece}
 use Rattle.cutting.specs.Job.{Job, profit}
 use Rattle.cutting.specs.Staged.{staged-bound, NoneStagedBetter}
 use Rattle.refusal.specs.Refusals.{Outcome, next, first-refusal, outcome-by}
-use Rattle.refusal.specs.declared.Checked.{Checked}
-use Rattle.job.specs.declared.Choices.{Choices}
+use Rattle.promises.specs.declared.Checked.{Checked}
+use Rattle.promises.specs.declared.Choices.{Choices}
 use Rattle.job.specs.Weights.{block-job, weight-in}
 use Rattle.plan.specs.Plan.{plan-answer}
 use Rattle.staged_plan.specs.Check.{within-verdict, LimitPasses, staged-check-answer, staged-before-idle, StagedPlanOf, ChecksStaged}
@@ -18,7 +18,7 @@ use Rattle.bound.specs.Bound.{Memory, wide-job, block-capacity}
 use Rattle.staged_bound.specs.Staged.{limit-verdict, staged-checks, StagedLeaves}
 use Rattle.certificate.specs.Certificate.{compared, handed-on, certificate-values, certificate-outcome}
 use Rattle.certificate.specs.Promises.{BestAmong, GapAmong}
-use Rattle.certificate.specs.declared.Certificate.{Certificate}
+use Rattle.promises.specs.declared.Certificate.{Certificate}
 
 -- the verdict of the checks that stand before the storage's: 1 to 9, 27 and 35, 22, then the plan's within the limit, 10 to 18, 36, 26 and
 -- 23

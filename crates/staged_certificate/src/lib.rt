@@ -1,15 +1,15 @@
 // The staged certificate: a checked plan's profit against the staged bound. "Best" is a statement about every guillotine tree within the
 // limit that keeps the demands (specs/Certificate). The call hands on the first refusal met, 1 to 20, 22, 23, 26, 27, 35 or 36, and leaves
 // lists and table as the staged bound call does.
-use bound::BoundAnswer;
-use certificate::Certificate;
 use certificate::conclude;
 use certificate::storage_verdict;
-use job::Choices;
 use pieces::list_pieces;
 use pieces::plate_of;
-use refusal::Checked;
-use refusal::Refusal;
+use promises::BoundAnswer;
+use promises::Certificate;
+use promises::Checked;
+use promises::Choices;
+use promises::Refusal;
 use staged_plan::check_within;
 use stages::limit_outside;
 ghost use Rattle.job.specs.Block.{with-full-demand};

@@ -9,10 +9,10 @@ use Rattle.cutting.specs.Tree.{Tree}
 use Rattle.cutting.specs.Pieces.{Piece}
 use Rattle.cutting.specs.Shares.{stages}
 use Rattle.cutting.specs.Job.{Job}
-use Rattle.refusal.specs.declared.Refusal.{Refusal}
-use Rattle.refusal.specs.declared.Refusal.the-variants.{ManyStages}
-use Rattle.refusal.specs.declared.Checked.{Checked}
-use Rattle.refusal.specs.declared.Checked.the-variants.{Passed, Refused}
+use Rattle.promises.specs.declared.Refusal.{Refusal}
+use Rattle.promises.specs.declared.Refusal.the-variants.{ManyStages}
+use Rattle.promises.specs.declared.Checked.{Checked}
+use Rattle.promises.specs.declared.Checked.the-variants.{Passed, Refused}
 use Rattle.refusal.specs.Refusals.{next, first-refusal}
 use Rattle.job.proofs.Checks.{passed-both}
 use Rattle.stages.specs.declared.Staged.{Staged}
@@ -20,15 +20,15 @@ use Rattle.stages.specs.declared.Staged.the-variants as found
 use Rattle.stages.specs.Stages.{path-checks}
 use Rattle.stages.specs.Walks.{staged-as, StagesOf}
 use Rattle.stages.proofs.Limit.{passed-within, within-passed, staged-within, staged-past}
-use Rattle.plan.specs.declared.Report.{Report}
-use Rattle.plan.specs.declared.PlanAnswer.{PlanAnswer}
+use Rattle.promises.specs.declared.Report.{Report}
+use Rattle.promises.specs.declared.PlanAnswer.{PlanAnswer}
 use Rattle.plan.specs.Plan.{empty-report, plan-answer}
 use Rattle.plan.specs.Trees.{tree-in, PlanOf, Reports}
 use Rattle.plan.proofs.Whole.{verdict-is}
 use Rattle.plan.proofs.Parse.{no-pass}
 use Rattle.plan.proofs.Plans.{walked-counts, plans-checked}
 use Rattle.plan.proofs.Drawn.{drawn-is, plan-is}
-use Rattle.staged_plan.specs.declared.StagedAnswer.{StagedAnswer}
+use Rattle.promises.specs.declared.StagedAnswer.{StagedAnswer}
 use Rattle.staged_plan.specs.Check.{stage-verdict, within-verdict, staged-refused, staged-by, within-answer, without-idle, StagedPlanOf, ChecksStaged}
 
 -- the verdict of an answer, and zeros where it refuses

@@ -10,19 +10,19 @@ use Rattle.cutting.specs.Pieces.{Piece}
 use Rattle.cutting.specs.Shares.{stages}
 use Rattle.cutting.specs.Staged.{paths, path-stages}
 use Rattle.cutting.specs.Job.{Job}
-use Rattle.refusal.specs.declared.Refusal.{Refusal}
-use Rattle.refusal.specs.declared.Checked.{Checked}
-use Rattle.refusal.specs.declared.Checked.the-variants.{Passed, Refused}
+use Rattle.promises.specs.declared.Refusal.{Refusal}
+use Rattle.promises.specs.declared.Checked.{Checked}
+use Rattle.promises.specs.declared.Checked.the-variants.{Passed, Refused}
 use Rattle.refusal.specs.Refusals.{Outcome, next, first-refusal, by-check, outcome-by}
-use Rattle.job.specs.declared.Choices.{Choices}
+use Rattle.promises.specs.declared.Choices.{Choices}
 use Rattle.job.specs.Block.{job-checks}
 use Rattle.job.specs.Weights.{block-job}
 use Rattle.stages.specs.Stages.{limit-check, path-checks}
-use Rattle.plan.specs.declared.Report.{Report}
+use Rattle.promises.specs.declared.Report.{Report}
 use Rattle.plan.specs.Plan.{empty-report, walk-answer, plan-answer}
 use Rattle.plan.specs.Trees.{tree-in, DrawnAs, PlanOf, Reports}
 use Rattle.plan.specs.Calls.{plan-values}
-use Rattle.staged_plan.specs.declared.StagedAnswer.{StagedAnswer}
+use Rattle.promises.specs.declared.StagedAnswer.{StagedAnswer}
 
 -- check 23 of a plan's arrays, over the tree that they draw
 abbrev pub stage-verdict : ℕ → List ℕ → List ℕ → Checked

@@ -1,11 +1,12 @@
 // The check of a plan within a limit on its stages: refusals 1 to 7, 27 and 35, 22, 10 to 18, 36, 26 and 23.
-use job::Choices;
-use job::JobRecord;
 use job::read_job;
-use plan::Report;
 use plan::check_nodes;
-use refusal::Checked;
-use refusal::Refusal;
+use promises::Checked;
+use promises::Choices;
+use promises::JobRecord;
+use promises::Refusal;
+use promises::Report;
+use promises::StagedAnswer;
 use stages::Staged;
 use stages::limit_outside;
 use stages::stages_within;
@@ -16,13 +17,6 @@ ghost use Rattle.cutting.specs.Job.{InRange};
 ghost use Rattle.job.specs.Block.{job-of};
 ghost use Rattle.job.specs.Weights.{block-job};
 ghost use Rattle.staged_plan.specs.Check.{staged-refused, within-answer, LimitPasses, staged-check-answer, staged-before-idle, staged-check-outcome, staged-check-said, ChecksStaged};
-
-// What the staged check answers: where the plan is refused, the report is all zeros, and so are the stages.
-pub struct StagedAnswer {
-    pub verdict: Checked,
-    pub report: Report,
-    pub stages: u8,
-}
 
 // A refusal's answer.
 fn refused(reason: Refusal) -> StagedAnswer

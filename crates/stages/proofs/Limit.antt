@@ -6,7 +6,7 @@ use Prim.Native.Nat.{ℕ, _+_, _-_, _≤_}
 use native.Mathlib.Omega.{arith}
 use borrow.Author.Tests.{lt-leb, leb-false, ltb-false}
 use lib.Dec.{leb, ltb}
-use Rattle.cutting.specs.declared.Direction.{Direction}
+use Rattle.promises.specs.declared.Direction.{Direction}
 use Rattle.cutting.specs.Limits.{most-limit}
 use Rattle.cutting.specs.Tree.{Tree, waste, piece, cut}
 use Rattle.cutting.specs.Pieces as laid
@@ -14,10 +14,10 @@ use Rattle.cutting.specs.Shares.{change, stages-below, root, stages}
 use Rattle.cutting.specs.Staged.{path-stages}
 use Rattle.cutting.specs.Preorder.{node-count}
 use Rattle.cutting.proofs.Stages.{root-stages}
-use Rattle.refusal.specs.declared.Refusal.{Refusal}
-use Rattle.refusal.specs.declared.Refusal.the-variants.{StageLimit, ManyStages}
-use Rattle.refusal.specs.declared.Checked.{Checked}
-use Rattle.refusal.specs.declared.Checked.the-variants.{Passed, Refused}
+use Rattle.promises.specs.declared.Refusal.{Refusal}
+use Rattle.promises.specs.declared.Refusal.the-variants.{StageLimit, ManyStages}
+use Rattle.promises.specs.declared.Checked.{Checked}
+use Rattle.promises.specs.declared.Checked.the-variants.{Passed, Refused}
 use Rattle.refusal.specs.Refusals.{next, refuse-when, by-check, place-of, first-refusal}
 use Rattle.job.specs.Block.{outside}
 use Rattle.job.proofs.Checks.{cons-passed, append-passed, passed-append}

@@ -7,7 +7,7 @@ use native.Mathlib.Omega.{arith}
 use borrow.Author.Tests.{leb-true, leb-false, lt-ltb, le-ltb}
 use lib.Dec.{leb, ltb}
 use lib.ListN.{length, length-append, length-map}
-use Rattle.cutting.specs.declared.Direction.{Direction}
+use Rattle.promises.specs.declared.Direction.{Direction}
 use Rattle.cutting.specs.Tree.{Tree, waste, piece, cut}
 use Rattle.cutting.specs.Pieces as laid
 use Rattle.cutting.specs.Shares.{change, root}
@@ -15,7 +15,7 @@ use Rattle.cutting.specs.Staged.{changes, path-stages}
 use Rattle.cutting.specs.Preorder.{preorder, node-count}
 use Rattle.cutting.proofs.Preorder.{count-cut}
 use Rattle.cutting.proofs.Stages.{change-same}
-use Rattle.refusal.specs.declared.Refusal.the-variants.{ManyStages}
+use Rattle.promises.specs.declared.Refusal.the-variants.{ManyStages}
 use Rattle.refusal.specs.Refusals.{next, first-refusal}
 use Rattle.job.proofs.Checks.{first-append}
 use Rattle.stages.specs.Stages.{node-paths, above-checks, path-checks}

@@ -5,14 +5,14 @@ use mathlib.Core.List.{List, [], _∷_, _++_}
 use Prim.Native.Nat.{ℕ, _+_, _-_, _≤_, _<_, max}
 use lib.Dec.{leb}
 use lib.ListN.{length, drop, getD}
-use Rattle.cutting.specs.declared.Direction.{Direction}
-use Rattle.cutting.specs.declared.Direction.the-variants.{Length, Width}
+use Rattle.promises.specs.declared.Direction.{Direction}
+use Rattle.promises.specs.declared.Direction.the-variants.{Length, Width}
 use Rattle.cutting.specs.Tree.{Tree, waste, piece, cut}
 use Rattle.cutting.specs.Pieces as laid
 use Rattle.cutting.specs.Shares.{other, change, root, stages-below, stages}
 use Rattle.cutting.specs.Preorder.{node-count, kinds-of}
-use Rattle.refusal.specs.declared.Refusal.the-variants.{ManyStages}
-use Rattle.refusal.specs.declared.Checked.{Checked}
+use Rattle.promises.specs.declared.Refusal.the-variants.{ManyStages}
+use Rattle.promises.specs.declared.Checked.{Checked}
 use Rattle.refusal.specs.Refusals.{Check, by-check, place-of, first-refusal}
 use Rattle.stages.specs.Stages.{path-checks}
 use Rattle.stages.specs.declared.Walk.{Walk}

@@ -1,10 +1,10 @@
 // Check 22, check 23 and the stages of a plan that passed: a walk below length cuts and a walk below width cuts that call each other where the
 // direction changes. Cuts that keep the direction only add to the trees that wait, so that the walks nest no deeper than the limit.
-use cutting::Direction;
+use promises::Direction;
 ghost use mathlib.Core.Path.{_≡_};
 ghost use Prim.Native.Nat.{_+_, _-_, _<_, _≤_, max};
 ghost use lib.ListN.{length};
-ghost use Rattle.cutting.specs.declared.Direction.the-variants.{Length, Width};
+ghost use Rattle.promises.specs.declared.Direction.the-variants.{Length, Width};
 ghost use Rattle.cutting.specs.Shares.{other};
 ghost use Rattle.cutting.specs.Limits.{most-nodes, most-limit};
 ghost use Rattle.job.specs.Block.{outside};

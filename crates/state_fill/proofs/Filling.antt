@@ -7,7 +7,7 @@ use native.Mathlib.Nat.{mul-le-mul-right, mod-lt, div-add-mod', div-lt-iff-lt-mu
 use native.Mathlib.Decide.{ℕ-discrete, decLe}
 use native.Mathlib.Omega.{arith}
 use lib.ListN.{length, getD}
-use Rattle.cutting.specs.declared.Direction.the-variants.{Length, Width}
+use Rattle.promises.specs.declared.Direction.the-variants.{Length, Width}
 use Rattle.cutting.specs.Job.{Job}
 use Rattle.cutting.specs.Listed.{InTableRange, listed-weight}
 use Rattle.cutting.proofs.Table.{positions-first, positions-some}

@@ -13,7 +13,7 @@ ghost use Prim.Native.Nat.{ℕ, _+_, _*_, _≤_, _<_};
 ghost use lib.ListN.{length, drop};
 ghost use Rattle.cutting.specs.Limits.{most-pieces};
 ghost use Rattle.cutting.specs.Listed.{listed-weight};
-ghost use Rattle.cutting.specs.declared.Direction.the-variants.{Length, Width};
+ghost use Rattle.promises.specs.declared.Direction.the-variants.{Length, Width};
 ghost use Rattle.table.specs.Table.{position-count, Kept};
 ghost use Rattle.table.specs.Words.{Outside, Run};
 ghost use Rattle.states.specs.States.{held, note, under, Figures};

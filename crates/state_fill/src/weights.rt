@@ -6,7 +6,7 @@ use table::TableSize;
 ghost use Prim.Native.Nat.{_*_, _≤_};
 ghost use lib.ListN.{length};
 ghost use Rattle.cutting.specs.Listed.{listed-weight};
-ghost use Rattle.cutting.specs.declared.Direction.the-variants.{Length, Width};
+ghost use Rattle.promises.specs.declared.Direction.the-variants.{Length, Width};
 ghost use Rattle.table.specs.Table.{position-count, Kept};
 ghost use Rattle.table.specs.States.{figure-pair};
 ghost use Rattle.table.specs.Contracts.{size-job, Fillable, FilledBy, TwoFillable, TwoBy};

@@ -10,7 +10,7 @@ use native.Mathlib.Omega.{arith}
 use borrow.Author.Tests.{lt-ltb, le-ltb, eq-eqb, ne-eqb}
 use lib.Dec.{T, leb, ltb, eqb}
 use lib.ListN.{getD}
-use Rattle.cutting.specs.declared.Direction.the-variants.{Length, Width}
+use Rattle.promises.specs.declared.Direction.the-variants.{Length, Width}
 use Rattle.cutting.specs.Lists.{only}
 use Rattle.cutting.specs.Tree.{Tree, waste, piece, cut, total, Within}
 use Rattle.cutting.specs.Figure.{figure}

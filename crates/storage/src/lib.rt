@@ -3,7 +3,7 @@
 use cutting::Sides;
 use positions::map_floors;
 use positions::normal_positions;
-use refusal::Refusal;
+use promises::Refusal;
 use table::TableSize;
 ghost use mathlib.Core.Path.{_≡_};
 ghost use mathlib.Core.Bool.{_||_};

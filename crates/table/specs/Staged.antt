@@ -3,18 +3,14 @@
 -- docs/SCOPE.md: No more than so many stages.
 use mathlib.Core.Path.{_≡_}
 use mathlib.Core.List.{List}
-use Prim.Native.Nat.{ℕ, _+_, _-_, _*_, _≤_, _<_}
+use Prim.Native.Nat.{ℕ, _+_, _*_, _≤_, _<_}
 use lib.ListN.{getD}
-use Rattle.cutting.specs.declared.Direction.{Direction}
-use Rattle.cutting.specs.declared.Direction.the-variants.{Length, Width}
+use Rattle.promises.specs.declared.Direction.{Direction}
+use Rattle.promises.specs.declared.Direction.the-variants.{Length, Width}
 use Rattle.cutting.specs.Job.{Job}
 use Rattle.cutting.specs.Staged.{block}
 use Rattle.table.specs.Table.{position-count, position, words-needed, word}
-
--- the number of a block: 0 without a cut; then for each stage length first, 2k - 1, and width first, 2k
-abbrev pub block-number : ℕ → Direction → ℕ
-block-number k Length = 2 * k - 1
-block-number k Width = 2 * k
+pub use Rattle.promises.specs.Systems.{block-number}
 
 -- the words that the blocks up to limit n need: (2n + 1) · p · r · (Q + 1)
 abbrev pub staged-words : Job → ℕ → ℕ → ℕ

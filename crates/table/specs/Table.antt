@@ -4,18 +4,10 @@
 use mathlib.Core.Path.{_≡_}
 use mathlib.Core.List.{List}
 use Prim.Native.Nat.{ℕ, _+_, _*_, _<_}
-use lib.ListN.{length, getD, drop}
-use Rattle.cutting.specs.declared.Direction.{Direction}
-use Rattle.cutting.specs.declared.Direction.the-variants.{Length, Width}
-use Rattle.cutting.specs.Job.{Job, figure-of, normal-positions}
-
--- p and r: the number of normal lengths, and of normal widths
-abbrev pub position-count : Job → Direction → ℕ
-position-count J d = length (normal-positions J d)
-
--- the a-th normal length, or normal width, counted from 0
-abbrev pub position : Job → Direction → ℕ → ℕ
-position J d a = getD (normal-positions J d) a 0
+use lib.ListN.{getD}
+use Rattle.promises.specs.declared.Direction.the-variants.{Length, Width}
+use Rattle.cutting.specs.Job.{Job, figure-of}
+pub use Rattle.promises.specs.Systems.{position-count, position, Kept}
 
 -- the words that a table needs: p · r · (Q + 1)
 abbrev pub words-needed : Job → ℕ → ℕ
@@ -29,7 +21,3 @@ word J q a b c = (a * position-count J Width + b) * (q + 1) + c
 abbrev pub Figures : Job → (ℕ → ℕ) → ℕ → List ℕ → Type 0
 Figures J weight q xs = (a b c : ℕ) → a < position-count J Length → b < position-count J Width → c < q + 1
     → getD xs (word J q a b c) 0 ≡ figure-of J weight (position J Length a) (position J Width b) c
-
--- the words from n on are as they were
-abbrev pub Kept : ℕ → List ℕ → List ℕ → Type 0
-Kept n old new = (length new ≡ length old) × (drop n new ≡ drop n old)

@@ -5,13 +5,10 @@ use mathlib.Core.Path.{_≡_}
 use mathlib.Core.List.{List}
 use Prim.Native.Nat.{ℕ, _+_, _*_, _<_}
 use lib.ListN.{getD}
-use Rattle.cutting.specs.declared.Direction.the-variants.{Length, Width}
+use Rattle.promises.specs.declared.Direction.the-variants.{Length, Width}
 use Rattle.cutting.specs.Job.{Job}
 use Rattle.table.specs.Table.{position-count, position, words-needed, word}
-
--- the pairs of shares up to both capacities
-abbrev pub pair-count : ℕ → ℕ → ℕ
-pair-count q q′ = (q + 1) * (q′ + 1)
+pub use Rattle.promises.specs.Systems.{pair-count}
 
 -- the words that the table needs: p · r · (Q + 1) · (Q′ + 1)
 abbrev pub two-words : Job → ℕ → ℕ → ℕ

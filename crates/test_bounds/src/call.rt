@@ -1,7 +1,5 @@
 // The bound call on the job at hand, or the staged one, or that of two weights, the exact call, the plates that its order needs or the bound
 // by multipliers, with a part of marked memory lent; its answer and what it left there go into words.
-use bound::BoundAnswer;
-use bound::BoundReport;
 use bound::bound;
 use bound::bound_full_demand;
 use every_unit::BLOCK;
@@ -19,17 +17,21 @@ use every_unit::WEIGHTS;
 use every_unit::WIDTH_COUNT;
 use every_unit::WORD_COUNT;
 use every_unit::write_block;
-use exact::ExactAnswer;
-use exact::ExactReport;
 use exact::exact;
-use job::Choices;
-use multipliers::LagrangianAnswer;
-use multipliers::LagrangianReport;
 use multipliers::bound_lagrangian;
-use plates_needed::PlatesAnswer;
-use plates_needed::PlatesReport;
 use plates_needed::plates_needed;
-use refusal::Refusal;
+use promises::BoundAnswer;
+use promises::BoundReport;
+use promises::Choices;
+use promises::ExactAnswer;
+use promises::ExactReport;
+use promises::LagrangianAnswer;
+use promises::LagrangianReport;
+use promises::PlatesAnswer;
+use promises::PlatesReport;
+use promises::Refusal;
+use promises::TwoAnswer;
+use promises::TwoReport;
 use staged_bound::bound_staged;
 use test_tools::Words;
 use test_tools::bytes;
@@ -45,8 +47,6 @@ use test_tools::minus;
 use test_tools::put;
 use test_tools::u32s;
 use test_tools::word;
-use two_bound::TwoAnswer;
-use two_bound::TwoReport;
 use two_bound::bound_two;
 use two_bound::bound_two_full_demand;
 

@@ -35,7 +35,7 @@ use every_unit::is_fewest;
 use every_unit::lower_prices;
 use every_unit::order_sum;
 use every_unit::restore_prices;
-use job::Choices;
+use promises::Choices;
 use test_tools::Words;
 use test_tools::add;
 use test_tools::clear;

@@ -20,7 +20,7 @@ use every_unit::PRICE;
 use every_unit::SECOND_WEIGHT;
 use every_unit::SECOND_WEIGHTS;
 use every_unit::TWO;
-use job::Choices;
+use promises::Choices;
 use test_tools::ROW;
 use test_tools::Words;
 use test_tools::clear;

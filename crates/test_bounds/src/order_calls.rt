@@ -10,7 +10,7 @@ use every_unit::MULTIPLIERS;
 use every_unit::OTHER;
 use every_unit::PLATE;
 use every_unit::TWO;
-use job::Choices;
+use promises::Choices;
 use test_tools::ROW;
 use test_tools::Words;
 use test_tools::copy;

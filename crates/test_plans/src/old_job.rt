@@ -1,10 +1,10 @@
 // The old job block by its own call, whatever the choices say of it.
 use crate::lent::print_fault;
 use crate::lent::widen;
-use job::Choices;
-use job::JobRecord;
 use job::read_old_job;
-use refusal::Checked;
+use promises::Checked;
+use promises::Choices;
+use promises::JobRecord;
 use test_tools::print_numbers;
 
 fn print_job(job: JobRecord) {

@@ -9,7 +9,8 @@ use crate::lent::print_fault;
 use crate::lent::print_refused;
 use crate::write::print_entry;
 use model::check_model;
-use refusal::Checked;
+use promises::Checked;
+use promises::TruePlanAnswer;
 use test_tools::Words;
 use test_tools::bytes;
 use test_tools::first_bytes;
@@ -22,7 +23,6 @@ use test_tools::row_to;
 use test_tools::text;
 use test_tools::times;
 use test_tools::word;
-use true_plan::TruePlanAnswer;
 use true_plan::true_plan;
 
 // Puts the i-th size into the sizes block, lowest byte first.

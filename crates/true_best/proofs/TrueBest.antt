@@ -10,18 +10,18 @@ use Rattle.cutting.specs.Job.{Job, profit}
 use Rattle.cutting.specs.Promises.{NoneAbove}
 use Rattle.cutting.specs.Relaxation.{ChainsFit}
 use Rattle.refusal.specs.Refusals.{next, first-refusal}
-use Rattle.refusal.specs.declared.Checked.{Checked}
-use Rattle.refusal.specs.declared.Checked.the-variants.{Passed, Refused}
-use Rattle.job.specs.declared.Choices.{Choices}
+use Rattle.promises.specs.declared.Checked.{Checked}
+use Rattle.promises.specs.declared.Checked.the-variants.{Passed, Refused}
+use Rattle.promises.specs.declared.Choices.{Choices}
 use Rattle.job.specs.Block.{record-of, job-checks}
 use Rattle.job.specs.Weights.{block-job}
 use Rattle.job.proofs.Checks.{passed-both}
 use Rattle.sizes.specs.Sizes.{sizes-checks}
-use Rattle.plan.specs.declared.Report.{Report}
+use Rattle.promises.specs.declared.Report.{Report}
 use Rattle.plan.specs.Plan.{plan-answer}
 use Rattle.plan.specs.Trees.{tree-in, PlanOf}
 use Rattle.neat.specs.Neat.{written-by}
-use Rattle.true_plan.specs.declared.TruePlanAnswer.the-variants as answer
+use Rattle.promises.specs.declared.TruePlanAnswer.the-variants as answer
 use Rattle.true_plan.specs.TruePlan.{true-verdict, true-answer-by, block-true, block-neat, block-used, SizesPass, TruePlan, Best}
 use Rattle.true_best.specs.TrueBest.{ModelPasses, PlanEarns, TrueWritten, Holds, TrueBest}
 

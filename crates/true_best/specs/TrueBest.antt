@@ -11,29 +11,29 @@ use Rattle.cutting.specs.Pieces.{Piece}
 use Rattle.cutting.specs.Preorder.{kinds-of, operands-of, node-count}
 use Rattle.cutting.specs.Job.{Job}
 use Rattle.cutting.specs.Neat.{used-of}
-use Rattle.refusal.specs.declared.Checked.{Checked}
-use Rattle.refusal.specs.declared.Checked.the-variants.{Passed}
-use Rattle.job.specs.declared.Choices.{Choices}
+use Rattle.promises.specs.declared.Checked.{Checked}
+use Rattle.promises.specs.declared.Checked.the-variants.{Passed}
+use Rattle.promises.specs.declared.Choices.{Choices}
 use Rattle.job.specs.Weights.{block-job}
-use Rattle.plan.specs.declared.PlanAnswer.{PlanAnswer}
+use Rattle.promises.specs.declared.PlanAnswer.{PlanAnswer}
 use Rattle.plan.specs.Trees.{ChecksPlan}
 use Rattle.plan.specs.Calls.{JobPasses, arrays-before-idle}
 use Rattle.bound.specs.Bound.{Memory}
-use Rattle.two_bound.specs.declared.TwoReport.{TwoReport}
-use Rattle.two_bound.specs.declared.TwoAnswer.{TwoAnswer}
-use Rattle.two_bound.specs.declared.TwoAnswer.the-variants as two
+use Rattle.promises.specs.declared.TwoReport.{TwoReport}
+use Rattle.promises.specs.declared.TwoAnswer.{TwoAnswer}
+use Rattle.promises.specs.declared.TwoAnswer.the-variants as two
 use Rattle.two_bound.specs.Two.{TwoPromises}
-use Rattle.exact.specs.declared.ExactReport.{ExactReport}
-use Rattle.exact.specs.declared.ExactAnswer.{ExactAnswer}
-use Rattle.exact.specs.declared.ExactAnswer.the-variants as exact
+use Rattle.promises.specs.declared.ExactReport.{ExactReport}
+use Rattle.promises.specs.declared.ExactAnswer.{ExactAnswer}
+use Rattle.promises.specs.declared.ExactAnswer.the-variants as exact
 use Rattle.exact.specs.Exact.{ExactPromises}
-use Rattle.certificate.specs.declared.Certificate.{Certificate}
-use Rattle.certificate.specs.declared.Certificate.the-variants as certificate
+use Rattle.promises.specs.declared.Certificate.{Certificate}
+use Rattle.promises.specs.declared.Certificate.the-variants as certificate
 use Rattle.certificate.specs.Promises.{CertifyPromises}
 use Rattle.staged_certificate.specs.Certificate.{CertifyStagedPromises}
 use Rattle.model.specs.Model.{ModelPromises}
-use Rattle.true_plan.specs.declared.TruePlanAnswer.{TruePlanAnswer}
-use Rattle.true_plan.specs.declared.TruePlanAnswer.the-variants as true-plan
+use Rattle.promises.specs.declared.TruePlanAnswer.{TruePlanAnswer}
+use Rattle.promises.specs.declared.TruePlanAnswer.the-variants as true-plan
 use Rattle.true_plan.specs.TruePlan.{block-true, block-neat, Best, StagedBest, TruePromises}
 
 -- the check of a model answers that it passes

@@ -18,13 +18,13 @@ use Rattle.cutting.proofs.Members.{range-solid}
 use Rattle.cutting.proofs.Neat.{neat-stages, neat-nodes, neat-used}
 use Rattle.cutting.proofs.Relaxation.{neat-copies, neat-earns, returned, same-relaxes, relaxed-none, relaxed-staged}
 use Rattle.refusal.specs.Refusals.{next, first-refusal, outcome-by}
-use Rattle.refusal.specs.declared.Refusal.{Refusal}
-use Rattle.refusal.specs.declared.Refusal.the-variants.{PlanLong, TrueMisfit}
-use Rattle.refusal.specs.declared.Checked.{Checked}
-use Rattle.refusal.specs.declared.Checked.the-variants.{Passed, Refused}
-use Rattle.job.specs.declared.Choices.{Choices}
-use Rattle.job.specs.declared.JobRecord.{JobRecord}
-use Rattle.job.specs.declared.JobAnswer.{JobAnswer}
+use Rattle.promises.specs.declared.Refusal.{Refusal}
+use Rattle.promises.specs.declared.Refusal.the-variants.{PlanLong, TrueMisfit}
+use Rattle.promises.specs.declared.Checked.{Checked}
+use Rattle.promises.specs.declared.Checked.the-variants.{Passed, Refused}
+use Rattle.promises.specs.declared.Choices.{Choices}
+use Rattle.promises.specs.declared.JobRecord.{JobRecord}
+use Rattle.promises.specs.declared.JobAnswer.{JobAnswer}
 use Rattle.job.specs.Block.{job-checks, read-of, job-of}
 use Rattle.job.specs.Weights.{block-job}
 use Rattle.job.proofs.Read as read
@@ -40,8 +40,8 @@ use Rattle.neat.specs.declared.Used.{Used}
 use Rattle.neat.specs.Neat.{neat-tree, output-check}
 use Rattle.neat.specs.Scan.{as-used, told-side, told-of, pieces-in, nodes-for, Known, Scannable, Writable}
 use Rattle.neat.proofs.Plans as neat
-use Rattle.true_plan.specs.declared.TruePlanAnswer.{TruePlanAnswer}
-use Rattle.true_plan.specs.declared.TruePlanAnswer.the-variants as answer
+use Rattle.promises.specs.declared.TruePlanAnswer.{TruePlanAnswer}
+use Rattle.promises.specs.declared.TruePlanAnswer.the-variants as answer
 use Rattle.true_plan.specs.TruePlan.{fit-checks, true-checked, true-verdict, block-true, SizesPass, block-neat, block-used, true-answer-by, true-outcome, TruePlan, TrueJudged, TruePromises}
 use Rattle.true_plan.specs.Calls.{true-laid, true-plate, TruePlanned}
 

@@ -9,10 +9,10 @@ use Rattle.cutting.specs.Pieces.{lying}
 use Rattle.cutting.specs.Preorder.{node-count}
 use Rattle.cutting.specs.Job.{Job}
 use Rattle.cutting.specs.Neat.{used-of, neat-of}
-use Rattle.refusal.specs.declared.Checked.{Checked}
+use Rattle.promises.specs.declared.Checked.{Checked}
 use Rattle.sizes.specs.declared.TrueSizes.{TrueSizes}
 use Rattle.neat.specs.Neat.{NeatLeaves}
-use Rattle.true_plan.specs.declared.TruePlanAnswer.{TruePlanAnswer}
+use Rattle.promises.specs.declared.TruePlanAnswer.{TruePlanAnswer}
 use Rattle.true_plan.specs.TruePlan.{true-answer-by}
 
 -- the true size of a piece as it lies

@@ -6,10 +6,10 @@ use mathlib.Core.Path.{_≡_}
 use mathlib.Core.List.{List, [], _∷_, _++_}
 use Prim.Native.Nat.{ℕ, _≤_}
 use lib.Dec.{ltb}
-use lib.ListN.{length, getD}
+use lib.ListN.{length}
 use Rattle.cutting.specs.Tree.{Rect, Tree}
 use Rattle.cutting.specs.Pieces as laid
-use Rattle.cutting.specs.Pieces.{_⊑_, lying}
+use Rattle.cutting.specs.Pieces.{_⊑_}
 use Rattle.cutting.specs.Preorder.{node-count}
 use Rattle.cutting.specs.Shares.{stages}
 use Rattle.cutting.specs.Job.{Job, OnPlate, KeepsDemands, profit, copies-of}
@@ -17,21 +17,21 @@ use Rattle.cutting.specs.Promises.{NoneAbove, NoneBetter}
 use Rattle.cutting.specs.Staged.{NoneStaged, NoneStagedBetter}
 use Rattle.cutting.specs.Neat.{used-of, neat-of}
 use Rattle.cutting.specs.Relaxation.{ChainsFit}
-use Rattle.refusal.specs.Refusals.{Check, Outcome, next, first-refusal, by-check, refused-as, outcome-by}
-use Rattle.refusal.specs.declared.Checked.{Checked}
-use Rattle.refusal.specs.declared.Checked.the-variants.{Passed}
-use Rattle.refusal.specs.declared.Refusal.the-variants.{TrueMisfit}
-use Rattle.job.specs.declared.Choices.{Choices}
+use Rattle.refusal.specs.Refusals.{Check, Outcome, next, first-refusal, by-check, outcome-by}
+use Rattle.promises.specs.declared.Checked.{Checked}
+use Rattle.promises.specs.declared.Checked.the-variants.{Passed}
+use Rattle.promises.specs.declared.Refusal.the-variants.{TrueMisfit}
+use Rattle.promises.specs.declared.Choices.{Choices}
 use Rattle.job.specs.Block.{job-checks}
 use Rattle.job.specs.Weights.{block-job}
-use Rattle.sizes.specs.declared.TrueSizes.{TrueSizes}
 use Rattle.sizes.specs.Sizes.{sizes-checks, sizes-of, true-job}
 use Rattle.plan.specs.Plan.{plan-answer}
 use Rattle.plan.specs.Trees.{tree-in, DrawnAs, PlanOf}
 use Rattle.plan.specs.Calls.{JobPasses}
 use Rattle.neat.specs.Neat.{neat-tree, output-check, NeatLeaves}
-use Rattle.true_plan.specs.declared.TruePlanAnswer.{TruePlanAnswer}
-use Rattle.true_plan.specs.declared.TruePlanAnswer.the-variants as answer
+use Rattle.promises.specs.declared.TruePlanAnswer.{TruePlanAnswer}
+use Rattle.promises.specs.declared.TruePlanAnswer.the-variants as answer
+pub use Rattle.promises.specs.True.{true-outcome}
 
 -- check 34: the used length is more than the plate's, and then the used width
 abbrev pub fit-checks : Rect → Rect → List Check
@@ -68,11 +68,6 @@ block-used s choices z kinds operands = used-of (block-true s choices z) (tree-i
 -- the number of nodes and the used size, or the refusal
 abbrev pub true-answer-by : Checked → ℕ → Rect → TruePlanAnswer
 true-answer-by v n used = by-check v (answer.Written n (used .0) (used .1)) answer.Refused
-
--- an answer's number and values: the nodes, the used length and the used width
-abbrev pub true-outcome : TruePlanAnswer → Outcome
-true-outcome (answer.Written n l w) = (0, n ∷ l ∷ w ∷ [])
-true-outcome (answer.Refused r) = refused-as r
 
 -- what the call answers
 abbrev pub true-answer : List ℕ → Choices → (z kinds operands old-kinds old-positions : List ℕ) → TruePlanAnswer

@@ -1,8 +1,5 @@
 // The true plan of a model's plan: its neat plan by the true sizes, found by the neat plan's own scan. The plan is checked for the model
 // first. One scan finds its used size, so that it is known before anything is written whether it fits the true plate; a second one writes.
-use cutting::Node;
-use job::Choices;
-use job::JobRecord;
 use job::read_job;
 use neat::Entry;
 use neat::Used;
@@ -13,8 +10,12 @@ use neat::turned;
 use neat::used_at;
 use node::decode;
 use plan::check_nodes;
-use refusal::Checked;
-use refusal::Refusal;
+use promises::Checked;
+use promises::Choices;
+use promises::JobRecord;
+use promises::Node;
+use promises::Refusal;
+use promises::TruePlanAnswer;
 use sizes::TrueSizes;
 use sizes::read_sizes;
 ghost use mathlib.Core.Path.{_≡_};
@@ -33,12 +34,6 @@ ghost use Rattle.plan.specs.Trees.{trees-in, tree-in};
 ghost use Rattle.neat.specs.Scan.{as-used, Numbered, node-size, remains, put-when, neat-nodes, told-of, Scannable, Writable};
 ghost use Rattle.true_plan.specs.TruePlan.{true-checked, TruePromises};
 ghost use Rattle.true_plan.specs.Calls.{true-laid, true-plate, TruePlanned};
-
-// What the call answers: the number of the true plan's nodes, which it has written, and its used length and width.
-pub enum TruePlanAnswer {
-    Written(u64, u64, u64),
-    Refused(Refusal),
-}
 
 // The true size of a kind.
 fn size_at(lengths: &[u32; 64], widths: &[u32; 64], i: u16) -> Used

@@ -15,12 +15,12 @@ use Rattle.cutting.proofs.Bound.{capacity-less}
 use Rattle.cutting.proofs.Two.{two-recursion, two-floor, two-figures, two-most, two-holds, two-ceiling}
 use Rattle.cutting.proofs.Promises.{normal-listed}
 use Rattle.refusal.specs.Refusals.{next, first-refusal, outcome-by}
-use Rattle.refusal.specs.declared.Refusal.{Refusal}
-use Rattle.refusal.specs.declared.Checked.{Checked}
-use Rattle.refusal.specs.declared.Checked.the-variants.{Passed, Refused}
-use Rattle.job.specs.declared.Choices.{Choices}
-use Rattle.job.specs.declared.JobRecord.{JobRecord}
-use Rattle.job.specs.declared.JobAnswer.{JobAnswer}
+use Rattle.promises.specs.declared.Refusal.{Refusal}
+use Rattle.promises.specs.declared.Checked.{Checked}
+use Rattle.promises.specs.declared.Checked.the-variants.{Passed, Refused}
+use Rattle.promises.specs.declared.Choices.{Choices}
+use Rattle.promises.specs.declared.JobRecord.{JobRecord}
+use Rattle.promises.specs.declared.JobAnswer.{JobAnswer}
 use Rattle.job.specs.Block.{job-checks, record-of, read-of, job-of}
 use Rattle.job.specs.Weights.{block-job, weight-in}
 use Rattle.job.proofs.Checks.{first-append, append-passed, passed-append, passed-both}
@@ -31,9 +31,9 @@ use Rattle.bound.specs.Bound.{Memory, wide-job, block-capacity}
 use Rattle.bound.proofs.Listed.{pieces-range}
 use Rattle.two_bound.specs.Two.{two-checks, two-storage-checks, two-answer-by, TwoLeaves, weighed-verdict, BothAccepted, two-verdict, block-figure, two-block-report, two-answer, two-values, two-outcome, TwoHolds, TwoPromises}
 use Rattle.two_bound.specs.Contracts.{Statable, Stated, Pairable, Paired}
-use Rattle.two_bound.specs.declared.TwoReport.{TwoReport}
-use Rattle.two_bound.specs.declared.TwoAnswer.{TwoAnswer}
-use Rattle.two_bound.specs.declared.TwoAnswer.the-variants as answer
+use Rattle.promises.specs.declared.TwoReport.{TwoReport}
+use Rattle.promises.specs.declared.TwoAnswer.{TwoAnswer}
+use Rattle.promises.specs.declared.TwoAnswer.the-variants as answer
 use Rattle.two_bound.proofs.Weights.{Weighs, both-passed}
 use Rattle.two_bound.proofs.States.{statable, stated-array}
 use Rattle.two_bound.proofs.Listed.{pieces-paired}

@@ -7,7 +7,7 @@ use Prim.Native.Nat.{ℕ, _+_, _-_, _*_, _≤_, _<_}
 use native.Mathlib.Omega.{arith}
 use lib.Dec.{ltb}
 use lib.ListN.{length, getD}
-use Rattle.cutting.specs.declared.Direction.the-variants.{Length, Width}
+use Rattle.promises.specs.declared.Direction.the-variants.{Length, Width}
 use Rattle.cutting.specs.Tree.{Rect}
 use Rattle.cutting.specs.Figure.{leaf}
 use Rattle.cutting.specs.Saws.{saw}
@@ -21,9 +21,9 @@ use Rattle.cutting.proofs.Members.{members-solid, table-solid}
 use Rattle.cutting.proofs.Table.{sides-suffice, positions-some}
 use Rattle.cutting.proofs.Listed.{greatest-listed}
 use Rattle.refusal.specs.Refusals.{first-refusal}
-use Rattle.refusal.specs.declared.Checked.{Checked}
-use Rattle.refusal.specs.declared.Checked.the-variants.{Passed, Refused}
-use Rattle.refusal.specs.declared.Refusal.the-variants.{TableShort}
+use Rattle.promises.specs.declared.Checked.{Checked}
+use Rattle.promises.specs.declared.Checked.the-variants.{Passed, Refused}
+use Rattle.promises.specs.declared.Refusal.the-variants.{TableShort}
 use Rattle.table.specs.Table.{position-count, position, words-needed, Kept}
 use Rattle.table.specs.Two.{two-words, TwoFigures}
 use Rattle.table.specs.States.{below, by-state, figure-at, pair-blocks, figure-pair, pair-state}
@@ -35,7 +35,7 @@ use Rattle.bound.proofs.Last.{last-position, word-last, words-some}
 use Rattle.bound.proofs.Listed.{same-positions, same-count, same-position, same-words}
 use Rattle.two_bound.specs.Two.{TwoAfter, two-storage-checks, two-report, two-answer-by}
 use Rattle.two_bound.specs.Contracts.{Paired}
-use Rattle.two_bound.specs.declared.TwoAnswer.{TwoAnswer}
+use Rattle.promises.specs.declared.TwoAnswer.{TwoAnswer}
 use Rattle.two_bound.proofs.Storage.{report-is}
 
 module _ (J : Job) (h : InTableRange J) (own : ℕ → ℕ) (q q′ : ℕ) where

@@ -5,8 +5,8 @@ use Prim.Native.Nat.{ℕ}
 use native.Mathlib.Omega.{arith}
 use lib.ListN.{length}
 use Rattle.cutting.specs.Job.{Job}
-use Rattle.refusal.specs.declared.Refusal.{Refusal}
-use Rattle.refusal.specs.declared.Checked.{Checked}
+use Rattle.promises.specs.declared.Refusal.{Refusal}
+use Rattle.promises.specs.declared.Checked.{Checked}
 use Rattle.table.specs.declared.TableSize.{TableSize}
 use Rattle.table.specs.Two.{pair-count, two-words}
 use Rattle.table.specs.Contracts.{TwoBy}
@@ -16,8 +16,8 @@ use Rattle.storage.proofs.Storage.{refused-laid, ready-laid}
 use Rattle.bound.specs.Bound.{lent}
 use Rattle.two_bound.specs.Two.{two-report, two-answer-by}
 use Rattle.two_bound.specs.Contracts.{Paired}
-use Rattle.two_bound.specs.declared.TwoReport.{TwoReport}
-use Rattle.two_bound.specs.declared.TwoAnswer.the-variants as answer
+use Rattle.promises.specs.declared.TwoReport.{TwoReport}
+use Rattle.promises.specs.declared.TwoAnswer.the-variants as answer
 
 -- a report of the five figures
 pub report-is : {b b′ q q′ s s′ p p′ r r′ : ℕ} → b ≡ b′ → q ≡ q′ → s ≡ s′ → p ≡ p′ → r ≡ r′

@@ -8,11 +8,11 @@ use Rattle.cutting.specs.Limits.{most-capacity, most-pairs, most-pieces}
 use Rattle.cutting.specs.Job.{Job}
 use Rattle.cutting.specs.Listed.{InTableRange, listed-weight, node-in}
 use Rattle.refusal.specs.Refusals.{first-refusal}
-use Rattle.refusal.specs.declared.Checked.the-variants.{Passed}
+use Rattle.promises.specs.declared.Checked.the-variants.{Passed}
 use Rattle.table.specs.Two.{pair-count}
 use Rattle.table.specs.States.{pair-state}
 use Rattle.bound.specs.Bound.{Memory}
-use Rattle.two_bound.specs.declared.TwoAnswer.{TwoAnswer}
+use Rattle.promises.specs.declared.TwoAnswer.{TwoAnswer}
 use Rattle.two_bound.specs.Two.{TwoLeaves, two-storage-checks, two-answer-by, two-report}
 
 -- an array of n pieces whose kinds have a weight in both lists, and capacities of not too many pairs

@@ -2,37 +2,30 @@
 -- table, and what the answered bound is. Where it says what the bound call says, it cites that call's definitions.
 -- docs/SCOPE.md: Two weights a kind.
 use mathlib.Core.Path.{_≡_}
-use mathlib.Core.Bool.{not, _||_}
 use mathlib.Core.List.{List, [], _∷_, _++_}
 use Prim.Native.Nat.{ℕ, _≤_}
-use lib.Dec.{ltb, eqb}
 use lib.ListN.{length}
-use Rattle.cutting.specs.declared.Direction.the-variants.{Length, Width}
-use Rattle.cutting.specs.Limits.{most-capacity, most-pairs, most-figure}
+use Rattle.promises.specs.declared.Direction.the-variants.{Length, Width}
+use Rattle.cutting.specs.Limits.{most-figure}
 use Rattle.cutting.specs.Job.{Job, capacity, at-full-demand, normal-positions}
 use Rattle.cutting.specs.Promises.{NoneAbove, NoneFiner, FinerAmong, NormalSums}
 use Rattle.cutting.specs.Two.{figure-two, two-under, two-bound, OfWeights, MostTwo, TwoFiguresMost, TwoRecursion, TwoFloors}
-use Rattle.refusal.specs.Refusals.{Check, Outcome, next, first-refusal, by-check, refused-as, outcome-by}
-use Rattle.refusal.specs.declared.Checked.{Checked}
-use Rattle.refusal.specs.declared.Checked.the-variants.{Passed}
-use Rattle.refusal.specs.declared.Refusal.the-variants.{WeightCount, SecondCount, Capacity, CapacityProduct}
-use Rattle.job.specs.declared.Choices.{Choices}
+use Rattle.refusal.specs.Refusals.{Check, Outcome, next, first-refusal, by-check, outcome-by}
+use Rattle.promises.specs.declared.Checked.{Checked}
+use Rattle.promises.specs.declared.Checked.the-variants.{Passed}
+use Rattle.promises.specs.declared.Choices.{Choices}
 use Rattle.job.specs.Block.{job-checks}
 use Rattle.job.specs.Weights.{block-job, weight-in}
 use Rattle.table.specs.Table.{position-count, Kept}
-use Rattle.table.specs.Two.{pair-count, two-words, TwoFigures}
-use Rattle.bound.specs.declared.BoundAnswer.{BoundAnswer}
-use Rattle.bound.specs.declared.BoundAnswer.the-variants as bound
+use Rattle.table.specs.Two.{two-words, TwoFigures}
+use Rattle.promises.specs.declared.BoundAnswer.{BoundAnswer}
+use Rattle.promises.specs.declared.BoundAnswer.the-variants as bound
 use Rattle.bound.specs.Bound.{Memory, list-check, room-check, list-after, wide-job, block-capacity, bound-answer, BoundLeaves}
-use Rattle.two_bound.specs.declared.TwoReport.{TwoReport}
-use Rattle.two_bound.specs.declared.TwoAnswer.{TwoAnswer}
-use Rattle.two_bound.specs.declared.TwoAnswer.the-variants as answer
-
--- checks 8, 24, 9, which reads either capacity, and 25: the product of both, each plus 1, above 65,536
-abbrev pub two-checks : Job → List ℕ → List ℕ → List Check
-two-checks J first second = (not (eqb (length first) (J .count)), WeightCount) ∷ (not (eqb (length second) (J .count)), SecondCount)
-    ∷ (ltb most-capacity (capacity J (weight-in first)) || ltb most-capacity (capacity J (weight-in second)), Capacity)
-    ∷ (ltb most-pairs (pair-count (capacity J (weight-in first)) (capacity J (weight-in second))), CapacityProduct) ∷ []
+use Rattle.promises.specs.declared.TwoReport.{TwoReport}
+use Rattle.promises.specs.declared.TwoAnswer.{TwoAnswer}
+use Rattle.promises.specs.declared.TwoAnswer.the-variants as answer
+pub use Rattle.promises.specs.Block.{two-checks}
+pub use Rattle.promises.specs.Calls.{two-values, two-outcome}
 
 -- In the definitions up to `TwoLeaves`, J is the job with the kerf added to every side, and F gives its figures.
 -- check 20: a table shorter than p · r · (Q + 1) · (Q′ + 1), with the words needed
@@ -91,15 +84,6 @@ two-block-report s choices first second = two-report (wide-job s choices) (block
 -- what it answers
 abbrev pub two-answer : List ℕ → Choices → List ℕ → List ℕ → Memory → TwoAnswer
 two-answer s choices first second m = two-answer-by (two-verdict s choices first second m) (two-block-report s choices first second)
-
--- a report's values: the bound, both capacities, p and r
-abbrev pub two-values : TwoReport → List ℕ
-two-values b = b .bound ∷ b .«first_capacity» ∷ b .«second_capacity» ∷ b .«length_count» ∷ b .columns ∷ []
-
--- an answer's number and values
-abbrev pub two-outcome : TwoAnswer → Outcome
-two-outcome (answer.Answered b) = (0, two-values b)
-two-outcome (answer.Refused r) = refused-as r
 
 -- the number and values that the call answers
 abbrev pub two-said : List ℕ → Choices → List ℕ → List ℕ → Memory → Outcome

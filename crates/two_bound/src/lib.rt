@@ -2,14 +2,16 @@
 // shares. Refusals 1 to 9, 27, 35, 24, 25, 19 and 20.
 use bound::fill_table;
 use cutting::Sides;
-use job::Choices;
-use job::JobRecord;
 use job::WeightsAnswer;
 use job::check_weights;
 use pieces::list_pieces;
 use pieces::plate_of;
-use refusal::Checked;
-use refusal::Refusal;
+use promises::Checked;
+use promises::Choices;
+use promises::JobRecord;
+use promises::Refusal;
+use promises::TwoAnswer;
+use promises::TwoReport;
 use state_fill::fill_two;
 use storage::Layout;
 use storage::lay_out;
@@ -21,7 +23,7 @@ ghost use Rattle.cutting.specs.Job.{InRange, capacity};
 ghost use Rattle.cutting.specs.Sides.{rect-of};
 ghost use Rattle.cutting.specs.Listed.{listed-weight, pieces-job};
 ghost use Rattle.refusal.specs.Refusals.{first-refusal};
-ghost use Rattle.refusal.specs.declared.Checked.the-variants.{Passed, Refused};
+ghost use Rattle.promises.specs.declared.Checked.the-variants.{Passed, Refused};
 ghost use Rattle.job.specs.Block.{job-of, with-full-demand};
 ghost use Rattle.job.specs.Weights.{weight-in};
 ghost use Rattle.table.specs.Two.{pair-count};
@@ -30,21 +32,6 @@ ghost use Rattle.table.specs.Contracts.{size-job, TwoFillable, TwoBy};
 ghost use Rattle.bound.specs.Bound.{lent};
 ghost use Rattle.two_bound.specs.Two.{two-checks, TwoPromises};
 ghost use Rattle.two_bound.specs.Contracts.{Statable, Stated, Pairable, Paired};
-
-// What the call reports: the bound, both capacities, and the numbers p and r of normal lengths and widths.
-pub struct TwoReport {
-    pub bound: u64,
-    pub first_capacity: u16,
-    pub second_capacity: u16,
-    pub length_count: u16,
-    pub columns: u16,
-}
-
-// What the call answers.
-pub enum TwoAnswer {
-    Answered(TwoReport),
-    Refused(Refusal),
-}
 
 // The capacities of both weights.
 struct Capacities {

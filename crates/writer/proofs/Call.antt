@@ -9,13 +9,13 @@ use Rattle.cutting.proofs.Members.{range-solid}
 use Rattle.cutting.proofs.Plan.{plan-bound, plan-idle}
 use Rattle.cutting.proofs.Promises.{plan-follows}
 use Rattle.refusal.specs.Refusals.{next, first-refusal, outcome-by}
-use Rattle.refusal.specs.declared.Refusal.{Refusal}
-use Rattle.refusal.specs.declared.Checked.{Checked}
-use Rattle.refusal.specs.declared.Checked.the-variants.{Passed, Refused}
+use Rattle.promises.specs.declared.Refusal.{Refusal}
+use Rattle.promises.specs.declared.Checked.{Checked}
+use Rattle.promises.specs.declared.Checked.the-variants.{Passed, Refused}
 use Rattle.cutting.specs.Job.{widened, by-kind, plan-under}
 use Rattle.cutting.proofs.Weights.{by-weight-monotone}
-use Rattle.job.specs.declared.Choices.{Choices}
-use Rattle.job.specs.declared.JobRecord.{JobRecord}
+use Rattle.promises.specs.declared.Choices.{Choices}
+use Rattle.promises.specs.declared.JobRecord.{JobRecord}
 use Rattle.job.specs.Block.{job-of}
 use Rattle.job.specs.Weights.{block-job, weight-in, Accepted}
 use Rattle.job.proofs.Checks.{passed-both, cons-passed}
@@ -24,9 +24,9 @@ use Rattle.job.proofs.Taken.{Taken}
 use Rattle.bound.specs.Bound as bound
 use Rattle.bound.proofs.Holds.{bound-held}
 use Rattle.bound.proofs.Calls.{range-taken, weights-there}
-use Rattle.writer.specs.declared.WriteReport.{WriteReport}
-use Rattle.writer.specs.declared.WriteAnswer.{WriteAnswer}
-use Rattle.writer.specs.declared.WriteAnswer.the-variants as answer
+use Rattle.promises.specs.declared.WriteReport.{WriteReport}
+use Rattle.promises.specs.declared.WriteAnswer.{WriteAnswer}
+use Rattle.promises.specs.declared.WriteAnswer.the-variants as answer
 use Rattle.writer.specs.Write.{nodes-check, write-report, write-answer-by, write-values, write-outcome, nodes-verdict, block-plan, write-verdict, write-answer, PlanChosen, PlanWritten, BoundWritten, WritePromises}
 use Rattle.writer.specs.Contracts.{Weighed, room-verdict, Planned}
 use Rattle.writer.proofs.Write.{none-long, untouched}

@@ -6,7 +6,7 @@ use native.Mathlib.Numerals.{add-one}
 use native.Mathlib.Omega.{arith}
 use lib.ListN.{length, getD, set, take, drop}
 use lib.Seq.{sets, paste, paste-zero, paste-suc, take-at}
-use Rattle.cutting.specs.declared.Node.{Node}
+use Rattle.promises.specs.declared.Node.{Node}
 use Rattle.cutting.specs.Lists.{over}
 use Rattle.cutting.specs.Tree.{Tree}
 use Rattle.cutting.specs.Pieces.{Piece}

@@ -8,11 +8,11 @@ use native.Mathlib.Decide.{decLe}
 use native.Mathlib.Omega.{arith}
 use borrow.Author.Tests.{lt-ltb, le-ltb}
 use lib.Dec.{T, leb, leb→le, le→leb, eqb}
-use Rattle.cutting.specs.declared.Direction.{Direction}
-use Rattle.cutting.specs.declared.Direction.the-variants.{Length, Width}
-use Rattle.cutting.specs.declared.Node.{Node}
-use Rattle.cutting.specs.declared.Node.the-variants.{Waste, Turned, Cut}
-use Rattle.cutting.specs.declared.Node.the-variants as node
+use Rattle.promises.specs.declared.Direction.{Direction}
+use Rattle.promises.specs.declared.Direction.the-variants.{Length, Width}
+use Rattle.promises.specs.declared.Node.{Node}
+use Rattle.promises.specs.declared.Node.the-variants.{Waste, Turned, Cut}
+use Rattle.promises.specs.declared.Node.the-variants as node
 use Rattle.cutting.specs.Tree.{Rect, side, part, Tree, piece}
 use Rattle.cutting.specs.Pieces.{Piece, kind}
 use Rattle.cutting.specs.Sides.{rect-of, sides-of}

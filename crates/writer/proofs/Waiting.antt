@@ -9,9 +9,9 @@ use native.Mathlib.Decide.{ℕ-discrete}
 use native.Mathlib.Omega.{arith}
 use lib.ListN.{length, getD, set, length-set}
 use lib.Seq.{getD-set-same, getD-set-other}
-use Rattle.cutting.specs.declared.Direction.{Direction}
-use Rattle.cutting.specs.declared.Node.{Node}
-use Rattle.cutting.specs.declared.Node.the-variants.{Cut}
+use Rattle.promises.specs.declared.Direction.{Direction}
+use Rattle.promises.specs.declared.Node.{Node}
+use Rattle.promises.specs.declared.Node.the-variants.{Cut}
 use Rattle.cutting.specs.declared.Sides.{Sides}
 use Rattle.cutting.specs.Tree.{side}
 use Rattle.cutting.specs.Sides.{rect-of}

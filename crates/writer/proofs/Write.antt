@@ -9,8 +9,8 @@ use borrow.Author.Tests.{ltb-false}
 use lib.Dec.{ltb}
 use lib.ListN.{length, getD, drop, length-append, length-map, List·getD-append}
 use lib.Seq.{paste, length-sets}
-use Rattle.cutting.specs.declared.Direction.{Direction}
-use Rattle.cutting.specs.declared.Direction.the-variants.{Length, Width}
+use Rattle.promises.specs.declared.Direction.{Direction}
+use Rattle.promises.specs.declared.Direction.the-variants.{Length, Width}
 use Rattle.cutting.specs.Lists.{over}
 use Rattle.cutting.specs.Preorder.{preorder, kind-of, operand-of, kinds-of, operands-of, node-count}
 use Rattle.cutting.specs.declared.Sides.{Sides}
@@ -25,10 +25,10 @@ use Rattle.cutting.proofs.Members.{range-solid, widened-above}
 use Rattle.cutting.proofs.Listed.{listed-above}
 use Rattle.cutting.proofs.Laid.{laid-plan, plain-states}
 use Rattle.refusal.specs.Refusals.{next, refuse-when, first-refusal}
-use Rattle.refusal.specs.declared.Refusal.{Refusal}
-use Rattle.refusal.specs.declared.Refusal.the-variants.{PlanLong}
-use Rattle.refusal.specs.declared.Checked.{Checked}
-use Rattle.refusal.specs.declared.Checked.the-variants.{Passed, Refused}
+use Rattle.promises.specs.declared.Refusal.{Refusal}
+use Rattle.promises.specs.declared.Refusal.the-variants.{PlanLong}
+use Rattle.promises.specs.declared.Checked.{Checked}
+use Rattle.promises.specs.declared.Checked.the-variants.{Passed, Refused}
 use Rattle.job.specs.Weights.{weight-in}
 use Rattle.job.proofs.Checks.{cons-passed}
 use Rattle.table.specs.Table.{position, words-needed, Figures}
@@ -40,9 +40,9 @@ use Rattle.states.specs.States.{under}
 use Rattle.states.specs.States as states
 use Rattle.states.proofs.Digits.{digits-order}
 use Rattle.states.proofs.Ties.{one-digit}
-use Rattle.bound.specs.declared.BoundReport.{BoundReport}
-use Rattle.bound.specs.declared.BoundAnswer.{BoundAnswer}
-use Rattle.bound.specs.declared.BoundAnswer.the-variants as bounded
+use Rattle.promises.specs.declared.BoundReport.{BoundReport}
+use Rattle.promises.specs.declared.BoundAnswer.{BoundAnswer}
+use Rattle.promises.specs.declared.BoundAnswer.the-variants as bounded
 use Rattle.bound.specs.Bound as bound
 use Rattle.bound.specs.Contracts.{Boundable, Bounded}
 use Rattle.bound.proofs.Listed.{pieces-range, pieces-bounded}
@@ -50,9 +50,9 @@ use Rattle.bound.proofs.Holds.{answered-behind, refused-behind}
 use Rattle.choice.specs.Search.{Numbered}
 use Rattle.choice.specs.Choice.{ChoiceInput}
 use Rattle.choice.proofs.Numbers.{array-numbered}
-use Rattle.writer.specs.declared.WriteReport.{WriteReport}
-use Rattle.writer.specs.declared.WriteAnswer.{WriteAnswer}
-use Rattle.writer.specs.declared.WriteAnswer.the-variants as answer
+use Rattle.promises.specs.declared.WriteReport.{WriteReport}
+use Rattle.promises.specs.declared.WriteAnswer.{WriteAnswer}
+use Rattle.promises.specs.declared.WriteAnswer.the-variants as answer
 use Rattle.writer.specs.Write.{nodes-verdict, reported}
 use Rattle.writer.specs.Contracts.{NodesListed, Copyable, table-of, whole-plan, Thick, Weighed, room-verdict, Planned}
 use Rattle.writer.proofs.Listed.{copied-over}

@@ -7,8 +7,8 @@ use Prim.Native.Nat.{ℕ, zero, suc, _+_, _*_, _≤_, _<_}
 use lib.Dec.{leb}
 use lib.ListN.{length, getD, set}
 use lib.Seq.{sets}
-use Rattle.cutting.specs.declared.Node.{Node}
-use Rattle.cutting.specs.declared.Node.the-variants.{Waste, Piece, Turned, Cut}
+use Rattle.promises.specs.declared.Node.{Node}
+use Rattle.promises.specs.declared.Node.the-variants.{Waste, Piece, Turned, Cut}
 use Rattle.cutting.specs.Tree.{Rect, side, part, Tree}
 use Rattle.cutting.specs.Preorder.{preorder, kinds-of, operands-of, node-count}
 use Rattle.cutting.specs.Limits.{most-capacity}
@@ -18,11 +18,11 @@ use Rattle.cutting.specs.Sides.{rect-of, sides-of}
 use Rattle.cutting.specs.Job.{Job, InRange, KindsAbove}
 use Rattle.cutting.specs.Listed.{array-plan}
 use Rattle.refusal.specs.Refusals.{next, first-refusal}
-use Rattle.refusal.specs.declared.Checked.{Checked}
+use Rattle.promises.specs.declared.Checked.{Checked}
 use Rattle.table.specs.declared.TableSize.{TableSize}
 use Rattle.table.specs.Contracts.{size-job}
 use Rattle.states.specs.States.{under}
-use Rattle.bound.specs.declared.BoundReport.{BoundReport}
+use Rattle.promises.specs.declared.BoundReport.{BoundReport}
 use Rattle.bound.specs.Bound.{Memory, memory-checks, list-after}
 use Rattle.choice.specs.declared.Cell.{Cell}
 use Rattle.choice.specs.declared.Chosen.{Chosen}
@@ -30,7 +30,7 @@ use Rattle.choice.specs.Choice.{ChoiceInput, Inside, chosen-at}
 use Rattle.writer.specs.declared.Sawing.{Sawing}
 use Rattle.writer.specs.declared.nodes.Settled.{Settled}
 use Rattle.writer.specs.declared.nodes.Step.{Step}
-use Rattle.writer.specs.declared.WriteAnswer.{WriteAnswer}
+use Rattle.promises.specs.declared.WriteAnswer.{WriteAnswer}
 use Rattle.writer.specs.Write.{nodes-verdict, reported, write-answer-by}
 
 -- the cell at place i: its length, width and share

@@ -14,16 +14,17 @@ use Rattle.cutting.specs.Preorder.{kinds-of, operands-of, node-count}
 use Rattle.cutting.specs.Lists.{over}
 use Rattle.cutting.specs.Job.{Job, by-kind, bound-of, bound-plan}
 use Rattle.cutting.specs.Promises.{EarnsWithin, PlanFollows}
-use Rattle.refusal.specs.Refusals.{Check, Outcome, next, first-refusal, by-check, refused-as, outcome-by}
-use Rattle.refusal.specs.declared.Checked.{Checked}
-use Rattle.refusal.specs.declared.Refusal.the-variants.{PlanLong}
-use Rattle.job.specs.declared.Choices.{Choices}
+use Rattle.refusal.specs.Refusals.{Check, Outcome, next, first-refusal, by-check, outcome-by}
+use Rattle.promises.specs.declared.Checked.{Checked}
+use Rattle.promises.specs.declared.Refusal.the-variants.{PlanLong}
+use Rattle.promises.specs.declared.Choices.{Choices}
 use Rattle.job.specs.Weights.{block-job, weight-in, Accepted}
-use Rattle.bound.specs.declared.BoundReport.{BoundReport}
+use Rattle.promises.specs.declared.BoundReport.{BoundReport}
 use Rattle.bound.specs.Bound.{Memory, list-after, block-capacity, block-report, bound-verdict, BoundLeaves, BoundHolds}
-use Rattle.writer.specs.declared.WriteReport.{WriteReport}
-use Rattle.writer.specs.declared.WriteAnswer.{WriteAnswer}
-use Rattle.writer.specs.declared.WriteAnswer.the-variants as answer
+use Rattle.promises.specs.declared.WriteReport.{WriteReport}
+use Rattle.promises.specs.declared.WriteAnswer.{WriteAnswer}
+use Rattle.promises.specs.declared.WriteAnswer.the-variants as answer
+pub use Rattle.promises.specs.Calls.{write-values, write-outcome}
 
 -- check 21: the plan needs above 4,095 nodes, or more than an array of m or of n entries holds, with the nodes needed
 abbrev pub nodes-check : Tree Piece → ℕ → ℕ → Check
@@ -40,15 +41,6 @@ reported b n = record { bound = b .bound; capacity = b .capacity; «length_count
 -- the report, or the refusal
 abbrev pub write-answer-by : Checked → WriteReport → WriteAnswer
 write-answer-by v b = by-check v (answer.Written b) answer.Refused
-
--- a report's values: the bound, Q, p, r and the node count
-abbrev pub write-values : WriteReport → List ℕ
-write-values b = b .bound ∷ b .capacity ∷ b .«length_count» ∷ b .columns ∷ b .nodes ∷ []
-
--- an answer's number and values
-abbrev pub write-outcome : WriteAnswer → Outcome
-write-outcome (answer.Written b) = (0, write-values b)
-write-outcome (answer.Refused r) = refused-as r
 
 -- the plan behind the bound of a job block and weights
 abbrev pub block-plan : List ℕ → Choices → List ℕ → Tree Piece

@@ -1,18 +1,20 @@
 // The writing call: the plan behind the bound, written from a filled table in preorder into two lent arrays, where its nodes fit them.
 mod nodes;
 
-use bound::BoundAnswer;
-use bound::BoundReport;
 use bound::bound_of_pieces;
 use cutting::Sides;
-use job::Choices;
-use job::JobRecord;
 use nodes::copy_nodes;
 use nodes::list_nodes;
 use pieces::list_pieces;
 use pieces::plate_of;
-use refusal::Checked;
-use refusal::Refusal;
+use promises::BoundAnswer;
+use promises::BoundReport;
+use promises::Checked;
+use promises::Choices;
+use promises::JobRecord;
+use promises::Refusal;
+use promises::WriteAnswer;
+use promises::WriteReport;
 use table::TableSize;
 ghost use mathlib.Core.Path.{_≡_};
 ghost use mathlib.Core.Bool.{_||_};
@@ -21,25 +23,10 @@ ghost use Rattle.cutting.specs.Limits.{most-nodes};
 ghost use Rattle.cutting.specs.Job.{widened, plan-under};
 ghost use Rattle.job.specs.Block.{with-full-demand, job-of};
 ghost use Rattle.job.specs.Weights.{weight-in};
-ghost use Rattle.refusal.specs.declared.Checked.the-variants.{Passed};
+ghost use Rattle.promises.specs.declared.Checked.the-variants.{Passed};
 ghost use Rattle.bound.specs.Bound.{lent, Leaves, bound-report};
 ghost use Rattle.writer.specs.Contracts.{table-of, Readable, sawn-plan, Weighed, room-verdict, Planned};
 ghost use Rattle.writer.specs.Write.{reported, nodes-verdict, WritePromises};
-
-// What the writing call reports: what the bound call does, and the number of the plan's nodes.
-pub struct WriteReport {
-    pub bound: u64,
-    pub capacity: u16,
-    pub length_count: u16,
-    pub columns: u16,
-    pub nodes: u64,
-}
-
-// What the writing call answers.
-pub enum WriteAnswer {
-    Written(WriteReport),
-    Refused(Refusal),
-}
 
 // Whether a plan needs above 4,095 nodes, or more than an array of m or of n entries holds.
 fn too_long(nodes: u64, m: usize, n: usize) -> bool

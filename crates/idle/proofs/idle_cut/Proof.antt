@@ -4,7 +4,7 @@ use Prim.Native.Nat.{_+_, _-_}
 use native.Mathlib.Omega.{arith}
 use denote.Ref.{now}
 use borrow.Author.Needs.{needs}
-use Rattle.refusal.specs.declared.Refusal.the-variants.{IdleCut}
+use Rattle.promises.specs.declared.Refusal.the-variants.{IdleCut}
 use Rattle.refusal.specs.Refusals.{next, refuse-when}
 use Rattle.idle.proofs.Scan.{Scanned, begins, few, ends, goes-on}
 use Rattle.idle.proofs.idle_cut.Statement.{statement}

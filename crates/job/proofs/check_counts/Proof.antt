@@ -8,7 +8,7 @@ use denote.Ref.{now}
 use lib.Dec.{ltb, eqb}
 use lib.ListN.{length}
 use Rattle.refusal.specs.Refusals.{refuse-when}
-use Rattle.refusal.specs.declared.Refusal.the-variants.{KindCount, Kerf, BlockLength}
+use Rattle.promises.specs.declared.Refusal.the-variants.{KindCount, Kerf, BlockLength}
 use Rattle.job.specs.Block.{outside, kind-bytes}
 use Rattle.job.proofs.Checks.{check-stops, check-passes, check-last}
 use Rattle.job.proofs.Read.{sizes-least}

@@ -6,7 +6,7 @@ use borrow.Author.Needs.{needs}
 use denote.Ref.{now}
 use lib.Dec.{ltb}
 use Rattle.refusal.specs.Refusals.{refuse-when}
-use Rattle.refusal.specs.declared.Refusal.the-variants.{Demand}
+use Rattle.promises.specs.declared.Refusal.the-variants.{Demand}
 use Rattle.job.specs.Block.{u16-at, count-at, demand-at}
 use Rattle.job.proofs.Checks.{check-last}
 use Rattle.job.proofs.check_demand.Statement.{statement}

@@ -6,7 +6,7 @@ use denote.Ref.{now}
 use lib.Dec.{ltb}
 use lib.ListN.{getD}
 use Rattle.refusal.specs.Refusals.{refuse-when}
-use Rattle.refusal.specs.declared.Refusal.the-variants.{Grain}
+use Rattle.promises.specs.declared.Refusal.the-variants.{Grain}
 use Rattle.job.proofs.Checks.{check-last}
 use Rattle.job.proofs.check_grain.Statement.{statement}
 use Rattle.job.proofs.check_grain.Tie as tie

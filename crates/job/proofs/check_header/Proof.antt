@@ -5,7 +5,7 @@ use borrow.Author.Needs.{needs}
 use denote.Ref.{now}
 use lib.ListN.{length}
 use Rattle.refusal.specs.Refusals.{refuse-when}
-use Rattle.refusal.specs.declared.Refusal.the-variants.{ShortHeader, PlateSide}
+use Rattle.promises.specs.declared.Refusal.the-variants.{ShortHeader, PlateSide}
 use Rattle.job.specs.Block.{sizes-end}
 use Rattle.job.proofs.Checks.{passed-least, check-stops, check-passes}
 use Rattle.job.proofs.Read.{sizes-least}

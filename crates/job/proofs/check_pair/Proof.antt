@@ -5,7 +5,7 @@ use borrow.Author.Needs.{needs}
 use denote.Ref.{now}
 use lib.Dec.{ltb}
 use Rattle.refusal.specs.Refusals.{refuse-when}
-use Rattle.refusal.specs.declared.Refusal.the-variants.{Price}
+use Rattle.promises.specs.declared.Refusal.the-variants.{Price}
 use Rattle.job.specs.Block.{u32-at, price-at}
 use Rattle.job.proofs.Checks.{check-stops, check-passes}
 use Rattle.job.proofs.check_pair.Statement.{statement}

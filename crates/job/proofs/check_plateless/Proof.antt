@@ -3,7 +3,7 @@ use mathlib.Core.Path.{_∙_}
 use borrow.Author.Needs.{needs}
 use denote.Ref.{now}
 use lib.ListN.{length}
-use Rattle.refusal.specs.declared.Refusal.the-variants.{ShortHeader}
+use Rattle.promises.specs.declared.Refusal.the-variants.{ShortHeader}
 use Rattle.job.specs.Block.{sizes-end}
 use Rattle.job.proofs.Checks.{passed-least, check-stops, check-passes}
 use Rattle.job.proofs.check_plateless.Statement.{statement}

@@ -5,7 +5,7 @@ use denote.Ref.{now}
 use lib.Dec.{ltb}
 use lib.ListN.{length}
 use Rattle.refusal.specs.Refusals.{refuse-when}
-use Rattle.refusal.specs.declared.Refusal.the-variants.{ShortHeader}
+use Rattle.promises.specs.declared.Refusal.the-variants.{ShortHeader}
 use Rattle.job.proofs.check_short.Statement.{statement}
 use Rattle.job.proofs.check_short.Tie as tie
 

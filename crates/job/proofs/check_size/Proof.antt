@@ -6,7 +6,7 @@ use native.Mathlib.Omega.{arith}
 use borrow.Author.Needs.{needs}
 use denote.Ref.{now}
 use Rattle.refusal.specs.Refusals.{refuse-when}
-use Rattle.refusal.specs.declared.Refusal.the-variants.{KindSide}
+use Rattle.promises.specs.declared.Refusal.the-variants.{KindSide}
 use Rattle.job.specs.Block.{outside, u16-at}
 use Rattle.job.proofs.Checks.{check-last}
 use Rattle.job.proofs.check_size.Statement.{statement}

@@ -2,7 +2,7 @@
 use mathlib.Core.Path.{_∙_, ap}
 use borrow.Author.Needs.{needs}
 use Rattle.refusal.specs.Refusals.{refuse-when}
-use Rattle.refusal.specs.declared.Refusal.the-variants.{NoModel}
+use Rattle.promises.specs.declared.Refusal.the-variants.{NoModel}
 use Rattle.job.proofs.Checks.{check-stops, check-passes, check-last}
 use Rattle.model.specs.Model.{model-checks}
 use Rattle.model.proofs.check_chains.Statement.{statement}

@@ -2,7 +2,7 @@
 use mathlib.Core.Path.{_∙_, ap}
 use borrow.Author.Needs.{needs}
 use Rattle.cutting.specs.Sides.{rect-of}
-use Rattle.refusal.specs.declared.Refusal.the-variants.{Operand}
+use Rattle.promises.specs.declared.Refusal.the-variants.{Operand}
 use Rattle.refusal.specs.Refusals.{refuse-when}
 use Rattle.node.proofs.Placed.{cut-placed}
 use Rattle.node.proofs.place_cut.Statement.{statement}

@@ -6,7 +6,7 @@ use borrow.Author.Tests.{ltb-false}
 use denote.Ref.{now}
 use lib.ListN.{getD}
 use Rattle.refusal.specs.Refusals.{refuse-when}
-use Rattle.refusal.specs.declared.Refusal.the-variants.{RackDemand}
+use Rattle.promises.specs.declared.Refusal.the-variants.{RackDemand}
 use Rattle.rack.proofs.Totals.{Adding, adding-begins, adding-stops, adding-goes, adding-ends}
 use Rattle.rack.proofs.add_copies.Statement.{statement}
 use Rattle.rack.proofs.add_copies.Tie as tie

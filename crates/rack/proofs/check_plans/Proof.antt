@@ -5,7 +5,7 @@ use native.Mathlib.Omega.{arith}
 use denote.Ref.{now}
 use borrow.Author.Needs.{needs}
 use lib.ListN.{length, length-replicate}
-use Rattle.job.specs.declared.JobRecord.{JobRecord}
+use Rattle.promises.specs.declared.JobRecord.{JobRecord}
 use Rattle.job.specs.Block.{job-of}
 use Rattle.plan.specs.Walk.{Held}
 use Rattle.rack.specs.Check.{plate-at, own-answer, rack-stopped}

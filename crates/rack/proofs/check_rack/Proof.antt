@@ -42,23 +42,23 @@ use denote.Triple.Spec.{Meets, tripleOf}
 use denote.Triple.Statement.{Contract, Triple}
 use denote.Triple.Table.{entered, cited}
 use denote.Triple.Walked.{says, Stays, gave-slice, stay-dropped, walkOf, AllGo, goes-gave-slice, goes-dropped, Walks, ends-at, walked, walk-meets}
-use Rattle.refusal.specs.declared.Checked.{Checked}
-use Rattle.refusal.proofs.Checked as C
-use Rattle.refusal.proofs.Checked.Laws as C′
-use Rattle.job.specs.declared.Choices.{Choices}
-use Rattle.job.proofs.Choices as O
-use Rattle.job.proofs.Choices.Laws as O′
-use Rattle.rack.specs.declared.Plate.{Plate}
+use Rattle.promises.specs.declared.Checked.{Checked}
+use Rattle.promises.proofs.Checked as C
+use Rattle.promises.proofs.Checked.Laws as C′
+use Rattle.promises.specs.declared.Choices.{Choices}
+use Rattle.promises.proofs.Choices as O
+use Rattle.promises.proofs.Choices.Laws as O′
+use Rattle.promises.specs.declared.Plate.{Plate}
 use Rattle.rack.specs.declared.RackSides.{RackSides}
-use Rattle.rack.specs.declared.RackAnswer.{RackAnswer}
+use Rattle.promises.specs.declared.RackAnswer.{RackAnswer}
 use Rattle.rack.specs.Records.{paid, paid-count}
 use Rattle.rack.specs.Read.{read-count, sides-of, first-answer}
-use Rattle.rack.proofs.Plate as T
-use Rattle.rack.proofs.Plate.Laws as T′
+use Rattle.promises.proofs.Plate as T
+use Rattle.promises.proofs.Plate.Laws as T′
 use Rattle.rack.proofs.RackSides as S
 use Rattle.rack.proofs.RackSides.Laws as S′
-use Rattle.rack.proofs.RackAnswer as Q
-use Rattle.rack.proofs.RackAnswer.Laws as Q′
+use Rattle.promises.proofs.RackAnswer as Q
+use Rattle.promises.proofs.RackAnswer.Laws as Q′
 use Rattle.rack.proofs.Read.{check-met}
 use Rattle.rack.proofs.Share.{LentShared, lends-shared, shared-back}
 use Rattle.rack.proofs.read_sides as read-sides

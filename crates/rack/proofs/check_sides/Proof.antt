@@ -7,7 +7,7 @@ use borrow.Author.Needs.{needs}
 use denote.Ref.{now}
 use lib.ListN.{length}
 use Rattle.refusal.specs.Refusals.{refuse-when}
-use Rattle.refusal.specs.declared.Refusal.the-variants.{RackSide}
+use Rattle.promises.specs.declared.Refusal.the-variants.{RackSide}
 use Rattle.job.proofs.Checks.{Decides, begins, passes, stops, ends, check-last}
 use Rattle.rack.specs.Check.{plate-at, plate-check}
 use Rattle.rack.proofs.check_sides.Statement.{statement}

@@ -44,13 +44,13 @@ use denote.Triple.Spec.{Meets, tripleOf}
 use denote.Triple.Statement.{Contract, Triple}
 use denote.Triple.Table.{entered, cited}
 use denote.Triple.Walked.{says, Stays, stay-dropped, walkOf, goes-dropped, Walks, ends-at, walked, walk-meets}
-use Rattle.rack.specs.declared.Plate.{Plate}
+use Rattle.promises.specs.declared.Plate.{Plate}
 use Rattle.rack.specs.declared.RackSides.{RackSides}
 use Rattle.rack.specs.Records.{blank}
 use Rattle.rack.specs.Read.{read-count, no-sides, with-plate, sides-of}
 use Rattle.rack.proofs.Loop.{counts}
-use Rattle.rack.proofs.Plate as T
-use Rattle.rack.proofs.Plate.Laws as T′
+use Rattle.promises.proofs.Plate as T
+use Rattle.promises.proofs.Plate.Laws as T′
 use Rattle.rack.proofs.RackSides as S
 use Rattle.rack.proofs.RackSides.Laws as S′
 use Rattle.rack.proofs.Read.{read-few, sides-none, sides-more}

@@ -46,14 +46,14 @@ use denote.Triple.Spec.{Meets, tripleOf}
 use denote.Triple.Statement.{Contract, Triple}
 use denote.Triple.Table.{entered, cited}
 use denote.Triple.Walked.{says, Stays, stay-slice, stay-dropped, walkOf, AllGo, goes-slice, goes-dropped, Walks, ends-at, walked, walk-meets}
-use Rattle.rack.specs.declared.Plate.{Plate}
-use Rattle.rack.specs.declared.RackAnswer.{RackAnswer}
+use Rattle.promises.specs.declared.Plate.{Plate}
+use Rattle.promises.specs.declared.RackAnswer.{RackAnswer}
 use Rattle.rack.specs.Records.{blank, with-profit, paid, paid-count}
 use Rattle.rack.proofs.Loop.{counts}
-use Rattle.rack.proofs.Plate as T
-use Rattle.rack.proofs.Plate.Laws as T′
-use Rattle.rack.proofs.RackAnswer as S
-use Rattle.rack.proofs.RackAnswer.Laws as S′
+use Rattle.promises.proofs.Plate as T
+use Rattle.promises.proofs.Plate.Laws as T′
+use Rattle.promises.proofs.RackAnswer as S
+use Rattle.promises.proofs.RackAnswer.Laws as S′
 use Rattle.rack.proofs.Records.{paid-length, paid-none, paid-more, paid-few}
 use Rattle.rack.proofs.paid_count as paid-count′
 use Rattle.rack.proofs.paid_count.Symbol as paid-count-def

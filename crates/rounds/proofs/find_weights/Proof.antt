@@ -2,7 +2,7 @@
 use mathlib.Core.Path.{refl, sym, _∙_, ap}
 use denote.Ref.{now}
 use Rattle.job.proofs.Read.{read-in-range, answered, refused}
-use Rattle.plan.specs.declared.PlanAnswer.{PlanAnswer}
+use Rattle.promises.specs.declared.PlanAnswer.{PlanAnswer}
 use Rattle.rounds.specs.Rounds.{lent-all}
 use Rattle.rounds.proofs.Calls.{low, job-refused, plan-refused, ran}
 use borrow.Author.Needs.{needs}

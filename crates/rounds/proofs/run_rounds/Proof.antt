@@ -3,7 +3,7 @@ use mathlib.Core.Path.{sym, _∙_, ap}
 use Prim.Native.Nat.{_-_}
 use native.Mathlib.Omega.{arith}
 use denote.Ref.{now}
-use Rattle.job.specs.declared.JobRecord.{JobRecord}
+use Rattle.promises.specs.declared.JobRecord.{JobRecord}
 use Rattle.rounds.specs.Rounds.{lent-all}
 use Rattle.rounds.proofs.Run.{State, starts, weights-room, weights-listed, leaves, ends-refused, made, ends-over, goes-on}
 use borrow.Author.Needs.{needs}

@@ -3,7 +3,7 @@ use mathlib.Core.Path.{sym, _∙_, ap}
 use native.Mathlib.Omega.{arith}
 use denote.Ref.{now}
 use borrow.Author.Needs.{needs}
-use Rattle.saw.specs.declared.SawAnswer.{SawAnswer}
+use Rattle.promises.specs.declared.SawAnswer.{SawAnswer}
 use Rattle.saw.specs.Saw.{saw-answer}
 use Rattle.saw.proofs.Parts.{part-refused, part-past, part-at, same-length}
 use Rattle.saw.proofs.node_part.Statement.{statement}

@@ -5,7 +5,7 @@ use native.Mathlib.Omega.{arith}
 use borrow.Author.Needs.{needs}
 use denote.Ref.{now}
 use Rattle.refusal.specs.Refusals.{refuse-when}
-use Rattle.refusal.specs.declared.Refusal.the-variants.{TrueSize}
+use Rattle.promises.specs.declared.Refusal.the-variants.{TrueSize}
 use Rattle.job.specs.Block.{u32-at}
 use Rattle.job.proofs.Checks.{check-last}
 use Rattle.sizes.specs.Sizes.{true-sides-outside}

@@ -6,7 +6,7 @@ use borrow.Author.Needs.{needs}
 use borrow.Fn.Kinds.{In}
 use borrow.Fn.PlainCycle.{Measures, is, falls, and}
 use lib.ListN.{length}
-use Rattle.cutting.specs.declared.Direction.the-variants.{Length, Width}
+use Rattle.promises.specs.declared.Direction.the-variants.{Length, Width}
 use Rattle.stages.specs.Walks.{Stands, nodes-left}
 use Rattle.stages.proofs.Steps.{at-end, at-change, change-left}
 use Rattle.stages.proofs.length_stage.Reads as length-stage

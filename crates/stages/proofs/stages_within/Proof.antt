@@ -1,7 +1,7 @@
 -- `stages::stages_within` meets its contract: the walk begins below the first cut.
 use mathlib.Core.Path.{refl, _∙_}
 use borrow.Author.Needs.{needs}
-use Rattle.cutting.specs.declared.Direction.the-variants.{Length, Width}
+use Rattle.promises.specs.declared.Direction.the-variants.{Length, Width}
 use Rattle.stages.proofs.Walks.{plan-leaf, plan-cut}
 use Rattle.stages.proofs.stages_within.Statement.{statement}
 use Rattle.stages.proofs.stages_within.Tie as tie

@@ -6,7 +6,7 @@ use borrow.Author.Needs.{needs}
 use Rattle.cutting.specs.Lists.{over}
 use Rattle.job.specs.Block.{job-of}
 use Rattle.sizes.specs.Sizes.{true-job}
-use Rattle.plan.specs.declared.PlanAnswer.{PlanAnswer}
+use Rattle.promises.specs.declared.PlanAnswer.{PlanAnswer}
 use Rattle.neat.proofs.Plans.{plan-most, needed, kinds-written, operands-written, first-stored}
 use Rattle.true_plan.proofs.Plans.{drawn-by, true-scannable, true-writable, is-refused, too-long, too-wide, within, kinds-short, positions-short, is-written, waste-written}
 use Rattle.true_plan.proofs.true_nodes.Statement.{statement}

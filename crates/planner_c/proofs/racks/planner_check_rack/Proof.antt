@@ -5,7 +5,7 @@ use native.Mathlib.Omega.{arith}
 use denote.Ref.{now}
 use lib.ListN.{length, take}
 use Rattle.refusal.specs.Refusals.{by-check, outcome-by}
-use Rattle.rack.specs.declared.RackAnswer.{RackAnswer}
+use Rattle.promises.specs.declared.RackAnswer.{RackAnswer}
 use Rattle.rack.specs.Check.{rack-answer}
 use Rattle.planner_c.specs.Exports.{choices-of}
 use Rattle.planner_c.specs.Racks.{racked-said, ProfitsLeft}

@@ -1,0 +1,17 @@
+pub mod Prelude
+pub mod Lists
+pub mod Refusals
+pub mod Job
+pub mod Plan
+pub mod Figure
+pub mod Systems
+pub mod Block
+pub mod Check
+pub mod Call
+pub mod Calls
+pub mod Rounds
+pub mod Rack
+pub mod Saw
+pub mod True
+pub mod Orders
+pub mod C
