@@ -1,16 +1,5 @@
 -- Values stored in the answer words: one after another, list after list, and at the front.
-use mathlib.Core.Path.{_≡_, refl, sym, _∙_, ap, ap₂, subst}
-use mathlib.Core.List.{List, [], _∷_, _++_, append-nil}
-use Prim.Native.Nat.{ℕ, suc, _+_, _≤_, _<_}
-use native.Mathlib.Numerals.{add-one}
-use native.Mathlib.Omega.{arith}
-use lib.ListN.{length, getD, set, take, drop, drop-of-length-le, length-append}
-use lib.Seq.{sets, length-sets, sets-eq, paste, paste-suc, take-length}
-use Rattle.cutting.specs.Lists.{over}
-use Rattle.cutting.proofs.Lists.{over-sets}
-use Rattle.refusal.specs.Refusals.{Outcome, number-of, place-of, refused-as}
-use Rattle.promises.specs.declared.Refusal.{Refusal}
-use Rattle.answer_words.specs.Words.{Gives}
+use Rattle.answer_words.proofs.Prelude.{_≡_, refl, sym, _∙_, ap, ap₂, subst, List, [], _∷_, _++_, append-nil, ℕ, suc, _+_, _≤_, _<_, add-one, arith, length, getD, set, take, drop, drop-of-length-le, length-append, sets, length-sets, sets-eq, paste, paste-suc, take-length, over, over-sets, Outcome, number-of, place-of, refused-as, Refusal, Gives}
 
 -- a run of stores keeps the length
 pub still : (n : ℕ) (values old : List ℕ) {new : List ℕ} → new ≡ sets old 0 values → n ≤ length old → n ≤ length new

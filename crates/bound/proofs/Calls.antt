@@ -1,31 +1,5 @@
 -- What the bound call promises, from the job's and the weights' verdicts and from the bound of an accepted job.
-use mathlib.Core.Path.{_≡_, refl, sym, _∙_, ap, ap₂, subst}
-use mathlib.Core.List.{List, _++_}
-use Prim.Native.Nat.{ℕ, _≤_}
-use lib.ListN.{length}
-use native.Mathlib.Omega.{arith}
-use Rattle.cutting.specs.declared.Sides.{Sides}
-use Rattle.cutting.specs.Sides.{rect-of, sides-of}
-use Rattle.cutting.specs.Job.{Job, InRange, widened, capacity}
-use Rattle.cutting.specs.Limits.{most-capacity}
-use Rattle.cutting.specs.Listed.{listed-weight, pieces-job, PieceArray}
-use Rattle.cutting.proofs.Promises.{recursion, figures-most, normal-listed, floor-figures}
-use Rattle.refusal.specs.Refusals.{Check, next, first-refusal, by-check, outcome-by}
-use Rattle.promises.specs.declared.Refusal.{Refusal}
-use Rattle.promises.specs.declared.Checked.{Checked}
-use Rattle.promises.specs.declared.Checked.the-variants.{Passed, Refused}
-use Rattle.promises.specs.declared.Choices.{Choices}
-use Rattle.promises.specs.declared.JobRecord.{JobRecord}
-use Rattle.job.specs.Block.{job-of, ReadAlike}
-use Rattle.job.specs.Weights.{block-job, weight-in, weight-checks, Accepted}
-use Rattle.job.proofs.Checks.{passed-both}
-use Rattle.job.proofs.Kerf.{kerf-none-read}
-use Rattle.job.proofs.Weights.{weights-passed, accepted-both, accepted-in-range}
-use Rattle.job.proofs.Taken.{Taken}
-use Rattle.bound.specs.Bound.{Memory, Leaves, wide-job, answer-by, bound-report, memory-checks, report-values, block-capacity, block-report, accept-verdict, bound-verdict, bound-answer, bound-outcome, BoundLeaves, BoundSaid, BoundPromises}
-use Rattle.bound.specs.Contracts.{Boundable, Bounded, RecordBoundable}
-use Rattle.promises.specs.declared.BoundReport.{BoundReport}
-use Rattle.promises.specs.declared.BoundAnswer.{BoundAnswer}
+use Rattle.bound.proofs.Prelude.{_≡_, refl, sym, _∙_, ap, ap₂, subst, List, _++_, ℕ, _≤_, length, arith, Sides, rect-of, sides-of, Job, InRange, widened, capacity, most-capacity, listed-weight, pieces-job, PieceArray, recursion, figures-most, normal-listed, floor-figures, Check, next, first-refusal, by-check, outcome-by, Refusal, Checked, Passed, Refused, Choices, JobRecord, job-of, ReadAlike, block-job, weight-in, weight-checks, Accepted, passed-both, kerf-none-read, weights-passed, accepted-both, accepted-in-range, Taken, Memory, Leaves, wide-job, answer-by, bound-report, memory-checks, report-values, block-capacity, block-report, accept-verdict, bound-verdict, bound-answer, bound-outcome, BoundLeaves, BoundSaid, BoundPromises, Boundable, Bounded, RecordBoundable, BoundReport, BoundAnswer}
 use Rattle.promises.specs.declared.BoundAnswer.the-variants as answer
 use Rattle.bound.proofs.Listed.{pieces-range, pieces-bounded}
 use Rattle.bound.proofs.Holds.{bound-held, answered-behind}

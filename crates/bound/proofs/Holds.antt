@@ -1,17 +1,6 @@
 -- What stands behind a bound that was answered: the verdict passed, the report is the definition's, and the bound of a job in range is
 -- exact.
-use mathlib.Core.Path.{_≡_, refl}
-use Prim.Native.Nat.{ℕ}
-use Rattle.cutting.specs.Job.{Job, InRange, capacity, bound-of}
-use Rattle.cutting.proofs.Members.{range-solid}
-use Rattle.cutting.proofs.Finer.{none-finer, within-finer}
-use Rattle.cutting.proofs.Bound.{capacity-less, bound-ceiling, bound-less}
-use Rattle.cutting.proofs.Promises.{bound-exact, none-above, none-heavier, plate-holds}
-use Rattle.promises.specs.declared.Refusal.{Refusal}
-use Rattle.promises.specs.declared.Checked.{Checked}
-use Rattle.promises.specs.declared.Checked.the-variants.{Passed, Refused}
-use Rattle.bound.specs.Bound.{BoundHolds, answer-by}
-use Rattle.promises.specs.declared.BoundReport.{BoundReport}
+use Rattle.bound.proofs.Prelude.{_≡_, refl, ℕ, Job, InRange, capacity, bound-of, range-solid, none-finer, within-finer, capacity-less, bound-ceiling, bound-less, bound-exact, none-above, none-heavier, plate-holds, Refusal, Checked, Passed, Refused, BoundHolds, answer-by, BoundReport}
 use Rattle.promises.specs.declared.BoundAnswer.the-variants as answer
 
 -- the bound of a job in range holds at its capacity

@@ -1,18 +1,5 @@
 -- The bound is the table's last word: the figure of the last normal length and width at the whole capacity is that of the plate.
-use mathlib.Core.Path.{_≡_, sym, _∙_, ap₂}
-use mathlib.Core.List.{List}
-use Prim.Native.Nat.{ℕ, _+_, _-_, _*_, _≤_, _<_}
-use native.Mathlib.Nat.{mul-le-mul}
-use native.Mathlib.Omega.{arith}
-use lib.ListN.{getD}
-use Rattle.promises.specs.declared.Direction.{Direction}
-use Rattle.promises.specs.declared.Direction.the-variants.{Length, Width}
-use Rattle.cutting.specs.Tree.{side}
-use Rattle.cutting.specs.Job.{Job, figure-of, normal-floor}
-use Rattle.cutting.specs.Listed.{InTableRange}
-use Rattle.cutting.proofs.Members.{table-solid}
-use Rattle.cutting.proofs.Table.{positions-some, positions-normal, positions-floor, figure-floor}
-use Rattle.table.specs.Table.{position-count, position, words-needed, Figures}
+use Rattle.bound.proofs.Prelude.{_≡_, sym, _∙_, ap₂, List, ℕ, _+_, _-_, _*_, _≤_, _<_, mul-le-mul, arith, getD, Direction, Length, Width, side, Job, figure-of, normal-floor, InTableRange, table-solid, positions-some, positions-normal, positions-floor, figure-floor, position-count, position, words-needed, Figures}
 
 -- a table needs a word
 pub words-some : (J : Job) (q : ℕ) → 1 ≤ words-needed J q

@@ -1,26 +1,5 @@
 -- From the pieces back to the job: what is answered and left for the plain job of the array that lists a job's pieces is the job's own.
-use mathlib.Core.Path.{_≡_, refl, sym, _∙_, ap, ap₂, subst}
-use mathlib.Core.List.{List, [], _∷_}
-use Prim.Native.Nat.{ℕ, _+_, _*_}
-use native.Mathlib.Omega.{arith}
-use lib.Dec.{ltb}
-use lib.ListN.{length, getD, drop}
-use Rattle.promises.specs.declared.Direction.{Direction}
-use Rattle.promises.specs.declared.Direction.the-variants.{Length, Width}
-use Rattle.cutting.specs.Saws.{floor}
-use Rattle.cutting.specs.Job.{Job, InRange, widened, figure-of, normal-positions}
-use Rattle.cutting.specs.Listed.{InTableRange, size-in, price-in, listed-weight, pieces-job, PieceArray}
-use Rattle.cutting.proofs.Listed.{listed-normal, listed-positions, listed-figure, listed-range}
-use Rattle.refusal.specs.Refusals.{first-refusal}
-use Rattle.promises.specs.declared.Checked.{Checked}
-use Rattle.promises.specs.declared.Checked.the-variants.{Passed, Refused}
-use Rattle.promises.specs.declared.Refusal.the-variants.{TableShort}
-use Rattle.table.specs.Table.{position-count, position, words-needed, Figures, Kept}
-use Rattle.table.specs.Contracts.{Mapped}
-use Rattle.bound.specs.Bound.{Memory, list-check, list-after, TableAfter, memory-checks, answer-by, bound-report}
-use Rattle.storage.specs.Contracts.{BothMapped}
-use Rattle.bound.specs.Contracts.{Bounded}
-use Rattle.promises.specs.declared.BoundAnswer.{BoundAnswer}
+use Rattle.bound.proofs.Prelude.{_≡_, refl, sym, _∙_, ap, ap₂, subst, List, [], _∷_, ℕ, _+_, _*_, arith, ltb, length, getD, drop, Direction, Length, Width, floor, Job, InRange, widened, figure-of, normal-positions, InTableRange, size-in, price-in, listed-weight, pieces-job, PieceArray, listed-normal, listed-positions, listed-figure, listed-range, first-refusal, Checked, Passed, Refused, TableShort, position-count, position, words-needed, Figures, Kept, Mapped, Memory, list-check, list-after, TableAfter, memory-checks, answer-by, bound-report, BothMapped, Bounded, BoundAnswer}
 use Rattle.bound.proofs.Storage.{report-is}
 
 -- the plain job of the pieces of a job in range, the kerf added, is in the table's ranges

@@ -1,20 +1,7 @@
 -- What the bound of pieces answers, and what lent memory then holds, from the storage as it was laid out.
-use mathlib.Core.Path.{_≡_, refl, sym, _∙_, ap}
-use mathlib.Core.List.{List}
-use Prim.Native.Nat.{ℕ, _+_}
-use native.Mathlib.Omega.{arith}
-use lib.ListN.{length}
-use Rattle.cutting.specs.Job.{Job}
-use Rattle.promises.specs.declared.Refusal.{Refusal}
-use Rattle.table.specs.declared.TableSize.{TableSize}
-use Rattle.table.specs.Contracts.{FilledBy}
+use Rattle.bound.proofs.Prelude.{_≡_, refl, sym, _∙_, ap, List, ℕ, _+_, arith, length, Job, Refusal, TableSize, FilledBy, LaidOut, refused-laid, ready-laid, lent, answer-by, bound-report, BoundReport, Bounded}
 use Rattle.storage.specs.declared.Layout.the-variants as layout
-use Rattle.storage.specs.Contracts.{LaidOut}
-use Rattle.storage.proofs.Storage.{refused-laid, ready-laid}
-use Rattle.bound.specs.Bound.{lent, answer-by, bound-report}
 use Rattle.promises.specs.declared.BoundAnswer.the-variants as answer
-use Rattle.promises.specs.declared.BoundReport.{BoundReport}
-use Rattle.bound.specs.Contracts.{Bounded}
 
 -- a report of the four figures
 pub report-is : {b b′ q q′ p p′ r r′ : ℕ} → b ≡ b′ → q ≡ q′ → p ≡ p′ → r ≡ r′

@@ -1,35 +1,7 @@
 -- What certify promises, from the verdicts of the job, the weights and the plan and from the bound of an accepted job.
-use mathlib.Core.Path.{_≡_, refl, sym, _∙_, ap, ap₂}
-use mathlib.Core.List.{List}
-use Prim.Native.Nat.{ℕ, _≤_}
-use native.Mathlib.Omega.{arith}
-use Rattle.cutting.specs.Job.{bound-of}
-use Rattle.refusal.specs.Refusals.{next, first-refusal}
-use Rattle.promises.specs.declared.Refusal.{Refusal}
-use Rattle.promises.specs.declared.Checked.{Checked}
-use Rattle.promises.specs.declared.Checked.the-variants.{Passed, Refused}
-use Rattle.promises.specs.declared.Choices.{Choices}
-use Rattle.promises.specs.declared.JobRecord.{JobRecord}
-use Rattle.promises.specs.declared.JobAnswer.{JobAnswer}
-use Rattle.job.specs.declared.WeightsAnswer.{WeightsAnswer}
+use Rattle.certificate.proofs.Prelude.{_≡_, refl, sym, _∙_, ap, ap₂, List, ℕ, _≤_, arith, bound-of, next, first-refusal, Refusal, Checked, Passed, Refused, Choices, JobRecord, JobAnswer, WeightsAnswer, read-of, job-of, block-job, weight-in, weights-answer, answered, refused, refusal-answered, accepted-both, Taken, both-by, PlanAnswer, plan-answer, Memory, Leaves, memory-checks, wide-job, block-capacity, block-report, accept-verdict, Bounded, answered-behind, refused-behind, BoundReport, BoundAnswer, plan-verdict, certify-verdict, certificate-of, compared, handed-on, certificate-outcome, weights-verdict, storage-verdict, CertifyPromises, Certificate}
 use Rattle.job.specs.declared.WeightsAnswer.the-variants as weights
-use Rattle.job.specs.Block.{read-of, job-of}
-use Rattle.job.specs.Weights.{block-job, weight-in, weights-answer}
-use Rattle.job.proofs.Read.{answered, refused}
-use Rattle.job.proofs.Weights.{refusal-answered, accepted-both}
-use Rattle.job.proofs.Taken.{Taken, both-by}
-use Rattle.promises.specs.declared.PlanAnswer.{PlanAnswer}
-use Rattle.plan.specs.Plan.{plan-answer}
-use Rattle.bound.specs.Bound.{Memory, Leaves, memory-checks, wide-job, block-capacity, block-report, accept-verdict}
-use Rattle.bound.specs.Contracts.{Bounded}
-use Rattle.bound.proofs.Holds.{answered-behind, refused-behind}
-use Rattle.promises.specs.declared.BoundReport.{BoundReport}
-use Rattle.promises.specs.declared.BoundAnswer.{BoundAnswer}
 use Rattle.promises.specs.declared.BoundAnswer.the-variants as bound
-use Rattle.certificate.specs.Certificate.{plan-verdict, certify-verdict, certificate-of, compared, handed-on, certificate-outcome}
-use Rattle.certificate.specs.Contracts.{weights-verdict, storage-verdict}
-use Rattle.certificate.specs.Promises.{CertifyPromises}
-use Rattle.promises.specs.declared.Certificate.{Certificate}
 use Rattle.certificate.proofs.Comparison.{said-by, handed-before, handed-after, handed-whole}
 use Rattle.certificate.proofs.Promises.{drawn-most, compares, plans-judged, certificates-hold}
 

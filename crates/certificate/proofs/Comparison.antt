@@ -1,21 +1,6 @@
 -- What a certificate says of the checks, the profit and the bound behind it, for any bound and any trees that a plan is compared with.
-use mathlib.Core.Path.{_≡_, refl, sym, _∙_, ap, ap₂, subst}
-use mathlib.Core.Bool.{Bool, true, false}
-use mathlib.Core.List.{[], _∷_}
-use Prim.Native.Nat.{ℕ, _+_, _-_, _≤_}
-use native.Mathlib.Omega.{arith}
-use lib.Dec.{eqb}
-use borrow.Author.Tests.{eqb-true, eqb-false}
-use Rattle.refusal.specs.Refusals.{next, outcome-by}
-use Rattle.promises.specs.declared.Refusal.{Refusal}
-use Rattle.promises.specs.declared.Checked.{Checked}
-use Rattle.promises.specs.declared.Checked.the-variants.{Passed, Refused}
-use Rattle.promises.specs.declared.BoundAnswer.{BoundAnswer}
+use Rattle.certificate.proofs.Prelude.{_≡_, refl, sym, _∙_, ap, ap₂, subst, Bool, true, false, [], _∷_, ℕ, _+_, _-_, _≤_, arith, eqb, eqb-true, eqb-false, next, outcome-by, Refusal, Checked, Passed, Refused, BoundAnswer, handed-on, compared, compared-by, certificate-values, certificate-outcome, storage-verdict, BestAmong, GapAmong, Certificate}
 use Rattle.promises.specs.declared.BoundAnswer.the-variants as bound
-use Rattle.certificate.specs.Certificate.{handed-on, compared, compared-by, certificate-values, certificate-outcome}
-use Rattle.certificate.specs.Contracts.{storage-verdict}
-use Rattle.certificate.specs.Promises.{BestAmong, GapAmong}
-use Rattle.promises.specs.declared.Certificate.{Certificate}
 use Rattle.promises.specs.declared.Certificate.the-variants as certificate
 
 -- a certificate that is no refusal was handed on

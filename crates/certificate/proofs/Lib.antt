@@ -1,3 +1,4 @@
+mod Prelude
 pub mod Comparison
 pub mod Promises
 pub mod Refusals

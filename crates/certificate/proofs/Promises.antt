@@ -1,32 +1,6 @@
 -- Parts 2 and 3 of specs/Promises, proved. Part 1 is in proofs/Refusals.
-use mathlib.Core.Path.{_≡_, sym, ap}
-use mathlib.Core.List.{List}
-use Prim.Native.Nat.{ℕ, _≤_}
-use native.Mathlib.Omega.{arith}
-use Rattle.cutting.specs.Job.{Job, bound-of, by-kind}
-use Rattle.cutting.specs.Promises.{NoneBetter}
-use Rattle.cutting.proofs.Members.{range-solid}
-use Rattle.cutting.proofs.AnyKinds.{any-on}
-use Rattle.cutting.proofs.Finer.{none-finer}
-use Rattle.cutting.proofs.Weights.{by-weight-monotone}
-use Rattle.cutting.proofs.Plan.{plan-bound, plan-idle}
+use Rattle.certificate.proofs.Prelude.{_≡_, sym, ap, List, ℕ, _≤_, arith, Job, bound-of, by-kind, NoneBetter, range-solid, any-on, none-finer, by-weight-monotone, plan-bound, plan-idle, first-refusal, Passed, Choices, job-checks, block-job, weight-in, weight-checks, passed-both, append-passed, read-in-range, accepted-in-range, Report, plan-answer, plans-checked, Memory, memory-checks, wide-job, block-capacity, accept-verdict, bound-held, exact-by, certify-verdict, plan-verdict, PlansJudged, BoundsHold, PlansEarn, Earns, CertificatesHold, BoundExact}
 use Rattle.cutting.proofs.Promises as trees
-use Rattle.refusal.specs.Refusals.{first-refusal}
-use Rattle.promises.specs.declared.Checked.the-variants.{Passed}
-use Rattle.promises.specs.declared.Choices.{Choices}
-use Rattle.job.specs.Block.{job-checks}
-use Rattle.job.specs.Weights.{block-job, weight-in, weight-checks}
-use Rattle.job.proofs.Checks.{passed-both, append-passed}
-use Rattle.job.proofs.Read.{read-in-range}
-use Rattle.job.proofs.Weights.{accepted-in-range}
-use Rattle.promises.specs.declared.Report.{Report}
-use Rattle.plan.specs.Plan.{plan-answer}
-use Rattle.plan.proofs.Plans.{plans-checked}
-use Rattle.bound.specs.Bound.{Memory, memory-checks, wide-job, block-capacity, accept-verdict}
-use Rattle.bound.proofs.Holds.{bound-held}
-use Rattle.bound.proofs.Calls.{exact-by}
-use Rattle.certificate.specs.Certificate.{certify-verdict, plan-verdict}
-use Rattle.certificate.specs.Promises.{PlansJudged, BoundsHold, PlansEarn, Earns, CertificatesHold, BoundExact}
 use Rattle.certificate.proofs.Comparison.{best-among, gap-among}
 
 -- a passed plan's report is its tree's own, and it earns at most the bound

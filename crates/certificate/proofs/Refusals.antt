@@ -1,22 +1,5 @@
 -- Part 1 of specs/Promises, proved: the first condition that holds decides, and what a refused call leaves in lent memory.
-use mathlib.Core.Path.{_≡_, sym, ap}
-use mathlib.Core.Bool.{Bool, true, false, _||_}
-use mathlib.Core.List.{List, [], _∷_, List·Memᴰ·head, List·Memᴰ·tail, List·Memᴰ·not-nil}
-use Prim.Native.Nat.{ℕ, _+_}
-use native.Mathlib.Omega.{arith}
-use lib.Dec.{ltb}
-use lib.ListN.{length}
-use Rattle.promises.specs.declared.Direction.the-variants.{Length, Width}
-use Rattle.cutting.specs.Lists.{over}
-use Rattle.cutting.specs.Job.{Job, normal-positions}
-use Rattle.refusal.specs.Refusals.{Check, number-of, next, refuse-when, first-refusal}
-use Rattle.promises.specs.declared.Refusal.{Refusal}
-use Rattle.promises.specs.declared.Refusal.the-variants.{ListShort, TableShort}
-use Rattle.promises.specs.declared.Checked.{Checked}
-use Rattle.promises.specs.declared.Checked.the-variants.{Passed, Refused}
-use Rattle.table.specs.Table.{words-needed}
-use Rattle.bound.specs.Bound.{Memory, lent, list-after, TableAfter}
-use Rattle.certificate.specs.Promises.{NoneHolds, FirstDecides, MemoryKept}
+use Rattle.certificate.proofs.Prelude.{_≡_, sym, ap, Bool, true, false, _||_, List, [], _∷_, List·Memᴰ·head, List·Memᴰ·tail, List·Memᴰ·not-nil, ℕ, _+_, arith, ltb, length, Length, Width, over, Job, normal-positions, Check, number-of, next, refuse-when, first-refusal, Refusal, ListShort, TableShort, Checked, Passed, Refused, words-needed, Memory, lent, list-after, TableAfter, NoneHolds, FirstDecides, MemoryKept}
 
 none-more : (x : Refusal) (cs : List Check) → NoneHolds cs → NoneHolds ((false, x) ∷ cs)
 none-more x cs h c (List·Memᴰ·head e) = ap (λ (c : Check). c .0) e

@@ -1,43 +1,7 @@
 -- The choice from a filled table: the two searches over the table answer the definition's searches over figures of the job.
-use mathlib.Core.Path.{_≡_, refl, sym, _∙_, ap, ap₂}
-use mathlib.Core.Bool.{Bool, true, false, _&&_}
-use mathlib.Core.Option.{Option, none, some}
-use mathlib.Core.List.{List, [], _∷_, _++_, map, map-map, map-append}
-use Prim.Native.Nat.{ℕ, zero, suc, _+_, _-_, _*_, _≤_, _<_}
-use native.Mathlib.Numerals.{add-one}
-use native.Mathlib.Omega.{arith}
-use borrow.Author.Tests.{eq-eqb, ne-eqb}
-use lib.Dec.{eqb}
-use lib.ListN.{length, getD, take, drop, length-drop, length-map}
-use lib.Seq.{ext-getD, take-all}
-use Rattle.promises.specs.declared.Direction.{Direction}
-use Rattle.promises.specs.declared.Direction.the-variants.{Length, Width}
-use Rattle.promises.specs.declared.Node.{Node}
-use Rattle.promises.specs.declared.Node.the-variants.{Waste, Cut}
-use Rattle.cutting.specs.Lists.{range, filter, first, pairs}
-use Rattle.cutting.specs.Tree.{side, part}
-use Rattle.cutting.specs.Pieces.{Piece, upright}
-use Rattle.cutting.specs.Choice.{or-waste, or-length, or-piece, or-zero}
-use Rattle.cutting.specs.Job.{Job, figure-under, normal-side, normal-positions, normal-floor, pair-earns, first-pair, laid-earns, plan-choice}
-use Rattle.cutting.specs.Listed.{size-in, price-in, array-shares}
-use Rattle.cutting.proofs.Lists.{through, mem-range, mem-pairs, range-length, range-entry, first-cong, first-map, first-filter, pairs-filter}
-use Rattle.cutting.proofs.Listed.{plain-first}
-use Rattle.cutting.proofs.Positions.{between-length, between-entry}
-use Rattle.cutting.proofs.Table.{normal-zero}
-use Rattle.table.specs.declared.TableSize.{TableSize}
-use Rattle.table.specs.Table.{position-count, position}
-use Rattle.table.specs.Contracts.{Listed, Mapped, size-job}
-use Rattle.table.specs.States.{by-state}
-use Rattle.states.specs.States.{under}
-use Rattle.choice.specs.declared.Cell.{Cell}
-use Rattle.choice.specs.declared.Chosen.{Chosen}
-use Rattle.choice.specs.declared.Place.{Place}
-use Rattle.choice.specs.declared.PieceFound.{PieceFound}
+use Rattle.choice.proofs.Prelude.{_≡_, refl, sym, _∙_, ap, ap₂, Bool, true, false, _&&_, Option, none, some, List, [], _∷_, _++_, map, map-map, map-append, ℕ, zero, suc, _+_, _-_, _*_, _≤_, _<_, add-one, arith, eq-eqb, ne-eqb, eqb, length, getD, take, drop, length-drop, length-map, ext-getD, take-all, Direction, Length, Width, Node, Waste, Cut, range, filter, first, pairs, side, part, Piece, upright, or-waste, or-length, or-piece, or-zero, Job, figure-under, normal-side, normal-positions, normal-floor, pair-earns, first-pair, laid-earns, plan-choice, size-in, price-in, array-shares, through, mem-range, mem-pairs, range-length, range-entry, first-cong, first-map, first-filter, pairs-filter, plain-first, between-length, between-entry, normal-zero, TableSize, position-count, position, Listed, Mapped, size-job, by-state, under, Cell, Chosen, Place, PieceFound, CutFound, piece-test, piece-found, pair-test, first-index, cut-found, or-width-cut, or-length-cut, length-search, width-search, cut-chosen, Searchable, Tabled, ChoiceInput, Inside, chosen-of, chosen-at}
 use Rattle.choice.specs.declared.PieceFound.the-variants as piece
-use Rattle.choice.specs.declared.CutFound.{CutFound}
 use Rattle.choice.specs.declared.CutFound.the-variants as found
-use Rattle.choice.specs.Search.{piece-test, piece-found, pair-test, first-index, cut-found, or-width-cut, or-length-cut, length-search, width-search, cut-chosen, Searchable}
-use Rattle.choice.specs.Choice.{Tabled, ChoiceInput, Inside, chosen-of, chosen-at}
 use Rattle.choice.proofs.Rows.{shares-of, search-for, rect-figure, row-figure, mapped-figure, cell-figure, cell-there, cell-sizes, searchable}
 
 -- an entry of a mapped list

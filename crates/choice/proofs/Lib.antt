@@ -1,3 +1,4 @@
+mod Prelude
 pub mod Search
 pub mod Rows
 pub mod Choice

@@ -1,14 +1,6 @@
 -- An array that holds the pieces of a job has the node numbers that the choice asks for.
-use mathlib.Core.List.{List}
-use Prim.Native.Nat.{ℕ, _*_, _≤_, _<_}
-use native.Mathlib.Omega.{arith}
-use Rattle.cutting.specs.Limits.{most-kinds}
+use Rattle.choice.proofs.Prelude.{List, ℕ, _*_, _≤_, _<_, arith, most-kinds, Job, members, node-number, member-at, PieceArray, getD-mem, member-kind, members-count, Numbered}
 use Rattle.cutting.specs.Pieces as laid
-use Rattle.cutting.specs.Job.{Job, members}
-use Rattle.cutting.specs.Listed.{node-number, member-at, PieceArray}
-use Rattle.cutting.proofs.Positions.{getD-mem}
-use Rattle.cutting.proofs.Members.{member-kind, members-count}
-use Rattle.choice.specs.Search.{Numbered}
 
 number-below : (p : laid.Piece) (n : ℕ) → laid.kind p < n → node-number p < 2 * n
 number-below (laid.upright i) n h = omega arith

@@ -1,30 +1,6 @@
 -- The rows of a filled table in one direction: the row of index i holds the figures of the rectangle whose side in that direction is the
 -- i-th normal position, and whose other side stays.
-use mathlib.Core.Path.{_≡_, sym, _∙_, ap, ap₂}
-use mathlib.Core.Bool.{Bool}
-use mathlib.Core.List.{List}
-use Prim.Native.Nat.{ℕ, suc, _+_, _*_, _≤_, _<_}
-use native.Mathlib.Nat.{mul-le-mul, mul-le-mul-right}
-use native.Mathlib.Omega.{arith}
-use lib.ListN.{length, getD}
-use Rattle.promises.specs.declared.Direction.{Direction}
-use Rattle.promises.specs.declared.Direction.the-variants.{Length, Width}
-use Rattle.cutting.specs.Limits.{most-wide-figure}
-use Rattle.cutting.specs.Tree.{Rect, side, part, Shares}
-use Rattle.cutting.specs.Pieces.{Piece, kind}
-use Rattle.cutting.specs.Job.{Job, figure-under, normal-side, normal-floor}
-use Rattle.cutting.specs.Listed.{InTableRange}
-use Rattle.cutting.proofs.Floor.{floor-le}
-use Rattle.cutting.proofs.Members.{table-solid}
-use Rattle.cutting.proofs.Job.{figure-ceiling}
-use Rattle.cutting.proofs.Table.{positions-rise, positions-normal, positions-length, positions-floor, floor-under}
-use Rattle.table.specs.Table.{position-count, position, words-needed, word}
-use Rattle.table.specs.Contracts.{Listed, Mapped}
-use Rattle.table.specs.States.{by-state, figure-at}
-use Rattle.table.proofs.Shares.{by-state-monotone}
-use Rattle.choice.specs.declared.CutSearch.{CutSearch}
-use Rattle.choice.specs.Search.{Row, Searchable}
-use Rattle.choice.specs.Choice.{Tabled}
+use Rattle.choice.proofs.Prelude.{_≡_, sym, _∙_, ap, ap₂, Bool, List, ℕ, suc, _+_, _*_, _≤_, _<_, mul-le-mul, mul-le-mul-right, arith, length, getD, Direction, Length, Width, most-wide-figure, Rect, side, part, Shares, Piece, kind, Job, figure-under, normal-side, normal-floor, InTableRange, floor-le, table-solid, figure-ceiling, positions-rise, positions-normal, positions-length, positions-floor, floor-under, position-count, position, words-needed, word, Listed, Mapped, by-state, figure-at, by-state-monotone, CutSearch, Row, Searchable, Tabled}
 
 -- the words from one row to the next, and the word where row 0 begins; a and b are the indexes of the tabled length and width
 abbrev pub stride-of : ℕ → ℕ → Direction → ℕ

@@ -1,17 +1,5 @@
 -- Searches step by step: what is left of a search over a run of numbers, and of one over pairs, after the members tried so far failed.
-use mathlib.Core.Path.{_≡_, refl, _∙_, ap}
-use mathlib.Core.Bool.{Bool, true, false, _&&_}
-use mathlib.Core.Option.{Option, none, some}
-use mathlib.Core.List.{List, [], _∷_, _++_, map}
-use Prim.Native.Nat.{ℕ, suc, _+_, _-_, _*_, _≤_, _<_}
-use native.Mathlib.Numerals.{add-one}
-use native.Mathlib.Omega.{arith}
-use lib.Dec.{eqb}
-use lib.ListN.{length, getD}
-use Rattle.cutting.specs.Limits.{most-wide-figure}
-use Rattle.cutting.specs.Lists.{range, first, pairs}
-use Rattle.choice.specs.declared.CutSearch.{CutSearch}
-use Rattle.choice.specs.Search.{pair-test, Row, Searchable}
+use Rattle.choice.proofs.Prelude.{_≡_, refl, _∙_, ap, Bool, true, false, _&&_, Option, none, some, List, [], _∷_, _++_, map, ℕ, suc, _+_, _-_, _*_, _≤_, _<_, add-one, arith, eqb, length, getD, most-wide-figure, range, first, pairs, CutSearch, pair-test, Row, Searchable}
 
 -- a run of numbers from i to n, and what is left of it
 pub run-more : (i n : ℕ) → i < n → range i (n - i) ≡ i ∷ range (i + 1) (n - (i + 1))

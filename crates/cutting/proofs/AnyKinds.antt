@@ -1,14 +1,6 @@
 -- Trees of any kinds. One that keeps every demand has a copy of ordered kinds alone, so it is a guillotine tree of the job; and every such
 -- tree is one of any kinds.
-use Prim.Native.Nat.{ℕ, _+_, _-_, _≤_, _<_}
-use native.Mathlib.Omega.{arith}
-use lib.Dec.{eqb, eqb-refl}
-use Rattle.promises.specs.declared.Direction.{Direction}
-use Rattle.promises.specs.declared.Direction.the-variants.{Length, Width}
-use Rattle.cutting.specs.Tree.{Tree, waste, piece, cut, total}
-use Rattle.cutting.specs.Pieces.{Piece, upright, turned, kind}
-use Rattle.cutting.specs.Job.{Job, OfJob, MayLie, AnyTree, AnyOnPlate, GuillotineTree, OnPlate, KeepsDemands, copies-of, profit}
-use Rattle.cutting.specs.Promises.{NoneAbove}
+use Rattle.cutting.proofs.Prelude.{ℕ, _+_, _-_, _≤_, _<_, arith, eqb, eqb-refl, Direction, Length, Width, Tree, waste, piece, cut, total, Piece, upright, turned, kind, Job, OfJob, MayLie, AnyTree, AnyOnPlate, GuillotineTree, OnPlate, KeepsDemands, copies-of, profit, NoneAbove}
 use Rattle.cutting.proofs.Tests.{only-open}
 
 module _ (J : Job) where

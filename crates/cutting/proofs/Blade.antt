@@ -1,14 +1,5 @@
 -- The blade's width: trees that lose k at each cut are trees of the same pieces with k added to every side, cut without loss.
-use mathlib.Core.Path.{_≡_, refl}
-use mathlib.Core.List.{List, List·Memᴰ}
-use Prim.Native.Nat.{ℕ, _+_, _-_, _≤_, _<_}
-use native.Mathlib.Nat.{add-sub-cancel, sub-zero}
-use native.Mathlib.Omega.{arith}
-use Rattle.promises.specs.declared.Direction.{Direction}
-use Rattle.cutting.specs.Tree.{Rect, Shares, Monotone}
-use Rattle.cutting.specs.Figure.{figure}
-use Rattle.cutting.specs.Pieces.{wider, sized, Solid}
-use Rattle.cutting.specs.Saws.{saw}
+use Rattle.cutting.proofs.Prelude.{_≡_, refl, List, List·Memᴰ, ℕ, _+_, _-_, _≤_, _<_, add-sub-cancel, sub-zero, arith, Direction, Rect, Shares, Monotone, figure, wider, sized, Solid, saw}
 use Rattle.cutting.proofs.Saws.{saw-cut, cut-saw, saw-proper}
 use Rattle.cutting.proofs.Transfer.{through, CutImage, cut-image, Transfer, figure-transfer}
 use Rattle.cutting.proofs.Pieces.{fits-in-true, true-fits-in, units-enlarge}

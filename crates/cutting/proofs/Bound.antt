@@ -1,20 +1,6 @@
 -- What the bound promises of guillotine trees that lose the kerf at each cut, in either form of the capacity: exactness, the copies that a
 -- plate holds, the trees that keep every demand, that the bound of the full demands is no less, and the ceiling.
-use mathlib.Core.Path.{_≡_, refl, sym, _∙_, ap, ap₂, subst}
-use mathlib.Core.Bool.{Bool, true, false}
-use Prim.Native.Nat.{ℕ, _+_, _*_, _/_, _≤_, _<_, min}
-use native.Mathlib.Nat.{mul-le-mul, mul-le-mul-right, mul-comm}
-use native.Mathlib.Omega.{arith}
-use lib.Dec.{T, eqb, eqb→eq}
-use Rattle.cutting.specs.Limits.{most-figure, most-price}
-use Rattle.cutting.specs.Lists.{sum, only}
-use Rattle.cutting.specs.Tree.{Rect, Tree, Shares, Guillotine, Within, Monotone}
-use Rattle.cutting.specs.Figure.{figure}
-use Rattle.cutting.specs.Pieces.{Piece, upright, turned, kind, quarter, wider, _⊑_, fits-in, fits-either, sized}
-use Rattle.cutting.specs.Saws.{saw}
-use Rattle.cutting.specs.Areas.{area}
-use Rattle.cutting.specs.Job.{Job, laid, turns, MayLie, GuillotineTree, OnPlate, profit, weight-of, copies-of, KeepsDemands, widened, copies-on, plate-copies, counted-of, counted, capacity, at-full-demand, ordered, members, pieces, by-kind, figure-of, bound-of, SolidKinds, InRange}
-use Rattle.cutting.specs.Promises.{MostAmong, OfWeight, MostWithin, FiguresMost}
+use Rattle.cutting.proofs.Prelude.{_≡_, refl, sym, _∙_, ap, ap₂, subst, Bool, true, false, ℕ, _+_, _*_, _/_, _≤_, _<_, min, mul-le-mul, mul-le-mul-right, mul-comm, arith, T, eqb, eqb→eq, most-figure, most-price, sum, only, Rect, Tree, Shares, Guillotine, Within, Monotone, figure, Piece, upright, turned, kind, quarter, wider, _⊑_, fits-in, fits-either, sized, saw, area, Job, laid, turns, MayLie, GuillotineTree, OnPlate, profit, weight-of, copies-of, KeepsDemands, widened, copies-on, plate-copies, counted-of, counted, capacity, at-full-demand, ordered, members, pieces, by-kind, figure-of, bound-of, SolidKinds, InRange, MostAmong, OfWeight, MostWithin, FiguresMost}
 use Rattle.cutting.proofs.Tests.{T-or, or-T}
 use Rattle.cutting.proofs.Exact.{figure-upper, figure-attained}
 use Rattle.cutting.proofs.Saws.{saw-proper}

@@ -1,23 +1,7 @@
 -- Cuts between the marks. The neat plan stands its cuts where pieces end, and reads of a tree its pieces alone: so the neat plan, by whole
 -- sizes, of a tree cut at multiples of one m-th of a unit is cut at whole units, with the same pieces and no more stages. What no tree at
 -- whole units earns, no finer tree does, whatever the bound that says so: of trees within the demands, or within a capacity.
-use mathlib.Core.Path.{_≡_, refl, sym, _∙_, ap₂}
-use Prim.Native.Nat.{ℕ, zero, suc, _+_, _*_, _≤_, max}
-use native.Mathlib.Nat.{mul-zero, mul-le-mul-left, le-of-mul-le-mul-left}
-use native.Mathlib.Decide.{decLe}
-use native.Mathlib.Omega.{arith}
-use lib.Dec.{eqb}
-use Rattle.promises.specs.declared.Direction.{Direction}
-use Rattle.promises.specs.declared.Direction.the-variants.{Length, Width}
-use Rattle.cutting.specs.Lists.{only}
-use Rattle.cutting.specs.Tree.{Rect, Tree, waste, piece, cut, total, piece-count}
-use Rattle.cutting.specs.Pieces.{Piece, upright, turned, kind, times, _⊑_}
-use Rattle.cutting.specs.Job.{Job, laid, GuillotineTree, OnPlate, profit, weight-of, KeepsDemands, finer, ordered, members, pieces, SolidKinds}
-use Rattle.cutting.specs.Promises.{NoneAbove, NoneFiner, FinerAmong, OfWeight, MostWithin}
-use Rattle.cutting.specs.Shares.{stages}
-use Rattle.cutting.specs.Staged.{NoneStaged, NoneStagedFiner, OfStages, MostStaged}
-use Rattle.cutting.specs.Two.{OfWeights, MostTwo}
-use Rattle.cutting.specs.Neat.{joined, used, neat-of, used-of}
+use Rattle.cutting.proofs.Prelude.{_≡_, refl, sym, _∙_, ap₂, ℕ, zero, suc, _+_, _*_, _≤_, max, mul-zero, mul-le-mul-left, le-of-mul-le-mul-left, decLe, arith, eqb, Direction, Length, Width, only, Rect, Tree, waste, piece, cut, total, piece-count, Piece, upright, turned, kind, times, _⊑_, Job, laid, GuillotineTree, OnPlate, profit, weight-of, KeepsDemands, finer, ordered, members, pieces, SolidKinds, NoneAbove, NoneFiner, FinerAmong, OfWeight, MostWithin, stages, NoneStaged, NoneStagedFiner, OfStages, MostStaged, OfWeights, MostTwo, joined, used, neat-of, used-of}
 use Rattle.cutting.proofs.Members.{members-solid}
 use Rattle.cutting.proofs.Job.{guillotine-plain, plain-guillotine}
 use Rattle.cutting.proofs.AnyKinds.{any-on, ordered-on}

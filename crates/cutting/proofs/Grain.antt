@@ -1,11 +1,6 @@
 -- Where no kind keeps its grain, the job is one whose pieces may all be turned or none, as the choice of turning says; where each keeps it,
 -- one whose pieces may not.
-use mathlib.Core.Path.{_≡_, ap}
-use mathlib.Core.Bool.{Bool, true, false, _&&_, not}
-use Prim.Native.Nat.{ℕ}
-use Rattle.cutting.specs.Lists.{each}
-use Rattle.cutting.specs.Pieces.{ways}
-use Rattle.cutting.specs.Job.{Job, turns, widened, copies-on, plate-copies, ordered, members}
+use Rattle.cutting.proofs.Prelude.{_≡_, ap, Bool, true, false, _&&_, not, ℕ, each, ways, Job, turns, widened, copies-on, plate-copies, ordered, members}
 
 -- kinds that may be turned alike, all where b holds and else none
 module _ (J : Job) (b : Bool) (alike : (i : ℕ) → turns J i ≡ b) where

@@ -1,13 +1,5 @@
 -- The written plan has no idle cut: a cut is chosen only where the figure is above 0, and what earns something holds a piece.
-use mathlib.Core.Path.{_≡_, refl, sym, subst}
-use mathlib.Core.Bool.{Bool, true, false}
-use Prim.Native.Nat.{ℕ, zero, suc, _≤_, _<_}
-use native.Mathlib.Decide.{decLt}
-use native.Mathlib.Omega.{arith}
-use lib.Dec.{eqb}
-use Rattle.cutting.specs.Tree.{Rect, part, Tree, waste, piece, cut, Pieces, Saw, Shares, beyond, Proper, total, Guillotine, piece-count, IdleFree}
-use Rattle.cutting.specs.Figure.{half-perimeter, figure}
-use Rattle.cutting.specs.Choice.{Choice, as-waste, as-piece, as-cut, or-zero, choice, follow, written}
+use Rattle.cutting.proofs.Prelude.{_≡_, refl, sym, subst, Bool, true, false, ℕ, zero, suc, _≤_, _<_, decLt, arith, eqb, Rect, part, Tree, waste, piece, cut, Pieces, Saw, Shares, beyond, Proper, total, Guillotine, piece-count, IdleFree, half-perimeter, figure, Choice, as-waste, as-piece, as-cut, or-zero, choice, follow, written}
 use Rattle.cutting.proofs.Tests.{eqb-positive}
 use Rattle.cutting.proofs.Recursion.{smaller}
 use Rattle.cutting.proofs.Choice.{written-earns, written-eq}

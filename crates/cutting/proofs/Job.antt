@@ -1,19 +1,6 @@
 -- The scope's words for trees, figures and areas are those of the general theory: the trees of a job, the recursion and its ceiling, and
 -- the four areas. Of the bound itself speaks proofs/Bound.
-use mathlib.Core.Path.{_≡_, refl, _∙_}
-use mathlib.Core.Bool.{_&&_}
-use Prim.Native.Nat.{ℕ, suc, _+_, _-_, _*_, _≤_, _<_, max}
-use native.Mathlib.Nat.{sub-zero}
-use lib.Dec.{leb}
-use Rattle.promises.specs.declared.Direction.the-variants.{Length, Width}
-use Rattle.cutting.specs.Lists.{range, only, greatest}
-use Rattle.cutting.specs.Tree.{Rect, Tree, waste, piece, cut, Shares, Guillotine}
-use Rattle.cutting.specs.Figure.{leaf, best, step}
-use Rattle.cutting.specs.Pieces.{Piece, kind, fits-in, sized}
-use Rattle.cutting.specs.Saws.{saw}
-use Rattle.cutting.specs.Shares.{by-weight}
-use Rattle.cutting.specs.Areas.{waste-area, trim-area, sawdust-area}
-use Rattle.cutting.specs.Job.{Job, laid, GuillotineTree, members, pieces, by-kind, figure-under, figure-of, pieces-area-of, waste-area-of, trim-area-of, sawdust-area-of, SolidKinds}
+use Rattle.cutting.proofs.Prelude.{_≡_, refl, _∙_, _&&_, ℕ, suc, _+_, _-_, _*_, _≤_, _<_, max, sub-zero, leb, Length, Width, range, only, greatest, Rect, Tree, waste, piece, cut, Shares, Guillotine, leaf, best, step, Piece, kind, fits-in, sized, saw, by-weight, waste-area, trim-area, sawdust-area, Job, laid, GuillotineTree, members, pieces, by-kind, figure-under, figure-of, pieces-area-of, waste-area-of, trim-area-of, sawdust-area-of, SolidKinds}
 use Rattle.cutting.proofs.Greatest.{greatest-map}
 use Rattle.cutting.proofs.Recursion.{figure-eq}
 use Rattle.cutting.proofs.Saws.{saw-cut, cut-saw, saw-proper}

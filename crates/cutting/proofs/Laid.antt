@@ -1,21 +1,6 @@
 -- The plan of an array of pieces, as the saw cuts it: its recursion, and that it is the plan of the job whose widened pieces the array
 -- holds, since both make the same choices.
-use mathlib.Core.Path.{_≡_, refl, sym, _∙_, ap, ap₂}
-use mathlib.Core.Bool.{Bool}
-use mathlib.Core.List.{List, map}
-use Prim.Native.Nat.{ℕ, zero, suc, _+_, _-_, _*_, _/_, _%_, _≤_, _<_}
-use native.Mathlib.Omega.{arith}
-use lib.Dec.{leb, le→leb}
-use Rattle.promises.specs.declared.Direction.{Direction}
-use Rattle.promises.specs.declared.Direction.the-variants.{Length, Width}
-use Rattle.cutting.specs.Tree.{Rect, side, part, Tree, waste, piece, cut, Shares, Monotone}
-use Rattle.cutting.specs.Lists.{range, filter}
-use Rattle.cutting.specs.Figure.{half-perimeter}
-use Rattle.cutting.specs.Shares.{by-weight, by-state}
-use Rattle.cutting.specs.Pieces.{Piece, upright, turned, kind, _⊑_}
-use Rattle.cutting.specs.Choice.{Choice, as-waste, as-piece, as-cut, cut-remains, or-first, sawn}
-use Rattle.cutting.specs.Job.{Job, widened, lossless-plan, plan-of, plan-choice, SolidKinds}
-use Rattle.cutting.specs.Listed.{size-in, price-in, listed-weight, node-in, node-number, member-at, pieces-job, PieceArray, numbered-piece, laid-tree, array-shares, array-plan}
+use Rattle.cutting.proofs.Prelude.{_≡_, refl, sym, _∙_, ap, ap₂, Bool, List, map, ℕ, zero, suc, _+_, _-_, _*_, _/_, _%_, _≤_, _<_, arith, leb, le→leb, Direction, Length, Width, Rect, side, part, Tree, waste, piece, cut, Shares, Monotone, range, filter, half-perimeter, by-weight, by-state, Piece, upright, turned, kind, _⊑_, Choice, as-waste, as-piece, as-cut, cut-remains, or-first, sawn, Job, widened, lossless-plan, plan-of, plan-choice, SolidKinds, size-in, price-in, listed-weight, node-in, node-number, member-at, pieces-job, PieceArray, numbered-piece, laid-tree, array-shares, array-plan}
 use Rattle.cutting.proofs.Lists.{mem-range, filter-all}
 use Rattle.cutting.proofs.Enlarge.{part-within}
 use Rattle.cutting.proofs.Members.{member-kind, widened-solid}

@@ -1,16 +1,6 @@
 -- Laws of the figure that the table's loops read, for a job cut without loss: a larger share or rectangle gives no less, two parts no more
 -- than the whole, a piece that may lie, fits and weighs at most the share no more than the figure, and no side of 0 gives anything.
-use mathlib.Core.Path.{_≡_, refl, _∙_}
-use Prim.Native.Nat.{ℕ, _+_, _-_, _≤_}
-use native.Mathlib.Decide.{ℕ-discrete}
-use native.Mathlib.Omega.{arith}
-use Rattle.promises.specs.declared.Direction.{Direction}
-use Rattle.promises.specs.declared.Direction.the-variants.{Length, Width}
-use Rattle.cutting.specs.Tree.{Rect, side, part, piece, cut, total}
-use Rattle.cutting.specs.Figure.{figure}
-use Rattle.cutting.specs.Pieces.{Piece, kind, sized}
-use Rattle.cutting.specs.Saws.{saw}
-use Rattle.cutting.specs.Job.{Job, laid, MayLie, members, pieces, by-kind, figure-of, SolidKinds}
+use Rattle.cutting.proofs.Prelude.{_≡_, refl, _∙_, ℕ, _+_, _-_, _≤_, ℕ-discrete, arith, Direction, Length, Width, Rect, side, part, piece, cut, total, figure, Piece, kind, sized, saw, Job, laid, MayLie, members, pieces, by-kind, figure-of, SolidKinds}
 use Rattle.cutting.proofs.Exact.{figure-upper, figure-attained}
 use Rattle.cutting.proofs.Saws.{saw-cut, saw-proper}
 use Rattle.cutting.proofs.Enlarge.{side-part, Enlarges, figure-mono, figure-degenerate}

@@ -1,26 +1,6 @@
 -- The pieces that may lie as kinds of a plain job, by their numbers: it has the same normal positions, figures and choices. So code that
 -- knows neither turned pieces, cancelled kinds nor kerf serves every job.
-use mathlib.Core.Path.{_≡_, refl, sym, _∙_, ap, ap₂}
-use mathlib.Core.Bool.{Bool, true, false}
-use mathlib.Core.Option.{Option, none, some}
-use mathlib.Core.List.{List, [], _∷_, map, List·Memᴰ}
-use Prim.Native.Nat.{ℕ, zero, suc, _+_, _-_, _≤_, _<_}
-use native.Mathlib.Omega.{arith}
-use lib.Dec.{leb, eqb}
-use lib.ListN.{length}
-use Rattle.promises.specs.declared.Direction.{Direction}
-use Rattle.promises.specs.declared.Direction.the-variants.{Length, Width}
-use Rattle.cutting.specs.Limits.{most-wide-side}
-use Rattle.cutting.specs.Lists.{range, filter, first, greatest, each, pairs}
-use Rattle.cutting.specs.Tree.{Rect, side, Shares}
-use Rattle.cutting.specs.Figure.{leaf}
-use Rattle.cutting.specs.Pieces.{Piece, upright, turned, kind, ways, fits-in, sized}
-use Rattle.cutting.specs.Saws.{saw, floor}
-use Rattle.cutting.specs.Shares.{by-weight, by-state}
-use Rattle.cutting.specs.Normal.{sides, normal?}
-use Rattle.cutting.specs.Choice.{Choice, as-waste, as-piece, as-cut, or-waste, or-length, or-piece, or-zero}
-use Rattle.cutting.specs.Job.{Job, laid, widened, ordered, members, pieces, by-kind, figure-under, figure-of, normal-side, normal-positions, laid-earns, pair-earns, first-pair, plan-choice, KindsAbove, InRange}
-use Rattle.cutting.specs.Listed.{plain, member-at, Listing, InTableRange}
+use Rattle.cutting.proofs.Prelude.{_≡_, refl, sym, _∙_, ap, ap₂, Bool, true, false, Option, none, some, List, [], _∷_, map, List·Memᴰ, ℕ, zero, suc, _+_, _-_, _≤_, _<_, arith, leb, eqb, length, Direction, Length, Width, most-wide-side, range, filter, first, greatest, each, pairs, Rect, side, Shares, leaf, Piece, upright, turned, kind, ways, fits-in, sized, saw, floor, by-weight, by-state, sides, normal?, Choice, as-waste, as-piece, as-cut, or-waste, or-length, or-piece, or-zero, Job, laid, widened, ordered, members, pieces, by-kind, figure-under, figure-of, normal-side, normal-positions, laid-earns, pair-earns, first-pair, plan-choice, KindsAbove, InRange, plain, member-at, Listing, InTableRange}
 use Rattle.cutting.proofs.Lists.{mem-range, through, first-cong, entries, filter-map, first-map, filter-map-cong}
 use Rattle.cutting.proofs.Greatest.{greatest-map, greatest-cong}
 use Rattle.cutting.proofs.Recursion.{figure-same}

@@ -1,17 +1,6 @@
 -- Laws of the lists of specs/Lists: who is a member of a range, of a filtered or mapped list and of a list of pairs, and their lengths;
 -- and a list after its first entries were written.
-use mathlib.Core.Path.{_≡_, refl, sym, _∙_, ap, ap₂, subst}
-use mathlib.Core.Logic.{_⊎_, inl, inr}
-use mathlib.Core.Bool.{Bool, true, false, _||_, _&&_}
-use mathlib.Core.Option.{Option, none, some}
-use mathlib.Core.List.{List, [], _∷_, _++_, map, List·Memᴰ, List·Memᴰ·head, List·Memᴰ·tail, List·Memᴰ·not-nil, List·Memᴰ·cases-cons, List·Memᴰ·append-cases, Memᴰ·append-left, Memᴰ·append-right, Memᴰ·cast}
-use Prim.Native.Nat.{ℕ, zero, suc, _+_, _*_, _≤_, _<_}
-use native.Mathlib.Decide.{ℕ-discrete}
-use native.Mathlib.Omega.{arith}
-use lib.Dec.{T}
-use lib.ListN.{length, getD, length-append}
-use lib.Seq.{sets, sets-eq}
-use Rattle.cutting.specs.Lists.{range, keep, filter, any, first, each, pairs, over}
+use Rattle.cutting.proofs.Prelude.{_≡_, refl, sym, _∙_, ap, ap₂, subst, _⊎_, inl, inr, Bool, true, false, _||_, _&&_, Option, none, some, List, [], _∷_, _++_, map, List·Memᴰ, List·Memᴰ·head, List·Memᴰ·tail, List·Memᴰ·not-nil, List·Memᴰ·cases-cons, List·Memᴰ·append-cases, Memᴰ·append-left, Memᴰ·append-right, Memᴰ·cast, ℕ, zero, suc, _+_, _*_, _≤_, _<_, ℕ-discrete, arith, T, length, getD, length-append, sets, sets-eq, range, keep, filter, any, first, each, pairs, over}
 
 -- a function on what is found
 abbrev pub through : {A B : Type 0} → (A → B) → Option A → Option B

@@ -1,18 +1,6 @@
 -- Used sizes and neat trees: the used size lies within the rectangle; the neat tree is a guillotine tree on it with the same pieces, no more
 -- nodes and stages and no idle cut, and is its own neat tree.
-use mathlib.Core.Path.{_≡_, refl, sym, _∙_, ap, ap₂, subst}
-use mathlib.Core.List.{List, List·Memᴰ}
-use Prim.Native.Nat.{ℕ, zero, suc, _+_, _-_, _*_, _≤_, _<_, max}
-use native.Mathlib.Omega.{arith}
-use Rattle.promises.specs.declared.Direction.{Direction}
-use Rattle.promises.specs.declared.Direction.the-variants.{Length, Width}
-use Rattle.cutting.specs.Tree.{Rect, side, part, Tree, waste, piece, cut, beyond, total, piece-count, IdleFree, Guillotine}
-use Rattle.cutting.specs.Pieces.{Piece, upright, turned, _⊑_, sized, Solid}
-use Rattle.cutting.specs.Saws.{saw}
-use Rattle.cutting.specs.Shares.{change, stages-below, stages}
-use Rattle.cutting.specs.Preorder.{preorder, node-count}
-use Rattle.cutting.specs.Job.{Job, laid, GuillotineTree, pieces, SolidKinds}
-use Rattle.cutting.specs.Neat.{joined, remaining, used, neat, used-of, neat-of}
+use Rattle.cutting.proofs.Prelude.{_≡_, refl, sym, _∙_, ap, ap₂, subst, List, List·Memᴰ, ℕ, zero, suc, _+_, _-_, _*_, _≤_, _<_, max, arith, Direction, Length, Width, Rect, side, part, Tree, waste, piece, cut, beyond, total, piece-count, IdleFree, Guillotine, Piece, upright, turned, _⊑_, sized, Solid, saw, change, stages-below, stages, preorder, node-count, Job, laid, GuillotineTree, pieces, SolidKinds, joined, remaining, used, neat, used-of, neat-of}
 use Rattle.cutting.proofs.Preorder.{count-cut}
 use Rattle.cutting.proofs.Saws.{saw-cut, cut-saw}
 use Rattle.cutting.proofs.Enlarge.{enlarge}

@@ -1,20 +1,6 @@
 -- The plan behind the bound in plain words: as the saw cuts it, it is a guillotine tree within the share that earns the figure, and its
 -- recursion reads figures of the widened job alone.
-use mathlib.Core.Path.{_≡_, refl, sym, _∙_, ap, ap₂, subst}
-use mathlib.Core.Bool.{_&&_}
-use Prim.Native.Nat.{ℕ, _+_, _-_, _≤_, _<_}
-use native.Mathlib.Nat.{add-sub-cancel}
-use native.Mathlib.Omega.{arith}
-use lib.Dec.{T, eqb}
-use Rattle.promises.specs.declared.Direction.{Direction}
-use Rattle.promises.specs.declared.Direction.the-variants.{Length, Width}
-use Rattle.cutting.specs.Lists.{first}
-use Rattle.cutting.specs.Tree.{Rect, side, part, Tree, waste, piece, cut, Saw, Shares, Proper, Monotone, total, IdleFree, Guillotine, Within}
-use Rattle.cutting.specs.Figure.{figure}
-use Rattle.cutting.specs.Pieces.{Piece, kind, _⊑_, fits-in, sized}
-use Rattle.cutting.specs.Saws.{saw, saw-written}
-use Rattle.cutting.specs.Choice.{Choice, as-waste, as-piece, as-cut, or-waste, or-length, or-piece, or-zero, cut-earns, first-cut, choice, follow, written, sawn}
-use Rattle.cutting.specs.Job.{Job, laid, GuillotineTree, OnPlate, profit, weight-of, widened, capacity, ordered, members, pieces, by-kind, figure-under, figure-of, bound-of, normal-side, lossless-plan, plan-of, bound-plan, pair-earns, first-pair, plan-choice, plan-after, SolidKinds}
+use Rattle.cutting.proofs.Prelude.{_≡_, refl, sym, _∙_, ap, ap₂, subst, _&&_, ℕ, _+_, _-_, _≤_, _<_, add-sub-cancel, arith, T, eqb, Direction, Length, Width, first, Rect, side, part, Tree, waste, piece, cut, Saw, Shares, Proper, Monotone, total, IdleFree, Guillotine, Within, figure, Piece, kind, _⊑_, fits-in, sized, saw, saw-written, Choice, as-waste, as-piece, as-cut, or-waste, or-length, or-piece, or-zero, cut-earns, first-cut, choice, follow, written, sawn, Job, laid, GuillotineTree, OnPlate, profit, weight-of, widened, capacity, ordered, members, pieces, by-kind, figure-under, figure-of, bound-of, normal-side, lossless-plan, plan-of, bound-plan, pair-earns, first-pair, plan-choice, plan-after, SolidKinds}
 use Rattle.cutting.proofs.Lists.{first-cong, mem-pairs}
 use Rattle.cutting.proofs.Choice.{Earns, written-earns, written-eq}
 use Rattle.cutting.proofs.Idle.{written-idle}

@@ -1,15 +1,6 @@
 -- A cut's nodes in preorder: its own, then the first part's, then the second's.
-use mathlib.Core.Path.{_≡_, refl, _∙_, ap}
-use mathlib.Core.List.{List, [], _∷_, _++_, map, append-assoc}
-use Prim.Native.Nat.{ℕ, _+_}
-use native.Mathlib.Omega.{arith}
-use lib.ListN.{length-append}
-use Rattle.promises.specs.declared.Direction.{Direction}
-use Rattle.promises.specs.declared.Node.{Node}
-use Rattle.promises.specs.declared.Node.the-variants.{Cut}
-use Rattle.cutting.specs.Tree.{Tree, cut}
+use Rattle.cutting.proofs.Prelude.{_≡_, refl, _∙_, ap, List, [], _∷_, _++_, map, append-assoc, ℕ, _+_, arith, length-append, Direction, Node, Cut, Tree, cut, preorder, kind-of, node-count, kinds-of}
 use Rattle.cutting.specs.Pieces as laid
-use Rattle.cutting.specs.Preorder.{preorder, kind-of, node-count, kinds-of}
 
 pub map-append : {A : Type 0} (f : Node → A) (xs ys : List Node) → map f (xs ++ ys) ≡ map f xs ++ map f ys
 map-append f [] ys = refl

@@ -1,10 +1,5 @@
 -- The sentences of the scope hold: the recursion and the normal positions of every job, the others of a job in range.
-use Prim.Native.Nat.{ℕ, suc}
-use native.Mathlib.Omega.{arith}
-use Rattle.cutting.specs.Tree.{side}
-use Rattle.cutting.specs.Lists.{range}
-use Rattle.cutting.specs.Job.{Job, InRange, widened, capacity, by-kind, bound-of, normal-positions, normal-side}
-use Rattle.cutting.specs.Promises.{NoneAbove, PlateHolds, NoneHeavier, MostWithin, FiguresMost, Recursion, NormalSums, FloorFigures, PlanFollows}
+use Rattle.cutting.proofs.Prelude.{ℕ, suc, arith, side, range, Job, InRange, widened, capacity, by-kind, bound-of, normal-positions, normal-side, NoneAbove, PlateHolds, NoneHeavier, MostWithin, FiguresMost, Recursion, NormalSums, FloorFigures, PlanFollows}
 use Rattle.cutting.proofs.Lists.{range-mem, mem-range, filter-mem, mem-filter}
 use Rattle.cutting.proofs.Weights.{by-weight-monotone}
 use Rattle.cutting.proofs.Members.{range-solid, widened-solid}

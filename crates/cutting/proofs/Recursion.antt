@@ -1,13 +1,5 @@
 -- The recursion is well defined: its equation, by induction over the half perimeter.
-use mathlib.Core.Path.{_≡_, refl, _∙_, ap, ap₂}
-use mathlib.Core.List.{List·Memᴰ}
-use Prim.Native.Nat.{ℕ, zero, suc, _+_, _<_, max}
-use native.Mathlib.Omega.{arith}
-use Rattle.promises.specs.declared.Direction.{Direction}
-use Rattle.promises.specs.declared.Direction.the-variants.{Length, Width}
-use Rattle.cutting.specs.Lists.{greatest}
-use Rattle.cutting.specs.Tree.{Rect, side, part, Pieces, Saw, Shares, beyond, Proper}
-use Rattle.cutting.specs.Figure.{half-perimeter, leaf, best, step, after, figure}
+use Rattle.cutting.proofs.Prelude.{_≡_, refl, _∙_, ap, ap₂, List·Memᴰ, ℕ, zero, suc, _+_, _<_, max, arith, Direction, Length, Width, greatest, Rect, side, part, Pieces, Saw, Shares, beyond, Proper, half-perimeter, leaf, best, step, after, figure}
 use Rattle.cutting.proofs.Greatest.{greatest-cong}
 
 -- both parts of a cut are smaller

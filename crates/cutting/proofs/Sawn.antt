@@ -1,18 +1,6 @@
 -- A written plan of the widened pieces, as the saw cuts it: it is a tree of the pieces themselves that loses the blade's width at each cut,
 -- and has the same pieces, since a part no larger than the blade's width holds none.
-use mathlib.Core.Path.{_≡_, refl, ap, ap₂}
-use mathlib.Core.Bool.{Bool, true, false}
-use mathlib.Core.List.{List, List·Memᴰ}
-use Prim.Native.Nat.{ℕ, _+_, _-_, _≤_, _<_}
-use native.Mathlib.Omega.{arith}
-use borrow.Author.Tests.{ltb-true, ltb-false}
-use lib.Dec.{T}
-use Rattle.promises.specs.declared.Direction.{Direction}
-use Rattle.promises.specs.declared.Direction.the-variants.{Length, Width}
-use Rattle.cutting.specs.Tree.{Rect, side, part, Tree, waste, piece, cut, total, IdleFree, Proper, Guillotine}
-use Rattle.cutting.specs.Pieces.{wider, _⊑_, sized, Solid}
-use Rattle.cutting.specs.Saws.{saw, saw-written}
-use Rattle.cutting.specs.Choice.{cut-remains, or-first, sawn}
+use Rattle.cutting.proofs.Prelude.{_≡_, refl, ap, ap₂, Bool, true, false, List, List·Memᴰ, ℕ, _+_, _-_, _≤_, _<_, arith, ltb-true, ltb-false, T, Direction, Length, Width, Rect, side, part, Tree, waste, piece, cut, total, IdleFree, Proper, Guillotine, wider, _⊑_, sized, Solid, saw, saw-written, cut-remains, or-first, sawn}
 use Rattle.cutting.proofs.Floor.{floor-le}
 use Rattle.cutting.proofs.Saws.{saw-cut, cut-written}
 use Rattle.cutting.proofs.Enlarge.{part-within, side-part, enlarge}

@@ -1,20 +1,6 @@
 -- What the plan's choice at a rectangle and a share is: waste, a piece that may lie, or a cut at a normal position in its range with a
 -- division of the share.
-use mathlib.Core.Path.{_≡_, sym, _∙_, ap}
-use mathlib.Core.Bool.{Bool, true, false}
-use mathlib.Core.Option.{Option}
-use mathlib.Core.List.{List, List·Memᴰ}
-use Prim.Native.Nat.{ℕ, suc, _-_, _≤_, _<_}
-use native.Mathlib.Omega.{arith}
-use lib.Dec.{T, eqb}
-use Rattle.promises.specs.declared.Direction.{Direction}
-use Rattle.promises.specs.declared.Direction.the-variants.{Length, Width}
-use Rattle.cutting.specs.Lists.{range, filter, pairs}
-use Rattle.cutting.specs.Tree.{side, Shares}
-use Rattle.cutting.specs.Pieces.{Piece}
-use Rattle.cutting.specs.Shares.{by-state}
-use Rattle.cutting.specs.Choice.{Choice, as-waste, as-piece, as-cut, or-waste, or-length, or-piece, or-zero}
-use Rattle.cutting.specs.Job.{Job, members, figure-under, normal-side, normal-floor, laid-earns, pair-earns, first-pair, plan-choice}
+use Rattle.cutting.proofs.Prelude.{_≡_, sym, _∙_, ap, Bool, true, false, Option, List, List·Memᴰ, ℕ, suc, _-_, _≤_, _<_, arith, T, eqb, Direction, Length, Width, range, filter, pairs, side, Shares, Piece, by-state, Choice, as-waste, as-piece, as-cut, or-waste, or-length, or-piece, or-zero, Job, members, figure-under, normal-side, normal-floor, laid-earns, pair-earns, first-pair, plan-choice}
 use Rattle.cutting.proofs.Lists.{mem-range, mem-filter, mem-map, mem-pairs}
 use Rattle.cutting.proofs.Search.{Found, found, missing, first-found}
 use Rattle.cutting.proofs.Floor.{floor-le}

@@ -1,23 +1,6 @@
 -- A limit of stages in plain words: the blocks' equations, normal positions, the bound's exactness within limit and capacity, the listed
 -- pieces, and the stages of a tree as the most of a path. The blocks are the figures of the theory's stage limit (proofs/Stages).
-use mathlib.Core.Path.{_≡_, refl, sym, _∙_, ap, ap₂}
-use mathlib.Core.Logic.{⊎-elim}
-use mathlib.Core.List.{List, [], _∷_, _++_, map}
-use Prim.Native.Nat.{ℕ, zero, suc, _+_, _-_, _/_, _≤_, _<_, max}
-use native.Mathlib.Nat.{sub-zero}
-use native.Mathlib.Omega.{arith}
-use Rattle.promises.specs.declared.Direction.{Direction}
-use Rattle.promises.specs.declared.Direction.the-variants.{Length, Width}
-use Rattle.cutting.specs.Limits.{most-figure}
-use Rattle.cutting.specs.Lists.{range, filter, greatest}
-use Rattle.cutting.specs.Tree.{Rect, side, Tree, waste, piece, cut, Monotone}
-use Rattle.cutting.specs.Figure.{leaf, best, figure}
-use Rattle.cutting.specs.Pieces.{Piece, kind, sized}
-use Rattle.cutting.specs.Saws.{saw, saw-half}
-use Rattle.cutting.specs.Shares.{by-weight, other, change, staged, stages, stages-below, root}
-use Rattle.cutting.specs.Job.{Job, laid, OnPlate, profit, weight-of, widened, capacity, members, pieces, by-kind, bound-of, normal-side, normal-floor, SolidKinds, InRange}
-use Rattle.cutting.specs.Listed.{plain, Listing}
-use Rattle.cutting.specs.Staged.{paths, changes, path-stages, no-cut, cuts-between, along, block, staged-under, staged-bound, WithinStages, NoneStaged, MostStaged, StagedRecursion, StagedFloors, OfBlock, StagedFiguresMost}
+use Rattle.cutting.proofs.Prelude.{_≡_, refl, sym, _∙_, ap, ap₂, ⊎-elim, List, [], _∷_, _++_, map, ℕ, zero, suc, _+_, _-_, _/_, _≤_, _<_, max, sub-zero, arith, Direction, Length, Width, most-figure, range, filter, greatest, Rect, side, Tree, waste, piece, cut, Monotone, leaf, best, figure, Piece, kind, sized, saw, saw-half, by-weight, other, change, staged, stages, stages-below, root, Job, laid, OnPlate, profit, weight-of, widened, capacity, members, pieces, by-kind, bound-of, normal-side, normal-floor, SolidKinds, InRange, plain, Listing, paths, changes, path-stages, no-cut, cuts-between, along, block, staged-under, staged-bound, WithinStages, NoneStaged, MostStaged, StagedRecursion, StagedFloors, OfBlock, StagedFiguresMost}
 use Rattle.cutting.proofs.Lists.{mem-range}
 use Rattle.cutting.proofs.Greatest.{max-is, greatest-map, greatest-cong, greatest-zero, greatest-append}
 use Rattle.cutting.proofs.Saws.{saw-proper}

@@ -1,22 +1,6 @@
 -- The table in plain words: its cells stand at the normal lengths and widths, each cell has the figure of every rectangle that falls to
 -- it, and its loops find the figure from cuts at normal positions up to half of a side.
-use mathlib.Core.Path.{_≡_, _∙_}
-use mathlib.Core.Logic.{_↔_}
-use mathlib.Core.Bool.{_&&_}
-use Prim.Native.Nat.{ℕ, suc, _+_, _-_, _/_, _≤_, _<_, max}
-use native.Mathlib.Omega.{arith}
-use lib.Dec.{T, leb}
-use lib.ListN.{length, getD}
-use Rattle.promises.specs.declared.Direction.{Direction}
-use Rattle.promises.specs.declared.Direction.the-variants.{Length, Width}
-use Rattle.cutting.specs.Lists.{range, only, filter, greatest}
-use Rattle.cutting.specs.Tree.{Rect, side, Saw, Shares, Monotone}
-use Rattle.cutting.specs.Figure.{leaf, best, step, figure}
-use Rattle.cutting.specs.Pieces.{Piece, kind, _⊑_, fits-in, sized}
-use Rattle.cutting.specs.Saws.{saw-normal, saw-half}
-use Rattle.cutting.specs.Shares.{by-weight}
-use Rattle.cutting.specs.Normal.{Sum, sides}
-use Rattle.cutting.specs.Job.{Job, laid, members, pieces, by-kind, figure-under, figure-of, normal-side, normal-positions, normal-floor, KindsAbove, SolidKinds}
+use Rattle.cutting.proofs.Prelude.{_≡_, _∙_, _↔_, _&&_, ℕ, suc, _+_, _-_, _/_, _≤_, _<_, max, arith, T, leb, length, getD, Direction, Length, Width, range, only, filter, greatest, Rect, side, Saw, Shares, Monotone, leaf, best, step, figure, Piece, kind, _⊑_, fits-in, sized, saw-normal, saw-half, by-weight, Sum, sides, Job, laid, members, pieces, by-kind, figure-under, figure-of, normal-side, normal-positions, normal-floor, KindsAbove, SolidKinds}
 use Rattle.cutting.proofs.Greatest.{greatest-map}
 use Rattle.cutting.proofs.Weights.{by-weight-monotone, by-weight-symmetric}
 use Rattle.cutting.proofs.Reduction.{Sufficient, CutsAt, saw-normal-cuts, saw-figure, floor-figure}

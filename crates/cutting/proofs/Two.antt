@@ -1,20 +1,6 @@
 -- Two weights a kind: the recursion, normal positions, the bound's exactness under two capacities, the trees that keep the demands, and
 -- that second weights of 0 change nothing.
-use mathlib.Core.Path.{_≡_, refl, _∙_, ap₂}
-use mathlib.Core.List.{List, [], _∷_, map}
-use Prim.Native.Nat.{ℕ, zero, suc, _*_, _≤_, max}
-use native.Mathlib.Nat.{sub-zero, mul-zero}
-use native.Mathlib.Omega.{arith}
-use Rattle.cutting.specs.Limits.{most-figure}
-use Rattle.cutting.specs.Lists.{sum, greatest, pairs}
-use Rattle.cutting.specs.Tree.{Tree, waste, piece, cut, Monotone, total}
-use Rattle.cutting.specs.Figure.{leaf, best, step}
-use Rattle.cutting.specs.Pieces.{kind, sized}
-use Rattle.cutting.specs.Saws.{saw}
-use Rattle.cutting.specs.Shares.{by-weight, paired}
-use Rattle.cutting.specs.Job.{Job, laid, counted, capacity, members, pieces, by-kind, figure-of, normal-side, SolidKinds, InRange}
-use Rattle.cutting.specs.Promises.{NoneAbove}
-use Rattle.cutting.specs.Two.{by-two, figure-two, two-under, two-bound, OfWeights, MostTwo, TwoFiguresMost, TwoRecursion, TwoFloors}
+use Rattle.cutting.proofs.Prelude.{_≡_, refl, _∙_, ap₂, List, [], _∷_, map, ℕ, zero, suc, _*_, _≤_, max, sub-zero, mul-zero, arith, most-figure, sum, greatest, pairs, Tree, waste, piece, cut, Monotone, total, leaf, best, step, kind, sized, saw, by-weight, paired, Job, laid, counted, capacity, members, pieces, by-kind, figure-of, normal-side, SolidKinds, InRange, NoneAbove, by-two, figure-two, two-under, two-bound, OfWeights, MostTwo, TwoFiguresMost, TwoRecursion, TwoFloors}
 use Rattle.cutting.proofs.Greatest.{greatest-map, greatest-append}
 use Rattle.cutting.proofs.Recursion.{figure-eq}
 use Rattle.cutting.proofs.Exact.{figure-within}

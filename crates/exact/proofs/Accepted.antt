@@ -1,55 +1,9 @@
 -- A short order that was read: the figures of its pieces are its own, its plan is written from them, and what each refusal or the count of
 -- the nodes makes of the answer.
-use mathlib.Core.Path.{_≡_, refl, sym, _∙_, ap, ap₂, subst}
-use mathlib.Core.Bool.{Bool}
-use mathlib.Core.List.{List, [], _∷_}
-use Prim.Native.Nat.{ℕ, _+_, _-_, _*_}
-use native.Mathlib.Omega.{arith}
-use borrow.Author.Tests.{ltb-false}
-use lib.Dec.{ltb}
-use lib.ListN.{length, getD}
-use Rattle.promises.specs.declared.Direction.the-variants.{Length, Width}
-use Rattle.cutting.specs.Lists.{over}
-use Rattle.cutting.specs.Tree.{Tree}
-use Rattle.cutting.specs.Pieces.{Piece, kind}
-use Rattle.cutting.specs.Preorder.{node-count}
-use Rattle.cutting.specs.declared.Sides.{Sides}
-use Rattle.cutting.specs.Sides.{rect-of, sides-of}
-use Rattle.cutting.specs.Job.{Job, widened, figure-under, normal-positions, plan-of}
-use Rattle.cutting.specs.Exact.{one-copy, no-more, exact-figure}
-use Rattle.cutting.specs.Listed.{InTableRange, size-in, price-in, listed-weight, pieces-job, PieceArray}
-use Rattle.cutting.proofs.Members.{range-solid, widened-above}
-use Rattle.cutting.proofs.Listed.{listed-above, state-figure}
-use Rattle.cutting.proofs.Laid.{laid-plan}
-use Rattle.refusal.specs.Refusals.{next, first-refusal}
-use Rattle.promises.specs.declared.Refusal.{Refusal}
-use Rattle.promises.specs.declared.Refusal.the-variants.{TableShort}
-use Rattle.promises.specs.declared.Checked.{Checked}
-use Rattle.promises.specs.declared.Checked.the-variants.{Passed, Refused}
-use Rattle.job.proofs.Checks.{cons-passed}
-use Rattle.table.specs.Table.{words-needed, Kept}
-use Rattle.table.specs.States.{by-state, Order, figure-at}
-use Rattle.table.proofs.Shares.{by-state-monotone}
-use Rattle.states.specs.States.{under, Digits}
-use Rattle.states.proofs.Digits.{digits-order}
-use Rattle.promises.specs.declared.BoundReport.{BoundReport}
-use Rattle.promises.specs.declared.BoundAnswer.{BoundAnswer}
+use Rattle.exact.proofs.Prelude.{_≡_, refl, sym, _∙_, ap, ap₂, subst, Bool, List, [], _∷_, ℕ, _+_, _-_, _*_, arith, ltb-false, ltb, length, getD, Length, Width, over, Tree, Piece, kind, node-count, Sides, rect-of, sides-of, Job, widened, figure-under, normal-positions, plan-of, one-copy, no-more, exact-figure, InTableRange, size-in, price-in, listed-weight, pieces-job, PieceArray, range-solid, widened-above, listed-above, state-figure, laid-plan, next, first-refusal, Refusal, TableShort, Checked, Passed, Refused, cons-passed, words-needed, Kept, by-state, Order, figure-at, by-state-monotone, under, Digits, digits-order, BoundReport, BoundAnswer, pieces-range, same-positions, same-count, same-position, same-words, report-is, answered-behind, refused-behind, ChoiceInput, array-numbered, WriteAnswer, nodes-verdict, reported, write-answer-by, table-of, whole-plan, Thick, Planned, one-passed, listed-over, ExactReport, ExactAnswer, StateFigures, StatesAfter, ExactLeaves, exact-answer-by, Countable, state-report, Filled, Short, exact-of, job-report, job-plan, room-verdict, Drawn}
 use Rattle.promises.specs.declared.BoundAnswer.the-variants as bounded
 use Rattle.bound.specs.Bound as bound
-use Rattle.bound.proofs.Listed.{pieces-range, same-positions, same-count, same-position, same-words}
-use Rattle.bound.proofs.Storage.{report-is}
-use Rattle.bound.proofs.Holds.{answered-behind, refused-behind}
-use Rattle.choice.specs.Choice.{ChoiceInput}
-use Rattle.choice.proofs.Numbers.{array-numbered}
-use Rattle.promises.specs.declared.WriteAnswer.{WriteAnswer}
-use Rattle.writer.specs.Write.{nodes-verdict, reported, write-answer-by}
-use Rattle.writer.specs.Contracts.{table-of, whole-plan, Thick, Planned}
-use Rattle.writer.proofs.Write.{one-passed, listed-over}
-use Rattle.promises.specs.declared.ExactReport.{ExactReport}
-use Rattle.promises.specs.declared.ExactAnswer.{ExactAnswer}
 use Rattle.promises.specs.declared.ExactAnswer.the-variants as answer
-use Rattle.exact.specs.Exact.{StateFigures, StatesAfter, ExactLeaves, exact-answer-by}
-use Rattle.exact.specs.Contracts.{Countable, state-report, Filled, Short, exact-of, job-report, job-plan, room-verdict, Drawn}
 use Rattle.exact.proofs.Pieces.{order-same, digits-listed}
 
 -- a refusal leaves the plan arrays as they were

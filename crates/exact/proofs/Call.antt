@@ -1,39 +1,7 @@
 -- The exact call: what it promises, from the verdict of the job and from the optimum and the plan of a short order.
-use mathlib.Core.Path.{_≡_, refl, sym, _∙_, ap, subst}
-use mathlib.Core.List.{List, [], _∷_}
-use Prim.Native.Nat.{ℕ, _+_, _-_, _≤_, _<_}
-use native.Mathlib.Omega.{arith}
-use borrow.Author.Tests.{lt-ltb, le-ltb}
-use lib.ListN.{length}
-use Rattle.cutting.specs.Preorder.{kinds-of, operands-of, node-count}
-use Rattle.cutting.specs.Tree.{Tree}
-use Rattle.cutting.specs.Pieces.{Piece}
-use Rattle.cutting.specs.Job.{Job, InRange, widened}
-use Rattle.cutting.specs.Exact.{state-count, full-state, exact-figure, optimum, optimum-plan, ExactFiguresMost}
-use Rattle.cutting.proofs.Promises.{normal-listed}
-use Rattle.refusal.specs.Refusals.{next, refuse-when, first-refusal, outcome-by}
-use Rattle.promises.specs.declared.Refusal.{Refusal}
-use Rattle.promises.specs.declared.Refusal.the-variants.{DemandProduct}
-use Rattle.promises.specs.declared.Checked.{Checked}
-use Rattle.promises.specs.declared.Checked.the-variants.{Passed, Refused}
-use Rattle.promises.specs.declared.Choices.{Choices}
-use Rattle.promises.specs.declared.JobRecord.{JobRecord}
-use Rattle.promises.specs.declared.JobAnswer.{JobAnswer}
-use Rattle.job.specs.Block.{job-checks, job-of, record-of, read-of}
-use Rattle.job.specs.Weights.{block-job}
-use Rattle.job.proofs.Checks.{passed-both, first-append, append-passed, cons-passed}
-use Rattle.job.proofs.Read.{read-in-range, answered}
-use Rattle.plan.specs.Trees.{PlanOf}
-use Rattle.plan.proofs.Plans.{plans-checked}
-use Rattle.plan.proofs.Calls.{read-range}
+use Rattle.exact.proofs.Prelude.{_≡_, refl, sym, _∙_, ap, subst, List, [], _∷_, ℕ, _+_, _-_, _≤_, _<_, arith, lt-ltb, le-ltb, length, kinds-of, operands-of, node-count, Tree, Piece, Job, InRange, widened, state-count, full-state, exact-figure, optimum, optimum-plan, ExactFiguresMost, normal-listed, next, refuse-when, first-refusal, outcome-by, Refusal, DemandProduct, Checked, Passed, Refused, Choices, JobRecord, JobAnswer, job-checks, job-of, record-of, read-of, block-job, passed-both, first-append, append-passed, cons-passed, read-in-range, answered, PlanOf, plans-checked, read-range, nodes-verdict, nodes-check, none-long, ExactReport, ExactAnswer, state-check, ExactLeaves, short-verdict, ShortOrder, exact-verdict, exact-report, exact-answer-by, exact-values, exact-outcome, OptimumHolds, OptimumPlanned, OptimumWritten, ExactPromises, StatesCounted, Short, job-report, job-plan, room-verdict, Drawn}
 use Rattle.bound.specs.Bound as bound
-use Rattle.writer.specs.Write.{nodes-verdict, nodes-check}
-use Rattle.writer.proofs.Write.{none-long}
-use Rattle.promises.specs.declared.ExactReport.{ExactReport}
-use Rattle.promises.specs.declared.ExactAnswer.{ExactAnswer}
 use Rattle.promises.specs.declared.ExactAnswer.the-variants as answer
-use Rattle.exact.specs.Exact.{state-check, ExactLeaves, short-verdict, ShortOrder, exact-verdict, exact-report, exact-answer-by, exact-values, exact-outcome, OptimumHolds, OptimumPlanned, OptimumWritten, ExactPromises}
-use Rattle.exact.specs.Contracts.{StatesCounted, Short, job-report, job-plan, room-verdict, Drawn}
 use Rattle.exact.proofs.States.{states-some}
 use Rattle.exact.proofs.Optimum.{exact-recursion, exact-figures, exact-floors, optimum-earned, optimum-exact, optimum-finer, optimum-follows, optimum-idle, bounds-above, two-above}
 use Rattle.exact.proofs.Remaining.{copies-by-digits}

@@ -1,15 +1,5 @@
 -- The product of the demands, kind after kind.
-use mathlib.Core.Path.{_≡_, refl, _∙_, ap}
-use mathlib.Core.List.{List}
-use Prim.Native.Nat.{ℕ, suc, _+_, _-_, _*_, _≤_, _<_}
-use native.Mathlib.Nat.{mul-le-mul}
-use native.Mathlib.Decide.{ℕ-discrete}
-use native.Mathlib.Omega.{arith}
-use lib.ListN.{length, getD, set}
-use lib.Seq.{getD-set-same, getD-set-other}
-use Rattle.cutting.specs.Job.{Job}
-use Rattle.cutting.specs.Exact.{states}
-use Rattle.exact.specs.Contracts.{Multiplied, StatesCounted}
+use Rattle.exact.proofs.Prelude.{_≡_, refl, _∙_, ap, List, ℕ, suc, _+_, _-_, _*_, _≤_, _<_, mul-le-mul, ℕ-discrete, arith, length, getD, set, getD-set-same, getD-set-other, Job, states, Multiplied, StatesCounted}
 use Rattle.exact.proofs.States.{states-rise}
 
 -- one kind more

@@ -1,3 +1,4 @@
+mod Prelude
 pub mod States
 pub mod Remaining
 pub mod Optimum

@@ -1,32 +1,6 @@
 -- The optimum in plain words: no guillotine tree on the plate that keeps every demand earns more, the written plan earns it, and every
 -- weighted bound lies at or above it.
-use mathlib.Core.Path.{_∙_}
-use Prim.Native.Nat.{ℕ, _≤_}
-use native.Mathlib.Nat.{sub-zero, add-sub-cancel}
-use native.Mathlib.Omega.{arith}
-use lib.Dec.{eqb}
-use Rattle.cutting.specs.Lists.{only}
-use Rattle.cutting.specs.Tree.{IdleFree}
-use Rattle.cutting.specs.Figure.{leaf, best, step}
-use Rattle.cutting.specs.Pieces.{kind, sized}
-use Rattle.cutting.specs.Saws.{saw}
-use Rattle.cutting.specs.Job.{Job, InRange, AnyOnPlate, profit, weight-of, widened, capacity, at-full-demand, ordered, members, pieces, bound-of}
-use Rattle.cutting.specs.Promises.{NoneAbove, NoneFiner, PlanFollows}
-use Rattle.cutting.specs.Two.{figure-two, two-bound}
-use Rattle.cutting.specs.Exact.{full-state, by-copies, exact-figure, optimum, optimum-plan, ExactRecursion, ExactFloors, EarnsExactly, MostExact, OfState, ExactFiguresMost}
-use Rattle.cutting.proofs.Greatest.{greatest-map}
-use Rattle.cutting.proofs.Recursion.{figure-eq}
-use Rattle.cutting.proofs.Saws.{saw-proper}
-use Rattle.cutting.proofs.Members.{range-solid, widened-solid}
-use Rattle.cutting.proofs.Job.{plain-guillotine}
-use Rattle.cutting.proofs.AnyKinds.{any-on, none-any}
-use Rattle.cutting.proofs.Finer.{none-finer}
-use Rattle.cutting.proofs.Bound.{share-most, share-figure, capacity-less, bound-less}
-use Rattle.cutting.proofs.Table.{floor-under}
-use Rattle.cutting.proofs.Plan.{plan-saw, plan-within, plan-recursion, plan-idle}
-use Rattle.cutting.proofs.Promises.{none-above, none-heavier}
-use Rattle.cutting.proofs.Two.{two-most, two-holds}
-use Rattle.table.specs.States.{by-state}
+use Rattle.exact.proofs.Prelude.{_∙_, ℕ, _≤_, sub-zero, add-sub-cancel, arith, eqb, only, IdleFree, leaf, best, step, kind, sized, saw, Job, InRange, AnyOnPlate, profit, weight-of, widened, capacity, at-full-demand, ordered, members, pieces, bound-of, NoneAbove, NoneFiner, PlanFollows, figure-two, two-bound, full-state, by-copies, exact-figure, optimum, optimum-plan, ExactRecursion, ExactFloors, EarnsExactly, MostExact, OfState, ExactFiguresMost, greatest-map, figure-eq, saw-proper, range-solid, widened-solid, plain-guillotine, any-on, none-any, none-finer, share-most, share-figure, capacity-less, bound-less, floor-under, plan-saw, plan-within, plan-recursion, plan-idle, none-above, none-heavier, two-most, two-holds, by-state}
 use Rattle.exact.proofs.States.{copies-monotone}
 use Rattle.exact.proofs.Remaining.{copies-within, within-copies, keeps-within, within-keeps}
 

@@ -1,22 +1,5 @@
 -- The states of one copy in the array of pieces: one more, and what the array then lists.
-use mathlib.Core.Path.{_≡_, refl, sym, _∙_, ap, ap₂}
-use mathlib.Core.Bool.{_&&_}
-use mathlib.Core.List.{List}
-use Prim.Native.Nat.{ℕ, zero, suc, _+_, _-_, _*_, _/_, _%_, _≤_, _<_}
-use native.Mathlib.Decide.{ℕ-discrete}
-use native.Mathlib.Omega.{arith}
-use lib.Dec.{leb}
-use lib.ListN.{length, getD, set, length-set}
-use lib.Seq.{getD-set-same, getD-set-other}
-use Rattle.cutting.specs.Pieces.{Piece, upright, turned, kind}
-use Rattle.cutting.specs.Job.{Job, members}
-use Rattle.cutting.specs.Exact.{states, one-copy, no-more}
-use Rattle.cutting.specs.Listed.{listed-weight, node-in, node-number, member-at, PieceArray}
-use Rattle.cutting.proofs.Members.{member-kind, members-count}
-use Rattle.cutting.proofs.Positions.{getD-mem}
-use Rattle.table.specs.States.{below}
-use Rattle.states.specs.States.{under, Digits}
-use Rattle.exact.specs.Contracts.{Multiplied, stride, Statable, Stated}
+use Rattle.exact.proofs.Prelude.{_≡_, refl, sym, _∙_, ap, ap₂, _&&_, List, ℕ, zero, suc, _+_, _-_, _*_, _/_, _%_, _≤_, _<_, ℕ-discrete, arith, leb, length, getD, set, length-set, getD-set-same, getD-set-other, Piece, upright, turned, kind, Job, members, states, one-copy, no-more, listed-weight, node-in, node-number, member-at, PieceArray, member-kind, members-count, getD-mem, below, under, Digits, Multiplied, stride, Statable, Stated}
 use Rattle.exact.proofs.States.{zero-one, B, states-some, blocked}
 
 module _ (own : ℕ → ℕ) (old : List ℕ) where

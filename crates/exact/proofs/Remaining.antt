@@ -1,22 +1,6 @@
 -- The copies that remain in a state: its digit of each kind, and a tree is within a state exactly if it has of no kind more copies than
 -- remain, within the last exactly if it keeps every demand.
-use mathlib.Core.Path.{_≡_, sym, _∙_, ap}
-use mathlib.Core.Bool.{true, false}
-use Prim.Native.Nat.{ℕ, zero, suc, _+_, _-_, _*_, _/_, _%_, _≤_, _<_}
-use native.Mathlib.Nat.{mul-le-mul-right, mod-lt, div-add-mod', mul-add-mod-self-right, mod-eq-of-lt, div-lt-iff-lt-mul}
-use native.Mathlib.Decide.{ℕ-discrete, decLt}
-use native.Mathlib.Omega.{arith}
-use borrow.Author.Tests.{eq-eqb, ne-eqb}
-use lib.Dec.{T, eqb, leb→le, le→leb}
-use Rattle.cutting.specs.Tree.{Rect, Tree, Saw, Guillotine, Within}
-use Rattle.cutting.specs.Pieces.{Piece, kind, sized}
-use Rattle.cutting.specs.Job.{Job, KeepsDemands, pieces}
-use Rattle.cutting.specs.Exact.{states, state-count, full-state, no-more, by-copies, one-copy, copies-left, OfState}
-use Rattle.cutting.proofs.Members.{member-lies}
-use Rattle.table.specs.States.{below, digit, own-state}
-use Rattle.states.proofs.Digits.{quotient, below-parts, parts-below}
-use Rattle.states.proofs.Ties.{digit-last, digit-lower, within-digits, digits-within}
-use Rattle.exact.specs.Exact.{CopiesByDigits}
+use Rattle.exact.proofs.Prelude.{_≡_, sym, _∙_, ap, true, false, ℕ, zero, suc, _+_, _-_, _*_, _/_, _%_, _≤_, _<_, mul-le-mul-right, mod-lt, div-add-mod', mul-add-mod-self-right, mod-eq-of-lt, div-lt-iff-lt-mul, ℕ-discrete, decLt, arith, eq-eqb, ne-eqb, T, eqb, leb→le, le→leb, Rect, Tree, Saw, Guillotine, Within, Piece, kind, sized, Job, KeepsDemands, pieces, states, state-count, full-state, no-more, by-copies, one-copy, copies-left, OfState, member-lies, below, digit, own-state, quotient, below-parts, parts-below, digit-last, digit-lower, within-digits, digits-within, CopiesByDigits}
 use Rattle.exact.proofs.States.{zero-one, B, one, states-some, rise, step, blocked, digit-full, within-own, d, lying-own, full-is}
 
 -- a digit reads nothing of the digits above it

@@ -1,23 +1,6 @@
 -- The states of a job's remaining copies: they are numbers of several digits, one a kind, and a piece that may lie has the state of one copy
 -- of its kind.
-use mathlib.Core.Path.{_≡_, refl, sym, _∙_, ap, subst}
-use mathlib.Core.Bool.{Bool, true, false}
-use mathlib.Core.List.{List·Memᴰ}
-use Prim.Native.Nat.{ℕ, zero, suc, _+_, _-_, _*_, _/_, _%_, _≤_, _<_}
-use native.Mathlib.Nat.{mul-le-mul-right, mul-le-mul}
-use native.Mathlib.Numerals.{add-one}
-use native.Mathlib.Decide.{ℕ-discrete}
-use native.Mathlib.Omega.{arith}
-use borrow.Author.Tests.{lt-ltb, eq-eqb, ne-eqb}
-use lib.Dec.{T, ltb, eqb}
-use Rattle.cutting.specs.Lists.{only}
-use Rattle.cutting.specs.Tree.{Rect, Tree, waste, piece, cut, Pieces, Saw, Guillotine, Within, Monotone}
-use Rattle.cutting.specs.Pieces.{Piece, upright, turned, kind}
-use Rattle.cutting.specs.Job.{Job, MayLie}
-use Rattle.cutting.specs.Exact.{states, full-state, no-more, by-copies}
-use Rattle.table.specs.States.{by-state, Blocks, Order, digit, own-state}
-use Rattle.table.proofs.Shares.{by-state-monotone}
-use Rattle.states.proofs.Digits.{quotient, rest, digits-order}
+use Rattle.exact.proofs.Prelude.{_≡_, refl, sym, _∙_, ap, subst, Bool, true, false, List·Memᴰ, ℕ, zero, suc, _+_, _-_, _*_, _/_, _%_, _≤_, _<_, mul-le-mul-right, mul-le-mul, add-one, ℕ-discrete, arith, lt-ltb, eq-eqb, ne-eqb, T, ltb, eqb, only, Rect, Tree, waste, piece, cut, Pieces, Saw, Guillotine, Within, Monotone, Piece, upright, turned, kind, Job, MayLie, states, full-state, no-more, by-copies, by-state, Blocks, Order, digit, own-state, by-state-monotone, quotient, rest, digits-order}
 
 -- without kinds there is one state
 pub zero-one : (f : ℕ → ℕ) → states f 0 ≡ 1

@@ -1,31 +1,8 @@
 -- What the figures of pieces answer, and what lent memory then holds, from the storage as it was laid out; and the word from which the
 -- optimum is read.
-use mathlib.Core.Path.{_≡_, refl, sym, _∙_, ap, ap₂}
-use mathlib.Core.Bool.{Bool}
-use mathlib.Core.List.{List}
-use Prim.Native.Nat.{ℕ, _+_, _-_}
-use native.Mathlib.Omega.{arith}
-use lib.ListN.{length, getD}
-use Rattle.promises.specs.declared.Direction.the-variants.{Length, Width}
-use Rattle.cutting.specs.Job.{Job}
-use Rattle.cutting.specs.Listed.{InTableRange}
-use Rattle.cutting.proofs.Members.{table-solid}
-use Rattle.cutting.proofs.Table.{positions-some, floor-under}
-use Rattle.promises.specs.declared.Refusal.{Refusal}
-use Rattle.table.specs.declared.TableSize.{TableSize}
-use Rattle.table.specs.Table.{position-count, words-needed, Kept}
-use Rattle.table.specs.States.{by-state, Order, figure-at}
-use Rattle.table.proofs.Shares.{by-state-monotone}
+use Rattle.exact.proofs.Prelude.{_≡_, refl, sym, _∙_, ap, ap₂, Bool, List, ℕ, _+_, _-_, arith, length, getD, Length, Width, Job, InTableRange, table-solid, positions-some, floor-under, Refusal, TableSize, position-count, words-needed, Kept, by-state, Order, figure-at, by-state-monotone, LaidOut, refused-laid, ready-laid, BoundReport, lent, answer-by, unreported, last-position, word-last, StateFigures, state-report, Filled}
 use Rattle.storage.specs.declared.Layout.the-variants as layout
-use Rattle.storage.specs.Contracts.{LaidOut}
-use Rattle.storage.proofs.Storage.{refused-laid, ready-laid}
-use Rattle.promises.specs.declared.BoundReport.{BoundReport}
 use Rattle.promises.specs.declared.BoundAnswer.the-variants as answer
-use Rattle.bound.specs.Bound.{lent, answer-by}
-use Rattle.bound.proofs.Storage.{unreported}
-use Rattle.bound.proofs.Last.{last-position, word-last}
-use Rattle.exact.specs.Exact.{StateFigures}
-use Rattle.exact.specs.Contracts.{state-report, Filled}
 
 module _ (J : Job) (F : ℕ → ℕ → ℕ → ℕ) (q : ℕ) {lengths widths table floors new-lengths new-widths new-floors : List ℕ} where
   -- the storage is refused, and the table is untouched

@@ -1,46 +1,6 @@
 -- The table of marked examples holds: what is left to compute of each line, the law that a line so computed holds, and the computations.
-use mathlib.Core.Path.{_≡_, refl, _∙_, ap, subst}
-use mathlib.Core.Bool.{false}
-use mathlib.Core.Logic.{_⊎_, inl, inr}
-use mathlib.Core.List.{List, [], _∷_, List·Memᴰ, List·Memᴰ·not-nil, List·Memᴰ·cases-cons}
-use Prim.Native.Nat.{ℕ, _≤_}
-use native.Mathlib.Omega.{arith}
-use borrow.Author.Tests.{le-ltb}
-use Rattle.promises.specs.declared.Direction.{Direction}
-use Rattle.promises.specs.declared.Direction.the-variants.{Length, Width}
-use Rattle.cutting.specs.Limits.{most-limit}
-use Rattle.cutting.specs.Lists.{range, sum, filter, each, any, greatest}
-use Rattle.cutting.specs.Tree.{total}
-use Rattle.cutting.specs.Figure.{leaf, best, step, after, figure}
-use Rattle.cutting.specs.Pieces.{sized}
-use Rattle.cutting.specs.Saws.{floor, saw-normal, saw-written}
-use Rattle.cutting.specs.Shares.{by-weight, stages, stages-below}
-use Rattle.cutting.specs.Promises.{NoneAbove}
-use Rattle.cutting.specs.Staged.{changes, along, block, staged-bound, NoneStaged}
-use Rattle.cutting.specs.Normal.{summed, normal?, sides}
-use Rattle.cutting.specs.Choice.{choice, plan-within, written, sawn}
-use Rattle.cutting.specs.Preorder.{preorder, kinds-of, operands-of, node-count}
-use Rattle.cutting.specs.Neat.{used, neat}
-use Rattle.cutting.specs.Job.{finer, ordered, members, pieces, normal-positions, lossless-plan, plan-of}
-use Rattle.refusal.specs.Refusals.{first-refusal}
-use Rattle.promises.specs.declared.Checked.the-variants.{Passed}
-use Rattle.table.specs.Staged.{staged-words}
-use Rattle.bound.specs.Bound.{wide-job, report-values}
-use Rattle.staged_bound.specs.Staged.{staged-block-report}
-use Rattle.job.specs.Block.{outside, price-at, demand-at, each-kind, job-checks, entries, record-of}
-use Rattle.job.specs.Weights.{block-job, weight-in, Accepted}
-use Rattle.idle.specs.Idle.{pieceless, idle-checks}
-use Rattle.plan.specs.Plan.{walk, walk-answer, plan-answer}
-use Rattle.plan.specs.Trees.{trees-in}
-use Rattle.plan.specs.Calls.{JobPasses}
-use Rattle.saw.specs.Saw.{saw-checks}
-use Rattle.saw.specs.Parts.{extent}
-use Rattle.stages.specs.Stages.{node-paths, above-checks}
-use Rattle.neat.specs.Neat.{block-neat}
-use Rattle.writer.specs.Write.{block-plan}
-use Rattle.certificate.specs.Certificate.{compared}
+use Rattle.examples.proofs.Prelude.{_≡_, refl, _∙_, ap, subst, false, _⊎_, inl, inr, List, [], _∷_, List·Memᴰ, List·Memᴰ·not-nil, List·Memᴰ·cases-cons, ℕ, _≤_, arith, le-ltb, Direction, Length, Width, most-limit, range, sum, filter, each, any, greatest, total, leaf, best, step, after, figure, sized, floor, saw-normal, saw-written, by-weight, stages, stages-below, NoneAbove, changes, along, block, staged-bound, NoneStaged, summed, normal?, sides, choice, plan-within, written, sawn, preorder, kinds-of, operands-of, node-count, used, neat, finer, ordered, members, pieces, normal-positions, lossless-plan, plan-of, first-refusal, Passed, staged-words, wide-job, report-values, staged-block-report, outside, price-at, demand-at, each-kind, job-checks, entries, record-of, block-job, weight-in, Accepted, pieceless, idle-checks, walk, walk-answer, plan-answer, trees-in, JobPasses, saw-checks, extent, node-paths, above-checks, block-neat, block-plan, compared, Example, old-block, RefusedAs, PassedTo, ExampleHolds, misfit-job, marked}
 use Rattle.examples.specs.Examples as line
-use Rattle.examples.specs.Examples.{Example, old-block, RefusedAs, PassedTo, ExampleHolds, misfit-job, marked}
 use Rattle.examples.proofs.Calls as call
 use Rattle.examples.proofs.Calls.{capacity-in, words-in, bound-in, values-in, certificate-in}
 use Rattle.examples.proofs.Plans.{first-verdict, begins-refused, begins-passed}

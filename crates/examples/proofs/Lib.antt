@@ -1,3 +1,4 @@
+mod Prelude
 pub mod Calls
 pub mod Plans
 pub mod Misfit

@@ -1,28 +1,6 @@
 -- The marked example whose kind 2 by 2 does not fit the plate 1 by 1. Its demand is free, so that it is ordered or cancelled: neither gives
 -- a position or a figure.
-use mathlib.Core.Path.{_≡_, refl, ap}
-use mathlib.Core.Bool.{Bool, true, false}
-use mathlib.Core.List.{List, [], _∷_}
-use Prim.Native.Nat.{ℕ, suc, _+_, _*_, min}
-use native.Mathlib.Omega.{arith}
-use lib.Dec.{leb}
-use lib.ListN.{length}
-use Rattle.promises.specs.declared.Direction.{Direction}
-use Rattle.promises.specs.declared.Direction.the-variants.{Length, Width}
-use Rattle.cutting.specs.Lists.{range, sum, keep, filter, each, any, greatest}
-use Rattle.cutting.specs.Tree.{side, waste}
-use Rattle.cutting.specs.Figure.{leaf, best, step, after, figure}
-use Rattle.cutting.specs.Pieces.{Piece, kind, ways, sized}
-use Rattle.cutting.specs.Saws.{floor, saw-normal, saw-written}
-use Rattle.cutting.specs.Shares.{by-weight}
-use Rattle.cutting.specs.Normal.{summed, normal?, normal, sides}
-use Rattle.cutting.specs.Choice.{choice, plan-within, written, sawn}
-use Rattle.cutting.specs.Job.{Job, laid, turns, capacity, ordered, members, pieces, by-kind, normal-positions, lossless-plan, plan-of}
-use Rattle.job.specs.Block.{entries, record-of}
-use Rattle.job.specs.Weights.{block-job, weight-in}
-use Rattle.bound.specs.Bound.{wide-job}
-use Rattle.writer.specs.Write.{block-plan}
-use Rattle.examples.specs.Examples.{old-block, misfit-job}
+use Rattle.examples.proofs.Prelude.{_≡_, refl, ap, Bool, true, false, List, [], _∷_, ℕ, suc, _+_, _*_, min, arith, leb, length, Direction, Length, Width, range, sum, keep, filter, each, any, greatest, side, waste, leaf, best, step, after, figure, Piece, kind, ways, sized, floor, saw-normal, saw-written, by-weight, summed, normal?, normal, sides, choice, plan-within, written, sawn, Job, laid, turns, capacity, ordered, members, pieces, by-kind, normal-positions, lossless-plan, plan-of, entries, record-of, block-job, weight-in, wide-job, block-plan, old-block, misfit-job}
 use Rattle.examples.proofs.Calls.{words-in, bound-in, values-in}
 
 -- where no copy is counted, none is weighed

@@ -1,24 +1,5 @@
 -- What the first node of a plan decides, whatever follows it: its checks refuse the plan, or any refusal comes later.
-use mathlib.Core.Path.{_≡_, refl, sym, _∙_, ap, subst}
-use mathlib.Core.Bool.{Bool, true, false}
-use mathlib.Core.List.{List, [], _∷_}
-use Prim.Native.Nat.{ℕ, suc, _+_, _<_}
-use native.Mathlib.Omega.{arith}
-use Rattle.cutting.specs.Tree.{Rect}
-use Rattle.cutting.specs.Job.{Job}
-use Rattle.refusal.specs.Refusals.{Check, number-of, place-of, refuse-when, next, first-refusal}
-use Rattle.promises.specs.declared.Refusal.{Refusal}
-use Rattle.promises.specs.declared.Refusal.the-variants.{IdleCut}
-use Rattle.promises.specs.declared.Checked.{Checked}
-use Rattle.promises.specs.declared.Checked.the-variants.{Passed, Refused}
-use Rattle.job.specs.Weights.{block-job}
-use Rattle.promises.specs.declared.Report.{Report}
-use Rattle.promises.specs.declared.PlanAnswer.{PlanAnswer}
-use Rattle.plan.specs.Plan.{node-of, node-checks, empty-report, proceed, walk, nodes-in, plan-answer}
-use Rattle.plan.specs.Calls.{JobPasses}
-use Rattle.idle.specs.Idle.{pieceless, is-idle, idle-checks}
-use Rattle.plan.proofs.Whole.{walks-on, verdict-is}
-use Rattle.examples.specs.Examples.{old-block, RefusedAs, PassedTo, Beginning}
+use Rattle.examples.proofs.Prelude.{_≡_, refl, sym, _∙_, ap, subst, Bool, true, false, List, [], _∷_, ℕ, suc, _+_, _<_, arith, Rect, Job, Check, number-of, place-of, refuse-when, next, first-refusal, Refusal, IdleCut, Checked, Passed, Refused, block-job, Report, PlanAnswer, node-of, node-checks, empty-report, proceed, walk, nodes-in, plan-answer, JobPasses, pieceless, is-idle, idle-checks, walks-on, verdict-is, old-block, RefusedAs, PassedTo, Beginning}
 
 -- a check whose place is past node j, and what follows it
 check-past : (j : ℕ) (b : Bool) (r : Refusal) (v : Checked) → ((number-of r ≡ 26 → ⊥) → j < place-of r) → PassedTo j v → PassedTo j (next (refuse-when b r) v)

@@ -1,24 +1,6 @@
 -- The checks over a tree's kinds are those over its nodes, and they pass exactly where no cut of the tree is idle.
-use mathlib.Core.Path.{_≡_, refl, sym, _∙_, ap, ap₂}
-use mathlib.Core.Bool.{false}
-use mathlib.Core.List.{List, [], _∷_, _++_, append-assoc, append-nil}
-use Prim.Native.Nat.{ℕ, zero, suc, _+_, _-_}
-use native.Mathlib.Omega.{arith}
-use lib.Dec.{ltb, eqb}
-use borrow.Author.Tests.{lt-ltb, eqb-false, ne-eqb}
-use Rattle.promises.specs.declared.Direction.{Direction}
-use Rattle.promises.specs.declared.Direction.the-variants.{Length, Width}
-use Rattle.promises.specs.declared.Node.the-variants.{Cut}
-use Rattle.cutting.specs.Tree.{Tree, waste, piece, cut, total, piece-count, IdleFree}
+use Rattle.idle.proofs.Prelude.{_≡_, refl, sym, _∙_, ap, ap₂, false, List, [], _∷_, _++_, append-assoc, append-nil, ℕ, zero, suc, _+_, _-_, arith, ltb, eqb, lt-ltb, eqb-false, ne-eqb, Direction, Length, Width, Cut, Tree, waste, piece, cut, total, piece-count, IdleFree, preorder, kind-of, node-count, kinds-of, kinds-cut, count-cut, first-refusal, IdleCut, Passed, cons-passed, append-passed, passed-append, node-of, pieceless-from, pieceless, is-idle, idle-checks, tree-checks}
 use Rattle.cutting.specs.Pieces as laid
-use Rattle.cutting.specs.Preorder.{preorder, kind-of, node-count, kinds-of}
-use Rattle.cutting.proofs.Preorder.{kinds-cut, count-cut}
-use Rattle.refusal.specs.Refusals.{first-refusal}
-use Rattle.promises.specs.declared.Refusal.the-variants.{IdleCut}
-use Rattle.promises.specs.declared.Checked.the-variants.{Passed}
-use Rattle.job.proofs.Checks.{cons-passed, append-passed, passed-append}
-use Rattle.node.specs.Nodes.{node-of}
-use Rattle.idle.specs.Idle.{pieceless-from, pieceless, is-idle, idle-checks, tree-checks}
 
 -- a tree of so many pieces before n trees without one
 abbrev before : ℕ → ℕ → ℕ

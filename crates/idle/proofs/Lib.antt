@@ -1,2 +1,3 @@
+mod Prelude
 pub mod Idle
 pub mod Scan

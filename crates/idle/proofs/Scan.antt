@@ -1,19 +1,5 @@
 -- The steps of the scan: what it knows after the last node, at one node more in front, and at the first.
-use mathlib.Core.Path.{_≡_, refl, sym, _∙_, ap}
-use mathlib.Core.List.{List, [], _∷_}
-use Prim.Native.Nat.{ℕ, _+_, _-_, _≤_, _<_}
-use native.Mathlib.Numerals.{add-one}
-use native.Mathlib.Omega.{arith}
-use lib.ListN.{length, drop, getD, length-drop}
-use lib.Seq.{drop-length, drop-cons}
-use Rattle.promises.specs.declared.Node.{Node}
-use Rattle.promises.specs.declared.Node.the-variants.{Waste, Piece, Turned, Cut}
-use Rattle.refusal.specs.Refusals.{next, refuse-when, first-refusal}
-use Rattle.promises.specs.declared.Refusal.the-variants.{IdleCut}
-use Rattle.promises.specs.declared.Checked.{Checked}
-use Rattle.promises.specs.declared.Checked.the-variants.{Passed}
-use Rattle.node.specs.Nodes.{node-of}
-use Rattle.idle.specs.Idle.{pieceless-from, pieceless, is-idle, idle-checks}
+use Rattle.idle.proofs.Prelude.{_≡_, refl, sym, _∙_, ap, List, [], _∷_, ℕ, _+_, _-_, _≤_, _<_, add-one, arith, length, drop, getD, length-drop, drop-length, drop-cons, Node, Waste, Piece, Turned, Cut, next, refuse-when, first-refusal, IdleCut, Checked, Passed, node-of, pieceless-from, pieceless, is-idle, idle-checks}
 
 from-most : (n : Node) (after most : ℕ) → after ≤ most → pieceless-from n after ≤ most + 1
 from-most Waste after most h = omega arith

@@ -1,17 +1,5 @@
 -- Laws of the list of checks: how the first refusal goes down a list, through an append, and through the kinds of a loop.
-use mathlib.Core.Path.{_≡_, refl, sym, _∙_, ap}
-use mathlib.Core.Bool.{Bool, true, false}
-use mathlib.Core.List.{List, [], _∷_, _++_}
-use Prim.Native.Nat.{ℕ, zero, suc, _+_, _-_, _≤_, _<_}
-use native.Mathlib.Decide.{ℕ-discrete}
-use native.Mathlib.Omega.{arith}
-use borrow.Author.Tests.{ltb-false}
-use lib.Dec.{ltb}
-use Rattle.refusal.specs.Refusals.{Check, refuse-when, next, first-refusal}
-use Rattle.promises.specs.declared.Checked.{Checked}
-use Rattle.promises.specs.declared.Checked.the-variants.{Passed, Refused}
-use Rattle.promises.specs.declared.Refusal.{Refusal}
-use Rattle.job.specs.Block.{each-kind}
+use Rattle.job.proofs.Prelude.{_≡_, refl, sym, _∙_, ap, Bool, true, false, List, [], _∷_, _++_, ℕ, zero, suc, _+_, _-_, _≤_, _<_, ℕ-discrete, arith, ltb-false, ltb, Check, refuse-when, next, first-refusal, Checked, Passed, Refused, Refusal, each-kind}
 
 pub next-stops : {a : Checked} (b : Checked) {r : Refusal} → a ≡ Refused r → a ≡ next a b
 next-stops b p = p ∙ sym (ap (λ x. next x b) p)

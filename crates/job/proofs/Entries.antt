@@ -1,16 +1,5 @@
 -- Laws of the record's arrays: their length, their entries, and one entry more by a store. One set of laws for all arrays.
-use mathlib.Core.Path.{_≡_, refl, sym, _∙_, ap}
-use mathlib.Core.List.{List, map}
-use Prim.Native.Nat.{ℕ, zero, suc, _+_, _≤_, _<_}
-use native.Mathlib.Decide.{ℕ-discrete, decLt}
-use native.Mathlib.Omega.{arith}
-use borrow.Author.Tests.{lt-ltb, le-ltb}
-use lib.Dec.{ltb}
-use lib.ListN.{length, getD, set, length-set, length-map, replicate, List·getD-eq-default}
-use lib.Seq.{getD-set-same, getD-set-other, ext-getD}
-use Rattle.cutting.proofs.Lists.{range-length}
-use Rattle.cutting.specs.Lists.{range, only}
-use Rattle.job.specs.Block.{entries}
+use Rattle.job.proofs.Prelude.{_≡_, refl, sym, _∙_, ap, List, map, ℕ, zero, suc, _+_, _≤_, _<_, ℕ-discrete, decLt, arith, lt-ltb, le-ltb, ltb, length, getD, set, length-set, length-map, replicate, List·getD-eq-default, getD-set-same, getD-set-other, ext-getD, range-length, range, only, entries}
 
 -- an entry of a mapped range
 getD-range : (g : ℕ → ℕ) (a n i : ℕ) → i < n → getD (map g (range a n)) i 0 ≡ g (a + i)

@@ -1,19 +1,5 @@
 -- Without the choice of grain a job block is read as before there was grain.
-use mathlib.Core.Path.{_≡_, refl, _∙_, ap}
-use mathlib.Core.Bool.{false, not}
-use mathlib.Core.List.{List, [], _∷_, _++_, append-nil}
-use Prim.Native.Nat.{ℕ, _+_, _*_}
-use native.Mathlib.Omega.{arith}
-use lib.Dec.{ltb, eqb}
-use lib.ListN.{length, getD}
-use Rattle.cutting.specs.Limits.{most-kinds, most-kerf}
-use Rattle.cutting.specs.Job.{turns}
-use Rattle.cutting.proofs.Grain.{loose-turns, alike-members, alike-copies}
-use Rattle.promises.specs.declared.Refusal.the-variants.{KindCount, Kerf, BlockLength}
-use Rattle.promises.specs.declared.Choices.{Choices}
-use Rattle.job.specs.Block.{count-at, kerf-at, sizes-end, kind-bytes, outside, size-check, each-kind, array-checks, grains-of, record-of}
-use Rattle.job.specs.Weights.{block-job}
-use Rattle.job.specs.Grain.{Ungrained}
+use Rattle.job.proofs.Prelude.{_≡_, refl, _∙_, ap, false, not, List, [], _∷_, _++_, append-nil, ℕ, _+_, _*_, arith, ltb, eqb, length, getD, most-kinds, most-kerf, turns, loose-turns, alike-members, alike-copies, KindCount, Kerf, BlockLength, Choices, count-at, kerf-at, sizes-end, kind-bytes, outside, size-check, each-kind, array-checks, grains-of, record-of, block-job, Ungrained}
 use Rattle.job.proofs.Entries.{entries-past}
 
 module _ (s : List ℕ) (choices : Choices) (none : choices .grain ≡ false) where

@@ -1,18 +1,5 @@
 -- A new block with kerf 0 is read as the old block: every field behind the kerf stands two bytes further on, and the others where they stood.
-use mathlib.Core.Path.{_≡_, _∙_, refl, sym, ap, ap₂, subst}
-use mathlib.Core.Bool.{Bool, true, false, not}
-use mathlib.Core.List.{List, [], _∷_, _++_}
-use Prim.Native.Nat.{ℕ, _+_, _*_, _≤_, _<_}
-use native.Mathlib.Decide.{ℕ-discrete, decLe}
-use native.Mathlib.Omega.{arith}
-use borrow.Author.Tests.{lt-ltb, le-ltb, eq-eqb, ne-eqb}
-use lib.Dec.{ltb, eqb}
-use lib.ListN.{length, getD}
-use Rattle.refusal.specs.Refusals.{Check}
-use Rattle.promises.specs.declared.Refusal.the-variants.{ShortHeader, PlateSide, KindCount, Kerf, BlockLength, KindSide, Price, Demand, Grain}
-use Rattle.promises.specs.declared.Choices.{Choices}
-use Rattle.promises.specs.declared.JobRecord.{JobRecord}
-use Rattle.job.specs.Block.{with-old-block, u16-at, u32-at, plate-length-at, plate-width-at, count-at, kerf-at, length-at, width-at, price-at, demand-at, grain-at, kind-bytes, outside, sides-outside, header-checks, plateless-checks, demand-check, pair-checks, each-kind, grain-checks, array-checks, checks-by, job-checks, entries, grains-of, record-of, KerfNone, ReadAlike, KerfNoneRead}
+use Rattle.job.proofs.Prelude.{_≡_, _∙_, refl, sym, ap, ap₂, subst, Bool, true, false, not, List, [], _∷_, _++_, ℕ, _+_, _*_, _≤_, _<_, ℕ-discrete, decLe, arith, lt-ltb, le-ltb, eq-eqb, ne-eqb, ltb, eqb, length, getD, Check, ShortHeader, PlateSide, KindCount, Kerf, BlockLength, KindSide, Price, Demand, Grain, Choices, JobRecord, with-old-block, u16-at, u32-at, plate-length-at, plate-width-at, count-at, kerf-at, length-at, width-at, price-at, demand-at, grain-at, kind-bytes, outside, sides-outside, header-checks, plateless-checks, demand-check, pair-checks, each-kind, grain-checks, array-checks, checks-by, job-checks, entries, grains-of, record-of, KerfNone, ReadAlike, KerfNoneRead}
 
 -- a length two greater against a header two greater
 shorter : (m n : ℕ) → m ≡ n + 2 → ltb m 8 ≡ ltb n 6

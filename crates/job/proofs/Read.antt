@@ -1,22 +1,5 @@
 -- What is known of a job block that passed its checks, of the record that was read from it, and of the answer.
-use mathlib.Core.Path.{_≡_, refl, sym, _∙_, ap, ap₂, subst}
-use mathlib.Core.Bool.{Bool, true, false, _||_}
-use mathlib.Core.List.{List, [], _∷_, _++_}
-use Prim.Native.Nat.{ℕ, _+_, _*_, _≤_, _<_}
-use native.Mathlib.Omega.{arith}
-use borrow.Author.Tests.{ltb-false, eqb-true, not-false}
-use lib.Dec.{ltb, eqb}
-use lib.ListN.{length, getD}
-use Rattle.cutting.specs.Job.{InRange}
-use Rattle.refusal.specs.Refusals.{Check, next, first-refusal, outcome-by}
-use Rattle.promises.specs.declared.Checked.{Checked}
-use Rattle.promises.specs.declared.Checked.the-variants.{Passed, Refused}
-use Rattle.promises.specs.declared.Refusal.{Refusal}
-use Rattle.job.specs.Block.{plate-length-at, plate-width-at, count-at, kerf-at, sizes-end, length-at, width-at, price-at, demand-at, kind-bytes, outside, sides-outside, count-checks, header-checks, plateless-checks, size-check, pair-checks, each-kind, grain-checks, checks-by, job-checks, record-of, empty-record, read-by, read-of, job-values, job-outcome, job-from, job-of}
-use Rattle.job.specs.Contracts.{HoldsGrains, header-by}
-use Rattle.promises.specs.declared.Choices.{Choices}
-use Rattle.promises.specs.declared.JobAnswer.{JobAnswer}
-use Rattle.promises.specs.declared.JobRecord.{JobRecord}
+use Rattle.job.proofs.Prelude.{_≡_, refl, sym, _∙_, ap, ap₂, subst, Bool, true, false, _||_, List, [], _∷_, _++_, ℕ, _+_, _*_, _≤_, _<_, arith, ltb-false, eqb-true, not-false, ltb, eqb, length, getD, InRange, Check, next, first-refusal, outcome-by, Checked, Passed, Refused, Refusal, plate-length-at, plate-width-at, count-at, kerf-at, sizes-end, length-at, width-at, price-at, demand-at, kind-bytes, outside, sides-outside, count-checks, header-checks, plateless-checks, size-check, pair-checks, each-kind, grain-checks, checks-by, job-checks, record-of, empty-record, read-by, read-of, job-values, job-outcome, job-from, job-of, HoldsGrains, header-by, Choices, JobAnswer, JobRecord}
 use Rattle.job.proofs.Checks.{passed-both, first-append, cons-passed, each-passed}
 use Rattle.job.proofs.Entries.{entries-in}
 

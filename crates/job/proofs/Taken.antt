@@ -1,19 +1,5 @@
 -- What a job block and weights answer together, from the verdicts of the two, and what a caller then knows.
-use mathlib.Core.Path.{_≡_, refl, sym, _∙_, ap, ap₂}
-use mathlib.Core.List.{List, [], _∷_, _++_}
-use Prim.Native.Nat.{ℕ}
-use Rattle.cutting.specs.Job.{capacity}
-use Rattle.refusal.specs.Refusals.{next, first-refusal, by-check, outcome-by}
-use Rattle.promises.specs.declared.Checked.{Checked}
-use Rattle.promises.specs.declared.Checked.the-variants.{Passed, Refused}
-use Rattle.promises.specs.declared.Refusal.{Refusal}
-use Rattle.job.specs.Block.{job-checks, record-of, empty-record, read-of, job-values, job-of}
-use Rattle.job.specs.Weights.{weight-in, weight-checks, weights-answer, block-job, Accepted, acceptance-of, acceptance-outcome, acceptance-said}
-use Rattle.promises.specs.declared.Choices.{Choices}
-use Rattle.promises.specs.declared.JobRecord.{JobRecord}
-use Rattle.promises.specs.declared.JobAnswer.{JobAnswer}
-use Rattle.job.specs.declared.Acceptance.{Acceptance}
-use Rattle.job.specs.declared.WeightsAnswer.{WeightsAnswer}
+use Rattle.job.proofs.Prelude.{_≡_, refl, sym, _∙_, ap, ap₂, List, [], _∷_, _++_, ℕ, capacity, next, first-refusal, by-check, outcome-by, Checked, Passed, Refused, Refusal, job-checks, record-of, empty-record, read-of, job-values, job-of, weight-in, weight-checks, weights-answer, block-job, Accepted, acceptance-of, acceptance-outcome, acceptance-said, Choices, JobRecord, JobAnswer, Acceptance, WeightsAnswer}
 use Rattle.job.specs.declared.WeightsAnswer.the-variants as answer
 use Rattle.job.proofs.Checks.{first-append}
 use Rattle.job.proofs.Read.{answered}

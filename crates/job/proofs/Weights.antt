@@ -1,24 +1,6 @@
 -- What is known of weights that were accepted, what each answer says, and the capacity as a loop sums it.
-use mathlib.Core.Path.{_≡_, refl, sym, _∙_, ap}
-use mathlib.Core.Bool.{Bool, true, false}
-use mathlib.Core.List.{List, [], _∷_}
-use Prim.Native.Nat.{ℕ, suc, _+_, _*_, _≤_, _<_}
-use native.Mathlib.Nat.{mul-le-mul}
-use native.Mathlib.Omega.{arith}
-use borrow.Author.Tests.{ltb-false, lt-ltb, le-ltb, eqb-true, eq-eqb, ne-eqb, not-false}
-use lib.Dec.{eqb}
-use lib.ListN.{length}
-use Rattle.cutting.specs.Job.{Job, counted-of, capacity, InRange}
-use Rattle.cutting.specs.Lists.{sum}
-use Rattle.refusal.specs.Refusals.{first-refusal, by-check, outcome-by}
-use Rattle.promises.specs.declared.Checked.{Checked}
-use Rattle.promises.specs.declared.Checked.the-variants.{Passed, Refused}
-use Rattle.promises.specs.declared.Refusal.{Refusal}
+use Rattle.job.proofs.Prelude.{_≡_, refl, sym, _∙_, ap, Bool, true, false, List, [], _∷_, ℕ, suc, _+_, _*_, _≤_, _<_, mul-le-mul, arith, ltb-false, lt-ltb, le-ltb, eqb-true, eq-eqb, ne-eqb, not-false, eqb, length, Job, counted-of, capacity, InRange, sum, first-refusal, by-check, outcome-by, Checked, Passed, Refused, Refusal, job-checks, weight-in, weight-checks, weights-answer, weights-outcome, weights-said, block-job, Accepted, Choices, WeightsAnswer}
 use Rattle.promises.specs.declared.Refusal.the-variants as refusal
-use Rattle.job.specs.Block.{job-checks}
-use Rattle.job.specs.Weights.{weight-in, weight-checks, weights-answer, weights-outcome, weights-said, block-job, Accepted}
-use Rattle.promises.specs.declared.Choices.{Choices}
-use Rattle.job.specs.declared.WeightsAnswer.{WeightsAnswer}
 use Rattle.job.specs.declared.WeightsAnswer.the-variants as answer
 use Rattle.job.proofs.Checks.{cons-passed, append-passed, passed-append}
 use Rattle.job.proofs.Read.{read-in-range}

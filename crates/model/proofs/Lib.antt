@@ -1,2 +1,3 @@
+mod Prelude
 pub mod Tables
 pub mod Model

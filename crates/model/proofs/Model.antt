@@ -1,29 +1,5 @@
 -- What the check of a model promises follows from its verdict.
-use mathlib.Core.Path.{_≡_, refl, sym, _∙_, ap, ap₂, subst}
-use mathlib.Core.Bool.{Bool, true, false, not}
-use mathlib.Core.List.{List, []}
-use Prim.Native.Nat.{ℕ}
-use native.Mathlib.Omega.{arith}
-use lib.Dec.{T}
-use Rattle.promises.specs.declared.Direction.the-variants.{Length, Width}
-use Rattle.cutting.specs.Job.{Job, InRange, SolidKinds}
-use Rattle.cutting.specs.Relaxation.{Relaxes, ChainsFit}
-use Rattle.cutting.specs.Chains.{chains-fit}
-use Rattle.cutting.proofs.Relaxation.{relaxed-none, relaxed-staged}
-use Rattle.cutting.proofs.Chains.{chains-test, tested-relaxes}
-use Rattle.refusal.specs.Refusals.{refuse-when, next, first-refusal, outcome-by}
-use Rattle.promises.specs.declared.Checked.{Checked}
-use Rattle.promises.specs.declared.Checked.the-variants.{Passed, Refused}
-use Rattle.promises.specs.declared.Refusal.{Refusal}
-use Rattle.promises.specs.declared.Refusal.the-variants.{NoModel}
-use Rattle.promises.specs.declared.Choices.{Choices}
-use Rattle.job.specs.Block.{count-at, job-checks, job-of}
-use Rattle.job.specs.Weights.{block-job}
-use Rattle.job.proofs.Checks.{passed-both, next-passes, cons-passed}
-use Rattle.sizes.specs.declared.TrueAnswer.{TrueAnswer}
-use Rattle.sizes.specs.Sizes.{sizes-checks, sizes-of, true-job, block-true-job, true-verdict, true-read, TrueRange}
-use Rattle.sizes.proofs.Read.{given, stopped, ranges, true-kinds}
-use Rattle.model.specs.Model.{model-checks, model-verdict, StandsFor, ModelPromises}
+use Rattle.model.proofs.Prelude.{_≡_, refl, sym, _∙_, ap, ap₂, subst, Bool, true, false, not, List, [], ℕ, arith, T, Length, Width, Job, InRange, SolidKinds, Relaxes, ChainsFit, chains-fit, relaxed-none, relaxed-staged, chains-test, tested-relaxes, refuse-when, next, first-refusal, outcome-by, Checked, Passed, Refused, Refusal, NoModel, Choices, count-at, job-checks, job-of, block-job, passed-both, next-passes, cons-passed, TrueAnswer, sizes-checks, sizes-of, true-job, block-true-job, true-verdict, true-read, TrueRange, given, stopped, ranges, true-kinds, model-checks, model-verdict, StandsFor, ModelPromises}
 
 -- a test that does not fail, as a fact, and back
 passed-test : (t : Bool) → not t ≡ false → T t

@@ -1,32 +1,5 @@
 -- Laws of the ways of a kind and of the table: which of the ways are the kind's, one kind more, and that the entries fit.
-use mathlib.Core.Path.{_≡_, refl, sym, _∙_, ap, ap₂, subst}
-use mathlib.Core.Bool.{Bool, true, false, _&&_, not}
-use mathlib.Core.List.{List, [], _∷_}
-use Prim.Native.Nat.{ℕ, zero, suc, _+_, _-_, _≤_, _<_, min}
-use native.Mathlib.Decide.{decLt, ℕ-discrete}
-use native.Mathlib.Omega.{arith}
-use borrow.Author.Tests.{lt-ltb, le-ltb, le-leb, lt-leb}
-use lib.Dec.{ltb, leb}
-use lib.ListN.{length, set, length-set, take, replicate, length-replicate, List·getD-eq-default}
-use lib.Seq.{getD-set-same, getD-set-other, length-take-le}
-use Rattle.promises.specs.declared.Direction.{Direction}
-use Rattle.promises.specs.declared.Direction.the-variants.{Length, Width}
-use Rattle.cutting.specs.Limits.{most-true-side, most-true-kerf}
-use Rattle.cutting.specs.Tree.{Rect, side}
-use Rattle.cutting.specs.Lists.{keep, filter}
-use Rattle.cutting.specs.Pieces.{upright, turned, ways, quarter, fits-in}
-use Rattle.cutting.specs.Job.{Job, laid, turns, InRange}
-use Rattle.cutting.specs.Relaxation.{taken, room}
-use Rattle.cutting.specs.Chains.{lowest, fitting-ways, without, one-more, copies-more, least, chains-fit}
-use Rattle.promises.specs.declared.JobRecord.{JobRecord}
-use Rattle.job.specs.Block.{job-of}
-use Rattle.sizes.specs.declared.TrueSizes.{TrueSizes}
-use Rattle.sizes.specs.Sizes.{true-job, TrueRange}
-use Rattle.chains.specs.Table.{most-entry, entry, Steps, Repeated}
-use Rattle.chains.proofs.Ways.{two-ways, one-way, no-way}
-use Rattle.model.specs.declared.Way.{Way}
-use Rattle.model.specs.declared.Span.{Span}
-use Rattle.model.specs.Tables.{taken-by, Within, way-by, turned-span, true-span-at, model-span-at, true-plate, model-plate, lies-so, WayOf, Fitting, Tabled, cleared, Added}
+use Rattle.model.proofs.Prelude.{_≡_, refl, sym, _∙_, ap, ap₂, subst, Bool, true, false, _&&_, not, List, [], _∷_, ℕ, zero, suc, _+_, _-_, _≤_, _<_, min, decLt, ℕ-discrete, arith, lt-ltb, le-ltb, le-leb, lt-leb, ltb, leb, length, set, length-set, take, replicate, length-replicate, List·getD-eq-default, getD-set-same, getD-set-other, length-take-le, Direction, Length, Width, most-true-side, most-true-kerf, Rect, side, keep, filter, upright, turned, ways, quarter, fits-in, Job, laid, turns, InRange, taken, room, lowest, fitting-ways, without, one-more, copies-more, least, chains-fit, JobRecord, job-of, TrueSizes, true-job, TrueRange, most-entry, entry, Steps, Repeated, two-ways, one-way, no-way, Way, Span, taken-by, Within, way-by, turned-span, true-span-at, model-span-at, true-plate, model-plate, lies-so, WayOf, Fitting, Tabled, cleared, Added}
 
 -- the least over a list with a number is at most that number
 lowest-most : {A : Type 0} (f : A → ℕ) (xs : List A) (n : ℕ) → lowest f xs n ≤ n

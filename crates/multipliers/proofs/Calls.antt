@@ -1,40 +1,6 @@
 -- What the call promises, from the verdicts of job, weights and multipliers and from the bound of an accepted job.
-use mathlib.Core.Path.{_≡_, refl, sym, _∙_, ap, ap₂, subst}
-use mathlib.Core.List.{List, [], _∷_}
-use Prim.Native.Nat.{ℕ, zero, suc, _+_, _≤_, _<_}
-use native.Mathlib.Omega.{arith}
-use borrow.Author.Tests.{ltb-false, eqb-true, eq-eqb, ne-eqb, not-false}
-use lib.Dec.{eqb}
-use lib.ListN.{length}
-use Rattle.cutting.specs.Limits.{most-kinds, most-figure}
-use Rattle.cutting.specs.Job.{Job, InRange, widened, capacity, bound-of}
-use Rattle.cutting.proofs.Bound.{bound-ceiling}
-use Rattle.cutting.proofs.Promises.{figures-most}
-use Rattle.refusal.specs.Refusals.{Check, next, first-refusal, outcome-by}
-use Rattle.promises.specs.declared.Refusal.{Refusal}
-use Rattle.promises.specs.declared.Refusal.the-variants.{MultiplierCount}
-use Rattle.promises.specs.declared.Checked.{Checked}
-use Rattle.promises.specs.declared.Checked.the-variants.{Passed, Refused}
-use Rattle.promises.specs.declared.Choices.{Choices}
-use Rattle.promises.specs.declared.JobRecord.{JobRecord}
-use Rattle.job.specs.Block.{job-of, record-of, each-kind}
-use Rattle.job.specs.Weights.{block-job, weight-in}
-use Rattle.job.proofs.Checks.{Decides, begins, passes, ends, cons-passed, each-passed, passed-both, next-passed}
-use Rattle.job.proofs.Entries.{entries-length}
-use Rattle.job.proofs.Weights.{accepted-in-range}
-use Rattle.job.proofs.Taken.{Taken}
-use Rattle.orders.specs.Orders.{Summable}
-use Rattle.bound.specs.Bound.{Memory, Leaves, memory-checks, accept-verdict, block-capacity, bound-report, bound-answer, answer-by, BoundLeaves}
-use Rattle.bound.specs.Contracts.{RecordBoundable, RecordBounded}
-use Rattle.promises.specs.declared.BoundReport.{BoundReport}
-use Rattle.promises.specs.declared.BoundAnswer.{BoundAnswer}
+use Rattle.multipliers.proofs.Prelude.{_≡_, refl, sym, _∙_, ap, ap₂, subst, List, [], _∷_, ℕ, zero, suc, _+_, _≤_, _<_, arith, ltb-false, eqb-true, eq-eqb, ne-eqb, not-false, eqb, length, most-kinds, most-figure, Job, InRange, widened, capacity, bound-of, bound-ceiling, figures-most, Check, next, first-refusal, outcome-by, Refusal, MultiplierCount, Checked, Passed, Refused, Choices, JobRecord, job-of, record-of, each-kind, block-job, weight-in, Decides, begins, passes, ends, cons-passed, each-passed, passed-both, next-passed, entries-length, accepted-in-range, Taken, Summable, Memory, Leaves, memory-checks, accept-verdict, block-capacity, bound-report, bound-answer, answer-by, BoundLeaves, RecordBoundable, RecordBounded, BoundReport, BoundAnswer, record-ready, answered-behind, refused-behind, lowered, multiplier-in, multiplier-worth, multiplier-check, multiplier-checks, most-multiplier, lowered-job, multiplied-verdict, AllAccepted, lagrangian-verdict, lagrangian-report, lagrangian-by, block-lagrangian, lagrangian-answer, lagrangian-values, lagrangian-outcome, LagrangianLeaves, LagrangianHolds, as-lagrangian, LagrangianPromises, Multipliable, Multiplied, LagrangianReport, LagrangianAnswer}
 use Rattle.promises.specs.declared.BoundAnswer.the-variants as bound
-use Rattle.bound.proofs.Calls.{record-ready}
-use Rattle.bound.proofs.Holds.{answered-behind, refused-behind}
-use Rattle.multipliers.specs.Multipliers.{lowered, multiplier-in, multiplier-worth, multiplier-check, multiplier-checks, most-multiplier, lowered-job, multiplied-verdict, AllAccepted, lagrangian-verdict, lagrangian-report, lagrangian-by, block-lagrangian, lagrangian-answer, lagrangian-values, lagrangian-outcome, LagrangianLeaves, LagrangianHolds, as-lagrangian, LagrangianPromises}
-use Rattle.multipliers.specs.Contracts.{Multipliable, Multiplied}
-use Rattle.promises.specs.declared.LagrangianReport.{LagrangianReport}
-use Rattle.promises.specs.declared.LagrangianAnswer.{LagrangianAnswer}
 use Rattle.promises.specs.declared.LagrangianAnswer.the-variants as answer
 use Rattle.multipliers.proofs.Lagrange.{lowered-range, lagrangian-held, lowered-same, worth-none}
 

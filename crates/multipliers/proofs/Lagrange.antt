@@ -1,23 +1,6 @@
 -- A tree that keeps the demands earns at most what it earns in the lowered job and what the multipliers come to: a price is at most its
 -- lowered price plus its multiplier. So a bound of the lowered job with that beside it is one of the job.
-use mathlib.Core.Path.{_≡_, refl}
-use Prim.Native.Nat.{ℕ, zero, suc, _+_, _-_, _*_, _≤_}
-use native.Mathlib.Omega.{arith}
-use Rattle.promises.specs.declared.Direction.the-variants.{Length, Width}
-use Rattle.cutting.specs.Lists.{sum}
-use Rattle.cutting.specs.Tree.{Tree, waste, piece, cut, total}
-use Rattle.cutting.specs.Pieces.{Piece, upright, turned, kind, sized}
-use Rattle.cutting.specs.Saws.{saw}
-use Rattle.cutting.specs.Job.{Job, AnyTree, OnPlate, weight-of, KeepsDemands, pieces, capacity, bound-of, InRange}
-use Rattle.cutting.specs.Promises.{NoneAbove}
-use Rattle.cutting.proofs.Demands.{keeps-weight}
-use Rattle.cutting.proofs.AnyKinds.{ordered-on}
-use Rattle.cutting.proofs.Members.{member-kind, range-solid}
-use Rattle.cutting.proofs.Job.{plain-guillotine}
-use Rattle.cutting.proofs.Finer.{none-finer}
-use Rattle.cutting.proofs.Relaxation.{relaxed-none}
-use Rattle.bound.proofs.Holds.{bound-held}
-use Rattle.multipliers.specs.Multipliers.{lowered, multiplier-worth, LagrangianHolds}
+use Rattle.multipliers.proofs.Prelude.{_≡_, refl, ℕ, zero, suc, _+_, _-_, _*_, _≤_, arith, Length, Width, sum, Tree, waste, piece, cut, total, Piece, upright, turned, kind, sized, saw, Job, AnyTree, OnPlate, weight-of, KeepsDemands, pieces, capacity, bound-of, InRange, NoneAbove, keeps-weight, ordered-on, member-kind, range-solid, plain-guillotine, none-finer, relaxed-none, bound-held, lowered, multiplier-worth, LagrangianHolds}
 
 -- a total of numbers that are at most the sums of others
 total-split : {P : Type 0} (f g h : P → ℕ) → ((p : P) → h p ≤ f p + g p) → (t : Tree P) → total h t ≤ total f t + total g t

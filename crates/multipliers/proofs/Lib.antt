@@ -1,3 +1,4 @@
+mod Prelude
 pub mod Lagrange
 pub mod Prices
 pub mod Calls

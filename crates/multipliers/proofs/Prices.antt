@@ -1,15 +1,5 @@
 -- Lowering the prices in place: below the kind that a loop has reached they are lowered, and from there on as they were.
-use mathlib.Core.Path.{_≡_, refl, _∙_, ap}
-use mathlib.Core.List.{List}
-use Prim.Native.Nat.{ℕ, _+_, _-_, _≤_, _<_}
-use native.Mathlib.Decide.{ℕ-discrete, decLt}
-use native.Mathlib.Omega.{arith}
-use lib.ListN.{length, getD, set, length-set, List·getD-eq-default}
-use lib.Seq.{getD-set-same, getD-set-other}
-use Rattle.promises.specs.declared.JobRecord.{JobRecord}
-use Rattle.job.specs.Block.{job-of, priced}
-use Rattle.multipliers.specs.Multipliers.{lowered, repriced, multiplier-in}
-use Rattle.multipliers.specs.Contracts.{PricesLowered}
+use Rattle.multipliers.proofs.Prelude.{_≡_, refl, _∙_, ap, List, ℕ, _+_, _-_, _≤_, _<_, ℕ-discrete, decLt, arith, length, getD, set, length-set, List·getD-eq-default, getD-set-same, getD-set-other, JobRecord, job-of, priced, lowered, repriced, multiplier-in, PricesLowered}
 
 -- where the loop stands before kind n
 pub record Lowering (ms old new : List ℕ) (n : ℕ) : Type 0 where

@@ -1,3 +1,4 @@
+mod Prelude
 pub mod Steps
 pub mod Trees
 pub mod Scan

@@ -1,43 +1,9 @@
 -- The neat plan of a plan that passes: what holds of it, what the scan writes, and the answers of the call one by one.
-use mathlib.Core.Path.{_≡_, refl, sym, _∙_, ap, subst}
-use mathlib.Core.List.{List, [], _∷_, _++_, map, append-nil}
-use Prim.Native.Nat.{ℕ, zero, suc, _≤_, _<_}
-use native.Mathlib.Omega.{arith}
-use lib.ListN.{length, set}
-use borrow.Author.Tests.{lt-ltb, le-ltb}
-use Rattle.cutting.specs.Limits.{most-kinds, most-true-kerf}
-use Rattle.cutting.specs.Lists.{over}
-use Rattle.cutting.specs.Tree.{Rect, Tree, waste, piece-count}
+use Rattle.neat.proofs.Prelude.{_≡_, refl, sym, _∙_, ap, subst, List, [], _∷_, _++_, map, append-nil, ℕ, zero, suc, _≤_, _<_, arith, length, set, lt-ltb, le-ltb, most-kinds, most-true-kerf, over, Rect, Tree, waste, piece-count, _⊑_, lying, preorder, kind-of, operand-of, node-count, kinds-of, operands-of, Job, laid, OnPlate, copies-of, InRange, used-of, neat-of, Lies, range-solid, every-map, plate-lies, neat-total, neat-waste, neat-stages, neat-idle, neat-again, neat-count, neat-on, used-on, used-none, next, first-refusal, outcome-by, Refusal, PlanLong, Checked, Passed, Refused, Choices, JobRecord, JobAnswer, read-of, job-of, block-job, nodes-in, plan-answer, Walkable, trees-in, tree-in, DrawnAs, PlanOf, kinds-length, operands-length, plans-checked, nodes-are, trees-are, drawn-is, plan-is, NeatAnswer, neat-tree, output-check, neat-checked, neat-verdict, block-neat, neat-answer-by, neat-outcome, NeatPlan, NeatJudged, NeatPromises, unless-none, neat-nodes as nodes-written, pieces-in, nodes-for, Fair, Known, Within, AllMake, Scannable, Writable, Neatened}
 use Rattle.cutting.specs.Pieces as laid
-use Rattle.cutting.specs.Pieces.{_⊑_, lying}
-use Rattle.cutting.specs.Preorder.{preorder, kind-of, operand-of, node-count, kinds-of, operands-of}
-use Rattle.cutting.specs.Job.{Job, laid, OnPlate, copies-of, InRange}
-use Rattle.cutting.specs.Neat.{used-of, neat-of}
-use Rattle.cutting.specs.Relaxation.{Lies}
-use Rattle.cutting.proofs.Members.{range-solid}
-use Rattle.cutting.proofs.Relaxation.{every-map, plate-lies}
-use Rattle.cutting.proofs.Neat.{neat-total, neat-waste, neat-stages, neat-idle, neat-again, neat-nodes, neat-count, neat-on, used-on, used-none}
-use Rattle.refusal.specs.Refusals.{next, first-refusal, outcome-by}
-use Rattle.promises.specs.declared.Refusal.{Refusal}
-use Rattle.promises.specs.declared.Refusal.the-variants.{PlanLong}
-use Rattle.promises.specs.declared.Checked.{Checked}
-use Rattle.promises.specs.declared.Checked.the-variants.{Passed, Refused}
-use Rattle.promises.specs.declared.Choices.{Choices}
-use Rattle.promises.specs.declared.JobRecord.{JobRecord}
-use Rattle.promises.specs.declared.JobAnswer.{JobAnswer}
-use Rattle.job.specs.Block.{read-of, job-of}
-use Rattle.job.specs.Weights.{block-job}
+use Rattle.cutting.proofs.Neat.{neat-nodes}
 use Rattle.job.proofs.Read as read
-use Rattle.plan.specs.Plan.{nodes-in, plan-answer}
-use Rattle.plan.specs.Walk.{Walkable}
-use Rattle.plan.specs.Trees.{trees-in, tree-in, DrawnAs, PlanOf}
-use Rattle.plan.proofs.Preorder.{kinds-length, operands-length}
-use Rattle.plan.proofs.Plans.{plans-checked}
-use Rattle.plan.proofs.Drawn.{nodes-are, trees-are, drawn-is, plan-is}
-use Rattle.promises.specs.declared.NeatAnswer.{NeatAnswer}
 use Rattle.promises.specs.declared.NeatAnswer.the-variants as answer
-use Rattle.neat.specs.Neat.{neat-tree, output-check, neat-checked, neat-verdict, block-neat, neat-answer-by, neat-outcome, NeatPlan, NeatJudged, NeatPromises}
-use Rattle.neat.specs.Scan.{unless-none, neat-nodes as nodes-written, pieces-in, nodes-for, Fair, Known, Within, AllMake, Scannable, Writable, Neatened}
 use Rattle.neat.proofs.Trees.{pieces-tree, Shared, known-parts, within-parts, tree-makes}
 
 -- the number of nodes by the number of pieces

@@ -1,28 +1,6 @@
 -- The two scans from the last node to the first: what each knows after the last node, at one node more in front, and at the first.
-use mathlib.Core.Path.{_≡_, refl, sym, _∙_, ap, ap₂, subst}
-use mathlib.Core.Bool.{Bool, true, false}
-use mathlib.Core.List.{List, [], _∷_, _++_, map, append-assoc}
-use Prim.Native.Nat.{ℕ, zero, suc, _+_, _-_, _≤_, _<_}
-use native.Mathlib.Numerals.{add-one}
-use native.Mathlib.Omega.{arith}
-use lib.ListN.{length, take, drop, set, getD, length-set, length-map, length-append, length-drop, take-append-drop}
-use lib.Seq.{drop-length, drop-cons, getD-set-same, take-suc, length-take-le, set-at}
-use Rattle.promises.specs.declared.Node.{Node}
-use Rattle.promises.specs.declared.Node.the-variants.{Waste, Piece, Turned, Cut}
-use Rattle.cutting.specs.Limits.{most-kinds}
-use Rattle.cutting.specs.Lists.{only, keep, over}
-use Rattle.cutting.specs.Tree.{Rect, Tree}
+use Rattle.neat.proofs.Prelude.{_≡_, refl, sym, _∙_, ap, ap₂, subst, Bool, true, false, List, [], _∷_, _++_, map, append-assoc, ℕ, zero, suc, _+_, _-_, _≤_, _<_, add-one, arith, length, take, drop, set, getD, length-set, length-map, length-append, length-drop, take-append-drop, drop-length, drop-cons, getD-set-same, take-suc, length-take-le, set-at, Node, Waste, Piece, Turned, Cut, most-kinds, only, keep, over, Rect, Tree, _⊑_, kind-of, operand-of, of-piece, node-of, nodes-in, waiting, with-node, trees-in, first-tree, nodes-length, nodes-suc, next-waits, stored-past, Entry, Step, used-rect, entry-of, most-kept, Kept, told-of, size-of, used-with, becomes, Ready, Numbered, Stepped, Advanced, remains, put-when, neat-nodes, pieces-in, Makes, AllMake, Fair, Known, Within, Scannable, Writable}
 use Rattle.cutting.specs.Pieces as laid
-use Rattle.cutting.specs.Pieces.{_⊑_}
-use Rattle.cutting.specs.Preorder.{kind-of, operand-of}
-use Rattle.node.specs.Nodes.{of-piece}
-use Rattle.plan.specs.Plan.{node-of, nodes-in}
-use Rattle.plan.specs.Walk.{waiting}
-use Rattle.plan.specs.Trees.{with-node, trees-in, first-tree}
-use Rattle.plan.proofs.Walk.{nodes-length, nodes-suc, next-waits, stored-past}
-use Rattle.neat.specs.declared.Entry.{Entry}
-use Rattle.neat.specs.declared.Step.{Step}
-use Rattle.neat.specs.Scan.{used-rect, entry-of, most-kept, Kept, told-of, size-of, used-with, becomes, Ready, Numbered, Stepped, Advanced, remains, put-when, neat-nodes, pieces-in, Makes, AllMake, Fair, Known, Within, Scannable, Writable}
 use Rattle.neat.proofs.Trees.{node-numbered, node-ready, node-used, node-operand, node-written}
 
 -- the pieces of the nodes from k on

@@ -1,24 +1,5 @@
 -- One node of the scan: a cut by whether its parts hold a piece, the two used sizes on top, and what the node becomes over them.
-use mathlib.Core.Path.{_≡_, refl, sym, _∙_, ap, ap₂, subst}
-use mathlib.Core.Bool.{true}
-use mathlib.Core.List.{List, _∷_}
-use Prim.Native.Nat.{ℕ, zero, suc, _+_, _-_, _*_, _≤_, max}
-use native.Mathlib.Omega.{arith}
-use lib.ListN.{getD}
-use Rattle.promises.specs.declared.Direction.{Direction}
-use Rattle.promises.specs.declared.Direction.the-variants.{Length, Width}
-use Rattle.promises.specs.declared.Node.{Node}
-use Rattle.promises.specs.declared.Node.the-variants.{Waste, Cut}
-use Rattle.cutting.specs.Tree.{Rect, side}
-use Rattle.cutting.specs.Pieces.{_⊑_}
-use Rattle.cutting.specs.Preorder.{kind-of}
-use Rattle.cutting.specs.Neat.{joined}
-use Rattle.plan.specs.Walk.{waiting}
-use Rattle.plan.proofs.Walk.{next-waits}
-use Rattle.neat.specs.declared.Entry.{Entry}
-use Rattle.neat.specs.declared.Used.{Used}
-use Rattle.neat.specs.declared.Step.{Step}
-use Rattle.neat.specs.Scan.{used-rect, as-used, entry-of, most-told, told-side, told, told-sides, moved, used-with, becomes, Ready, Stepped, remains, nodes-for}
+use Rattle.neat.proofs.Prelude.{_≡_, refl, sym, _∙_, ap, ap₂, subst, true, List, _∷_, ℕ, zero, suc, _+_, _-_, _*_, _≤_, max, arith, getD, Direction, Length, Width, Node, Waste, Cut, Rect, side, _⊑_, kind-of, joined, waiting, next-waits, Entry, Used, Step, used-rect, as-used, entry-of, most-told, told-side, told, told-sides, moved, used-with, becomes, Ready, Stepped, remains, nodes-for}
 
 -- what no side is told as more than is told as it is
 told-is : (r : Rect) → r ⊑ told-sides → r ≡ told r

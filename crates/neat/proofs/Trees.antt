@@ -1,26 +1,6 @@
 -- The trees that a plan's nodes draw: one step of the scan is one node in front of them, and the nodes of a tree make what holds of its parts.
-use mathlib.Core.Path.{_≡_, refl, sym, _∙_, ap, ap₂, subst}
-use mathlib.Core.List.{List, [], _∷_, _++_, map, append-assoc}
-use Prim.Native.Nat.{ℕ, zero, suc, _+_, _-_, _≤_, _<_, max}
-use native.Mathlib.Omega.{arith}
-use Rattle.promises.specs.declared.Direction.{Direction}
-use Rattle.promises.specs.declared.Direction.the-variants.{Length, Width}
-use Rattle.promises.specs.declared.Node.{Node}
-use Rattle.promises.specs.declared.Node.the-variants.{Waste, Piece, Turned, Cut}
-use Rattle.cutting.specs.Limits.{most-kinds}
-use Rattle.cutting.specs.Lists.{keep}
-use Rattle.cutting.specs.Tree.{Rect, side, Tree, waste, piece, cut, total, piece-count}
+use Rattle.neat.proofs.Prelude.{_≡_, refl, sym, _∙_, ap, ap₂, subst, List, [], _∷_, _++_, map, append-assoc, ℕ, zero, suc, _+_, _-_, _≤_, _<_, max, arith, Direction, Length, Width, Node, Waste, Piece, Turned, Cut, most-kinds, keep, Rect, side, Tree, waste, piece, cut, total, piece-count, _⊑_, preorder, kinds-of, kind-of, operand-of, joined, remaining, used, neat, kinds-cut, used-none, node-back, with-node, written, written-cut, trees-tree, most-told, told-side, told, told-sides, told-of, size-of, moved, used-with, becomes, Ready, Numbered, remains, unless-none, neat-nodes, pieces-in, Fair, Known, Within, Makes, AllMake}
 use Rattle.cutting.specs.Pieces as laid
-use Rattle.cutting.specs.Pieces.{_⊑_}
-use Rattle.cutting.specs.Preorder.{preorder, kinds-of, kind-of, operand-of}
-use Rattle.cutting.specs.Neat.{joined, remaining, used, neat}
-use Rattle.cutting.proofs.Preorder.{kinds-cut}
-use Rattle.cutting.proofs.Neat.{used-none}
-use Rattle.node.proofs.Nodes.{node-back}
-use Rattle.plan.specs.Trees.{with-node}
-use Rattle.plan.proofs.Preorder.{written, written-cut}
-use Rattle.plan.proofs.Drawn.{trees-tree}
-use Rattle.neat.specs.Scan.{most-told, told-side, told, told-sides, told-of, size-of, moved, used-with, becomes, Ready, Numbered, remains, unless-none, neat-nodes, pieces-in, Fair, Known, Within, Makes, AllMake}
 
 -- the pieces of a tree's kinds in front of others
 pub pieces-tree : (t : Tree laid.Piece) (ks : List ℕ) → pieces-in (kinds-of t ++ ks) ≡ piece-count t + pieces-in ks

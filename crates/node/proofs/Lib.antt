@@ -1,3 +1,4 @@
+mod Prelude
 pub mod Product
 pub mod Nodes
 pub mod Placed

@@ -1,30 +1,6 @@
 -- The checks of a node case by case, and the nodes that pass them: those that fit.
-use mathlib.Core.Path.{_≡_, _∙_, refl, sym, ap, ap₂, subst}
-use mathlib.Core.Bool.{Bool, true, false, not, _&&_}
-use mathlib.Core.List.{List}
-use Prim.Native.Nat.{ℕ, _+_, _-_, _*_, _≤_, _<_}
-use native.Mathlib.Nat.{mul-le-mul}
-use native.Mathlib.Omega.{arith}
-use lib.Dec.{T, leb, ltb, eqb}
-use lib.ListN.{getD}
-use borrow.Author.Tests.{le-leb, lt-leb, le-ltb, lt-ltb, eqb-true, eqb-false, leb-true, leb-false, ltb-false, not-false}
-use Rattle.cutting.specs.Tree.{Rect, side}
-use Rattle.promises.specs.declared.Direction.{Direction}
-use Rattle.promises.specs.declared.Direction.the-variants.{Length, Width}
-use Rattle.promises.specs.declared.Node.{Node}
-use Rattle.promises.specs.declared.Node.the-variants.{Waste, Piece, Turned, Cut}
-use Rattle.cutting.specs.Preorder.{kind-of, operand-of}
+use Rattle.node.proofs.Prelude.{_≡_, _∙_, refl, sym, ap, ap₂, subst, Bool, true, false, not, _&&_, List, ℕ, _+_, _-_, _*_, _≤_, _<_, mul-le-mul, arith, T, leb, ltb, eqb, getD, le-leb, lt-leb, le-ltb, lt-ltb, eqb-true, eqb-false, leb-true, leb-false, ltb-false, not-false, Rect, side, Direction, Length, Width, Node, Waste, Piece, Turned, Cut, kind-of, operand-of, fits-in, Job, laid, MayLie, true-fits-in, next, first-refusal, refuse-when, NodeKind, PieceNumber, AgainstGrain, Operand, Misfit, Excess, Passed, Refused, outside, next-passed, cons-passed, node-of, most-kind, unnumbered, against-grain, misplaced, misfit, excess, node-checks, lying-as, laying}
 use Rattle.cutting.specs.Pieces as laid
-use Rattle.cutting.specs.Pieces.{fits-in}
-use Rattle.cutting.specs.Job.{Job, laid, MayLie}
-use Rattle.cutting.proofs.Pieces.{true-fits-in}
-use Rattle.refusal.specs.Refusals.{next, first-refusal, refuse-when}
-use Rattle.promises.specs.declared.Refusal.the-variants.{NodeKind, PieceNumber, AgainstGrain, Operand, Misfit, Excess}
-use Rattle.promises.specs.declared.Checked.the-variants.{Passed, Refused}
-use Rattle.job.specs.Block.{outside}
-use Rattle.job.proofs.Checks.{next-passed, cons-passed}
-use Rattle.node.specs.Nodes.{node-of, most-kind, unnumbered, against-grain, misplaced, misfit, excess, node-checks}
-use Rattle.node.specs.Placed.{lying-as, laying}
 
 -- a kind and an operand by the node that they are
 data Read (k o : ℕ) : Node → Type 0 where

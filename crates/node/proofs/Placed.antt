@@ -1,26 +1,5 @@
 -- What a node leaves: the sums stay within their bound, and the verdict, the sums and the copies are the definition's.
-use mathlib.Core.Path.{_≡_, _∙_, refl, sym, ap, subst}
-use mathlib.Core.Bool.{Bool, true, false, not, _&&_}
-use mathlib.Core.List.{List}
-use Prim.Native.Nat.{ℕ, _+_, _-_, _≤_, _<_, _^_}
-use native.Mathlib.Omega.{arith}
-use lib.Dec.{eqb}
-use lib.ListN.{getD, set}
-use Rattle.promises.specs.declared.Direction.{Direction}
-use Rattle.promises.specs.declared.Node.the-variants.{Cut}
-use Rattle.cutting.specs.Tree.{Rect, side}
-use Rattle.cutting.specs.Pieces.{fits-in}
-use Rattle.cutting.specs.Job.{Job}
-use Rattle.refusal.specs.Refusals.{first-refusal, refuse-when}
-use Rattle.promises.specs.declared.Refusal.{Refusal}
-use Rattle.promises.specs.declared.Refusal.the-variants.{Operand}
-use Rattle.promises.specs.declared.Checked.{Checked}
-use Rattle.promises.specs.declared.Checked.the-variants.{Passed, Refused}
-use Rattle.node.specs.declared.Tally.{Tally}
-use Rattle.node.specs.declared.NodeAnswer.{NodeAnswer}
-use Rattle.job.specs.Block.{outside}
-use Rattle.node.specs.Nodes.{node-of, most-kind, node-checks, with-waste, with-piece, with-cut, tallied, copied}
-use Rattle.node.specs.Placed.{lying-as, laying, Sized, Grows, stopped, Placed}
+use Rattle.node.proofs.Prelude.{_≡_, _∙_, refl, sym, ap, subst, Bool, true, false, not, _&&_, List, ℕ, _+_, _-_, _≤_, _<_, _^_, arith, eqb, getD, set, Direction, Cut, Rect, side, fits-in, Job, first-refusal, refuse-when, Refusal, Operand, Checked, Passed, Refused, Tally, NodeAnswer, outside, node-of, most-kind, node-checks, with-waste, with-piece, with-cut, tallied, copied, lying-as, laying, Sized, Grows, stopped, Placed}
 use Rattle.node.proofs.Nodes.{waste-checks, piece-passes, cut-checks}
 
 -- the sums of fewer nodes

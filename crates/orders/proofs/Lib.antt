@@ -1,3 +1,4 @@
+mod Prelude
 pub mod Racks
 pub mod Orders
 pub mod Needed

@@ -1,20 +1,6 @@
 -- The plates needed: the least number that is enough by the bound, so that fewer cannot hold the order, at the job's own sizes and at true
 -- sizes that it stands for. And the two sums of the code.
-use mathlib.Core.Path.{_≡_, refl, sym, _∙_, ap, ap₂}
-use mathlib.Core.Bool.{Bool, true, false}
-use mathlib.Core.List.{List}
-use Prim.Native.Nat.{ℕ, zero, suc, _+_, _-_, _*_, _/_, _%_, _≤_, _<_}
-use native.Mathlib.Nat.{mul-le-mul, mul-le-mul-right, div-add-mod', mod-lt}
-use native.Mathlib.Decide.{ℕ-discrete}
-use native.Mathlib.Omega.{arith}
-use borrow.Author.Tests.{lt-ltb, le-ltb, eq-eqb, ne-eqb}
-use lib.Dec.{ltb, eqb}
-use Rattle.cutting.specs.Lists.{sum, only}
-use Rattle.cutting.specs.Job.{Job, SolidKinds}
-use Rattle.cutting.specs.Promises.{NoneBetter, NoneAbove}
-use Rattle.cutting.specs.Relaxation.{Relaxes, SameKinds}
-use Rattle.cutting.proofs.Relaxation.{relaxed-none}
-use Rattle.orders.specs.Orders.{worth-at, order-worth, endless, plates-by, plates-for, left-beside, plates-needed, Fewest, NotHeldBeside, NoFewer}
+use Rattle.orders.proofs.Prelude.{_≡_, refl, sym, _∙_, ap, ap₂, Bool, true, false, List, ℕ, zero, suc, _+_, _-_, _*_, _/_, _%_, _≤_, _<_, mul-le-mul, mul-le-mul-right, div-add-mod', mod-lt, ℕ-discrete, arith, lt-ltb, le-ltb, eq-eqb, ne-eqb, ltb, eqb, sum, only, Job, SolidKinds, NoneBetter, NoneAbove, Relaxes, SameKinds, relaxed-none, worth-at, order-worth, endless, plates-by, plates-for, left-beside, plates-needed, Fewest, NotHeldBeside, NoFewer}
 use Rattle.orders.proofs.Orders.{not-held-beside}
 
 -- the plates needed where the bound is above 0

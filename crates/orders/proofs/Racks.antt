@@ -1,19 +1,6 @@
 -- A rack of plates: plans that share the demands, cut at whole units or finer, earn no more than any sum of numbers that bound each plate's
 -- trees, so no more than the sum of the plates' bounds, each under weights of its own.
-use mathlib.Core.Path.{_≡_}
-use Prim.Native.Nat.{ℕ, zero, suc, _+_, _≤_, _<_}
-use native.Mathlib.Decide.{ℕ-discrete}
-use native.Mathlib.Omega.{arith}
-use Rattle.cutting.specs.Lists.{sum}
-use Rattle.cutting.specs.Tree.{Rect, Tree}
-use Rattle.cutting.specs.Pieces.{Piece}
-use Rattle.cutting.specs.Job.{Job, profit, copies-of, KeepsDemands, bound-of, SolidKinds}
-use Rattle.cutting.specs.Promises.{NoneAbove, NoneFiner}
-use Rattle.cutting.proofs.Demands.{sum-le}
-use Rattle.cutting.proofs.Bound.{bound-holds}
-use Rattle.cutting.proofs.AnyKinds.{none-any}
-use Rattle.cutting.proofs.Finer.{none-finer}
-use Rattle.orders.specs.Racks.{plated, SharesDemands, NoneTogether, NoneTogetherFiner, rack-profit, rack-bound}
+use Rattle.orders.proofs.Prelude.{_≡_, ℕ, zero, suc, _+_, _≤_, _<_, ℕ-discrete, arith, sum, Rect, Tree, Piece, Job, profit, copies-of, KeepsDemands, bound-of, SolidKinds, NoneAbove, NoneFiner, sum-le, bound-holds, none-any, none-finer, plated, SharesDemands, NoneTogether, NoneTogetherFiner, rack-profit, rack-bound}
 
 -- one term of a sum is at most the sum
 sum-one : (n : ℕ) (f : ℕ → ℕ) (p : ℕ) → p < n → f p ≤ sum n f

@@ -1,13 +1,5 @@
 -- The sum of demand times amount, as a loop over the kinds makes it.
-use mathlib.Core.Path.{_≡_, refl, _∙_, ap, ap₂}
-use mathlib.Core.List.{List}
-use Prim.Native.Nat.{ℕ, suc, _+_, _*_, _≤_, _<_}
-use native.Mathlib.Nat.{mul-le-mul, mul-le-mul-right}
-use native.Mathlib.Omega.{arith}
-use lib.ListN.{getD}
-use Rattle.cutting.specs.Limits.{most-kinds, most-demand, most-price}
-use Rattle.cutting.specs.Lists.{sum}
-use Rattle.orders.specs.Orders.{most-worth, amount-in}
+use Rattle.orders.proofs.Prelude.{_≡_, refl, _∙_, ap, ap₂, List, ℕ, suc, _+_, _*_, _≤_, _<_, mul-le-mul, mul-le-mul-right, arith, getD, most-kinds, most-demand, most-price, sum, most-worth, amount-in}
 
 -- a number of copies times an amount, each in its range
 pub times-low : (copies amount : ℕ) → copies ≤ most-demand → amount ≤ most-price → copies * amount ≤ most-demand * most-price

@@ -1,23 +1,6 @@
 -- The array of pieces grows: a piece put at the next place is there, and those before it stay. At the end it lists the pieces of a job.
-use mathlib.Core.Path.{_≡_, refl, sym, _∙_, ap, ap₂, subst}
-use mathlib.Core.Bool.{Bool, true, false}
-use mathlib.Core.List.{List, [], _∷_, _++_, append-nil, append-assoc}
-use Prim.Native.Nat.{ℕ, zero, suc, _+_, _*_, _≤_, _<_}
-use native.Mathlib.Decide.{ℕ-discrete}
-use native.Mathlib.Omega.{arith}
-use borrow.Author.Tests.{le-leb}
-use lib.Dec.{leb}
-use lib.ListN.{length, getD, set, length-set, length-append, List·getD-append}
-use lib.Seq.{getD-set-same, getD-set-other}
-use Rattle.cutting.specs.Lists.{range, keep, filter, each}
+use Rattle.pieces.proofs.Prelude.{_≡_, refl, sym, _∙_, ap, ap₂, subst, Bool, true, false, List, [], _∷_, _++_, append-nil, append-assoc, ℕ, zero, suc, _+_, _*_, _≤_, _<_, ℕ-discrete, arith, le-leb, leb, length, getD, set, length-set, length-append, List·getD-append, getD-set-same, getD-set-other, range, keep, filter, each, ways, Job, turns, ordered, members, PieceArray, range-length, filter-length, each-length, ways-count, Piece, entry-of, turned-piece, with-piece, At, Listed}
 use Rattle.cutting.specs.Pieces as laid
-use Rattle.cutting.specs.Pieces.{ways}
-use Rattle.cutting.specs.Job.{Job, turns, ordered, members}
-use Rattle.cutting.specs.Listed.{PieceArray}
-use Rattle.cutting.proofs.Lists.{range-length, filter-length, each-length}
-use Rattle.cutting.proofs.Members.{ways-count}
-use Rattle.pieces.specs.declared.Piece.{Piece}
-use Rattle.pieces.specs.Contracts.{entry-of, turned-piece, with-piece, At, Listed}
 
 -- the pieces of the kinds below i, as many as are ordered
 abbrev pub kinds-below : Job → ℕ → List laid.Piece

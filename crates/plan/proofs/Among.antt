@@ -1,21 +1,7 @@
 -- A tree among other nodes: a walk over one tree that ends has read the nodes of a guillotine tree that keeps every demand, and the nodes
 -- of such a tree are walked to their end, whatever nodes follow.
-use mathlib.Core.Path.{_≡_, _∙_, sym, ap}
-use mathlib.Core.List.{List, [], _∷_, _++_, append-nil}
-use Prim.Native.Nat.{ℕ, _+_, _≤_}
-use native.Mathlib.Omega.{arith}
-use lib.ListN.{length, take}
-use lib.Seq.{length-take-le}
-use Rattle.cutting.specs.Tree.{Tree}
+use Rattle.plan.proofs.Prelude.{_≡_, _∙_, sym, ap, List, [], _∷_, _++_, append-nil, ℕ, _+_, _≤_, arith, length, take, length-take-le, Tree, node-count, Job, OnPlate, KeepsDemands, Passed, Report, PlanAnswer, TreeAnswer, tree-passed, tree-walk, walk, empty-report, tree-report}
 use Rattle.cutting.specs.Pieces as laid
-use Rattle.cutting.specs.Preorder.{node-count}
-use Rattle.cutting.specs.Job.{Job, OnPlate, KeepsDemands}
-use Rattle.promises.specs.declared.Checked.the-variants.{Passed}
-use Rattle.promises.specs.declared.Report.{Report}
-use Rattle.promises.specs.declared.PlanAnswer.{PlanAnswer}
-use Rattle.plan.specs.declared.TreeAnswer.{TreeAnswer}
-use Rattle.plan.specs.Plan.{tree-passed, tree-walk, walk, empty-report}
-use Rattle.plan.specs.Trees.{tree-report}
 use Rattle.plan.proofs.Preorder.{written, count-written}
 use Rattle.plan.proofs.Trees.{tree-walks}
 use Rattle.plan.proofs.Parse.{Kept, parse}

@@ -1,29 +1,6 @@
 -- The calls on blocks: what reading the job gives, a plan block's answers one by one, and the theorem about trees for both calls.
-use mathlib.Core.Path.{_≡_, _∙_, refl, sym, ap, subst}
-use mathlib.Core.List.{List}
-use Prim.Native.Nat.{ℕ, _+_, _*_, _-_, _≤_, _<_}
-use native.Mathlib.Omega.{arith}
-use lib.ListN.{length, drop, length-drop, length-map}
-use lib.Seq.{length-take-le}
-use borrow.Author.Tests.{lt-ltb, le-ltb, eq-eqb, ne-eqb}
-use Rattle.cutting.specs.Lists.{range}
-use Rattle.cutting.specs.Job.{Job, InRange}
-use Rattle.cutting.proofs.Lists.{range-length}
-use Rattle.refusal.specs.Refusals.{first-refusal}
-use Rattle.promises.specs.declared.Refusal.{Refusal}
-use Rattle.promises.specs.declared.Refusal.the-variants.{PlanLength, NodeCount}
-use Rattle.promises.specs.declared.Checked.{Checked}
-use Rattle.promises.specs.declared.Checked.the-variants.{Passed, Refused}
-use Rattle.promises.specs.declared.Choices.{Choices}
-use Rattle.promises.specs.declared.JobRecord.{JobRecord}
-use Rattle.promises.specs.declared.JobAnswer.{JobAnswer}
-use Rattle.job.specs.Block.{u16-at, job-checks, read-of, job-of}
-use Rattle.job.specs.Weights.{block-job}
+use Rattle.plan.proofs.Prelude.{_≡_, _∙_, refl, sym, ap, subst, List, ℕ, _+_, _*_, _-_, _≤_, _<_, arith, length, drop, length-drop, length-map, length-take-le, lt-ltb, le-ltb, eq-eqb, ne-eqb, range, Job, InRange, range-length, first-refusal, Refusal, PlanLength, NodeCount, Checked, Passed, Refused, Choices, JobRecord, JobAnswer, u16-at, job-checks, read-of, job-of, block-job, PlanAnswer, plan-answer, unreported, refused, proceed, ChecksPlan, arrays-answer, arrays-before-idle, plan-count, plan-kinds, plan-operands, block-checks, plan-block-answer, block-answer, block-before-idle, JobPasses, BlockPasses, plan-outcome, said-after, arrays-said, block-said}
 use Rattle.job.proofs.Read as read
-use Rattle.promises.specs.declared.PlanAnswer.{PlanAnswer}
-use Rattle.plan.specs.Plan.{plan-answer, unreported, refused, proceed}
-use Rattle.plan.specs.Trees.{ChecksPlan}
-use Rattle.plan.specs.Calls.{arrays-answer, arrays-before-idle, plan-count, plan-kinds, plan-operands, block-checks, plan-block-answer, block-answer, block-before-idle, JobPasses, BlockPasses, plan-outcome, said-after, arrays-said, block-said}
 use Rattle.plan.proofs.Whole.{many-refused, whole-stops, walk-stops}
 use Rattle.plan.proofs.Plans.{plans-checked, checked-after}
 

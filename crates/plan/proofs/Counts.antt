@@ -1,22 +1,6 @@
 -- What a tree adds to a report, node by node, is the tree's own profit, copies and areas.
-use mathlib.Core.Path.{_≡_, _∙_, refl, sym}
-use mathlib.Core.List.{List}
-use Prim.Native.Nat.{ℕ, _+_, _-_, _<_}
-use native.Mathlib.Decide.{ℕ-discrete}
-use native.Mathlib.Omega.{arith}
-use lib.ListN.{length, getD, set, length-set}
-use lib.Seq.{getD-set-same, getD-set-other}
-use borrow.Author.Tests.{eq-eqb, ne-eqb}
-use Rattle.promises.specs.declared.Direction.{Direction}
-use Rattle.promises.specs.declared.Direction.the-variants.{Length, Width}
-use Rattle.promises.specs.declared.Node.the-variants.{Waste, Piece, Turned, Cut}
-use Rattle.cutting.specs.Tree.{Rect, side, part, Tree, waste, piece, cut, total}
+use Rattle.plan.proofs.Prelude.{_≡_, _∙_, refl, sym, List, ℕ, _+_, _-_, _<_, ℕ-discrete, arith, length, getD, set, length-set, getD-set-same, getD-set-other, eq-eqb, ne-eqb, Direction, Length, Width, Waste, Piece, Turned, Cut, Rect, side, part, Tree, waste, piece, cut, total, pieces-area, waste-area, trim-area, sawdust-area, Job, profit, copies-of, pieces-area-of, waste-area-of, trim-area-of, sawdust-area-of, waste-area-length, waste-area-width, trim-area-length, trim-area-width, sawdust-area-length, sawdust-area-width, Report, report-after}
 use Rattle.cutting.specs.Pieces as laid
-use Rattle.cutting.specs.Areas.{pieces-area, waste-area, trim-area, sawdust-area}
-use Rattle.cutting.specs.Job.{Job, profit, copies-of, pieces-area-of, waste-area-of, trim-area-of, sawdust-area-of}
-use Rattle.cutting.proofs.Job.{waste-area-length, waste-area-width, trim-area-length, trim-area-width, sawdust-area-length, sawdust-area-width}
-use Rattle.promises.specs.declared.Report.{Report}
-use Rattle.plan.specs.Plan.{report-after}
 
 -- a cut's second part
 abbrev pub second : Job → Direction → ℕ → Rect → Rect

@@ -1,16 +1,6 @@
 -- A tree's arrays draw the tree, and no other: those of a plan that passes draw the tree of the plan.
-use mathlib.Core.Path.{_≡_, refl, sym, _∙_, ap, ap₂, subst}
-use mathlib.Core.List.{List, [], _∷_, _++_, append-nil}
-use Prim.Native.Nat.{ℕ, _≤_}
-use Rattle.promises.specs.declared.Node.the-variants.{Cut}
-use Rattle.cutting.specs.Tree.{Tree, waste, piece, cut}
+use Rattle.plan.proofs.Prelude.{_≡_, refl, sym, _∙_, ap, ap₂, subst, List, [], _∷_, _++_, append-nil, ℕ, _≤_, Cut, Tree, waste, piece, cut, preorder, Job, Passed, node-back, nodes-in, plan-answer, with-node, trees-in, first-tree, tree-in, DrawnAs, PlanOf}
 use Rattle.cutting.specs.Pieces as laid
-use Rattle.cutting.specs.Preorder.{preorder}
-use Rattle.cutting.specs.Job.{Job}
-use Rattle.promises.specs.declared.Checked.the-variants.{Passed}
-use Rattle.node.proofs.Nodes.{node-back}
-use Rattle.plan.specs.Plan.{nodes-in, plan-answer}
-use Rattle.plan.specs.Trees.{with-node, trees-in, first-tree, tree-in, DrawnAs, PlanOf}
 use Rattle.plan.proofs.Preorder.{written, written-cut, arrays-written}
 use Rattle.plan.proofs.Plans.{plans-checked}
 

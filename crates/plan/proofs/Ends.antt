@@ -1,21 +1,5 @@
 -- A walk over one tree and the walk over a plan: the plan's only tree, nodes past a tree's end, and the nodes of a tree that ends.
-use mathlib.Core.Path.{_≡_, _∙_, refl, sym, ap, ap₂, subst}
-use mathlib.Core.List.{List, [], _∷_, _++_}
-use Prim.Native.Nat.{ℕ, suc, _+_, _≤_}
-use native.Mathlib.Nat.{zero-add}
-use native.Mathlib.Omega.{arith}
-use lib.ListN.{length, take}
-use borrow.Author.Tests.{lt-ltb, le-ltb}
-use Rattle.cutting.specs.Tree.{Rect}
-use Rattle.cutting.specs.Job.{Job}
-use Rattle.refusal.specs.Refusals.{by-check, next, first-refusal}
-use Rattle.promises.specs.declared.Refusal.{Refusal}
-use Rattle.promises.specs.declared.Checked.{Checked}
-use Rattle.promises.specs.declared.Checked.the-variants.{Passed, Refused}
-use Rattle.promises.specs.declared.Report.{Report}
-use Rattle.promises.specs.declared.PlanAnswer.{PlanAnswer}
-use Rattle.plan.specs.declared.TreeAnswer.{TreeAnswer}
-use Rattle.plan.specs.Plan.{node-of, node-checks, parts, report-after, passed, proceed, tree-passed, tree-stopped, tree-walk, left-check, only-tree, walk, nodes-in, unreported, empty-report}
+use Rattle.plan.proofs.Prelude.{_≡_, _∙_, refl, sym, ap, ap₂, subst, List, [], _∷_, _++_, ℕ, suc, _+_, _≤_, zero-add, arith, length, take, lt-ltb, le-ltb, Rect, Job, by-check, next, first-refusal, Refusal, Checked, Passed, Refused, Report, PlanAnswer, TreeAnswer, node-of, node-checks, parts, report-after, passed, proceed, tree-passed, tree-stopped, tree-walk, left-check, only-tree, walk, nodes-in, unreported, empty-report}
 use Rattle.plan.proofs.Walk.{nodes-length}
 use Rattle.plan.proofs.Parse.{no-pass}
 

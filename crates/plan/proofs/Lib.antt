@@ -1,3 +1,4 @@
+mod Prelude
 pub mod Walk
 pub mod Whole
 pub mod Counts

@@ -1,14 +1,5 @@
 -- The operands of a plan block, read one after the other.
-use mathlib.Core.Path.{_≡_, _∙_, sym, ap, ap₂}
-use mathlib.Core.List.{List, [], _∷_, _++_, map}
-use Prim.Native.Nat.{ℕ, zero, suc, _+_, _*_, _<_}
-use native.Mathlib.Omega.{arith}
-use native.Mathlib.Numerals.{add-one}
-use lib.ListN.{length, take, set}
-use lib.Seq.{take-suc-set}
-use Rattle.cutting.specs.Lists.{range}
-use Rattle.job.specs.Block.{u16-at}
-use Rattle.plan.specs.Calls.{plan-count, plan-operands}
+use Rattle.plan.proofs.Prelude.{_≡_, _∙_, sym, ap, ap₂, List, [], _∷_, _++_, map, ℕ, zero, suc, _+_, _*_, _<_, arith, add-one, length, take, set, take-suc-set, range, u16-at, plan-count, plan-operands}
 
 -- a run of numbers with one more
 values-more : (f : ℕ → ℕ) (a n : ℕ) → map f (range a (suc n)) ≡ map f (range a n) ++ (f (a + n) ∷ [])

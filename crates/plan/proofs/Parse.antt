@@ -1,31 +1,6 @@
 -- A walk that passes has read the nodes of a guillotine tree that keeps every demand.
-use mathlib.Core.Path.{_≡_, _∙_, refl, sym, ap, subst}
-use mathlib.Core.Bool.{true}
-use mathlib.Core.List.{List, [], _∷_, _++_}
-use Prim.Native.Nat.{ℕ, zero, suc, _+_, _≤_, _<_}
-use native.Mathlib.Decide.{ℕ-discrete}
-use native.Mathlib.Omega.{arith}
-use lib.Dec.{T}
-use lib.ListN.{length, getD, set, length-append, length-set}
-use lib.Seq.{getD-set-same, getD-set-other}
-use Rattle.promises.specs.declared.Direction.{Direction}
-use Rattle.promises.specs.declared.Direction.the-variants.{Length, Width}
-use Rattle.promises.specs.declared.Node.{Node}
-use Rattle.promises.specs.declared.Node.the-variants.{Waste, Piece, Turned, Cut}
-use Rattle.cutting.specs.Tree.{Rect, side, part, Tree, waste, piece, cut}
+use Rattle.plan.proofs.Prelude.{_≡_, _∙_, refl, sym, ap, subst, true, List, [], _∷_, _++_, ℕ, zero, suc, _+_, _≤_, _<_, ℕ-discrete, arith, T, length, getD, set, length-append, length-set, getD-set-same, getD-set-other, Direction, Length, Width, Node, Waste, Piece, Turned, Cut, Rect, side, part, Tree, waste, piece, cut, preorder, node-count, fits-in, Job, laid, GuillotineTree, true-fits-in, count-cut, Refusal, Checked, Passed, Refused, pair-of, PieceFits, NodeFits, node-passed, Report, PlanAnswer, node-of, report-after, proceed, walk}
 use Rattle.cutting.specs.Pieces as laid
-use Rattle.cutting.specs.Preorder.{preorder, node-count}
-use Rattle.cutting.specs.Pieces.{fits-in}
-use Rattle.cutting.specs.Job.{Job, laid, GuillotineTree}
-use Rattle.cutting.proofs.Pieces.{true-fits-in}
-use Rattle.cutting.proofs.Preorder.{count-cut}
-use Rattle.promises.specs.declared.Refusal.{Refusal}
-use Rattle.promises.specs.declared.Checked.{Checked}
-use Rattle.promises.specs.declared.Checked.the-variants.{Passed, Refused}
-use Rattle.node.proofs.Nodes.{pair-of, PieceFits, NodeFits, node-passed}
-use Rattle.promises.specs.declared.Report.{Report}
-use Rattle.promises.specs.declared.PlanAnswer.{PlanAnswer}
-use Rattle.plan.specs.Plan.{node-of, report-after, proceed, walk}
 use Rattle.plan.proofs.Counts.{second, added}
 use Rattle.plan.proofs.Preorder.{written, written-cut}
 use Rattle.plan.proofs.Trees.{node-walks}

@@ -1,34 +1,7 @@
 -- A plan passes exactly when its arrays are the preorder of a guillotine tree on the plate that keeps every demand, has at most 4,095 nodes
 -- and no idle cut; it then reports that tree's own profit, copies and areas, and else zeros.
-use mathlib.Core.Path.{_≡_, _∙_, refl, sym, ap, ap₂, subst}
-use mathlib.Core.List.{List, [], _∷_, _++_, append-nil}
-use Prim.Native.Nat.{ℕ, _+_, _-_, _≤_, _<_}
-use native.Mathlib.Nat.{zero-add}
-use native.Mathlib.Decide.{decLt}
-use native.Mathlib.Omega.{arith}
-use borrow.Author.Tests.{ne-eqb}
-use lib.ListN.{length, getD, length-replicate, getD-replicate}
-use lib.Seq.{ext-getD}
-use Rattle.promises.specs.declared.Direction.the-variants.{Length, Width}
-use Rattle.cutting.specs.Tree.{Rect, Tree, waste, piece, cut, total, IdleFree}
+use Rattle.plan.proofs.Prelude.{_≡_, _∙_, refl, sym, ap, ap₂, subst, List, [], _∷_, _++_, append-nil, ℕ, _+_, _-_, _≤_, _<_, zero-add, decLt, arith, ne-eqb, length, getD, length-replicate, getD-replicate, ext-getD, Length, Width, Rect, Tree, waste, piece, cut, total, IdleFree, preorder, node-count, Job, GuillotineTree, OnPlate, copies-of, lie-kind, areas-sum, next, first-refusal, Refusal, Checked, Passed, Refused, entries, passed-both, entries-length, entries-in, entries-past, idle-checks, tree-checks, idle-tree, passed-free, free-passed, Report, PlanAnswer, plan-checks, walk-answer, plan-answer, walk, node-of, node-checks, parts, report-after, nodes-in, passed, proceed, empty-report, DrawnAs, tree-report, Reports, ChecksPlan}
 use Rattle.cutting.specs.Pieces as laid
-use Rattle.cutting.specs.Preorder.{preorder, node-count}
-use Rattle.cutting.specs.Job.{Job, GuillotineTree, OnPlate, copies-of}
-use Rattle.cutting.proofs.Members.{lie-kind}
-use Rattle.cutting.proofs.Job.{areas-sum}
-use Rattle.refusal.specs.Refusals.{next, first-refusal}
-use Rattle.promises.specs.declared.Refusal.{Refusal}
-use Rattle.promises.specs.declared.Checked.{Checked}
-use Rattle.promises.specs.declared.Checked.the-variants.{Passed, Refused}
-use Rattle.job.specs.Block.{entries}
-use Rattle.job.proofs.Checks.{passed-both}
-use Rattle.job.proofs.Entries.{entries-length, entries-in, entries-past}
-use Rattle.idle.specs.Idle.{idle-checks, tree-checks}
-use Rattle.idle.proofs.Idle.{idle-tree, passed-free, free-passed}
-use Rattle.promises.specs.declared.Report.{Report}
-use Rattle.promises.specs.declared.PlanAnswer.{PlanAnswer}
-use Rattle.plan.specs.Plan.{plan-checks, walk-answer, plan-answer, walk, node-of, node-checks, parts, report-after, nodes-in, passed, proceed, empty-report}
-use Rattle.plan.specs.Trees.{DrawnAs, tree-report, Reports, ChecksPlan}
 use Rattle.plan.proofs.Walk.{nodes-length}
 use Rattle.plan.proofs.Whole.{whole-counts, walks-on, verdict-is}
 use Rattle.plan.proofs.Counts.{added, added-profit, added-pieces, added-waste, added-trim, added-sawdust, added-length, added-copies}

@@ -1,18 +1,6 @@
 -- A tree's nodes as pairs of kind and operand, and the two arrays that hold them.
-use mathlib.Core.Path.{_≡_, _∙_, refl, sym, ap}
-use mathlib.Core.List.{List, [], _∷_, _++_, map, map-map, append-assoc}
-use Prim.Native.Nat.{ℕ}
-use native.Mathlib.Omega.{arith}
-use lib.ListN.{length, length-map}
-use Rattle.promises.specs.declared.Direction.{Direction}
-use Rattle.promises.specs.declared.Node.{Node}
-use Rattle.promises.specs.declared.Node.the-variants.{Cut}
-use Rattle.cutting.specs.Tree.{Tree, cut}
+use Rattle.plan.proofs.Prelude.{_≡_, _∙_, refl, sym, ap, List, [], _∷_, _++_, map, map-map, append-assoc, ℕ, arith, length, length-map, Direction, Node, Cut, Tree, cut, preorder, kind-of, operand-of, node-count, kinds-of, operands-of, map-append, pair-of, nodes-in}
 use Rattle.cutting.specs.Pieces as laid
-use Rattle.cutting.specs.Preorder.{preorder, kind-of, operand-of, node-count, kinds-of, operands-of}
-use Rattle.cutting.proofs.Preorder.{map-append}
-use Rattle.node.proofs.Nodes.{pair-of}
-use Rattle.plan.specs.Plan.{nodes-in}
 
 -- a tree's nodes in preorder
 abbrev pub written : Tree laid.Piece → List (ℕ × ℕ)

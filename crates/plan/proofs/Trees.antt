@@ -1,23 +1,6 @@
 -- The walk over a tree's nodes passes and adds the tree, where its demands are kept.
-use mathlib.Core.Path.{_≡_, _∙_, refl, ap}
-use mathlib.Core.List.{List, _∷_, _++_}
-use Prim.Native.Nat.{ℕ, _+_, _≤_, _<_}
-use native.Mathlib.Omega.{arith}
-use lib.ListN.{length, getD}
-use borrow.Author.Tests.{le-leb, eq-eqb}
-use Rattle.promises.specs.declared.Direction.{Direction}
-use Rattle.promises.specs.declared.Direction.the-variants.{Length, Width}
-use Rattle.promises.specs.declared.Node.{Node}
-use Rattle.promises.specs.declared.Node.the-variants.{Waste, Piece, Turned, Cut}
-use Rattle.cutting.specs.Tree.{Rect, side, part, Tree, waste, piece, cut, total}
+use Rattle.plan.proofs.Prelude.{_≡_, _∙_, refl, ap, List, _∷_, _++_, ℕ, _+_, _≤_, _<_, arith, length, getD, le-leb, eq-eqb, Direction, Length, Width, Node, Waste, Piece, Turned, Cut, Rect, side, part, Tree, waste, piece, cut, total, preorder, kind-of, operand-of, node-count, Job, laid, GuillotineTree, copies-of, lie-kind, count-cut, node-back, pair-of, PieceFits, NodeFits, node-passes, Report, node-of, parts, report-after, proceed, walk}
 use Rattle.cutting.specs.Pieces as laid
-use Rattle.cutting.specs.Preorder.{preorder, kind-of, operand-of, node-count}
-use Rattle.cutting.specs.Job.{Job, laid, GuillotineTree, copies-of}
-use Rattle.cutting.proofs.Members.{lie-kind}
-use Rattle.cutting.proofs.Preorder.{count-cut}
-use Rattle.node.proofs.Nodes.{node-back, pair-of, PieceFits, NodeFits, node-passes}
-use Rattle.promises.specs.declared.Report.{Report}
-use Rattle.plan.specs.Plan.{node-of, parts, report-after, proceed, walk}
 use Rattle.plan.proofs.Counts.{second, added, added-copies, added-length}
 use Rattle.plan.proofs.Preorder.{written, written-cut}
 

@@ -1,35 +1,6 @@
 -- The walk step by step: the node at a place, what one node that passes or is refused makes of the walk, and the rectangles that wait in
 -- two arrays.
-use mathlib.Core.Path.{_≡_, _∙_, refl, sym, ap, ap₂, subst}
-use mathlib.Core.List.{List, [], _∷_, _++_}
-use Prim.Native.Nat.{ℕ, zero, suc, _+_, _-_, _≤_, _<_}
-use native.Mathlib.Omega.{arith}
-use native.Mathlib.Numerals.{add-one}
-use lib.ListN.{length, getD, set, drop, replicate, drop-of-length-le, length-set}
-use lib.Seq.{getD-set-same, getD-set-other}
-use Rattle.promises.specs.declared.Direction.{Direction}
-use Rattle.promises.specs.declared.Node.{Node}
-use Rattle.promises.specs.declared.Node.the-variants.{Waste, Piece, Turned, Cut}
-use Rattle.cutting.specs.declared.Sides.{Sides}
-use Rattle.cutting.specs.Tree.{Rect, side, part}
-use Rattle.cutting.specs.Sides.{rect-of, sides-of}
-use Rattle.cutting.specs.Job.{Job}
-use Rattle.refusal.specs.Refusals.{by-check}
-use Rattle.promises.specs.declared.Refusal.{Refusal}
-use Rattle.promises.specs.declared.Refusal.the-variants.{NodeMissing}
-use Rattle.promises.specs.declared.Checked.the-variants.{Passed, Refused}
-use Rattle.promises.specs.declared.JobRecord.{JobRecord}
-use Rattle.job.specs.Block.{job-from, job-of}
-use Rattle.node.specs.declared.Tally.{Tally}
-use Rattle.node.specs.declared.NodeEntry.{NodeEntry}
-use Rattle.node.specs.declared.NodeAnswer.{NodeAnswer}
-use Rattle.node.specs.declared.Rules.{Rules}
-use Rattle.node.specs.Placed.{Sized, Placed}
-use Rattle.node.proofs.Nodes.{NodeFits, node-passed}
-use Rattle.promises.specs.declared.Report.{Report}
-use Rattle.plan.specs.declared.TreeAnswer.{TreeAnswer}
-use Rattle.plan.specs.Plan.{node-of, parts, report-after, plan-report, empty-report, tree-passed, tree-stopped, tree-walk, nodes-in}
-use Rattle.plan.specs.Walk.{waiting, no-sums, rules-of, entry-at, CutInside, Held, Opens}
+use Rattle.plan.proofs.Prelude.{_≡_, _∙_, refl, sym, ap, ap₂, subst, List, [], _∷_, _++_, ℕ, zero, suc, _+_, _-_, _≤_, _<_, arith, add-one, length, getD, set, drop, replicate, drop-of-length-le, length-set, getD-set-same, getD-set-other, Direction, Node, Waste, Piece, Turned, Cut, Sides, Rect, side, part, rect-of, sides-of, Job, by-check, Refusal, NodeMissing, Passed, Refused, JobRecord, job-from, job-of, Tally, NodeEntry, NodeAnswer, Rules, Sized, Placed, NodeFits, node-passed, Report, TreeAnswer, node-of, parts, report-after, plan-report, empty-report, tree-passed, tree-stopped, tree-walk, nodes-in, waiting, no-sums, rules-of, entry-at, CutInside, Held, Opens}
 
 -- two arrays of one length have as many nodes
 pub nodes-length : (kinds operands : List ℕ) → length kinds ≡ length operands → length (nodes-in kinds operands) ≡ length kinds

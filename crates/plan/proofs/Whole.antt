@@ -1,22 +1,5 @@
 -- The whole check of a plan's arrays, answer by answer.
-use mathlib.Core.Path.{_≡_, refl, sym, ap}
-use mathlib.Core.List.{List, [], _∷_}
-use Prim.Native.Nat.{ℕ, _≤_, _<_}
-use lib.ListN.{length}
-use native.Mathlib.Omega.{arith}
-use lib.Dec.{eqb}
-use borrow.Author.Tests.{le-ltb, lt-ltb, eq-eqb, ne-eqb, eqb-true, not-false}
-use Rattle.cutting.specs.Job.{Job}
-use Rattle.refusal.specs.Refusals.{next, first-refusal}
-use Rattle.promises.specs.declared.Refusal.{Refusal}
-use Rattle.promises.specs.declared.Refusal.the-variants.{PlanLength, NodeCount}
-use Rattle.promises.specs.declared.Checked.{Checked}
-use Rattle.promises.specs.declared.Checked.the-variants.{Passed, Refused}
-use Rattle.job.proofs.Checks.{cons-passed}
-use Rattle.node.proofs.Nodes.{inside-range}
-use Rattle.idle.specs.Idle.{idle-checks}
-use Rattle.promises.specs.declared.PlanAnswer.{PlanAnswer}
-use Rattle.plan.specs.Plan.{plan-checks, walk-answer, plan-answer, walk, nodes-in, proceed, refused, empty-report}
+use Rattle.plan.proofs.Prelude.{_≡_, refl, sym, ap, List, [], _∷_, ℕ, _≤_, _<_, length, arith, eqb, le-ltb, lt-ltb, eq-eqb, ne-eqb, eqb-true, not-false, Job, next, first-refusal, Refusal, PlanLength, NodeCount, Checked, Passed, Refused, cons-passed, inside-range, idle-checks, PlanAnswer, plan-checks, walk-answer, plan-answer, walk, nodes-in, proceed, refused, empty-report}
 
 -- the verdict of two checks, the first of them an answer's own
 proceed-verdict : (v i : Checked) (a : PlanAnswer) → a .verdict ≡ v → proceed (next v i) a .verdict ≡ next v i

@@ -1,24 +1,5 @@
 -- The sides of the pieces that fit: how the list grows, and that it gives the normal positions of the plain job of the array.
-use mathlib.Core.Path.{_≡_, refl, sym, _∙_, ap, subst}
-use mathlib.Core.Bool.{true, false, and-comm}
-use mathlib.Core.List.{List, [], _∷_, _++_, map}
-use Prim.Native.Nat.{ℕ, _+_, _-_, _*_, _≤_, _<_}
-use native.Mathlib.Omega.{arith}
-use lib.Dec.{T, leb}
-use lib.ListN.{length, set, length-map, List·getD-append}
-use Rattle.promises.specs.declared.Direction.{Direction}
-use Rattle.promises.specs.declared.Direction.the-variants.{Length, Width}
-use Rattle.cutting.specs.Lists.{range, filter}
-use Rattle.cutting.specs.Tree.{Rect, side}
-use Rattle.cutting.specs.Pieces.{fits-in}
-use Rattle.cutting.specs.Normal.{normals, sides}
-use Rattle.cutting.specs.Job.{normal-positions}
-use Rattle.cutting.specs.Listed.{size-in, price-in, pieces-job}
-use Rattle.cutting.proofs.Lists.{mem-range, mem-filter, mem-map, filter-map-cong}
-use Rattle.cutting.proofs.Pieces.{true-fits-in}
-use Rattle.cutting.proofs.Positions.{getD-mem}
-use Rattle.cutting.proofs.Listed.{plain-sides}
-use Rattle.positions.specs.Contracts.{Holds, entry, field-in, Positive, piece-fits, fitting, positions-of}
+use Rattle.positions.proofs.Prelude.{_≡_, refl, sym, _∙_, ap, subst, true, false, and-comm, List, [], _∷_, _++_, map, ℕ, _+_, _-_, _*_, _≤_, _<_, arith, T, leb, length, set, length-map, List·getD-append, Direction, Length, Width, range, filter, Rect, side, fits-in, normals, sides, normal-positions, size-in, price-in, pieces-job, mem-range, mem-filter, mem-map, filter-map-cong, true-fits-in, getD-mem, plain-sides, Holds, entry, field-in, Positive, piece-fits, fitting, positions-of}
 use Rattle.positions.proofs.Lists.{filter-taken, filter-left, filter-count, holds-more}
 
 map-snoc : (f : ℕ → ℕ) (xs : List ℕ) (x : ℕ) → map f (xs ++ (x ∷ [])) ≡ map f xs ++ (f x ∷ [])

@@ -1,3 +1,4 @@
+mod Prelude
 pub mod Lists
 pub mod Sums
 pub mod Fitting

@@ -1,16 +1,5 @@
 -- Laws of lists written at the front of an array, entry after entry: what one turn of a loop adds.
-use mathlib.Core.Path.{_≡_, refl, sym, _∙_, ap}
-use mathlib.Core.Bool.{Bool, true, false}
-use mathlib.Core.List.{List, [], _∷_, _++_, append-nil}
-use Prim.Native.Nat.{ℕ, zero, suc, _+_, _≤_, _<_}
-use native.Mathlib.Numerals.{add-one}
-use native.Mathlib.Omega.{arith}
-use borrow.Author.Count.{below-more}
-use lib.ListN.{length, getD, set, take, drop, length-append}
-use lib.Seq.{drop-cons, take-append-seam, getD-set-same, getD-set-other, set-append-seam, append-snoc}
-use Rattle.cutting.specs.Lists.{range, keep, filter}
-use Rattle.cutting.proofs.Lists.{range-length, filter-length}
-use Rattle.positions.specs.Contracts.{Holds}
+use Rattle.positions.proofs.Prelude.{_≡_, refl, sym, _∙_, ap, Bool, true, false, List, [], _∷_, _++_, append-nil, ℕ, zero, suc, _+_, _≤_, _<_, add-one, arith, below-more, length, getD, set, take, drop, length-append, drop-cons, take-append-seam, getD-set-same, getD-set-other, set-append-seam, append-snoc, range, keep, filter, range-length, filter-length, Holds}
 
 keep-front : (b : Bool) (x : ℕ) (xs ys : List ℕ) → keep b x (xs ++ ys) ≡ keep b x xs ++ ys
 keep-front true x xs ys = refl

@@ -1,17 +1,6 @@
 -- The map of remainders: the last entry not above a length is that of the length before, or the next one; in the list of normal
 -- positions, read back from an array, it is the largest normal position not above the length.
-use mathlib.Core.Path.{_≡_, sym, _∙_, ap}
-use mathlib.Core.List.{List}
-use Prim.Native.Nat.{ℕ, suc, _+_, _≤_, _<_}
-use native.Mathlib.Numerals.{add-one}
-use native.Mathlib.Omega.{arith}
-use lib.ListN.{length, getD, take}
-use lib.Seq.{getD-take, length-take-le}
-use Rattle.promises.specs.declared.Direction.{Direction}
-use Rattle.cutting.specs.Tree.{side}
-use Rattle.cutting.specs.Job.{Job, normal-positions, normal-floor}
-use Rattle.cutting.proofs.Table.{positions-first, positions-rise, positions-some, positions-floor}
-use Rattle.positions.specs.Contracts.{Rising, LastUpTo, Floors}
+use Rattle.positions.proofs.Prelude.{_≡_, sym, _∙_, ap, List, ℕ, suc, _+_, _≤_, _<_, add-one, arith, length, getD, take, getD-take, length-take-le, Direction, side, Job, normal-positions, normal-floor, positions-first, positions-rise, positions-some, positions-floor, Rising, LastUpTo, Floors}
 
 -- the next entry is x itself
 pub last-next : (positions : List ℕ) (n x i : ℕ) → Rising positions n → i + 1 < n → getD positions (i + 1) 0 ≤ x → x ≤ getD positions (i + 1) 0 → LastUpTo positions n x (i + 1)

@@ -1,17 +1,5 @@
 -- Sums of sides, side after side: what the scan of the sides at one position finds.
-use mathlib.Core.Path.{_≡_, refl, sym, _∙_, ap, subst}
-use mathlib.Core.Bool.{Bool, true, false}
-use mathlib.Core.List.{List, List·Memᴰ}
-use Prim.Native.Nat.{ℕ, _-_, _≤_, _<_}
-use native.Mathlib.Decide.{decLe}
-use native.Mathlib.Omega.{arith}
-use lib.Dec.{T}
-use lib.ListN.{length, getD, take, List·getD-eq-default}
-use lib.Seq.{getD-take, length-take-le}
-use Rattle.cutting.specs.Normal.{Sum, empty, more, normal?}
-use Rattle.cutting.proofs.Normal.{normal-sum}
-use Rattle.cutting.proofs.Positions.{getD-mem, mem-getD}
-use Rattle.positions.specs.Contracts.{entry, Positive, Marked}
+use Rattle.positions.proofs.Prelude.{_≡_, refl, sym, _∙_, ap, subst, Bool, true, false, List, List·Memᴰ, ℕ, _-_, _≤_, _<_, decLe, arith, T, length, getD, take, List·getD-eq-default, getD-take, length-take-le, Sum, empty, more, normal?, normal-sum, getD-mem, mem-getD, entry, Positive, Marked}
 
 is-true : (b : Bool) → T b → b ≡ true
 is-true true t = refl

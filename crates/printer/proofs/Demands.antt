@@ -1,16 +1,5 @@
 -- What the verdict of a plan's check says about the demands.
-use mathlib.Core.Path.{_≡_, refl}
-use mathlib.Core.Bool.{Bool, true, false}
-use mathlib.Core.List.{List}
-use Prim.Native.Nat.{ℕ}
-use native.Mathlib.Omega.{arith}
-use Rattle.cutting.specs.Job.{Job}
-use Rattle.promises.specs.declared.Refusal.{Refusal}
-use Rattle.promises.specs.declared.Checked.{Checked}
-use Rattle.promises.specs.declared.Checked.the-variants.{Passed, Refused}
-use Rattle.promises.specs.declared.PlanAnswer.{PlanAnswer}
-use Rattle.plan.specs.Trees.{ChecksPlan}
-use Rattle.printer.specs.Printer.{DemandsKept}
+use Rattle.printer.proofs.Prelude.{_≡_, refl, Bool, true, false, List, ℕ, arith, Job, Refusal, Checked, Passed, Refused, PlanAnswer, ChecksPlan, DemandsKept}
 
 no-verdict : {r : Refusal} {v : Checked} → v ≡ Refused r → v ≡ Passed → ⊥
 no-verdict p q = let z : _≡_ {A = ℕ} 0 1 = cc in omega arith

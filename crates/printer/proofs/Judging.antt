@@ -1,35 +1,8 @@
 -- What is said of the written plan follows from what the writing call promises and from the check of the plan's demands: the arrays that were
 -- written draw the plan and no other tree.
-use mathlib.Core.Path.{_≡_, refl, sym, _∙_, ap, ap₂, subst}
-use mathlib.Core.Bool.{Bool}
-use mathlib.Core.List.{List, [], append-nil}
-use Prim.Native.Nat.{ℕ, _≤_}
-use native.Mathlib.Omega.{arith}
-use lib.ListN.{length, take, drop, length-append}
-use lib.Seq.{take-append-seam}
-use Rattle.cutting.specs.Lists.{over}
-use Rattle.cutting.specs.Tree.{Tree}
-use Rattle.cutting.specs.Pieces.{Piece}
-use Rattle.cutting.specs.Preorder.{kinds-of, operands-of}
-use Rattle.cutting.specs.Job.{Job}
-use Rattle.promises.specs.declared.Refusal.{Refusal}
-use Rattle.promises.specs.declared.Choices.{Choices}
-use Rattle.job.specs.Weights.{block-job}
-use Rattle.job.proofs.Weights.{accepted-both}
-use Rattle.plan.specs.Trees.{trees-in, first-tree, tree-in, PlanOf}
-use Rattle.plan.specs.Calls.{JobPasses}
-use Rattle.plan.proofs.Preorder.{written, arrays-written, kinds-length, operands-length}
-use Rattle.plan.proofs.Drawn.{trees-tree, drawn-is}
-use Rattle.bound.specs.Bound.{Memory}
-use Rattle.promises.specs.declared.WriteReport.{WriteReport}
-use Rattle.promises.specs.declared.WriteAnswer.{WriteAnswer}
+use Rattle.printer.proofs.Prelude.{_≡_, refl, sym, _∙_, ap, ap₂, subst, Bool, List, [], append-nil, ℕ, _≤_, arith, length, take, drop, length-append, take-append-seam, over, Tree, Piece, kinds-of, operands-of, Job, Refusal, Choices, block-job, accepted-both, trees-in, first-tree, tree-in, PlanOf, JobPasses, written, arrays-written, kinds-length, operands-length, trees-tree, drawn-is, Memory, WriteReport, WriteAnswer, block-plan, write-answer, WritePromises, written-fits, written-accepted, Judged, Judgement, DemandsKept, SaysOf, JudgesPlan}
 use Rattle.promises.specs.declared.WriteAnswer.the-variants as write
-use Rattle.writer.specs.Write.{block-plan, write-answer, WritePromises}
-use Rattle.writer.proofs.Call.{written-fits, written-accepted}
-use Rattle.printer.specs.declared.Judged.{Judged}
-use Rattle.printer.specs.declared.Judgement.{Judgement}
 use Rattle.printer.specs.declared.Judgement.the-variants as say
-use Rattle.printer.specs.Printer.{DemandsKept, SaysOf, JudgesPlan}
 
 -- a tree's arrays draw the tree
 draws : (t : Tree Piece) → tree-in (kinds-of t) (operands-of t) ≡ t

@@ -1,18 +1,5 @@
 -- The checks before any plan's: 28, the job's, each plate's, 10 and 11, in their order.
-use mathlib.Core.Path.{_≡_, _∙_, sym, ap}
-use mathlib.Core.List.{List, [], _∷_}
-use Prim.Native.Nat.{ℕ, _≤_}
-use lib.Dec.{eqb}
-use lib.ListN.{length}
-use borrow.Author.Tests.{eqb-true, not-false}
-use Rattle.refusal.specs.Refusals.{next, first-refusal}
-use Rattle.promises.specs.declared.Checked.{Checked}
-use Rattle.promises.specs.declared.Checked.the-variants.{Passed}
-use Rattle.promises.specs.declared.Choices.{Choices}
-use Rattle.job.proofs.Checks.{first-append, cons-passed, passed-both}
-use Rattle.job.proofs.Read.{or-false, inside}
-use Rattle.plan.specs.Plan.{plan-checks}
-use Rattle.rack.specs.Check.{plate-at, rack-size-check, order-checks, plate-checks, rack-checks}
+use Rattle.rack.proofs.Prelude.{_≡_, _∙_, sym, ap, List, [], _∷_, ℕ, _≤_, eqb, length, eqb-true, not-false, next, first-refusal, Checked, Passed, Choices, first-append, cons-passed, passed-both, or-false, inside, plan-checks, plate-at, rack-size-check, order-checks, plate-checks, rack-checks}
 
 module _ (s : List ℕ) (choices : Choices) (lengths widths kinds operands : List ℕ) where
   abbrev size : Checked

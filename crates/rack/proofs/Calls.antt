@@ -1,41 +1,6 @@
 -- The call on the arrays of the plates' sides: what the checks before any plan's leave known, and all that is promised of an answer that
 -- equals the definition.
-use mathlib.Core.Path.{_≡_, _∙_, refl, sym, ap, subst}
-use mathlib.Core.Logic.{inl, inr, ⊎-elim}
-use mathlib.Core.List.{List, [], _∷_, _++_, map, map-map, map-append}
-use Prim.Native.Nat.{ℕ, zero, suc, _+_, _≤_, _<_}
-use native.Mathlib.Nat.{zero-add}
-use native.Mathlib.Omega.{arith}
-use lib.ListN.{length, getD, set, replicate, length-append, length-replicate, getD-replicate}
-use Rattle.cutting.specs.Lists.{sum}
-use Rattle.cutting.specs.Tree.{Rect, Tree}
-use Rattle.cutting.specs.Pieces.{Piece}
-use Rattle.cutting.specs.Preorder.{preorder, node-count, kinds-of, operands-of}
-use Rattle.cutting.specs.Job.{Job, OnPlate, profit, SolidKinds}
-use Rattle.cutting.proofs.AnyKinds.{any-on}
-use Rattle.cutting.proofs.Demands.{sum-le}
-use Rattle.refusal.specs.Refusals.{number-of, place-of, next, first-refusal, outcome-by}
-use Rattle.promises.specs.declared.Refusal.{Refusal}
-use Rattle.promises.specs.declared.Refusal.the-variants.{IdleCut, RackDemand}
-use Rattle.promises.specs.declared.Checked.{Checked}
-use Rattle.promises.specs.declared.Checked.the-variants.{Passed, Refused}
-use Rattle.promises.specs.declared.Choices.{Choices}
-use Rattle.promises.specs.declared.JobRecord.{JobRecord}
-use Rattle.job.specs.Block.{count-at, plateless-checks, pair-checks, record-of, job-of}
-use Rattle.job.specs.Contracts.{HoldsBlock}
-use Rattle.job.specs.Weights.{block-job}
-use Rattle.job.proofs.Read.{Counts, plateless-passed, counts-hold, block-passed, pairs-range}
-use Rattle.node.proofs.Nodes.{pair-of}
-use Rattle.idle.specs.Idle.{tree-checks}
-use Rattle.plan.specs.Plan.{nodes-in, left-check, plan-checks}
-use Rattle.plan.proofs.Parse.{no-pass}
-use Rattle.plan.proofs.Preorder.{written, firsts, seconds, arrays-written, kinds-length, operands-length}
-use Rattle.plan.proofs.Whole.{whole-counts}
-use Rattle.promises.specs.declared.RackAnswer.{RackAnswer}
-use Rattle.rack.specs.Check.{plate-at, rack-size-check, order-checks, plate-checks, rack-checks, own-answer, total-checks, with-own, rack-passed, rack-stopped, rack-by, rack-walk, plans-answer, rack-answer, rack-outcome}
-use Rattle.rack.specs.Promises.{OrderPasses, BeforePasses, RackOf, RackUpTo, IdleAt, OverAt, RackChecks, PlatesPromises}
-use Rattle.orders.specs.Racks.{plated, SharesDemands, chained}
-use Rattle.orders.proofs.Racks.{rack-keeps, any-together, any-finer, rack-holds, rack-finer}
+use Rattle.rack.proofs.Prelude.{_≡_, _∙_, refl, sym, ap, subst, inl, inr, ⊎-elim, List, [], _∷_, _++_, map, map-map, map-append, ℕ, zero, suc, _+_, _≤_, _<_, zero-add, arith, length, getD, set, replicate, length-append, length-replicate, getD-replicate, sum, Rect, Tree, Piece, preorder, node-count, kinds-of, operands-of, Job, OnPlate, profit, SolidKinds, any-on, sum-le, number-of, place-of, next, first-refusal, outcome-by, Refusal, IdleCut, RackDemand, Checked, Passed, Refused, Choices, JobRecord, count-at, plateless-checks, pair-checks, record-of, job-of, HoldsBlock, block-job, Counts, plateless-passed, counts-hold, block-passed, pairs-range, pair-of, tree-checks, nodes-in, left-check, plan-checks, no-pass, written, firsts, seconds, arrays-written, kinds-length, operands-length, whole-counts, RackAnswer, plate-at, rack-size-check, order-checks, plate-checks, rack-checks, own-answer, total-checks, with-own, rack-passed, rack-stopped, rack-by, rack-walk, plans-answer, rack-answer, rack-outcome, OrderPasses, BeforePasses, RackOf, RackUpTo, IdleAt, OverAt, RackChecks, PlatesPromises, plated, SharesDemands, chained, rack-keeps, any-together, any-finer, rack-holds, rack-finer}
 use Rattle.rack.proofs.Before.{before-passed, size-passed}
 use Rattle.rack.proofs.Numbers.{before-gives, tree-gives}
 use Rattle.rack.proofs.Trees.{by-passed, racked, passing}

@@ -1,27 +1,6 @@
 -- Which refusals are given: the checks before any plan's, the walk over a plan's nodes and 18 give neither 26 nor 29, and a tree's idle cuts
 -- nothing but 26.
-use mathlib.Core.Path.{_≡_, refl, sym, subst}
-use mathlib.Core.Bool.{Bool, true, false}
-use mathlib.Core.List.{List, [], _∷_, _++_}
-use Prim.Native.Nat.{ℕ, zero, suc, _+_}
-use native.Mathlib.Omega.{arith}
-use Rattle.cutting.specs.Tree.{Rect, Tree, waste, piece, cut}
-use Rattle.cutting.specs.Pieces.{Piece}
-use Rattle.cutting.specs.Preorder.{node-count}
-use Rattle.cutting.specs.Job.{Job}
-use Rattle.refusal.specs.Refusals.{Check, number-of, refuse-when, by-check, next, first-refusal}
-use Rattle.promises.specs.declared.Refusal.{Refusal}
-use Rattle.promises.specs.declared.Checked.{Checked}
-use Rattle.promises.specs.declared.Checked.the-variants.{Passed, Refused}
-use Rattle.promises.specs.declared.Choices.{Choices}
-use Rattle.job.specs.Block.{each-kind, grain-checks}
-use Rattle.job.proofs.Checks.{first-append}
-use Rattle.idle.specs.Idle.{tree-checks}
-use Rattle.promises.specs.declared.Report.{Report}
-use Rattle.plan.specs.declared.TreeAnswer.{TreeAnswer}
-use Rattle.plan.specs.Plan.{node-of, node-checks, parts, report-after, tree-stopped, tree-walk, left-check}
-use Rattle.plan.proofs.Parse.{no-pass}
-use Rattle.rack.specs.Check.{order-checks, rack-checks}
+use Rattle.rack.proofs.Prelude.{_≡_, refl, sym, subst, Bool, true, false, List, [], _∷_, _++_, ℕ, zero, suc, _+_, arith, Rect, Tree, waste, piece, cut, Piece, node-count, Job, Check, number-of, refuse-when, by-check, next, first-refusal, Refusal, Checked, Passed, Refused, Choices, each-kind, grain-checks, first-append, tree-checks, Report, TreeAnswer, node-of, node-checks, parts, report-after, tree-stopped, tree-walk, left-check, no-pass, order-checks, rack-checks}
 
 -- equal verdicts refuse the same
 pub same-refusal : {a b : Refusal} → Refused a ≡ Refused b → a ≡ b

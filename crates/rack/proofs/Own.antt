@@ -1,21 +1,5 @@
 -- A plan's own checks, answer by answer: the walk over its tree comes first, then 26 over the tree's nodes, which lie inside the arrays.
-use mathlib.Core.Path.{_≡_, _∙_, refl, sym, ap}
-use mathlib.Core.List.{List}
-use Prim.Native.Nat.{ℕ, _+_, _≤_}
-use native.Mathlib.Omega.{arith}
-use lib.ListN.{length, drop, length-drop}
-use Rattle.cutting.specs.Job.{Job}
-use Rattle.refusal.specs.Refusals.{by-check, next, first-refusal}
-use Rattle.promises.specs.declared.Refusal.{Refusal}
-use Rattle.promises.specs.declared.Checked.{Checked}
-use Rattle.promises.specs.declared.Checked.the-variants.{Passed, Refused}
-use Rattle.job.proofs.Checks.{passed-both}
-use Rattle.plan.specs.declared.TreeAnswer.{TreeAnswer}
-use Rattle.plan.specs.Plan.{nodes-in, tree-stopped}
-use Rattle.plan.proofs.Walk.{nodes-length}
-use Rattle.plan.proofs.Parse.{no-pass}
-use Rattle.plan.proofs.Ends.{tree-ends}
-use Rattle.rack.specs.Check.{walked-at, idle-at, own-answer}
+use Rattle.rack.proofs.Prelude.{_≡_, _∙_, refl, sym, ap, List, ℕ, _+_, _≤_, arith, length, drop, length-drop, Job, by-check, next, first-refusal, Refusal, Checked, Passed, Refused, passed-both, TreeAnswer, nodes-in, tree-stopped, nodes-length, no-pass, tree-ends, walked-at, idle-at, own-answer}
 
 module _ (J : Job) (kinds operands : List ℕ) (k : ℕ) {a : TreeAnswer} (e : a ≡ walked-at J kinds operands k) where
   -- the walk is refused

@@ -1,20 +1,5 @@
 -- The loop over the plates: where it stands before plate i, and what that plate's plan makes of the answer.
-use mathlib.Core.Path.{_≡_, _∙_, sym, ap}
-use mathlib.Core.List.{List, [], _∷_}
-use Prim.Native.Nat.{ℕ, suc, _+_, _-_, _≤_, _<_}
-use native.Mathlib.Omega.{arith}
-use lib.ListN.{length, set, replicate, length-set, length-replicate}
-use Rattle.cutting.specs.Tree.{Rect}
-use Rattle.cutting.specs.Job.{Job}
-use Rattle.refusal.specs.Refusals.{next, first-refusal}
-use Rattle.promises.specs.declared.Refusal.{Refusal}
-use Rattle.promises.specs.declared.Checked.{Checked}
-use Rattle.promises.specs.declared.Checked.the-variants.{Passed, Refused}
-use Rattle.plan.specs.declared.TreeAnswer.{TreeAnswer}
-use Rattle.plan.specs.Plan.{left-check}
-use Rattle.promises.specs.declared.RackAnswer.{RackAnswer}
-use Rattle.orders.specs.Racks.{plated}
-use Rattle.rack.specs.Check.{own-answer, total-checks, with-own, rack-passed, rack-stopped, rack-by, rack-walk, plans-answer}
+use Rattle.rack.proofs.Prelude.{_≡_, _∙_, sym, ap, List, [], _∷_, ℕ, suc, _+_, _-_, _≤_, _<_, arith, length, set, replicate, length-set, length-replicate, Rect, Job, next, first-refusal, Refusal, Checked, Passed, Refused, TreeAnswer, left-check, RackAnswer, plated, own-answer, total-checks, with-own, rack-passed, rack-stopped, rack-by, rack-walk, plans-answer}
 use Rattle.rack.proofs.Own.{own-inside, own-passed}
 
 -- before plate i, at node k: the plates before gave the totals and the profits

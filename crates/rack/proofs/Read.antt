@@ -1,27 +1,5 @@
 -- What is read of a rack of records: at most 16 plates, their sides those of the rack, and so the check's answer is that for the rack.
-use mathlib.Core.Path.{_≡_, refl, sym, _∙_, ap, subst}
-use mathlib.Core.Bool.{Bool, true, _||_, not, or-true}
-use mathlib.Core.List.{List, [], _∷_, _++_, map, map-append}
-use Prim.Native.Nat.{ℕ, zero, suc, _≤_, _<_}
-use native.Mathlib.Decide.{decLt}
-use native.Mathlib.Omega.{arith}
-use lib.Dec.{ltb, eqb}
-use lib.ListN.{length, take, getD, set, length-set, length-map}
-use lib.Seq.{take-suc, take-length, take-suc-set}
-use borrow.Author.Tests.{lt-ltb, le-ltb}
-use Rattle.refusal.specs.Refusals.{by-check, refuse-when}
-use Rattle.promises.specs.declared.Refusal.the-variants.{RackSize}
-use Rattle.promises.specs.declared.Checked.{Checked}
-use Rattle.promises.specs.declared.Checked.the-variants.{Passed, Refused}
-use Rattle.promises.specs.declared.Choices.{Choices}
-use Rattle.job.specs.Weights.{block-job}
-use Rattle.job.proofs.Checks.{check-stops}
-use Rattle.promises.specs.declared.Plate.{Plate}
-use Rattle.rack.specs.declared.RackSides.{RackSides}
-use Rattle.promises.specs.declared.RackAnswer.{RackAnswer}
-use Rattle.rack.specs.Check.{plate-at, rack-size-check, rack-checks, rack-by, rack-stopped, plans-answer, rack-answer}
-use Rattle.rack.specs.Records.{blank, paid, paid-count, lengths-of, widths-of, records-answer, RackPromises}
-use Rattle.rack.specs.Read.{too-many, read-count, no-sides, with-plate, sides-of, first-answer}
+use Rattle.rack.proofs.Prelude.{_≡_, refl, sym, _∙_, ap, subst, Bool, true, _||_, not, or-true, List, [], _∷_, _++_, map, map-append, ℕ, zero, suc, _≤_, _<_, decLt, arith, ltb, eqb, length, take, getD, set, length-set, length-map, take-suc, take-length, take-suc-set, lt-ltb, le-ltb, by-check, refuse-when, RackSize, Checked, Passed, Refused, Choices, block-job, check-stops, Plate, RackSides, RackAnswer, plate-at, rack-size-check, rack-checks, rack-by, rack-stopped, plans-answer, rack-answer, blank, paid, paid-count, lengths-of, widths-of, records-answer, RackPromises, too-many, read-count, no-sides, with-plate, sides-of, first-answer}
 use Rattle.rack.proofs.Records.{rack-met}
 
 -- the last of three tests

@@ -1,22 +1,6 @@
 -- What writing profits changes, the profit of each plate written and nothing else; and that the checker's answer for the sides of a rack and
 -- the records that `settle` leaves keep all that is promised.
-use mathlib.Core.Path.{_≡_, refl, sym, _∙_, ap, subst}
-use mathlib.Core.List.{List, []}
-use Prim.Native.Nat.{ℕ, zero, suc, _≤_, _<_}
-use native.Mathlib.Decide.{ℕ-discrete}
-use native.Mathlib.Omega.{arith}
-use lib.ListN.{length, getD, set, length-set, length-map}
-use lib.Seq.{getD-set-same, getD-set-other}
-use Rattle.refusal.specs.Refusals.{by-check, outcome-by}
-use Rattle.promises.specs.declared.Checked.{Checked}
-use Rattle.promises.specs.declared.Checked.the-variants.{Passed, Refused}
-use Rattle.promises.specs.declared.Choices.{Choices}
-use Rattle.job.specs.Weights.{block-job}
-use Rattle.promises.specs.declared.Plate.{Plate}
-use Rattle.promises.specs.declared.RackAnswer.{RackAnswer}
-use Rattle.rack.specs.Check.{plate-at}
-use Rattle.rack.specs.Promises.{RackOf, RackChecks}
-use Rattle.rack.specs.Records.{blank, with-profit, paid, paid-count, lengths-of, widths-of, records-answer, rack-after, RackPromises}
+use Rattle.rack.proofs.Prelude.{_≡_, refl, sym, _∙_, ap, subst, List, [], ℕ, zero, suc, _≤_, _<_, ℕ-discrete, arith, length, getD, set, length-set, length-map, getD-set-same, getD-set-other, by-check, outcome-by, Checked, Passed, Refused, Choices, block-job, Plate, RackAnswer, plate-at, RackOf, RackChecks, blank, with-profit, paid, paid-count, lengths-of, widths-of, records-answer, rack-after, RackPromises}
 use Rattle.rack.proofs.Calls.{plates-met}
 
 module _ (rack : List Plate) (profits : List ℕ) where

@@ -1,39 +1,6 @@
 -- The plans of a rack are refused with 26 or 29 exactly where trees, one a plate and the first of them passing, have the idle cut or pass the
 -- demand: from the verdict to the trees and the other way.
-use mathlib.Core.Path.{_≡_, _∙_, refl, sym, ap, subst}
-use mathlib.Core.Logic.{_⊎_, inl, inr, ⊎-elim}
-use mathlib.Core.List.{List, [], _∷_, _++_, append-assoc}
-use Prim.Native.Nat.{ℕ, zero, suc, _+_, _≤_, _<_}
-use native.Mathlib.Decide.{decLe}
-use native.Mathlib.Omega.{arith}
-use lib.ListN.{length, drop, getD, set, take-append-drop}
-use lib.Seq.{drop-drop, drop-append-seam}
-use borrow.Author.Tests.{lt-ltb}
-use Rattle.cutting.specs.Lists.{sum}
-use Rattle.cutting.specs.Tree.{Rect, Tree, IdleFree}
-use Rattle.cutting.specs.Pieces.{Piece}
-use Rattle.cutting.specs.Preorder.{node-count}
-use Rattle.cutting.specs.Job.{Job, OnPlate, copies-of, KeepsDemands}
-use Rattle.refusal.specs.Refusals.{Check, number-of, by-check, next, first-refusal}
-use Rattle.promises.specs.declared.Refusal.{Refusal}
-use Rattle.promises.specs.declared.Refusal.the-variants.{RackDemand}
-use Rattle.promises.specs.declared.Checked.{Checked}
-use Rattle.promises.specs.declared.Checked.the-variants.{Passed, Refused}
-use Rattle.job.specs.Block.{each-kind}
-use Rattle.job.proofs.Checks.{first-append}
-use Rattle.job.proofs.Entries.{entries-in}
-use Rattle.idle.specs.Idle.{tree-checks}
-use Rattle.idle.proofs.Idle.{passed-free, free-passed}
-use Rattle.plan.specs.declared.TreeAnswer.{TreeAnswer}
-use Rattle.plan.specs.Plan.{nodes-in, empty-report, left-check, tree-passed, tree-stopped}
-use Rattle.plan.specs.Trees.{tree-report}
-use Rattle.plan.proofs.Preorder.{written, count-written}
-use Rattle.plan.proofs.Parse.{no-pass}
-use Rattle.plan.proofs.Among.{tree-drawn}
-use Rattle.promises.specs.declared.RackAnswer.{RackAnswer}
-use Rattle.orders.specs.Racks.{plated, chained}
-use Rattle.rack.specs.Check.{walked-at, own-answer, total-check, total-checks, with-own, rack-passed, rack-by, rack-walk}
-use Rattle.orders.proofs.Racks.{sum-first}
+use Rattle.rack.proofs.Prelude.{_≡_, _∙_, refl, sym, ap, subst, _⊎_, inl, inr, ⊎-elim, List, [], _∷_, _++_, append-assoc, ℕ, zero, suc, _+_, _≤_, _<_, decLe, arith, length, drop, getD, set, take-append-drop, drop-drop, drop-append-seam, lt-ltb, sum, Rect, Tree, IdleFree, Piece, node-count, Job, OnPlate, copies-of, KeepsDemands, Check, number-of, by-check, next, first-refusal, Refusal, RackDemand, Checked, Passed, Refused, each-kind, first-append, entries-in, tree-checks, passed-free, free-passed, TreeAnswer, nodes-in, empty-report, left-check, tree-passed, tree-stopped, tree-report, written, count-written, no-pass, tree-drawn, RackAnswer, plated, chained, walked-at, own-answer, total-check, total-checks, with-own, rack-passed, rack-by, rack-walk, sum-first}
 use Rattle.rack.proofs.Totals.{with-own-length, with-own-in, totals-within}
 use Rattle.rack.proofs.Own.{own-stops}
 use Rattle.rack.proofs.Numbers.{Neither, same-refusal, left-gives, walk-gives}

@@ -1,23 +1,5 @@
 -- The totals of the kinds over the rack, with a plan's own copies added kind after kind.
-use mathlib.Core.Path.{_≡_, _∙_, refl, sym, ap}
-use mathlib.Core.Bool.{Bool}
-use mathlib.Core.List.{List}
-use Prim.Native.Nat.{ℕ, zero, suc, _+_, _≤_, _<_}
-use native.Mathlib.Decide.{ℕ-discrete}
-use native.Mathlib.Numerals.{add-one}
-use native.Mathlib.Omega.{arith}
-use lib.Dec.{ltb}
-use lib.ListN.{length, getD, set, length-set}
-use lib.Seq.{getD-set-same, getD-set-other}
-use borrow.Author.Tests.{ltb-false}
-use Rattle.refusal.specs.Refusals.{Check, refuse-when, first-refusal}
-use Rattle.promises.specs.declared.Refusal.the-variants.{RackDemand}
-use Rattle.promises.specs.declared.Checked.the-variants.{Passed, Refused}
-use Rattle.job.specs.Block.{each-kind}
-use Rattle.job.proofs.Checks.{Decides, begins, passes, stops, ends, check-last, cons-passed, each-passed}
-use Rattle.plan.proofs.Parse.{no-pass}
-use Rattle.rack.specs.Check.{total-check, with-own}
-use Rattle.rack.specs.Plates.{TotalsAfter}
+use Rattle.rack.proofs.Prelude.{_≡_, _∙_, refl, sym, ap, Bool, List, ℕ, zero, suc, _+_, _≤_, _<_, ℕ-discrete, add-one, arith, ltb, length, getD, set, length-set, getD-set-same, getD-set-other, ltb-false, Check, refuse-when, first-refusal, RackDemand, Passed, Refused, each-kind, Decides, begins, passes, stops, ends, check-last, cons-passed, each-passed, no-pass, total-check, with-own, TotalsAfter}
 
 module _ (totals own : List ℕ) where
   pub with-own-length : (n : ℕ) → length (with-own totals own n) ≡ length totals

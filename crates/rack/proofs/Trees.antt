@@ -1,39 +1,6 @@
 -- The plans of a rack pass exactly for trees, one a plate, whose nodes stand one after another: each a guillotine tree on its plate without
 -- an idle cut, and all of them sharing the demands. The profits are the trees'.
-use mathlib.Core.Path.{_≡_, _∙_, refl, sym, ap, ap₂, subst}
-use mathlib.Core.List.{List, [], _∷_, _++_, map, map-map}
-use Prim.Native.Nat.{ℕ, zero, suc, _+_, _-_, _≤_, _<_}
-use native.Mathlib.Omega.{arith}
-use lib.Dec.{ltb}
-use lib.ListN.{length, take, drop, getD, set, length-set, length-drop, take-append-drop, drop-of-length-le}
-use lib.Seq.{getD-set-same, getD-set-other, drop-drop, drop-append-seam, take-append-seam}
-use borrow.Author.Tests.{ltb-false, le-ltb}
-use Rattle.cutting.specs.Lists.{sum}
-use Rattle.cutting.specs.Tree.{Rect, Tree, waste, IdleFree}
-use Rattle.cutting.specs.Pieces.{Piece}
-use Rattle.cutting.specs.Preorder.{preorder, node-count, kinds-of}
-use Rattle.cutting.specs.Job.{Job, OnPlate, profit, copies-of, KeepsDemands}
-use Rattle.refusal.specs.Refusals.{Check, by-check, next, first-refusal}
-use Rattle.promises.specs.declared.Refusal.the-variants.{RackDemand}
-use Rattle.promises.specs.declared.Checked.{Checked}
-use Rattle.promises.specs.declared.Checked.the-variants.{Passed, Refused}
-use Rattle.node.proofs.Nodes.{pair-of}
-use Rattle.job.specs.Block.{each-kind}
-use Rattle.job.proofs.Checks.{cons-passed, passed-both, passed-append}
-use Rattle.job.proofs.Entries.{entries-in}
-use Rattle.idle.specs.Idle.{idle-checks, tree-checks}
-use Rattle.idle.proofs.Idle.{idle-tree, passed-free, free-passed}
-use Rattle.plan.specs.declared.TreeAnswer.{TreeAnswer}
-use Rattle.plan.specs.Plan.{nodes-in, empty-report, left-check, tree-passed, tree-stopped, tree-walk}
-use Rattle.plan.specs.Trees.{tree-report}
-use Rattle.plan.proofs.Walk.{nodes-length}
-use Rattle.plan.proofs.Preorder.{written, firsts, count-written}
-use Rattle.plan.proofs.Parse.{no-pass}
-use Rattle.plan.proofs.Among.{Drawn, tree-drawn, drawn-tree}
-use Rattle.promises.specs.declared.RackAnswer.{RackAnswer}
-use Rattle.orders.specs.Racks.{plated, chained}
-use Rattle.rack.specs.Check.{walked-at, idle-at, own-answer, total-check, total-checks, with-own, rack-passed, rack-by, rack-walk}
-use Rattle.orders.proofs.Racks.{sum-first}
+use Rattle.rack.proofs.Prelude.{_≡_, _∙_, refl, sym, ap, ap₂, subst, List, [], _∷_, _++_, map, map-map, ℕ, zero, suc, _+_, _-_, _≤_, _<_, arith, ltb, length, take, drop, getD, set, length-set, length-drop, take-append-drop, drop-of-length-le, getD-set-same, getD-set-other, drop-drop, drop-append-seam, take-append-seam, ltb-false, le-ltb, sum, Rect, Tree, waste, IdleFree, Piece, preorder, node-count, kinds-of, Job, OnPlate, profit, copies-of, KeepsDemands, Check, by-check, next, first-refusal, RackDemand, Checked, Passed, Refused, pair-of, each-kind, cons-passed, passed-both, passed-append, entries-in, idle-checks, tree-checks, idle-tree, passed-free, free-passed, TreeAnswer, nodes-in, empty-report, left-check, tree-passed, tree-stopped, tree-walk, tree-report, nodes-length, written, firsts, count-written, no-pass, Drawn, tree-drawn, drawn-tree, RackAnswer, plated, chained, walked-at, idle-at, own-answer, total-check, total-checks, with-own, rack-passed, rack-by, rack-walk, sum-first}
 use Rattle.rack.proofs.Totals.{with-own-length, with-own-in, totals-within}
 use Rattle.rack.proofs.Own.{own-decides, own-passed}
 

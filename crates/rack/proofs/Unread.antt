@@ -1,24 +1,6 @@
 -- Between blocks that differ only in the sides of their plates the checks before any plan's are equal, and so is everything that the rack
 -- answers.
-use mathlib.Core.Path.{_≡_, _∙_, refl, sym, ap, ap₂}
-use mathlib.Core.Bool.{Bool, true, false, not}
-use mathlib.Core.List.{List, [], _∷_, _++_}
-use Prim.Native.Nat.{ℕ, zero, suc, _+_, _*_, _≤_}
-use native.Mathlib.Omega.{arith}
-use lib.Dec.{ltb, eqb}
-use lib.ListN.{length, getD, set}
-use Rattle.cutting.specs.Tree.{Rect}
-use Rattle.cutting.specs.Job.{Job}
-use Rattle.promises.specs.declared.Refusal.the-variants.{ShortHeader, KindCount, Kerf, BlockLength, KindSide, Price, Demand, Grain}
-use Rattle.refusal.specs.Refusals.{next, first-refusal}
-use Rattle.promises.specs.declared.Choices.{Choices}
-use Rattle.job.specs.Block.{u16-at, u32-at, plate-length-at, plate-width-at, count-at, kerf-at, sizes-end, length-at, width-at, price-at, demand-at, outside, sides-outside, each-kind, entries, record-of, job-from, grain-at, kind-bytes, grain-checks, grains-of}
-use Rattle.job.specs.Weights.{block-job}
-use Rattle.job.proofs.Read.{sizes-least}
-use Rattle.plan.specs.Plan.{plan-checks}
-use Rattle.orders.specs.Racks.{plated}
-use Rattle.rack.specs.Check.{plate-at, rack-size-check, order-checks, plate-checks, rack-checks, own-answer, total-checks, with-own, rack-by, rack-walk, plans-answer, rack-answer}
-use Rattle.rack.specs.Promises.{OnlyPlate}
+use Rattle.rack.proofs.Prelude.{_≡_, _∙_, refl, sym, ap, ap₂, Bool, true, false, not, List, [], _∷_, _++_, ℕ, zero, suc, _+_, _*_, _≤_, arith, ltb, eqb, length, getD, set, Rect, Job, ShortHeader, KindCount, Kerf, BlockLength, KindSide, Price, Demand, Grain, next, first-refusal, Choices, u16-at, u32-at, plate-length-at, plate-width-at, count-at, kerf-at, sizes-end, length-at, width-at, price-at, demand-at, outside, sides-outside, each-kind, entries, record-of, job-from, grain-at, kind-bytes, grain-checks, grains-of, block-job, sizes-least, plan-checks, plated, plate-at, rack-size-check, order-checks, plate-checks, rack-checks, own-answer, total-checks, with-own, rack-by, rack-walk, plans-answer, rack-answer, OnlyPlate}
 
 -- no plan reads the job's own plate
 walk-unread : (J : Job) (r : Rect) (plate : ℕ → Rect) (kinds operands : List ℕ) (i m k : ℕ) (totals profits : List ℕ) → rack-walk (plated J r) plate kinds operands i m k totals profits ≡ rack-walk J plate kinds operands i m k totals profits

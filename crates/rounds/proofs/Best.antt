@@ -1,12 +1,5 @@
 -- The best answer with one round more.
-use mathlib.Core.Path.{_≡_, sym, ap, ap₂}
-use mathlib.Core.Bool.{true, false, _||_}
-use mathlib.Core.List.{List}
-use Prim.Native.Nat.{ℕ, _+_, _≤_, _<_}
-use borrow.Author.Tests.{lt-ltb, le-ltb, eq-eqb, ne-eqb}
-use lib.Dec.{ltb, eqb}
-use Rattle.promises.specs.declared.WeightsFound.{WeightsFound}
-use Rattle.rounds.specs.Contracts.{better}
+use Rattle.rounds.proofs.Prelude.{_≡_, sym, ap, ap₂, true, false, _||_, List, ℕ, _+_, _≤_, _<_, lt-ltb, le-ltb, eq-eqb, ne-eqb, ltb, eqb, WeightsFound, better}
 
 -- a later round whose bound is not less
 pub kept-best : (a : WeightsFound) (k bound : ℕ) (weights : List ℕ) → (k ≡ 0 → ⊥) → a .bound ≤ bound → better false bound weights (k + 1) a ≡ better (eqb k 0 || ltb bound (a .bound)) bound weights (k + 1) a

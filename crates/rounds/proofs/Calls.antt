@@ -1,41 +1,5 @@
 -- What the call promises, from the verdicts of the job and of the lent plan and from the run of the rounds.
-use mathlib.Core.Path.{_≡_, refl, sym, _∙_, ap, subst}
-use mathlib.Core.Bool.{Bool, true, false, _||_}
-use mathlib.Core.List.{List}
-use Prim.Native.Nat.{ℕ, zero, suc, _≤_, _<_}
-use native.Mathlib.Decide.{ℕ-discrete}
-use native.Mathlib.Omega.{arith}
-use borrow.Author.Tests.{ltb-true, ltb-false}
-use lib.Dec.{ltb, eqb}
-use lib.ListN.{length, take}
-use lib.Seq.{length-take-le}
-use Rattle.cutting.specs.Job.{Job, by-kind, capacity, bound-of}
-use Rattle.cutting.specs.Promises.{NoneAbove}
-use Rattle.cutting.proofs.Members.{range-solid}
-use Rattle.cutting.proofs.Plan.{plan-idle}
-use Rattle.cutting.proofs.Weights.{by-weight-monotone}
-use Rattle.cutting.proofs.AnyKinds.{any-on}
-use Rattle.cutting.proofs.Finer.{none-finer}
-use Rattle.cutting.proofs.Promises.{none-above}
-use Rattle.refusal.specs.Refusals.{next, first-refusal, outcome-by}
-use Rattle.promises.specs.declared.Refusal.{Refusal}
-use Rattle.promises.specs.declared.Checked.{Checked}
-use Rattle.promises.specs.declared.Checked.the-variants.{Passed, Refused}
-use Rattle.promises.specs.declared.Choices.{Choices}
-use Rattle.job.specs.Block.{job-checks}
-use Rattle.job.specs.Weights.{block-job, weight-in}
-use Rattle.job.proofs.Entries.{entries-length}
-use Rattle.job.proofs.Read.{read-in-range}
-use Rattle.job.proofs.Weights.{both-accepted}
-use Rattle.promises.specs.declared.Report.{Report}
-use Rattle.promises.specs.declared.PlanAnswer.{PlanAnswer}
-use Rattle.plan.specs.Plan.{proceed, plan-answer}
-use Rattle.plan.specs.Calls.{arrays-answer}
-use Rattle.plan.proofs.Plans.{plans-checked}
-use Rattle.promises.specs.declared.WeightsFound.{WeightsFound}
-use Rattle.weight_steps.specs.Step.{pick-number}
-use Rattle.rounds.specs.Rounds.{Lent, weight-at, round-verdict, rounds-by, rounds-run, bound-at, best-round, found, refused-answer, find-answer-by, before-verdict, lower-figure, run-answer, find-verdict, find-found, find-answer, found-values, found-outcome, find-said, refuses, last-here, last-round, within, plan-copies, RunLeaves, LeastMet, RoundHolds, BoundAgain, FindPromises}
-use Rattle.weight_steps.proofs.Rules.{step-rules}
+use Rattle.rounds.proofs.Prelude.{_≡_, refl, sym, _∙_, ap, subst, Bool, true, false, _||_, List, ℕ, zero, suc, _≤_, _<_, ℕ-discrete, arith, ltb-true, ltb-false, ltb, eqb, length, take, length-take-le, Job, by-kind, capacity, bound-of, NoneAbove, range-solid, plan-idle, by-weight-monotone, any-on, none-finer, none-above, next, first-refusal, outcome-by, Refusal, Checked, Passed, Refused, Choices, job-checks, block-job, weight-in, entries-length, read-in-range, both-accepted, Report, PlanAnswer, proceed, plan-answer, arrays-answer, plans-checked, WeightsFound, pick-number, Lent, weight-at, round-verdict, rounds-by, rounds-run, bound-at, best-round, found, refused-answer, find-answer-by, before-verdict, lower-figure, run-answer, find-verdict, find-found, find-answer, found-values, found-outcome, find-said, refuses, last-here, last-round, within, plan-copies, RunLeaves, LeastMet, RoundHolds, BoundAgain, FindPromises, step-rules}
 use Rattle.rounds.proofs.Rules.{rounds-most, stop-rules}
 use Rattle.rounds.proofs.Run.{neither, weights-good, weight-past, no-capacity}
 use Rattle.rounds.proofs.Ends.{listed}

@@ -1,24 +1,6 @@
 -- The pieces that a loop over a written plan's nodes counts are the tree's copies.
-use mathlib.Core.Path.{_≡_, refl, sym, _∙_, ap, ap₂}
-use mathlib.Core.Bool.{Bool, true, false}
-use mathlib.Core.List.{List, [], _∷_, _++_, map}
-use Prim.Native.Nat.{ℕ, zero, suc, _+_, _≤_, _<_}
-use native.Mathlib.Omega.{arith}
-use lib.Dec.{eqb}
-use lib.ListN.{length, getD, set, drop, length-map, List·getD-map, List·getD-append}
-use lib.Seq.{getD-set-same, getD-set-other}
-use native.Mathlib.Decide.{ℕ-discrete}
-use borrow.Author.Tests.{eq-eqb, ne-eqb}
-use Rattle.promises.specs.declared.Node.{Node}
-use Rattle.promises.specs.declared.Direction.the-variants.{Length, Width}
-use Rattle.promises.specs.declared.Node.the-variants.{Waste}
-use Rattle.cutting.specs.Lists.{sum, only, over}
-use Rattle.cutting.specs.Tree.{Tree, waste, piece, cut, total}
+use Rattle.rounds.proofs.Prelude.{_≡_, refl, sym, _∙_, ap, ap₂, Bool, true, false, List, [], _∷_, _++_, map, ℕ, zero, suc, _+_, _≤_, _<_, arith, eqb, length, getD, set, drop, length-map, List·getD-map, List·getD-append, getD-set-same, getD-set-other, ℕ-discrete, eq-eqb, ne-eqb, Node, Length, Width, Waste, sum, only, over, Tree, waste, piece, cut, total, preorder, kind-of, operand-of, kinds-of, operands-of, node-count, copies-of, lays, piece-here, pieces-in, sum-same}
 use Rattle.cutting.specs.Pieces as laid
-use Rattle.cutting.specs.Preorder.{preorder, kind-of, operand-of, kinds-of, operands-of, node-count}
-use Rattle.cutting.specs.Job.{copies-of}
-use Rattle.rounds.specs.Contracts.{lays, piece-here, pieces-in}
-use Rattle.weight_steps.proofs.Sums.{sum-same}
 
 -- the first summand first
 sum-front : (n : ℕ) (f : ℕ → ℕ) → sum (suc n) f ≡ f 0 + sum n (λ j. f (suc j))

@@ -1,30 +1,6 @@
 -- The end of a round: what the loops over the kinds say of the plan's copies, and the three tests in their order.
-use mathlib.Core.Path.{_≡_, refl, sym, _∙_, ap, ap₂, subst, fun-ext}
-use mathlib.Core.Bool.{Bool, true, false, _||_, not}
-use mathlib.Core.List.{List, map}
-use Prim.Native.Nat.{ℕ, _-_, _*_, _≤_, _<_}
-use native.Mathlib.Decide.{decLt}
-use native.Mathlib.Omega.{arith}
-use borrow.Author.Tests.{ltb-false, lt-ltb, le-ltb, eq-eqb, ne-eqb}
-use lib.Dec.{ltb, eqb}
-use lib.ListN.{length, getD, take, List·getD-eq-default}
-use lib.Seq.{length-take-le, getD-take}
-use Rattle.cutting.specs.Lists.{range, only, any}
-use Rattle.cutting.specs.Job.{Job, capacity}
-use Rattle.promises.specs.declared.Refusal.{Refusal}
-use Rattle.promises.specs.declared.JobRecord.{JobRecord}
-use Rattle.job.specs.declared.WeightsAnswer.{WeightsAnswer}
+use Rattle.rounds.proofs.Prelude.{_≡_, refl, sym, _∙_, ap, ap₂, subst, fun-ext, Bool, true, false, _||_, not, List, map, ℕ, _-_, _*_, _≤_, _<_, decLt, arith, ltb-false, lt-ltb, le-ltb, eq-eqb, ne-eqb, ltb, eqb, length, getD, take, List·getD-eq-default, length-take-le, getD-take, range, only, any, Job, capacity, Refusal, JobRecord, WeightsAnswer, entries, job-of, weight-in, weights-answer, entries-length, entries-in, entries-past, answer-passed, capacity-answered, weights-passed, bound-held, factor, distance, adjusted, summed-squares, plan-copies, squares, gap, next-weight, within, pieces-in, Made, RoundEnded, any-same, sum-same}
 use Rattle.job.specs.declared.WeightsAnswer.the-variants as weighed
-use Rattle.job.specs.Block.{entries, job-of}
-use Rattle.job.specs.Weights.{weight-in, weights-answer}
-use Rattle.job.proofs.Entries.{entries-length, entries-in, entries-past}
-use Rattle.job.proofs.Weights.{answer-passed, capacity-answered, weights-passed}
-use Rattle.bound.proofs.Holds.{bound-held}
-use Rattle.weight_steps.specs.Step.{factor, distance, adjusted}
-use Rattle.weight_steps.specs.Contracts.{summed-squares}
-use Rattle.rounds.specs.Rounds.{plan-copies, squares, gap, next-weight, within}
-use Rattle.rounds.specs.Contracts.{pieces-in, Made, RoundEnded}
-use Rattle.weight_steps.proofs.Sums.{any-same, sum-same}
 
 -- arrays whose first n entries agree
 pub entries-same : (f g : ℕ → ℕ) (n : ℕ) → ((i : ℕ) → i < n → f i ≡ g i) → entries f n ≡ entries g n

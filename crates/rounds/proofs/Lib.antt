@@ -1,3 +1,4 @@
+mod Prelude
 pub mod Count
 pub mod Ends
 pub mod Best

@@ -1,18 +1,5 @@
 -- The definitions have the scope's rules of the stop: the test of the demands, the last round.
-use mathlib.Core.Path.{_≡_, refl, _∙_, ap}
-use mathlib.Core.Bool.{Bool, true, false, _||_, not}
-use Prim.Native.Nat.{ℕ, zero, suc, _+_, _*_, _≤_, _<_}
-use native.Mathlib.Decide.{ℕ-discrete}
-use native.Mathlib.Omega.{arith}
-use borrow.Author.Tests.{ltb-true, ltb-false, le-ltb, eq-eqb, not-true, not-false}
-use lib.Dec.{ltb, eqb}
-use Rattle.cutting.specs.Lists.{range, sum, any}
-use Rattle.cutting.specs.Job.{Job, capacity}
-use Rattle.promises.specs.declared.Checked.{Checked}
-use Rattle.promises.specs.declared.Checked.the-variants.{Passed, Refused}
-use Rattle.weight_steps.specs.Step.{distance, pick-number}
-use Rattle.rounds.specs.Rounds.{plan-copies, squares, weight-at, within, Lent, round-verdict, refuses, last-here, last-from, last-round, rounds-by, rounds-run, StopRules}
-use Rattle.weight_steps.proofs.Sums.{any-none, any-more, none-passes}
+use Rattle.rounds.proofs.Prelude.{_≡_, refl, _∙_, ap, Bool, true, false, _||_, not, ℕ, zero, suc, _+_, _*_, _≤_, _<_, ℕ-discrete, arith, ltb-true, ltb-false, le-ltb, eq-eqb, not-true, not-false, ltb, eqb, range, sum, any, Job, capacity, Checked, Passed, Refused, distance, pick-number, plan-copies, squares, weight-at, within, Lent, round-verdict, refuses, last-here, last-from, last-round, rounds-by, rounds-run, StopRules, any-none, any-more, none-passes}
 
 module _ (J : Job) (copies : ℕ → ℕ) where
   -- the test of the demands

@@ -1,37 +1,6 @@
 -- The run of the rounds: what is known before round k, and what a written or a refused round makes of it.
-use mathlib.Core.Path.{_≡_, refl, sym, _∙_, ap, ap₂, subst, fun-ext}
-use mathlib.Core.Bool.{Bool, true, false, _||_}
-use mathlib.Core.List.{List, [], _∷_, map}
-use Prim.Native.Nat.{ℕ, zero, suc, _+_, _-_, _*_, _≤_, _<_}
-use native.Mathlib.Omega.{arith}
-use borrow.Author.Tests.{ltb-false, eqb-false, le-ltb, eq-eqb}
-use lib.Dec.{ltb, eqb, eqb·suc-zero}
-use lib.ListN.{length, take, replicate}
-use lib.Seq.{length-take-le}
-use Rattle.cutting.specs.Lists.{range, sum, only, over}
-use Rattle.cutting.specs.Preorder.{kinds-of, operands-of, node-count}
-use Rattle.cutting.specs.Job.{Job, widened, counted, capacity, bound-of, bound-plan}
-use Rattle.refusal.specs.Refusals.{next, first-refusal}
-use Rattle.promises.specs.declared.Refusal.{Refusal}
-use Rattle.promises.specs.declared.Checked.{Checked}
-use Rattle.promises.specs.declared.Checked.the-variants.{Passed, Refused}
-use Rattle.promises.specs.declared.Choices.{Choices}
-use Rattle.promises.specs.declared.JobRecord.{JobRecord}
-use Rattle.job.specs.Block.{job-checks, entries, record-of, job-of}
-use Rattle.job.specs.Weights.{block-job, weight-in, weight-checks}
-use Rattle.job.proofs.Entries.{entries-length, entries-none}
-use Rattle.job.proofs.Read.{read-in-range}
-use Rattle.job.proofs.Weights.{both-accepted}
-use Rattle.bound.specs.Bound.{Leaves, memory-checks, storage-checks, bound-report, list-after, accept-verdict, BoundLeaves}
-use Rattle.promises.specs.declared.WriteReport.{WriteReport}
-use Rattle.promises.specs.declared.WriteAnswer.{WriteAnswer}
+use Rattle.rounds.proofs.Prelude.{_≡_, refl, sym, _∙_, ap, ap₂, subst, fun-ext, Bool, true, false, _||_, List, [], _∷_, map, ℕ, zero, suc, _+_, _-_, _*_, _≤_, _<_, arith, ltb-false, eqb-false, le-ltb, eq-eqb, ltb, eqb, eqb·suc-zero, length, take, replicate, length-take-le, range, sum, only, over, kinds-of, operands-of, node-count, Job, widened, counted, capacity, bound-of, bound-plan, next, first-refusal, Refusal, Checked, Passed, Refused, Choices, JobRecord, job-checks, entries, record-of, job-of, block-job, weight-in, weight-checks, entries-length, entries-none, read-in-range, both-accepted, Leaves, memory-checks, storage-checks, bound-report, list-after, accept-verdict, BoundLeaves, WriteReport, WriteAnswer, nodes-check, nodes-verdict, reported, write-answer-by, block-plan, write-verdict, write-answer, array-after, written-fits, WeightsFound, pick-number, plan-copies, next-weight, weight-at, within, stops-after, Lent, round-verdict, refuses, last-here, last-from, last-round, rounds-by, rounds-run, bound-at, best-round, answer-of, found, find-answer-by, run-answer, RoundLeaves, RoundsLeave, RunLeaves, pieces-in, Made, RoundEnded, better, ended}
 use Rattle.promises.specs.declared.WriteAnswer.the-variants as write
-use Rattle.writer.specs.Write.{nodes-check, nodes-verdict, reported, write-answer-by, block-plan, write-verdict, write-answer, array-after}
-use Rattle.writer.proofs.Call.{written-fits}
-use Rattle.promises.specs.declared.WeightsFound.{WeightsFound}
-use Rattle.weight_steps.specs.Step.{pick-number}
-use Rattle.rounds.specs.Rounds.{plan-copies, next-weight, weight-at, within, stops-after, Lent, round-verdict, refuses, last-here, last-from, last-round, rounds-by, rounds-run, bound-at, best-round, answer-of, found, find-answer-by, run-answer, RoundLeaves, RoundsLeave, RunLeaves}
-use Rattle.rounds.specs.Contracts.{pieces-in, Made, RoundEnded, better, ended}
 use Rattle.rounds.proofs.Count.{pieces-tree}
 use Rattle.rounds.proofs.Ends.{listed, listed-all, next-past}
 

@@ -1,32 +1,5 @@
 -- A row that began as the row before it, took its length cuts, its kinds and its width cuts holds its figures; and the fill row after row.
-use mathlib.Core.Path.{_≡_, refl, sym, _∙_, ap, ap₂}
-use mathlib.Core.List.{List}
-use Prim.Native.Nat.{ℕ, _+_, _-_, _*_, _≤_, _<_}
-use native.Mathlib.Nat.{mul-le-mul-right}
-use native.Mathlib.Decide.{ℕ-discrete, decLe}
-use native.Mathlib.Omega.{arith}
-use lib.Dec.{T, leb, leb→le, le→leb}
-use lib.ListN.{length, getD, drop, replicate, length-replicate, getD-replicate, List·getD-eq-default}
-use Rattle.promises.specs.declared.Direction.the-variants.{Length, Width}
-use Rattle.cutting.specs.Pieces.{upright}
-use Rattle.cutting.specs.Job.{Job, figure-of}
-use Rattle.cutting.specs.Listed.{InTableRange, listed-weight}
-use Rattle.cutting.proofs.Members.{table-lies}
-use Rattle.cutting.proofs.Table.{positions-some, positions-length}
-use Rattle.table.specs.declared.TableSize.{TableSize}
-use Rattle.table.specs.Table.{words-needed, Figures, Kept}
-use Rattle.table.specs.Contracts.{size-job, Fillable, FilledBy}
-use Rattle.table.specs.Words.{Run, HalfReady, Half, remainder, Axis}
-use Rattle.table.specs.States.{figure-at}
-use Rattle.table.proofs.Words.{cell-before, words-past}
-use Rattle.table.proofs.Halves.{half-cuts, half-ready, half-next}
-use Rattle.table.proofs.Figures.{entry-is, positions-axis}
-use Rattle.table.proofs.Weighed.{plain-order, figure-one}
-use Rattle.table.proofs.Across.{across, across-joins, no-side, two-parts, more-side, piece-most, state-low}
-use Rattle.table.proofs.Complete.{complete}
-use Rattle.row_fill.specs.Raised.{Pieces}
-use Rattle.row_fill.specs.Rows.{Entries, LengthsTaken, WidthsTaken, Rows}
-use Rattle.row_fill.specs.Ready.{ceiling, Capped, LengthsReady, RowReady}
+use Rattle.row_fill.proofs.Prelude.{_≡_, refl, sym, _∙_, ap, ap₂, List, ℕ, _+_, _-_, _*_, _≤_, _<_, mul-le-mul-right, ℕ-discrete, decLe, arith, T, leb, leb→le, le→leb, length, getD, drop, replicate, length-replicate, getD-replicate, List·getD-eq-default, Length, Width, upright, Job, figure-of, InTableRange, listed-weight, table-lies, positions-some, positions-length, TableSize, words-needed, Figures, Kept, size-job, Fillable, FilledBy, Run, HalfReady, Half, remainder, Axis, figure-at, cell-before, words-past, half-cuts, half-ready, half-next, entry-is, positions-axis, plain-order, figure-one, across, across-joins, no-side, two-parts, more-side, piece-most, state-low, complete, Pieces, Entries, LengthsTaken, WidthsTaken, Rows, ceiling, Capped, LengthsReady, RowReady}
 use Rattle.row_fill.proofs.Taken.{half-found, positions-entries, side-taken, cut-low, cut-taken, push-taken, each}
 
 -- the fill before row a: the rows below it hold their figures, every word past the last row is as it was, and no unit is more than two

@@ -1,3 +1,4 @@
+mod Prelude
 pub mod Raising
 pub mod Pushing
 pub mod Taken

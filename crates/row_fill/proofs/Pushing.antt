@@ -1,18 +1,6 @@
 -- The width cuts of a row, cell after cell: the cells passed are final, and the units past them have what the cells passed pushed. Then the
 -- row's steps together: its words at their units, its kinds, its width cuts.
-use mathlib.Core.Path.{_≡_, refl, sym, _∙_, ap}
-use mathlib.Core.List.{List}
-use mathlib.Core.Logic.{inl, inr, ⊎-elim}
-use Prim.Native.Nat.{ℕ, _+_, _-_, _*_, _≤_, _<_, min}
-use native.Mathlib.Decide.{ℕ-discrete, decLe}
-use native.Mathlib.Omega.{arith}
-use lib.ListN.{length, getD, set}
-use lib.Seq.{getD-set-same, getD-set-other}
-use Rattle.table.specs.Words.{Outside, Run}
-use Rattle.table.proofs.Words.{outside-none}
-use Rattle.row_fill.specs.Raised.{Raised, Pieces, Pushed, CellPush}
-use Rattle.row_fill.specs.Rows.{Entries, Spread, Joins, Widened, WidthsTaken}
-use Rattle.row_fill.specs.Ready.{ceiling, Capped, Laid, WidthsReady, RowReady}
+use Rattle.row_fill.proofs.Prelude.{_≡_, refl, sym, _∙_, ap, List, inl, inr, ⊎-elim, ℕ, _+_, _-_, _*_, _≤_, _<_, min, ℕ-discrete, decLe, arith, length, getD, set, getD-set-same, getD-set-other, Outside, Run, outside-none, Raised, Pieces, Pushed, CellPush, Entries, Spread, Joins, Widened, WidthsTaken, ceiling, Capped, Laid, WidthsReady, RowReady}
 use Rattle.row_fill.proofs.Raising.{raised-same}
 
 -- the cells below b have taken their width cuts, and pushed them

@@ -1,20 +1,6 @@
 -- Laws of words that take values where those are more: none offered, one, and those of two steps together; and of each loop's values, none
 -- yet and one more.
-use mathlib.Core.Path.{_≡_, refl, sym, _∙_, ap, ap₂}
-use mathlib.Core.List.{List}
-use mathlib.Core.Logic.{_⊎_, inl, inr, ⊎-elim}
-use Prim.Native.Nat.{ℕ, _+_, _-_, _*_, _≤_, _<_, min, max}
-use native.Mathlib.Decide.{ℕ-discrete, decLe}
-use native.Mathlib.Omega.{arith}
-use borrow.Author.Count.{below-more}
-use lib.ListN.{length, getD, set}
-use lib.Seq.{getD-set-same, getD-set-other}
-use Rattle.table.specs.Words.{remainder, Run}
-use Rattle.table.proofs.Words.{cell-before, run-none, run-more}
-use Rattle.cutting.specs.Listed.{size-in, price-in, listed-weight}
-use Rattle.row_fill.specs.Raised.{Raised, Single, Sums, LengthCuts, Alone, Pieces, Pushed, CellPush}
-use Rattle.row_fill.specs.Rows.{Entries, Spread, LengthsTaken}
-use Rattle.row_fill.specs.Ready.{ceiling, SumsReady, LengthsReady}
+use Rattle.row_fill.proofs.Prelude.{_≡_, refl, sym, _∙_, ap, ap₂, List, _⊎_, inl, inr, ⊎-elim, ℕ, _+_, _-_, _*_, _≤_, _<_, min, max, ℕ-discrete, decLe, arith, below-more, length, getD, set, getD-set-same, getD-set-other, remainder, Run, cell-before, run-none, run-more, size-in, price-in, listed-weight, Raised, Single, Sums, LengthCuts, Alone, Pieces, Pushed, CellPush, Entries, Spread, LengthsTaken, ceiling, SumsReady, LengthsReady}
 
 pub raised-none : {A : ℕ → ℕ → Type 0} {xs : List ℕ} → ((i v : ℕ) → A i v → ⊥) → Raised A xs xs
 raised-none e = record { grown = λ i. omega arith; low = λ i b f h. h; taken = λ i v a. absurd (e i v a) }

@@ -1,27 +1,7 @@
 -- What the steps of a row give, whatever the figures F of its cells are: no word is above its figure, and every cut that can give a cell more
 -- is taken. The fill by rows and the staged fill by rows cite the same laws.
-use mathlib.Core.Path.{_≡_, _∙_, ap}
-use mathlib.Core.Logic.{_⊎_, inl, inr}
-use mathlib.Core.List.{List}
-use Prim.Native.Nat.{ℕ, zero, suc, _+_, _-_, _*_, _≤_, _<_}
-use native.Mathlib.Decide.{decLe}
-use native.Mathlib.Omega.{arith}
-use lib.Dec.{T, leb}
-use lib.ListN.{getD}
-use Rattle.promises.specs.declared.Direction.{Direction}
-use Rattle.cutting.specs.Tree.{side}
-use Rattle.cutting.specs.Job.{Job}
-use Rattle.cutting.specs.Listed.{InTableRange}
-use Rattle.cutting.proofs.Table.{positions-first, positions-some}
-use Rattle.table.specs.Contracts.{Positions}
-use Rattle.table.specs.Words.{Half, remainder, Axis}
-use Rattle.table.specs.States.{Covers}
-use Rattle.table.proofs.Halves.{half-below, half-more, half-parts}
-use Rattle.table.proofs.Figures.{entry-is, entry-side, positions-axis}
-use Rattle.table.proofs.Weighed.{plain-order}
+use Rattle.row_fill.proofs.Prelude.{_≡_, _∙_, ap, _⊎_, inl, inr, List, ℕ, zero, suc, _+_, _-_, _*_, _≤_, _<_, decLe, arith, T, leb, getD, Direction, side, Job, InTableRange, positions-first, positions-some, Positions, Half, remainder, Axis, Covers, half-below, half-more, half-parts, entry-is, entry-side, positions-axis, plain-order, side-covered, Entries, LengthsTaken, Joins, WidthCuts}
 use Rattle.table.proofs.Covered as along
-use Rattle.table.proofs.Complete.{side-covered}
-use Rattle.row_fill.specs.Rows.{Entries, LengthsTaken, Joins, WidthCuts}
 
 -- every entry but the first has a half
 pub half-found : (positions : List ℕ) (b : ℕ) → 1 ≤ b → 0 < getD positions b 0 → (half-end : ℕ) × Half positions b half-end

@@ -1,29 +1,5 @@
 -- What is known of a block that the saw reads, and that an answer which equals its definition meets the whole contract.
-use mathlib.Core.Path.{_≡_, refl, sym, _∙_, ap, subst}
-use mathlib.Core.List.{List}
-use Prim.Native.Nat.{ℕ}
-use native.Mathlib.Omega.{arith}
-use borrow.Author.Tests.{ltb-false}
-use Rattle.cutting.specs.Job.{InRange}
-use Rattle.promises.specs.declared.Refusal.{Refusal}
-use Rattle.promises.specs.declared.Checked.{Checked}
-use Rattle.promises.specs.declared.Checked.the-variants.{Passed, Refused}
-use Rattle.refusal.specs.Refusals.{next, first-refusal, outcome-by}
-use Rattle.promises.specs.declared.Choices.{Choices}
-use Rattle.promises.specs.declared.JobRecord.{JobRecord}
-use Rattle.promises.specs.declared.JobAnswer.{JobAnswer}
-use Rattle.job.specs.Block.{plate-length-at, plate-width-at, count-at, sizes-end, demand-at, header-checks, entries, record-of, read-by, job-outcome, job-of}
-use Rattle.job.specs.Contracts.{HoldsKinds, HoldsBlock}
-use Rattle.job.proofs.Checks.{cons-passed}
-use Rattle.job.proofs.Entries.{entries-past}
-use Rattle.job.proofs.Read.{header-passed, header-holds, block-passed, pair-passed, range-by, said-by, answered-by, refused-by}
-use Rattle.promises.specs.declared.PlanAnswer.{PlanAnswer}
-use Rattle.plan.specs.Plan.{empty-report, proceed, walk-answer, plan-answer}
-use Rattle.plan.specs.Trees.{ChecksPlan}
-use Rattle.plan.proofs.Plans.{plans-checked, checked-after}
-use Rattle.promises.specs.declared.SawAnswer.{SawAnswer}
-use Rattle.saw.specs.Saw.{demand-checks, saw-checks, SawPasses, saw-record, saw-job, saw-read, saw-read-said, without-profit, saw-of, saw-values, saw-answer, saw-outcome, saw-said, NeverSix, SawChecks}
-use Rattle.saw.specs.Prices.{AtAnyPrices, PricesFree, BesideOffice}
+use Rattle.saw.proofs.Prelude.{_≡_, refl, sym, _∙_, ap, subst, List, ℕ, arith, ltb-false, InRange, Refusal, Checked, Passed, Refused, next, first-refusal, outcome-by, Choices, JobRecord, JobAnswer, plate-length-at, plate-width-at, count-at, sizes-end, demand-at, header-checks, entries, record-of, read-by, job-outcome, job-of, HoldsKinds, HoldsBlock, cons-passed, entries-past, header-passed, header-holds, block-passed, pair-passed, range-by, said-by, answered-by, refused-by, PlanAnswer, empty-report, proceed, walk-answer, plan-answer, ChecksPlan, plans-checked, checked-after, SawAnswer, demand-checks, saw-checks, SawPasses, saw-record, saw-job, saw-read, saw-read-said, without-profit, saw-of, saw-values, saw-answer, saw-outcome, saw-said, NeverSix, SawChecks, AtAnyPrices, PricesFree, BesideOffice}
 use Rattle.saw.proofs.Prices.{same-read, same-answer, prices-free}
 use Rattle.saw.proofs.Six.{read-never, saw-never}
 use Rattle.saw.proofs.Office.{beside}

@@ -1,3 +1,4 @@
+mod Prelude
 pub mod Prices
 pub mod Six
 pub mod Office

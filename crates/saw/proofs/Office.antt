@@ -1,36 +1,7 @@
 -- The saw beside the office: a plan's check with other prices has the same verdict, copies and areas, and without 6 the block's checks
 -- decide alike.
-use mathlib.Core.Path.{_≡_, refl, sym, _∙_, ap}
-use mathlib.Core.Bool.{Bool, true, false}
-use mathlib.Core.List.{List, [], _∷_, _++_}
-use Prim.Native.Nat.{ℕ, zero, suc, _+_, _-_, _*_}
-use lib.Dec.{ltb}
-use lib.ListN.{getD, set}
-use Rattle.promises.specs.declared.Node.{Node}
-use Rattle.promises.specs.declared.Node.the-variants.{Waste, Piece, Turned, Cut}
-use Rattle.cutting.specs.Limits.{most-price, most-demand}
-use Rattle.cutting.specs.Areas.{area, breadth}
-use Rattle.cutting.specs.Tree.{Rect}
+use Rattle.saw.proofs.Prelude.{_≡_, refl, sym, _∙_, ap, Bool, true, false, List, [], _∷_, _++_, ℕ, zero, suc, _+_, _-_, _*_, ltb, getD, set, Node, Waste, Piece, Turned, Cut, most-price, most-demand, area, breadth, Rect, Job, laid, Price, Demand, Checked, Passed, Refused, next, refuse-when, first-refusal, Choices, price-at, demand-at, sizes-end, count-at, header-checks, size-check, pair-checks, each-kind, grain-checks, job-checks, block-job, block-parts, idle-checks, Report, PlanAnswer, node-of, node-checks, parts, report-after, empty-report, proceed, walk, plan-checks, nodes-in, walk-answer, plan-answer, arrays-answer, no-pass, SawReport, SawAnswer, demand-checks, saw-checks, saw-job, without-profit, saw-of, saw-answer, BesideOffice}
 use Rattle.cutting.specs.Pieces as laid
-use Rattle.cutting.specs.Job.{Job, laid}
-use Rattle.promises.specs.declared.Refusal.the-variants.{Price, Demand}
-use Rattle.promises.specs.declared.Checked.{Checked}
-use Rattle.promises.specs.declared.Checked.the-variants.{Passed, Refused}
-use Rattle.refusal.specs.Refusals.{next, refuse-when, first-refusal}
-use Rattle.promises.specs.declared.Choices.{Choices}
-use Rattle.job.specs.Block.{price-at, demand-at, sizes-end, count-at, header-checks, size-check, pair-checks, each-kind, grain-checks, job-checks}
-use Rattle.job.specs.Weights.{block-job}
-use Rattle.job.proofs.Read.{block-parts}
-use Rattle.idle.specs.Idle.{idle-checks}
-use Rattle.promises.specs.declared.Report.{Report}
-use Rattle.promises.specs.declared.PlanAnswer.{PlanAnswer}
-use Rattle.plan.specs.Plan.{node-of, node-checks, parts, report-after, empty-report, proceed, walk, plan-checks, nodes-in, walk-answer, plan-answer}
-use Rattle.plan.specs.Calls.{arrays-answer}
-use Rattle.plan.proofs.Parse.{no-pass}
-use Rattle.promises.specs.declared.SawReport.{SawReport}
-use Rattle.promises.specs.declared.SawAnswer.{SawAnswer}
-use Rattle.saw.specs.Saw.{demand-checks, saw-checks, saw-job, without-profit, saw-of, saw-answer}
-use Rattle.saw.specs.Prices.{BesideOffice}
 
 -- a job at other prices
 abbrev at-prices : (ℕ → ℕ) → Job → Job

@@ -1,34 +1,7 @@
 -- The extent of a tree's kinds is the number of its nodes, so that the part of a node holds the entries of its tree and nothing else.
-use mathlib.Core.Path.{_≡_, refl, sym, _∙_, ap, ap₂, subst}
-use mathlib.Core.List.{List, [], _∷_, _++_, map, map-append, append-assoc, append-nil}
-use Prim.Native.Nat.{ℕ, zero, suc, _+_, _-_, _*_, _≤_, _<_}
-use native.Mathlib.Omega.{arith}
-use native.Mathlib.Numerals.{add-one}
-use native.Mathlib.Decide.{decLt}
-use lib.ListN.{length, take, drop, getD, length-append, length-map, drop-of-length-le, List·getD-append}
-use lib.Seq.{drop-cons, drop-append-add, take-at, getD-append-add}
-use borrow.Author.Tests.{lt-ltb, le-ltb}
-use denote.Ref.{RefT, ptr, now}
-use Rattle.promises.specs.declared.Direction.{Direction}
-use Rattle.promises.specs.declared.Direction.the-variants.{Length, Width}
-use Rattle.promises.specs.declared.Node.{Node}
-use Rattle.promises.specs.declared.Node.the-variants.{Cut}
-use Rattle.cutting.specs.Lists.{only}
-use Rattle.cutting.specs.Tree.{Tree, waste, piece, cut}
+use Rattle.saw.proofs.Prelude.{_≡_, refl, sym, _∙_, ap, ap₂, subst, List, [], _∷_, _++_, map, map-append, append-assoc, append-nil, ℕ, zero, suc, _+_, _-_, _*_, _≤_, _<_, arith, add-one, decLt, length, take, drop, getD, length-append, length-map, drop-of-length-le, List·getD-append, drop-cons, drop-append-add, take-at, getD-append-add, lt-ltb, le-ltb, RefT, ptr, now, Direction, Length, Width, Node, Cut, only, Tree, waste, piece, cut, preorder, kind-of, node-count, kinds-of, count-cut, Refusal, Checked, Passed, Refused, Choices, PlanOf, kinds-length, operands-length, Part, SawAnswer, SawPasses, saw-job, saw-answer, SawChecks, subtrees, tree-at, left-after, extent, end-of, between, part-if, part-by, node-part, IsPart, AtEnd, HandsBack}
 use Rattle.cutting.specs.Pieces as laid
-use Rattle.cutting.specs.Preorder.{preorder, kind-of, node-count, kinds-of}
-use Rattle.cutting.proofs.Preorder.{count-cut}
-use Rattle.promises.specs.declared.Refusal.{Refusal}
-use Rattle.promises.specs.declared.Checked.{Checked}
-use Rattle.promises.specs.declared.Checked.the-variants.{Passed, Refused}
-use Rattle.promises.specs.declared.Choices.{Choices}
 use Rattle.node.specs.Nodes.{node-of}
-use Rattle.plan.specs.Trees.{PlanOf}
-use Rattle.plan.proofs.Preorder.{kinds-length, operands-length}
-use Rattle.promises.specs.declared.Part.{Part}
-use Rattle.promises.specs.declared.SawAnswer.{SawAnswer}
-use Rattle.saw.specs.Saw.{SawPasses, saw-job, saw-answer, SawChecks}
-use Rattle.saw.specs.Parts.{subtrees, tree-at, left-after, extent, end-of, between, part-if, part-by, node-part, IsPart, AtEnd, HandsBack}
 use Rattle.saw.proofs.Prices.{same-answer}
 use Rattle.saw.proofs.Calls.{check-met}
 

@@ -1,23 +1,6 @@
 -- Between blocks that differ only in prices the saw's checks and its record are equal, and so is everything that it answers. Whatever the
 -- prices are to be, such a block has them.
-use mathlib.Core.Path.{_≡_, refl, sym, _∙_, ap, ap₂, subst}
-use mathlib.Core.Bool.{Bool, true, false, _||_, not}
-use mathlib.Core.List.{List, [], _∷_, _++_, map}
-use Prim.Native.Nat.{ℕ, zero, suc, _+_, _*_, _≤_, _<_}
-use native.Mathlib.Omega.{arith}
-use lib.Dec.{ltb, eqb}
-use lib.ListN.{length, getD, set, length-set}
-use lib.Seq.{getD-set-same, getD-set-other}
-use borrow.Author.Tests.{ltb-true}
-use Rattle.cutting.specs.Lists.{range, only}
-use Rattle.promises.specs.declared.Refusal.the-variants.{ShortHeader, PlateSide, KindCount, Kerf, BlockLength, KindSide, Demand, Grain}
-use Rattle.refusal.specs.Refusals.{Check, first-refusal}
-use Rattle.promises.specs.declared.Choices.{Choices}
-use Rattle.job.specs.Block.{u16-at, u32-at, price-at, plate-length-at, plate-width-at, count-at, kerf-at, sizes-end, length-at, width-at, demand-at, outside, header-checks, size-check, each-kind, entries, record-of, read-by, job-of, grain-at, kind-bytes, grain-checks, grains-of}
-use Rattle.job.proofs.Read.{sizes-least}
-use Rattle.plan.specs.Plan.{proceed, plan-answer}
-use Rattle.saw.specs.Saw.{demand-checks, saw-checks, saw-record, saw-read, saw-of, saw-answer}
-use Rattle.saw.specs.Prices.{PriceByte, OnlyPrices, PricesFree}
+use Rattle.saw.proofs.Prelude.{_≡_, refl, sym, _∙_, ap, ap₂, subst, Bool, true, false, _||_, not, List, [], _∷_, _++_, map, ℕ, zero, suc, _+_, _*_, _≤_, _<_, arith, ltb, eqb, length, getD, set, length-set, getD-set-same, getD-set-other, ltb-true, range, only, ShortHeader, PlateSide, KindCount, Kerf, BlockLength, KindSide, Demand, Grain, Check, first-refusal, Choices, u16-at, u32-at, price-at, plate-length-at, plate-width-at, count-at, kerf-at, sizes-end, length-at, width-at, demand-at, outside, header-checks, size-check, each-kind, entries, record-of, read-by, job-of, grain-at, kind-bytes, grain-checks, grains-of, sizes-least, proceed, plan-answer, demand-checks, saw-checks, saw-record, saw-read, saw-of, saw-answer, PriceByte, OnlyPrices, PricesFree}
 
 -- each of the four bytes of every price is one that may differ
 pub price-bytes : (h n i j : ℕ) → i < n → j < 4 → PriceByte h n (h + 4 * n + 6 * i + j)

@@ -1,22 +1,5 @@
 -- The saw never gives 6: no check of its own, and none of a plan, has that number.
-use mathlib.Core.Path.{_≡_}
-use mathlib.Core.Bool.{Bool, true, false}
-use mathlib.Core.List.{List, [], _∷_, _++_}
-use Prim.Native.Nat.{ℕ, zero, suc, _+_}
-use native.Mathlib.Omega.{arith}
-use Rattle.cutting.specs.Tree.{Rect}
-use Rattle.cutting.specs.Job.{Job}
-use Rattle.promises.specs.declared.Refusal.{Refusal}
-use Rattle.promises.specs.declared.Checked.{Checked}
-use Rattle.promises.specs.declared.Checked.the-variants.{Passed, Refused}
-use Rattle.refusal.specs.Refusals.{Check, next, refuse-when, first-refusal}
-use Rattle.promises.specs.declared.Choices.{Choices}
-use Rattle.job.specs.Block.{sizes-end, count-at, header-checks, size-check, each-kind, array-checks, grain-check, grain-checks}
-use Rattle.idle.specs.Idle.{idle-checks}
-use Rattle.promises.specs.declared.Report.{Report}
-use Rattle.promises.specs.declared.PlanAnswer.{PlanAnswer}
-use Rattle.plan.specs.Plan.{node-of, node-checks, parts, report-after, empty-report, proceed, walk, plan-checks, nodes-in, walk-answer, plan-answer}
-use Rattle.saw.specs.Saw.{NeverSix, demand-checks, saw-checks, saw-job, saw-answer}
+use Rattle.saw.proofs.Prelude.{_≡_, Bool, true, false, List, [], _∷_, _++_, ℕ, zero, suc, _+_, arith, Rect, Job, Refusal, Checked, Passed, Refused, Check, next, refuse-when, first-refusal, Choices, sizes-end, count-at, header-checks, size-check, each-kind, array-checks, grain-check, grain-checks, idle-checks, Report, PlanAnswer, node-of, node-checks, parts, report-after, empty-report, proceed, walk, plan-checks, nodes-in, walk-answer, plan-answer, NeverSix, demand-checks, saw-checks, saw-job, saw-answer}
 
 -- none of a list of checks has number 6
 abbrev NoneSix : List Check → Type 0

@@ -1,31 +1,5 @@
 -- What is known of a sizes block that passed its checks, of the sizes that were read from it, and of the answer.
-use mathlib.Core.Path.{_≡_, refl, sym, _∙_, ap, ap₂, subst}
-use mathlib.Core.Bool.{false, not}
-use mathlib.Core.List.{List, [], _∷_}
-use Prim.Native.Nat.{ℕ, _+_, _*_, _≤_, _<_}
-use native.Mathlib.Omega.{arith}
-use borrow.Author.Tests.{ltb-false, eqb-true, not-false}
-use lib.Dec.{ltb, eqb}
-use lib.ListN.{length}
-use Rattle.cutting.specs.Limits.{most-true-side, most-true-kerf}
-use Rattle.cutting.specs.Job.{Job, InRange}
-use Rattle.cutting.specs.Relaxation.{SameKinds}
-use Rattle.refusal.specs.Refusals.{refuse-when, next, first-refusal}
-use Rattle.promises.specs.declared.Checked.{Checked}
-use Rattle.promises.specs.declared.Checked.the-variants.{Passed, Refused}
-use Rattle.promises.specs.declared.Refusal.{Refusal}
-use Rattle.promises.specs.declared.Refusal.the-variants.{SizesLength}
-use Rattle.promises.specs.declared.Choices.{Choices}
-use Rattle.promises.specs.declared.JobAnswer.{JobAnswer}
-use Rattle.job.specs.Block.{count-at, outside, each-kind, job-checks, record-of, read-of}
-use Rattle.job.specs.Weights.{block-job}
-use Rattle.job.proofs.Checks.{passed-both, passed-false, cons-passed, each-passed}
-use Rattle.job.proofs.Entries.{entries-in}
-use Rattle.job.proofs.Read.{or-false, inside, read-in-range, answered, refused}
-use Rattle.sizes.specs.declared.TrueSizes.{TrueSizes}
-use Rattle.sizes.specs.declared.SizesAnswer.{SizesAnswer}
-use Rattle.sizes.specs.declared.TrueAnswer.{TrueAnswer}
-use Rattle.sizes.specs.Sizes.{true-plate-length-at, true-plate-width-at, true-kerf-at, true-length-at, true-width-at, true-sides-outside, bytes-check, kind-check, sizes-checks, sizes-of, empty-sizes, sizes-by, sizes-read, true-job, block-true-job, true-verdict, true-refused, true-by, true-read, TrueRange}
+use Rattle.sizes.proofs.Prelude.{_≡_, refl, sym, _∙_, ap, ap₂, subst, false, not, List, [], _∷_, ℕ, _+_, _*_, _≤_, _<_, arith, ltb-false, eqb-true, not-false, ltb, eqb, length, most-true-side, most-true-kerf, Job, InRange, SameKinds, refuse-when, next, first-refusal, Checked, Passed, Refused, Refusal, SizesLength, Choices, JobAnswer, count-at, outside, each-kind, job-checks, record-of, read-of, block-job, passed-both, passed-false, cons-passed, each-passed, entries-in, or-false, inside, read-in-range, answered, refused, TrueSizes, SizesAnswer, TrueAnswer, true-plate-length-at, true-plate-width-at, true-kerf-at, true-length-at, true-width-at, true-sides-outside, bytes-check, kind-check, sizes-checks, sizes-of, empty-sizes, sizes-by, sizes-read, true-job, block-true-job, true-verdict, true-refused, true-by, true-read, TrueRange}
 
 -- two true sides of which none lies outside
 both-inside : (x y : ℕ) → true-sides-outside x y ≡ false → ((1 ≤ x) × (x ≤ most-true-side)) × ((1 ≤ y) × (y ≤ most-true-side))

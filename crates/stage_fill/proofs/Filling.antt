@@ -1,32 +1,6 @@
 -- The blocks cell after cell and block after block, and the table when its lists are off.
-use mathlib.Core.Path.{_≡_, refl, sym, _∙_, ap, ap₂}
-use mathlib.Core.List.{List, [], _∷_}
-use Prim.Native.Nat.{ℕ, zero, suc, _+_, _*_, _/_, _%_, _≤_, _<_}
-use native.Mathlib.Nat.{mul-le-mul-right, mod-lt, div-add-mod', div-lt-iff-lt-mul}
-use native.Mathlib.Omega.{arith}
-use lib.Dec.{leb}
-use lib.ListN.{length, getD, drop}
-use Rattle.promises.specs.declared.Direction.{Direction}
-use Rattle.promises.specs.declared.Direction.the-variants.{Length, Width}
-use Rattle.cutting.specs.Job.{Job}
-use Rattle.cutting.specs.Staged.{block}
-use Rattle.cutting.proofs.Table.{positions-some}
-use Rattle.table.specs.Table.{position-count, position}
-use Rattle.table.specs.Staged.{block-number, staged-words, staged-word}
-use Rattle.table.specs.Contracts.{size-job, StagedFillable, StagedBy}
-use Rattle.table.specs.States.{block-at}
-use Rattle.table.proofs.Words.{cell-before, words-past}
-use Rattle.table.proofs.Figures.{entry-is}
-use Rattle.table.proofs.Staged.{block-one, block-number-below}
-use Rattle.state_cells.specs.declared.shape.Shape.{Shape}
-use Rattle.state_cells.specs.Places.{CellsLent, shape-of}
-use Rattle.state_fill.specs.Tables.{Counted, Bare, Plain}
-use Rattle.state_fill.proofs.Filling.{lent-kept, lent-of}
-use Rattle.states.proofs.Ties.{one-digit}
-use Rattle.table.specs.declared.TableSize.{TableSize}
-use Rattle.stage_fill.specs.declared.blocks.Block.{Block}
+use Rattle.stage_fill.proofs.Prelude.{_≡_, refl, sym, _∙_, ap, ap₂, List, [], _∷_, ℕ, zero, suc, _+_, _*_, _/_, _%_, _≤_, _<_, mul-le-mul-right, mod-lt, div-add-mod', div-lt-iff-lt-mul, arith, leb, length, getD, drop, Direction, Length, Width, Job, block, positions-some, position-count, position, block-number, staged-words, staged-word, size-job, StagedFillable, StagedBy, block-at, cell-before, words-past, entry-is, block-one, block-number-below, Shape, CellsLent, shape-of, Counted, Bare, Plain, lent-kept, lent-of, one-digit, TableSize, Block, first-of, Numbered, block-start, cell-number, Below, BlockLent, BlockMade, StagesLent, StagesMade}
 use Rattle.stage_fill.proofs.Numbers.{few-cells}
-use Rattle.stage_fill.specs.Blocks.{first-of, Numbered, block-start, cell-number, Below, BlockLent, BlockMade, StagesLent, StagesMade}
 
 -- what a block is lent, with a table of the same length
 pub block-kept : {J : Job} {normal-lengths normal-widths floors : List ℕ} {shape : Shape} {block : Block} {old new : List ℕ} → length new ≡ length old → BlockLent J normal-lengths normal-widths floors shape block old → BlockLent J normal-lengths normal-widths floors shape block new

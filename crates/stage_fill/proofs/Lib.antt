@@ -1,3 +1,4 @@
+mod Prelude
 pub mod Steps
 pub mod Making
 pub mod Numbers

@@ -1,36 +1,5 @@
 -- A cell that was made by its steps holds the figures of its block, and its list covers them over those of the cells before it.
-use mathlib.Core.Path.{_≡_, sym, _∙_, ap, ap₂}
-use mathlib.Core.Logic.{_⊎_, inl, inr}
-use mathlib.Core.List.{List}
-use Prim.Native.Nat.{ℕ, suc, _+_, _-_, _*_, _≤_, _<_, max}
-use native.Mathlib.Decide.{decLe}
-use native.Mathlib.Omega.{arith}
-use lib.Dec.{T, leb, leb→le, le→leb}
-use lib.ListN.{getD}
-use Rattle.promises.specs.declared.Direction.{Direction}
-use Rattle.promises.specs.declared.Direction.the-variants.{Length, Width}
-use Rattle.cutting.specs.Limits.{most-wide-figure}
-use Rattle.cutting.specs.Tree.{side}
-use Rattle.cutting.specs.Pieces.{upright}
-use Rattle.cutting.specs.Shares.{other}
-use Rattle.cutting.specs.Job.{Job}
-use Rattle.cutting.specs.Listed.{InTableRange}
-use Rattle.cutting.proofs.Members.{table-lies}
-use Rattle.table.specs.Contracts.{Positions}
-use Rattle.table.specs.Words.{Outside, Half, Axis}
-use Rattle.table.specs.States.{Covers, block-at}
-use Rattle.table.proofs.Figures.{positions-axis}
-use Rattle.table.proofs.Weighed.{plain-order}
-use Rattle.table.proofs.Complete.{singles}
-use Rattle.table.proofs.Staged.{sided, block-above, block-larger, block-uncut, block-single, sided-above, sided-larger, sided-prior, sided-joins, block-complete}
-use Rattle.state_joins.specs.declared.cuts.Line.{Line}
-use Rattle.states.specs.States.{held, Rises, Flagged, Low}
-use Rattle.state_joins.specs.Joins.{Listed, Served, Ready}
-use Rattle.state_cells.specs.Cells.{Level, Levelled, Steps, Finished, FlaggedBelow}
-use Rattle.states.proofs.Growing.{outside-chain}
-use Rattle.state_joins.proofs.Joining.{held-kept, note-kept, listed-kept}
-use Rattle.state_cells.proofs.Making.{covers-more, covers-same, covers-steps, start-covers, level-past, side-low, side-taken}
-use Rattle.stage_fill.specs.Cells.{Made, UncutSteps, LaterSteps}
+use Rattle.stage_fill.proofs.Prelude.{_≡_, sym, _∙_, ap, ap₂, _⊎_, inl, inr, List, ℕ, suc, _+_, _-_, _*_, _≤_, _<_, max, decLe, arith, T, leb, leb→le, le→leb, getD, Direction, Length, Width, most-wide-figure, side, upright, other, Job, InTableRange, table-lies, Positions, Outside, Half, Axis, Covers, block-at, positions-axis, plain-order, singles, sided, block-above, block-larger, block-uncut, block-single, sided-above, sided-larger, sided-prior, sided-joins, block-complete, Line, held, Rises, Flagged, Low, Listed, Served, Ready, Level, Levelled, Steps, Finished, FlaggedBelow, outside-chain, held-kept, note-kept, listed-kept, covers-more, covers-same, covers-steps, start-covers, level-past, side-low, side-taken, Made, UncutSteps, LaterSteps}
 use Rattle.stage_fill.proofs.Steps.{rises-same, started, start-topped}
 
 -- a cell that is made stays so where words after it are written

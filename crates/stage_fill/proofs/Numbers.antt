@@ -1,41 +1,5 @@
 -- The cells of the blocks by their numbers: each number is one cell's, one cell more is made, and what a cell finds before it.
-use mathlib.Core.Path.{_≡_, refl, sym, _∙_, ap, ap₂, subst}
-use mathlib.Core.Logic.{_⊎_, inl, ⊎-elim}
-use mathlib.Core.List.{List}
-use Prim.Native.Nat.{ℕ, suc, _+_, _-_, _*_, _/_, _%_, _≤_, _<_}
-use native.Mathlib.Nat.{mul-le-mul, mul-le-mul-right, mod-lt, div-add-mod', div-lt-iff-lt-mul}
-use native.Mathlib.Decide.{ℕ-discrete, decLe}
-use native.Mathlib.Omega.{arith}
-use lib.Dec.{leb}
-use lib.ListN.{length, getD, drop}
-use Rattle.promises.specs.declared.Direction.{Direction}
-use Rattle.promises.specs.declared.Direction.the-variants.{Length, Width}
-use Rattle.cutting.specs.Limits.{most-wide-figure, most-pieces}
-use Rattle.cutting.specs.Shares.{other}
-use Rattle.cutting.specs.Job.{Job}
-use Rattle.cutting.specs.Listed.{InTableRange}
-use Rattle.cutting.proofs.Table.{positions-first, positions-some, positions-length}
-use Rattle.table.specs.Table.{position-count}
-use Rattle.table.specs.Staged.{block-number}
-use Rattle.table.specs.Words.{Outside, Run, HalfReady, Axis}
-use Rattle.table.specs.States.{block-at}
-use Rattle.table.proofs.Words.{cell-before}
-use Rattle.table.proofs.Halves.{half-ready, half-cuts}
-use Rattle.table.proofs.Figures.{entry-is, entry-side, positions-axis}
-use Rattle.table.proofs.Weighed.{plain-order}
-use Rattle.table.proofs.Staged.{sided, sided-above, block-above, block-low, block-ceiling, block-number-source, block-number-apart}
-use Rattle.state_cells.specs.declared.shape.Shape.{Shape}
-use Rattle.state_joins.specs.declared.cuts.Line.{Line}
-use Rattle.states.specs.States.{figure-in, note-in, held, Rises}
-use Rattle.state_joins.specs.Joins.{Ready}
-use Rattle.state_cells.specs.Cells.{Level, Levelled}
-use Rattle.state_cells.specs.Places.{CellsLent}
-use Rattle.state_fill.specs.Tables.{Counted}
-use Rattle.states.proofs.Noted.{figure-plain, note-plain}
-use Rattle.state_cells.proofs.Making.{level-later}
-use Rattle.stage_fill.specs.declared.blocks.Block.{Block}
-use Rattle.stage_fill.specs.Cells.{Made, States, UncutReady, UncutSteps, LaterReady, LaterSteps}
-use Rattle.stage_fill.specs.Blocks.{first-of, LineTo, block-start, cell-number, staged-tabled, Below, BlockLent, BlockMade}
+use Rattle.stage_fill.proofs.Prelude.{_≡_, refl, sym, _∙_, ap, ap₂, subst, _⊎_, inl, ⊎-elim, List, ℕ, suc, _+_, _-_, _*_, _/_, _%_, _≤_, _<_, mul-le-mul, mul-le-mul-right, mod-lt, div-add-mod', div-lt-iff-lt-mul, ℕ-discrete, decLe, arith, leb, length, getD, drop, Direction, Length, Width, most-wide-figure, most-pieces, other, Job, InTableRange, positions-first, positions-some, positions-length, position-count, block-number, Outside, Run, HalfReady, Axis, block-at, cell-before, half-ready, half-cuts, entry-is, entry-side, positions-axis, plain-order, sided, sided-above, block-above, block-low, block-ceiling, block-number-source, block-number-apart, Shape, Line, figure-in, note-in, held, Rises, Ready, Level, Levelled, CellsLent, Counted, figure-plain, note-plain, level-later, Block, Made, States, UncutReady, UncutSteps, LaterReady, LaterSteps, first-of, LineTo, block-start, cell-number, staged-tabled, Below, BlockLent, BlockMade}
 use Rattle.stage_fill.proofs.Steps.{rises-same}
 use Rattle.stage_fill.proofs.Making.{made-kept, made-swap, made-ready, Later, later-rest, later-made, later-level, Uncut, uncut-rest, uncut-made, uncut-level}
 

@@ -1,18 +1,5 @@
 -- The steps of a cell: a start from two cells, what it keeps through the inheritances, and which states are flagged.
-use mathlib.Core.Path.{_≡_, refl, _∙_, ap}
-use mathlib.Core.Logic.{_⊎_, inl, inr}
-use mathlib.Core.List.{List, [], _∷_}
-use Prim.Native.Nat.{ℕ, _+_, _≤_, _<_, max}
-use native.Mathlib.Omega.{arith}
-use lib.Dec.{leb, leb→le}
-use lib.ListN.{length, getD}
-use Rattle.table.specs.States.{below}
-use Rattle.table.specs.Words.{Run}
-use Rattle.states.specs.States.{figure-in, note-in, held, under, Summed, Rises, Flagged, Growing, Topped}
-use Rattle.state_cells.specs.Cells.{FlaggedBelow}
-use Rattle.states.proofs.Noted.{figure-small, figure-plain, note-plain}
-use Rattle.states.proofs.Ties.{one-digit}
-use Rattle.stage_fill.specs.Cells.{States}
+use Rattle.stage_fill.proofs.Prelude.{_≡_, refl, _∙_, ap, _⊎_, inl, inr, List, [], _∷_, ℕ, _+_, _≤_, _<_, max, arith, leb, leb→le, length, getD, below, Run, figure-in, note-in, held, under, Summed, Rises, Flagged, Growing, Topped, FlaggedBelow, figure-small, figure-plain, note-plain, one-digit, States}
 
 -- the order of states of one digit is that of numbers
 pub one-order : (blocks : List ℕ) → under blocks 0 ≡ leb

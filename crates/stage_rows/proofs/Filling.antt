@@ -1,29 +1,6 @@
 -- Block after block: the blocks passed hold their figures, and all of them are the staged table.
-use mathlib.Core.Path.{_≡_, refl, sym, _∙_, ap, ap₂, subst}
-use mathlib.Core.List.{List}
-use Prim.Native.Nat.{ℕ, suc, _+_, _-_, _*_, _≤_, _<_}
-use native.Mathlib.Nat.{mul-le-mul, mul-le-mul-right}
-use native.Mathlib.Decide.{ℕ-discrete}
-use native.Mathlib.Omega.{arith}
-use lib.Dec.{leb}
-use lib.ListN.{length, getD, drop}
-use Rattle.promises.specs.declared.Direction.{Direction}
-use Rattle.promises.specs.declared.Direction.the-variants.{Length, Width}
-use Rattle.cutting.specs.Job.{Job}
-use Rattle.cutting.specs.Staged.{block}
-use Rattle.cutting.specs.Listed.{InTableRange, listed-weight}
-use Rattle.table.specs.declared.TableSize.{TableSize}
-use Rattle.table.specs.Staged.{block-number, staged-words, staged-word, StagedFigures}
-use Rattle.table.specs.Contracts.{size-job, Fillable, StagedFillable, StagedBy}
-use Rattle.table.specs.States.{block-at}
-use Rattle.table.proofs.Words.{cell-before, words-past}
-use Rattle.table.proofs.Figures.{entry-is, positions-axis}
-use Rattle.table.proofs.Weighed.{plain-order}
-use Rattle.table.proofs.Staged.{block-ceiling, block-low, block-one, block-number-below, block-number-apart}
-use Rattle.row_fill.specs.Rows.{Entries, Rows}
-use Rattle.row_fill.proofs.Taken.{positions-entries}
+use Rattle.stage_rows.proofs.Prelude.{_≡_, refl, sym, _∙_, ap, ap₂, subst, List, ℕ, suc, _+_, _-_, _*_, _≤_, _<_, mul-le-mul, mul-le-mul-right, ℕ-discrete, arith, leb, length, getD, drop, Direction, Length, Width, Job, block, InTableRange, listed-weight, TableSize, block-number, staged-words, staged-word, StagedFigures, size-job, Fillable, StagedFillable, StagedBy, block-at, cell-before, words-past, entry-is, positions-axis, plain-order, block-ceiling, block-low, block-one, block-number-below, block-number-apart, Entries, Rows, positions-entries, UncutLent, UncutBlock, LengthsLent, LengthBlock, WidthsLent, WidthBlock}
 use Rattle.row_fill.proofs.Filling as rows
-use Rattle.stage_rows.specs.Blocks.{UncutLent, UncutBlock, LengthsLent, LengthBlock, WidthsLent, WidthBlock}
 use Rattle.stage_rows.proofs.Uncut.{uncut-hold}
 use Rattle.stage_rows.proofs.Lengths.{lengths-hold}
 use Rattle.stage_rows.proofs.Widths.{widths-hold}

@@ -1,28 +1,5 @@
 -- A length-first block: a row from its source's and the row before, its length cuts, row after row, and its figures.
-use mathlib.Core.Path.{_≡_, refl, _∙_, ap}
-use mathlib.Core.List.{List}
-use Prim.Native.Nat.{ℕ, suc, _+_, _-_, _*_, _≤_, _<_, max}
-use native.Mathlib.Decide.{ℕ-discrete}
-use native.Mathlib.Omega.{arith}
-use borrow.Author.Count.{below-more}
-use lib.Dec.{leb}
-use lib.ListN.{length, getD}
-use Rattle.promises.specs.declared.Direction.the-variants.{Length, Width}
-use Rattle.cutting.specs.Job.{Job}
-use Rattle.cutting.specs.Listed.{InTableRange}
-use Rattle.table.specs.Contracts.{Positions}
-use Rattle.table.specs.Words.{Run, HalfReady, Half}
-use Rattle.table.specs.States.{block-at}
-use Rattle.table.proofs.Words.{cell-before, outside-none}
-use Rattle.table.proofs.Halves.{half-cuts, half-ready, half-next}
-use Rattle.table.proofs.Figures.{entry-side}
-use Rattle.table.proofs.Weighed.{plain-order}
-use Rattle.table.proofs.Staged.{sided, sided-joins, block-prior, block-ceiling, block-complete}
-use Rattle.row_fill.specs.Rows.{Entries, LengthsTaken, Joins, Rows}
-use Rattle.row_fill.specs.Ready.{ceiling, LengthsReady}
-use Rattle.row_fill.proofs.Pushing.{joins-more}
-use Rattle.row_fill.proofs.Taken.{positions-entries, side-taken, cut-low, cut-taken, each}
-use Rattle.stage_rows.specs.Blocks.{GreaterReady, LengthsLent, LengthRow, LengthBlock}
+use Rattle.stage_rows.proofs.Prelude.{_≡_, refl, _∙_, ap, List, ℕ, suc, _+_, _-_, _*_, _≤_, _<_, max, ℕ-discrete, arith, below-more, leb, length, getD, Length, Width, Job, InTableRange, Positions, Run, HalfReady, Half, block-at, cell-before, outside-none, half-cuts, half-ready, half-next, entry-side, plain-order, sided, sided-joins, block-prior, block-ceiling, block-complete, Entries, LengthsTaken, Joins, Rows, ceiling, LengthsReady, joins-more, positions-entries, side-taken, cut-low, cut-taken, each, GreaterReady, LengthsLent, LengthRow, LengthBlock}
 
 -- a row keeps what it has become while the words up to its end are as they were
 length-same : {normal-lengths floors : List ℕ} {columns source at a : ℕ} {old new new′ : List ℕ} → LengthRow normal-lengths floors columns source at a old new → ((i : ℕ) → i < at + a * columns + columns → getD new′ i 0 ≡ getD new i 0)

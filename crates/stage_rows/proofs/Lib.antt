@@ -1,3 +1,4 @@
+mod Prelude
 pub mod Uncut
 pub mod Lengths
 pub mod Widths

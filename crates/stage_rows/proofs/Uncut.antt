@@ -1,32 +1,5 @@
 -- The block without a cut: a row gathered from its units, its pieces, row after row, and its figures.
-use mathlib.Core.Path.{_≡_, refl, sym, _∙_, ap}
-use mathlib.Core.List.{List}
-use Prim.Native.Nat.{ℕ, _+_, _-_, _*_, _≤_, _<_, max}
-use native.Mathlib.Decide.{ℕ-discrete}
-use native.Mathlib.Omega.{arith}
-use borrow.Author.Count.{below-more}
-use lib.Dec.{leb, leb→le, le→leb}
-use lib.ListN.{length, getD, set}
-use lib.Seq.{getD-set-same, getD-set-other}
-use Rattle.promises.specs.declared.Direction.{Direction}
-use Rattle.promises.specs.declared.Direction.the-variants.{Length, Width}
-use Rattle.cutting.specs.Pieces.{upright}
-use Rattle.cutting.specs.Job.{Job}
-use Rattle.cutting.specs.Listed.{InTableRange, listed-weight}
-use Rattle.cutting.proofs.Members.{table-lies}
-use Rattle.table.specs.declared.TableSize.{TableSize}
-use Rattle.table.specs.Contracts.{size-job, Positions}
-use Rattle.table.specs.Words.{Run}
-use Rattle.table.specs.States.{block-at}
-use Rattle.table.proofs.Words.{cell-before, outside-none}
-use Rattle.table.proofs.Weighed.{plain-order}
-use Rattle.table.proofs.Complete.{singles}
-use Rattle.table.proofs.Staged.{block-larger, block-ceiling, block-uncut, block-single}
-use Rattle.row_fill.specs.Raised.{Raised, Pieces}
-use Rattle.row_fill.specs.Rows.{Entries, Spread, Rows}
-use Rattle.row_fill.specs.Ready.{ceiling, Capped, RowReady, WidthsReady}
-use Rattle.row_fill.proofs.Taken.{positions-entries, each}
-use Rattle.stage_rows.specs.Blocks.{Rising, Gathered, UncutRow, UncutLent, UncutCells, UncutBlock}
+use Rattle.stage_rows.proofs.Prelude.{_≡_, refl, sym, _∙_, ap, List, ℕ, _+_, _-_, _*_, _≤_, _<_, max, ℕ-discrete, arith, below-more, leb, leb→le, le→leb, length, getD, set, getD-set-same, getD-set-other, Direction, Length, Width, upright, Job, InTableRange, listed-weight, table-lies, TableSize, size-job, Positions, Run, block-at, cell-before, outside-none, plain-order, singles, block-larger, block-ceiling, block-uncut, block-single, Raised, Pieces, Entries, Spread, Rows, ceiling, Capped, RowReady, WidthsReady, positions-entries, each, Rising, Gathered, UncutRow, UncutLent, UncutCells, UncutBlock}
 
 -- no word gathered yet, and one more
 pub gathered-none : {normal-widths unit xs : List ℕ} {start : ℕ} → Gathered normal-widths 1 start unit xs xs

@@ -1,27 +1,5 @@
 -- A width-first block: a row from its source's, row after row, and its figures.
-use mathlib.Core.Path.{_≡_, refl, sym, _∙_, ap}
-use mathlib.Core.List.{List}
-use Prim.Native.Nat.{ℕ, suc, _+_, _-_, _*_, _≤_, _<_}
-use native.Mathlib.Decide.{ℕ-discrete}
-use native.Mathlib.Omega.{arith}
-use borrow.Author.Count.{below-more}
-use lib.Dec.{leb}
-use lib.ListN.{length, getD, set, length-set}
-use lib.Seq.{getD-set-same, getD-set-other}
-use Rattle.promises.specs.declared.Direction.the-variants.{Length, Width}
-use Rattle.cutting.specs.Job.{Job}
-use Rattle.cutting.specs.Listed.{InTableRange}
-use Rattle.table.specs.Contracts.{Positions}
-use Rattle.table.specs.Words.{Outside}
-use Rattle.table.specs.States.{block-at}
-use Rattle.table.proofs.Words.{cell-before, outside-none}
-use Rattle.table.proofs.Figures.{entry-side}
-use Rattle.table.proofs.Weighed.{plain-order}
-use Rattle.table.proofs.Staged.{sided, sided-joins, block-prior, block-ceiling, block-complete}
-use Rattle.row_fill.specs.Rows.{Entries, Spread, Widened, Rows}
-use Rattle.row_fill.specs.Ready.{ceiling, Capped, Laid, WidthsReady}
-use Rattle.row_fill.proofs.Taken.{half-found, positions-entries, side-taken, push-taken, each}
-use Rattle.stage_rows.specs.Blocks.{WidenReady, WidenedRow, WidthsLent, WidthBlock}
+use Rattle.stage_rows.proofs.Prelude.{_≡_, refl, sym, _∙_, ap, List, ℕ, suc, _+_, _-_, _*_, _≤_, _<_, ℕ-discrete, arith, below-more, leb, length, getD, set, length-set, getD-set-same, getD-set-other, Length, Width, Job, InTableRange, Positions, Outside, block-at, cell-before, outside-none, entry-side, plain-order, sided, sided-joins, block-prior, block-ceiling, block-complete, Entries, Spread, Widened, Rows, ceiling, Capped, Laid, WidthsReady, half-found, positions-entries, side-taken, push-taken, each, WidenReady, WidenedRow, WidthsLent, WidthBlock}
 
 -- a row whose source's words stand at their units
 module _ {normal-widths unit laid table : List ℕ} {columns side source start : ℕ} (ready : WidenReady normal-widths columns side source start unit table) (spread : Spread normal-widths source columns table unit laid) where

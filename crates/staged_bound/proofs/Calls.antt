@@ -1,45 +1,6 @@
 -- What the staged bound call promises, from the verdicts of job, weights and limit and from the staged bound of an accepted job.
-use mathlib.Core.Path.{_≡_, refl, sym, _∙_, ap, subst}
-use mathlib.Core.Bool.{true, false}
-use mathlib.Core.List.{List, [], _∷_}
-use Prim.Native.Nat.{ℕ, _≤_}
-use native.Mathlib.Omega.{arith}
-use Rattle.promises.specs.declared.Direction.{Direction}
-use Rattle.promises.specs.declared.Direction.the-variants.{Length, Width}
-use Rattle.cutting.specs.declared.Sides.{Sides}
-use Rattle.cutting.specs.Sides.{rect-of, sides-of}
-use Rattle.cutting.specs.Limits.{most-limit}
-use Rattle.cutting.specs.Job.{Job, SolidKinds, InRange, widened, capacity, at-full-demand, ordered, members, pieces}
-use Rattle.cutting.specs.Staged.{block, staged-bound}
-use Rattle.cutting.specs.Listed.{listed-weight, pieces-job, PieceArray}
-use Rattle.cutting.proofs.Members.{range-solid, widened-solid}
-use Rattle.cutting.proofs.Finer.{staged-finer, stages-finer}
-use Rattle.cutting.proofs.Bound.{capacity-less}
-use Rattle.cutting.proofs.Staged.{block-figure, block-recursion, block-floor, block-most, staged-under-most, staged-under-earned, staged-most, staged-holds, staged-more, staged-less, staged-ceiling}
-use Rattle.cutting.proofs.Promises.{normal-listed}
-use Rattle.refusal.specs.Refusals.{next, first-refusal, outcome-by}
-use Rattle.promises.specs.declared.Refusal.{Refusal}
-use Rattle.promises.specs.declared.Refusal.the-variants.{StageLimit}
-use Rattle.promises.specs.declared.Checked.{Checked}
-use Rattle.promises.specs.declared.Checked.the-variants.{Passed, Refused}
-use Rattle.promises.specs.declared.Choices.{Choices}
-use Rattle.promises.specs.declared.JobRecord.{JobRecord}
-use Rattle.job.specs.Block.{outside, job-of}
-use Rattle.job.specs.Weights.{block-job, weight-in, Accepted}
-use Rattle.job.proofs.Checks.{passed-both}
-use Rattle.job.proofs.Weights.{weights-passed, accepted-both, accepted-in-range}
-use Rattle.job.proofs.Taken.{Taken}
-use Rattle.stages.specs.Stages.{limit-check}
-use Rattle.stages.proofs.Limit.{limit-by, limit-inside}
-use Rattle.bound.specs.Bound.{Memory, answer-by, wide-job, block-capacity, accept-verdict, report-values, bound-outcome}
-use Rattle.promises.specs.declared.BoundReport.{BoundReport}
-use Rattle.promises.specs.declared.BoundAnswer.{BoundAnswer}
+use Rattle.staged_bound.proofs.Prelude.{_≡_, refl, sym, _∙_, ap, subst, true, false, List, [], _∷_, ℕ, _≤_, arith, Direction, Length, Width, Sides, rect-of, sides-of, most-limit, Job, SolidKinds, InRange, widened, capacity, at-full-demand, ordered, members, pieces, block, staged-bound, listed-weight, pieces-job, PieceArray, range-solid, widened-solid, staged-finer, stages-finer, capacity-less, block-figure, block-recursion, block-floor, block-most, staged-under-most, staged-under-earned, staged-most, staged-holds, staged-more, staged-less, staged-ceiling, normal-listed, next, first-refusal, outcome-by, Refusal, StageLimit, Checked, Passed, Refused, Choices, JobRecord, outside, job-of, block-job, weight-in, Accepted, passed-both, weights-passed, accepted-both, accepted-in-range, Taken, limit-check, limit-by, limit-inside, Memory, answer-by, wide-job, block-capacity, accept-verdict, report-values, bound-outcome, BoundReport, BoundAnswer, answered-behind, pieces-range, range-taken, staged-checks, StagedLeaves, limit-verdict, staged-verdict, staged-block-report, staged-answer, StagedHolds, StagedPromises, Stageable, Staged}
 use Rattle.promises.specs.declared.BoundAnswer.the-variants as answer
-use Rattle.bound.proofs.Holds.{answered-behind}
-use Rattle.bound.proofs.Listed.{pieces-range}
-use Rattle.bound.proofs.Calls.{range-taken}
-use Rattle.staged_bound.specs.Staged.{staged-checks, StagedLeaves, limit-verdict, staged-verdict, staged-block-report, staged-answer, StagedHolds, StagedPromises}
-use Rattle.staged_bound.specs.Contracts.{Stageable, Staged}
 use Rattle.staged_bound.proofs.Listed.{pieces-staged}
 
 -- the staged bound of the full demands is no less: its blocks are the same, and its capacity is no less

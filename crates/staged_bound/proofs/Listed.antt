@@ -1,36 +1,6 @@
 -- What is answered and left in memory for the array of a job's pieces is the job's own; and the words of the table from which the bound
 -- is read.
-use mathlib.Core.Path.{_≡_, refl, sym, _∙_, ap, ap₂, subst}
-use mathlib.Core.List.{List, [], _∷_}
-use Prim.Native.Nat.{ℕ, _+_, _-_, _*_, _≤_, max}
-use native.Mathlib.Nat.{mul-le-mul-right}
-use native.Mathlib.Omega.{arith}
-use lib.Dec.{ltb, leb}
-use lib.ListN.{length, getD}
-use Rattle.promises.specs.declared.Direction.{Direction}
-use Rattle.promises.specs.declared.Direction.the-variants.{Length, Width}
-use Rattle.cutting.specs.Limits.{most-wide-figure}
-use Rattle.cutting.specs.Job.{Job}
-use Rattle.cutting.specs.Staged.{block}
-use Rattle.cutting.specs.Listed.{InTableRange, size-in, price-in, listed-weight, pieces-job, PieceArray}
-use Rattle.cutting.proofs.Members.{table-solid}
-use Rattle.cutting.proofs.Table.{positions-some}
-use Rattle.cutting.proofs.Staged.{block-floor, listed-block}
-use Rattle.refusal.specs.Refusals.{first-refusal}
-use Rattle.promises.specs.declared.Checked.{Checked}
-use Rattle.promises.specs.declared.Checked.the-variants.{Passed, Refused}
-use Rattle.promises.specs.declared.Refusal.the-variants.{TableShort}
-use Rattle.table.specs.Table.{position-count, position, words-needed, Kept}
-use Rattle.table.specs.Staged.{block-number, staged-words, StagedFigures}
-use Rattle.table.proofs.Weighed.{plain-order}
-use Rattle.table.proofs.Staged.{block-low, block-one}
-use Rattle.bound.specs.Bound.{Memory, list-check, list-after, answer-by}
-use Rattle.promises.specs.declared.BoundAnswer.{BoundAnswer}
-use Rattle.bound.proofs.Storage.{report-is}
-use Rattle.bound.proofs.Last.{last-position, word-last, words-some}
-use Rattle.bound.proofs.Listed.{same-positions, same-count, same-position, same-words}
-use Rattle.staged_bound.specs.Staged.{StagedAfter, staged-checks, staged-report}
-use Rattle.staged_bound.specs.Contracts.{Staged}
+use Rattle.staged_bound.proofs.Prelude.{_≡_, refl, sym, _∙_, ap, ap₂, subst, List, [], _∷_, ℕ, _+_, _-_, _*_, _≤_, max, mul-le-mul-right, arith, ltb, leb, length, getD, Direction, Length, Width, most-wide-figure, Job, block, InTableRange, size-in, price-in, listed-weight, pieces-job, PieceArray, table-solid, positions-some, block-floor, listed-block, first-refusal, Checked, Passed, Refused, TableShort, position-count, position, words-needed, Kept, block-number, staged-words, StagedFigures, plain-order, block-low, block-one, Memory, list-check, list-after, answer-by, BoundAnswer, report-is, last-position, word-last, words-some, same-positions, same-count, same-position, same-words, StagedAfter, staged-checks, staged-report, Staged}
 
 -- the last word of a block holds the plate's figure
 pub block-last : (J : Job) (weight : ℕ → ℕ) → InTableRange J → (n q : ℕ) (xs : List ℕ) → StagedFigures J weight n q xs → (d : Direction) → getD xs (block-number n d * words-needed J q + (words-needed J q - 1)) 0 ≡ block J weight n d (J .plate .0) (J .plate .1) q

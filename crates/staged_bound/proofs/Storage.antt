@@ -1,23 +1,7 @@
 -- What the staged bound of pieces answers, and what lent memory then holds, from the storage as it was laid out.
-use mathlib.Core.Path.{_≡_, refl, sym, _∙_, ap}
-use mathlib.Core.List.{List}
-use Prim.Native.Nat.{ℕ, _+_, _*_}
-use native.Mathlib.Omega.{arith}
-use lib.ListN.{length}
-use Rattle.cutting.specs.Job.{Job}
-use Rattle.promises.specs.declared.Refusal.{Refusal}
-use Rattle.promises.specs.declared.Checked.{Checked}
-use Rattle.table.specs.declared.TableSize.{TableSize}
-use Rattle.table.specs.Staged.{staged-words}
-use Rattle.table.specs.Contracts.{StagedBy}
+use Rattle.staged_bound.proofs.Prelude.{_≡_, refl, sym, _∙_, ap, List, ℕ, _+_, _*_, arith, length, Job, Refusal, Checked, TableSize, staged-words, StagedBy, cell-words, storage-verdict, LaidOut, refused-laid, ready-laid, lent, answer-by, BoundReport, staged-report, Staged}
 use Rattle.storage.specs.declared.Layout.the-variants as layout
-use Rattle.storage.specs.Contracts.{cell-words, storage-verdict, LaidOut}
-use Rattle.storage.proofs.Storage.{refused-laid, ready-laid}
-use Rattle.bound.specs.Bound.{lent, answer-by}
 use Rattle.promises.specs.declared.BoundAnswer.the-variants as answer
-use Rattle.promises.specs.declared.BoundReport.{BoundReport}
-use Rattle.staged_bound.specs.Staged.{staged-report}
-use Rattle.staged_bound.specs.Contracts.{Staged}
 
 -- the words of a cell in all blocks
 abbrev pub blocks-cell : ℕ → ℕ → ℕ

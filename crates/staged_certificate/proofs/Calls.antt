@@ -1,54 +1,8 @@
 -- What the staged certificate promises, from the verdicts of the job, the weights, the limit and the plan and from the staged bound of an
 -- accepted job.
-use mathlib.Core.Path.{_≡_, refl, sym, _∙_, ap, ap₂}
-use mathlib.Core.Bool.{true, false}
-use mathlib.Core.List.{List, [], _∷_}
-use Prim.Native.Nat.{ℕ, _≤_}
-use native.Mathlib.Omega.{arith}
-use Rattle.cutting.specs.Limits.{most-limit}
-use Rattle.cutting.specs.Shares.{stages}
-use Rattle.cutting.specs.Job.{Job}
-use Rattle.cutting.specs.Staged.{staged-bound, NoneStagedBetter}
-use Rattle.cutting.proofs.Members.{range-solid}
-use Rattle.cutting.proofs.AnyKinds.{any-on}
-use Rattle.cutting.proofs.Finer.{staged-finer}
-use Rattle.cutting.proofs.Staged.{staged-holds}
-use Rattle.refusal.specs.Refusals.{next, first-refusal}
-use Rattle.promises.specs.declared.Refusal.{Refusal}
-use Rattle.promises.specs.declared.Refusal.the-variants.{StageLimit}
-use Rattle.promises.specs.declared.Checked.{Checked}
-use Rattle.promises.specs.declared.Checked.the-variants.{Passed, Refused}
-use Rattle.promises.specs.declared.Choices.{Choices}
-use Rattle.promises.specs.declared.JobRecord.{JobRecord}
-use Rattle.job.specs.Block.{outside, job-of}
-use Rattle.job.specs.Weights.{block-job, weight-in, Accepted}
-use Rattle.job.proofs.Checks.{passed-both}
-use Rattle.job.proofs.Read.{read-in-range}
-use Rattle.job.proofs.Weights.{accepted-both, accepted-in-range}
-use Rattle.job.proofs.Taken.{Taken}
-use Rattle.stages.specs.Stages.{limit-check}
-use Rattle.stages.proofs.Limit.{limit-by}
-use Rattle.promises.specs.declared.Report.{Report}
-use Rattle.plan.specs.Plan.{plan-answer}
-use Rattle.plan.specs.Calls.{JobPasses}
-use Rattle.plan.specs.Trees.{tree-in}
-use Rattle.promises.specs.declared.StagedAnswer.{StagedAnswer}
-use Rattle.staged_plan.specs.Check.{within-verdict, within-answer, staged-by}
-use Rattle.staged_plan.proofs.Within.{verdict-by, staged-tree}
-use Rattle.staged_plan.proofs.Calls.{check-met}
-use Rattle.promises.specs.declared.BoundReport.{BoundReport}
-use Rattle.promises.specs.declared.BoundAnswer.{BoundAnswer}
+use Rattle.staged_certificate.proofs.Prelude.{_≡_, refl, sym, _∙_, ap, ap₂, true, false, List, [], _∷_, ℕ, _≤_, arith, most-limit, stages, Job, staged-bound, NoneStagedBetter, range-solid, any-on, staged-finer, staged-holds, next, first-refusal, Refusal, StageLimit, Checked, Passed, Refused, Choices, JobRecord, outside, job-of, block-job, weight-in, Accepted, passed-both, read-in-range, accepted-both, accepted-in-range, Taken, limit-check, limit-by, Report, plan-answer, JobPasses, tree-in, StagedAnswer, within-verdict, within-answer, staged-by, verdict-by, staged-tree, check-met, BoundReport, BoundAnswer, Memory, wide-job, block-capacity, accept-verdict, answered-behind, refused-behind, limit-verdict, staged-checks, staged-block-report, StagedLeaves, Staged, compared, handed-on, certificate-outcome, storage-verdict, Certificate, said-by, best-among, gap-among, handed-before, handed-after, handed-whole, staged-plan-verdict, certify-staged-verdict, staged-certificate, EarnsStaged, CertifyStagedPromises}
 use Rattle.promises.specs.declared.BoundAnswer.the-variants as bound
-use Rattle.bound.specs.Bound.{Memory, wide-job, block-capacity, accept-verdict}
-use Rattle.bound.proofs.Holds.{answered-behind, refused-behind}
-use Rattle.staged_bound.specs.Staged.{limit-verdict, staged-checks, staged-block-report, StagedLeaves}
-use Rattle.staged_bound.specs.Contracts.{Staged}
-use Rattle.certificate.specs.Certificate.{compared, handed-on, certificate-outcome}
-use Rattle.certificate.specs.Contracts.{storage-verdict}
-use Rattle.promises.specs.declared.Certificate.{Certificate}
 use Rattle.promises.specs.declared.Certificate.the-variants as certificate
-use Rattle.certificate.proofs.Comparison.{said-by, best-among, gap-among, handed-before, handed-after, handed-whole}
-use Rattle.staged_certificate.specs.Certificate.{staged-plan-verdict, certify-staged-verdict, staged-certificate, EarnsStaged, CertifyStagedPromises}
 
 module _ (s : List ℕ) (choices : Choices) (ws : List ℕ) (n : ℕ) (kinds operands : List ℕ) where
   abbrev J : Job

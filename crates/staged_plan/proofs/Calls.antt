@@ -1,30 +1,7 @@
 -- The staged check of a job block: a job that is refused, a limit that is, and both read; an answer that equals the definition meets the
 -- whole contract.
-use mathlib.Core.Path.{_≡_, refl, sym, _∙_, ap, subst}
-use mathlib.Core.Bool.{true, false}
-use mathlib.Core.List.{List, [], _∷_}
-use Prim.Native.Nat.{ℕ}
-use Rattle.cutting.specs.Limits.{most-limit}
-use Rattle.cutting.specs.Shares.{stages}
-use Rattle.promises.specs.declared.Refusal.{Refusal}
-use Rattle.promises.specs.declared.Refusal.the-variants.{StageLimit}
-use Rattle.promises.specs.declared.Checked.{Checked}
-use Rattle.promises.specs.declared.Checked.the-variants.{Passed, Refused}
-use Rattle.refusal.specs.Refusals.{next, first-refusal, outcome-by}
-use Rattle.promises.specs.declared.Choices.{Choices}
-use Rattle.promises.specs.declared.JobRecord.{JobRecord}
-use Rattle.promises.specs.declared.JobAnswer.{JobAnswer}
-use Rattle.job.specs.Block.{outside, job-checks, read-of, job-of}
-use Rattle.job.specs.Weights.{block-job}
-use Rattle.job.proofs.Checks.{passed-both}
+use Rattle.staged_plan.proofs.Prelude.{_≡_, refl, sym, _∙_, ap, subst, true, false, List, [], _∷_, ℕ, most-limit, stages, Refusal, StageLimit, Checked, Passed, Refused, next, first-refusal, outcome-by, Choices, JobRecord, JobAnswer, outside, job-checks, read-of, job-of, block-job, passed-both, limit-check, limit-by, Report, plan-answer, tree-in, StagedAnswer, within-verdict, staged-refused, staged-by, within-answer, read-verdict, LimitPasses, staged-check-verdict, staged-check-answer, staged-before-idle, staged-values, staged-check-outcome, staged-check-said, ChecksStaged}
 use Rattle.job.proofs.Read as read
-use Rattle.stages.specs.Stages.{limit-check}
-use Rattle.stages.proofs.Limit.{limit-by}
-use Rattle.promises.specs.declared.Report.{Report}
-use Rattle.plan.specs.Plan.{plan-answer}
-use Rattle.plan.specs.Trees.{tree-in}
-use Rattle.promises.specs.declared.StagedAnswer.{StagedAnswer}
-use Rattle.staged_plan.specs.Check.{within-verdict, staged-refused, staged-by, within-answer, read-verdict, LimitPasses, staged-check-verdict, staged-check-answer, staged-before-idle, staged-values, staged-check-outcome, staged-check-said, ChecksStaged}
 use Rattle.staged_plan.proofs.Within.{staged-after}
 
 -- an answer's number and values are those of its verdict

@@ -1,2 +1,3 @@
+mod Prelude
 pub mod Within
 pub mod Calls

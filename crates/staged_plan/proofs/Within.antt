@@ -1,35 +1,6 @@
 -- The check of a job that was read, answer by answer, and what it says of trees.
-use mathlib.Core.Path.{_≡_, refl, sym, _∙_, ap, ap₂, subst}
-use mathlib.Core.List.{List}
-use Prim.Native.Nat.{ℕ, _≤_}
-use lib.ListN.{length}
-use Rattle.cutting.proofs.Staged.{stages-paths}
-use Rattle.cutting.specs.Limits.{most-nodes}
-use Rattle.cutting.specs.Tree.{Tree}
-use Rattle.cutting.specs.Pieces.{Piece}
-use Rattle.cutting.specs.Shares.{stages}
-use Rattle.cutting.specs.Job.{Job}
-use Rattle.promises.specs.declared.Refusal.{Refusal}
-use Rattle.promises.specs.declared.Refusal.the-variants.{ManyStages}
-use Rattle.promises.specs.declared.Checked.{Checked}
-use Rattle.promises.specs.declared.Checked.the-variants.{Passed, Refused}
-use Rattle.refusal.specs.Refusals.{next, first-refusal}
-use Rattle.job.proofs.Checks.{passed-both}
-use Rattle.stages.specs.declared.Staged.{Staged}
+use Rattle.staged_plan.proofs.Prelude.{_≡_, refl, sym, _∙_, ap, ap₂, subst, List, ℕ, _≤_, length, stages-paths, most-nodes, Tree, Piece, stages, Job, Refusal, ManyStages, Checked, Passed, Refused, next, first-refusal, passed-both, Staged, path-checks, staged-as, StagesOf, passed-within, within-passed, staged-within, staged-past, Report, PlanAnswer, empty-report, plan-answer, tree-in, PlanOf, Reports, verdict-is, no-pass, walked-counts, plans-checked, drawn-is, plan-is, StagedAnswer, stage-verdict, within-verdict, staged-refused, staged-by, within-answer, without-idle, StagedPlanOf, ChecksStaged}
 use Rattle.stages.specs.declared.Staged.the-variants as found
-use Rattle.stages.specs.Stages.{path-checks}
-use Rattle.stages.specs.Walks.{staged-as, StagesOf}
-use Rattle.stages.proofs.Limit.{passed-within, within-passed, staged-within, staged-past}
-use Rattle.promises.specs.declared.Report.{Report}
-use Rattle.promises.specs.declared.PlanAnswer.{PlanAnswer}
-use Rattle.plan.specs.Plan.{empty-report, plan-answer}
-use Rattle.plan.specs.Trees.{tree-in, PlanOf, Reports}
-use Rattle.plan.proofs.Whole.{verdict-is}
-use Rattle.plan.proofs.Parse.{no-pass}
-use Rattle.plan.proofs.Plans.{walked-counts, plans-checked}
-use Rattle.plan.proofs.Drawn.{drawn-is, plan-is}
-use Rattle.promises.specs.declared.StagedAnswer.{StagedAnswer}
-use Rattle.staged_plan.specs.Check.{stage-verdict, within-verdict, staged-refused, staged-by, within-answer, without-idle, StagedPlanOf, ChecksStaged}
 
 -- the verdict of an answer, and zeros where it refuses
 pub verdict-by : (v : Checked) (s : Report) (k : ℕ) → staged-by v s k .verdict ≡ v

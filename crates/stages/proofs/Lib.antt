@@ -1,3 +1,4 @@
+mod Prelude
 pub mod Limit
 pub mod Place
 pub mod Steps

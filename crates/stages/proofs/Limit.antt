@@ -1,29 +1,7 @@
 -- The check of a limit; the checks of a tree, which pass exactly where its stages are within the limit and else name a cut.
-use mathlib.Core.Path.{_≡_, refl, sym, _∙_, ap}
-use mathlib.Core.Bool.{Bool, true, false, _||_}
-use mathlib.Core.List.{List, [], _∷_, map}
-use Prim.Native.Nat.{ℕ, _+_, _-_, _≤_}
-use native.Mathlib.Omega.{arith}
-use borrow.Author.Tests.{lt-leb, leb-false, ltb-false}
-use lib.Dec.{leb, ltb}
-use Rattle.promises.specs.declared.Direction.{Direction}
-use Rattle.cutting.specs.Limits.{most-limit}
-use Rattle.cutting.specs.Tree.{Tree, waste, piece, cut}
+use Rattle.stages.proofs.Prelude.{_≡_, refl, sym, _∙_, ap, Bool, true, false, _||_, List, [], _∷_, map, ℕ, _+_, _-_, _≤_, arith, lt-leb, leb-false, ltb-false, leb, ltb, Direction, most-limit, Tree, waste, piece, cut, change, stages-below, root, stages, path-stages, node-count, root-stages, Refusal, StageLimit, ManyStages, Checked, Passed, Refused, next, refuse-when, by-check, place-of, first-refusal, outside, cons-passed, append-passed, passed-append, limit-check, node-paths, above-checks, path-checks, staged-as, stage-checks}
 use Rattle.cutting.specs.Pieces as laid
-use Rattle.cutting.specs.Shares.{change, stages-below, root, stages}
-use Rattle.cutting.specs.Staged.{path-stages}
-use Rattle.cutting.specs.Preorder.{node-count}
-use Rattle.cutting.proofs.Stages.{root-stages}
-use Rattle.promises.specs.declared.Refusal.{Refusal}
-use Rattle.promises.specs.declared.Refusal.the-variants.{StageLimit, ManyStages}
-use Rattle.promises.specs.declared.Checked.{Checked}
-use Rattle.promises.specs.declared.Checked.the-variants.{Passed, Refused}
-use Rattle.refusal.specs.Refusals.{next, refuse-when, by-check, place-of, first-refusal}
-use Rattle.job.specs.Block.{outside}
-use Rattle.job.proofs.Checks.{cons-passed, append-passed, passed-append}
 use Rattle.stages.specs.declared.Staged.the-variants as answer
-use Rattle.stages.specs.Stages.{limit-check, node-paths, above-checks, path-checks}
-use Rattle.stages.specs.Walks.{staged-as, stage-checks}
 use Rattle.stages.proofs.Place.{by-paths}
 
 -- the check of the limit

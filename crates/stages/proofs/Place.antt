@@ -1,25 +1,6 @@
 -- Check 23 as the walks count it, by the stages left, names the first node whose own path has more stages than the limit.
-use mathlib.Core.Path.{_≡_, refl, sym, _∙_, ap, ap₂}
-use mathlib.Core.Bool.{Bool, true, false}
-use mathlib.Core.List.{List, [], _∷_, _++_, map, map-append, map-map}
-use Prim.Native.Nat.{ℕ, suc, _+_, _-_, _≤_}
-use native.Mathlib.Omega.{arith}
-use borrow.Author.Tests.{leb-true, leb-false, lt-ltb, le-ltb}
-use lib.Dec.{leb, ltb}
-use lib.ListN.{length, length-append, length-map}
-use Rattle.promises.specs.declared.Direction.{Direction}
-use Rattle.cutting.specs.Tree.{Tree, waste, piece, cut}
+use Rattle.stages.proofs.Prelude.{_≡_, refl, sym, _∙_, ap, ap₂, Bool, true, false, List, [], _∷_, _++_, map, map-append, map-map, ℕ, suc, _+_, _-_, _≤_, arith, leb-true, leb-false, lt-ltb, le-ltb, leb, ltb, length, length-append, length-map, Direction, Tree, waste, piece, cut, change, root, changes, path-stages, preorder, node-count, count-cut, change-same, ManyStages, next, first-refusal, first-append, node-paths, above-checks, path-checks, stage-checks, walk-checks}
 use Rattle.cutting.specs.Pieces as laid
-use Rattle.cutting.specs.Shares.{change, root}
-use Rattle.cutting.specs.Staged.{changes, path-stages}
-use Rattle.cutting.specs.Preorder.{preorder, node-count}
-use Rattle.cutting.proofs.Preorder.{count-cut}
-use Rattle.cutting.proofs.Stages.{change-same}
-use Rattle.promises.specs.declared.Refusal.the-variants.{ManyStages}
-use Rattle.refusal.specs.Refusals.{next, first-refusal}
-use Rattle.job.proofs.Checks.{first-append}
-use Rattle.stages.specs.Stages.{node-paths, above-checks, path-checks}
-use Rattle.stages.specs.Walks.{stage-checks, walk-checks}
 
 -- a node has one path
 paths-count : (t : Tree laid.Piece) → length (node-paths t) ≡ node-count t

@@ -1,21 +1,5 @@
 -- Where a walk stands: on its way past nodes that keep its direction, at a cut that changes it, and after that cut's parts.
-use mathlib.Core.Path.{_≡_, refl, sym, _∙_, ap}
-use mathlib.Core.Bool.{Bool, true, false}
-use mathlib.Core.List.{List}
-use Prim.Native.Nat.{ℕ, _+_, _-_, _≤_, _<_, max}
-use native.Mathlib.Omega.{arith}
-use borrow.Author.Tests.{eqb-true, eqb-false}
-use lib.Dec.{eqb}
-use lib.ListN.{length, getD}
-use Rattle.promises.specs.declared.Direction.{Direction}
-use Rattle.promises.specs.declared.Direction.the-variants.{Length, Width}
-use Rattle.cutting.specs.Shares.{other}
-use Rattle.stages.specs.declared.Walk.{Walk}
-use Rattle.stages.specs.declared.Walk.the-variants.{Next, Past}
-use Rattle.stages.specs.declared.Reach.{Reach}
-use Rattle.stages.specs.declared.Step.{Step}
-use Rattle.stages.specs.declared.Step.the-variants.{Change, End}
-use Rattle.stages.specs.Walks.{Walked, cut-kind, passed, Reached, Changing, Stands, walk-at, nodes-left, Along, Resumed}
+use Rattle.stages.proofs.Prelude.{_≡_, refl, sym, _∙_, ap, Bool, true, false, List, ℕ, _+_, _-_, _≤_, _<_, max, arith, eqb-true, eqb-false, eqb, length, getD, Direction, Length, Width, other, Walk, Next, Past, Reach, Step, Change, End, Walked, cut-kind, passed, Reached, Changing, Stands, walk-at, nodes-left, Along, Resumed}
 use Rattle.stages.proofs.Walks.{ends, lacks, leaf, keeps, past, stops, goes-on}
 
 -- the two kinds of cuts

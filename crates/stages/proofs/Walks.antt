@@ -1,35 +1,8 @@
 -- The steps of the two walks: what is known while some trees wait, at one node more of each kind, and at the end.
-use mathlib.Core.Path.{_≡_, refl, sym, _∙_, ap}
-use mathlib.Core.Bool.{true, false}
-use mathlib.Core.List.{List, [], _∷_, _++_, append-assoc, append-nil}
-use Prim.Native.Nat.{ℕ, _+_, _-_, _≤_, _<_, max}
-use native.Mathlib.Numerals.{add-one}
-use native.Mathlib.Omega.{arith}
-use borrow.Author.Tests.{le-leb, lt-leb}
-use lib.Dec.{leb}
-use lib.ListN.{length, drop, getD, length-append, length-map, drop-of-length-le}
-use lib.Seq.{drop-cons, drop-drop, drop-at}
-use Rattle.promises.specs.declared.Direction.{Direction}
-use Rattle.promises.specs.declared.Direction.the-variants.{Length, Width}
-use Rattle.promises.specs.declared.Node.the-variants.{Cut}
-use Rattle.cutting.specs.Tree.{Tree, waste, piece, cut}
+use Rattle.stages.proofs.Prelude.{_≡_, refl, sym, _∙_, ap, true, false, List, [], _∷_, _++_, append-assoc, append-nil, ℕ, _+_, _-_, _≤_, _<_, max, add-one, arith, le-leb, lt-leb, leb, length, drop, getD, length-append, length-map, drop-of-length-le, drop-cons, drop-drop, drop-at, Direction, Length, Width, Cut, Tree, waste, piece, cut, other, change, stages-below, root, stages, change-same, change-other, preorder, kind-of, node-count, kinds-of, Refusal, ManyStages, Checked, Passed, Refused, next, by-check, place-of, first-refusal, first-append, next-passed, kinds-cut, count-cut, Walk, Next, Past, path-checks, staged-as, stage-checks, StagesOf, kinds-all, count-all, most-below, checks-all, ended-as, Walked, answer-of, cut-kind, Waiting, Walking}
 use Rattle.cutting.specs.Pieces as laid
-use Rattle.cutting.specs.Shares.{other, change, stages-below, root, stages}
-use Rattle.cutting.proofs.Stages.{change-same, change-other}
-use Rattle.cutting.specs.Preorder.{preorder, kind-of, node-count, kinds-of}
-use Rattle.promises.specs.declared.Refusal.{Refusal}
-use Rattle.promises.specs.declared.Refusal.the-variants.{ManyStages}
-use Rattle.promises.specs.declared.Checked.{Checked}
-use Rattle.promises.specs.declared.Checked.the-variants.{Passed, Refused}
-use Rattle.refusal.specs.Refusals.{next, by-check, place-of, first-refusal}
-use Rattle.job.proofs.Checks.{first-append, next-passed}
-use Rattle.cutting.proofs.Preorder.{kinds-cut, count-cut}
-use Rattle.stages.specs.declared.Walk.{Walk}
-use Rattle.stages.specs.declared.Walk.the-variants.{Next, Past}
 use Rattle.stages.specs.declared.Staged.the-variants as answer
-use Rattle.stages.specs.Stages.{path-checks}
 use Rattle.stages.proofs.Place.{by-paths}
-use Rattle.stages.specs.Walks.{staged-as, stage-checks, StagesOf, kinds-all, count-all, most-below, checks-all, ended-as, Walked, answer-of, cut-kind, Waiting, Walking}
 
 -- a plan's trees
 abbrev Trees : Type 0

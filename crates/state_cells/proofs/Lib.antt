@@ -1,3 +1,4 @@
+mod Prelude
 pub mod Placing
 pub mod Listing
 pub mod Making

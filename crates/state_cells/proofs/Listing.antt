@@ -1,17 +1,5 @@
 -- A cell that starts, inherits and lists: loops over the words of a cell, or over the list of another, one step at a time.
-use mathlib.Core.Path.{_≡_, refl, sym, _∙_, ap, subst}
-use mathlib.Core.List.{List}
-use Prim.Native.Nat.{ℕ, _+_, _-_, _*_, _≤_, _<_}
-use native.Mathlib.Decide.{ℕ-discrete, decLe}
-use native.Mathlib.Omega.{arith}
-use lib.ListN.{length, getD, set, length-set}
-use lib.Seq.{getD-set-same, getD-set-other}
-use Rattle.table.specs.Words.{Outside, Run}
-use Rattle.states.specs.States.{figure-in, note-in, mark-in, held, note, mark, Flagged}
-use Rattle.state_cells.specs.Cells.{FlaggedBelow, Inherited, Steps, Told, Finished}
-use Rattle.states.proofs.Noted.{figure-small, figure-plain, note-plain, figure-noted, note-noted, mark-noted, figure-flagged, note-flagged}
-use Rattle.states.proofs.Growing.{outside-same}
-use Rattle.state_joins.proofs.Joining.{held-kept, note-kept}
+use Rattle.state_cells.proofs.Prelude.{_≡_, refl, sym, _∙_, ap, subst, List, ℕ, _+_, _-_, _*_, _≤_, _<_, ℕ-discrete, decLe, arith, length, getD, set, length-set, getD-set-same, getD-set-other, Outside, Run, figure-in, note-in, mark-in, held, note, mark, Flagged, FlaggedBelow, Inherited, Steps, Told, Finished, figure-small, figure-plain, note-plain, figure-noted, note-noted, mark-noted, figure-flagged, note-flagged, outside-same, held-kept, note-kept}
 
 -- a cell that lies before is as it was
 pub run-held : (f : ℕ → ℕ) (at m : ℕ) (old new : List ℕ) (x s : ℕ) → x + s < at → Run f at m old new → held new x s ≡ held old x s

@@ -1,15 +1,5 @@
 -- The pieces of exactly a cell's size: what a loop over the kinds has taken, one kind more, and a kind of another size.
-use mathlib.Core.Path.{_≡_}
-use mathlib.Core.Bool.{Bool}
-use mathlib.Core.List.{List}
-use Prim.Native.Nat.{ℕ, _+_, _≤_, _<_}
-use native.Mathlib.Decide.{ℕ-discrete}
-use native.Mathlib.Omega.{arith}
-use lib.Dec.{T}
-use Rattle.cutting.specs.Job.{Job}
-use Rattle.states.specs.States.{held, Taken}
-use Rattle.states.proofs.Growing.{grown-none, grown-then}
-use Rattle.state_cells.specs.Cells.{Placed}
+use Rattle.state_cells.proofs.Prelude.{_≡_, Bool, List, ℕ, _+_, _≤_, _<_, ℕ-discrete, arith, T, Job, held, Taken, grown-none, grown-then, Placed}
 
 module _ (le : ℕ → ℕ → Bool) (at words : ℕ) (J : Job) (own : ℕ → ℕ) (l w : ℕ) where
   pub placed-none : (xs : List ℕ) → Placed le J own 0 l w at words xs xs

@@ -1,36 +1,6 @@
 -- The states in reach: past twice the state from which on the figures of its parts are the same, a cell's figures are the same. So it is
 -- made at the states up to there, from cells whose lists are short, and the words past them are written once.
-use mathlib.Core.Path.{_≡_, refl, sym, _∙_, ap, subst}
-use mathlib.Core.Logic.{_⊎_, inl, inr}
-use mathlib.Core.Bool.{Bool}
-use mathlib.Core.List.{List, [], _∷_}
-use Prim.Native.Nat.{ℕ, _+_, _-_, _*_, _≤_, _<_, min}
-use native.Mathlib.Decide.{decLe}
-use native.Mathlib.Omega.{arith}
-use lib.Dec.{T}
-use lib.ListN.{length, getD}
-use Rattle.promises.specs.declared.Direction.{Direction}
-use Rattle.promises.specs.declared.Direction.the-variants.{Length, Width}
-use Rattle.cutting.specs.Pieces.{upright}
-use Rattle.cutting.specs.Job.{Job}
-use Rattle.cutting.specs.Listed.{InTableRange}
-use Rattle.cutting.proofs.Members.{table-lies}
-use Rattle.table.specs.Table.{position-count}
-use Rattle.table.specs.Contracts.{Positions}
-use Rattle.table.specs.Words.{Outside, Run, Half, remainder}
-use Rattle.table.proofs.Halves.{half-parts}
-use Rattle.table.proofs.Figures.{positions-axis}
-use Rattle.table.specs.States.{below, Order, Covers}
-use Rattle.states.specs.States.{figure-in, note-in, held, note, under, Rises, Digits, Summed, cell}
-use Rattle.state_joins.specs.Joins.{Marked}
-use Rattle.state_cells.specs.Cells.{Level, Levelled}
-use Rattle.state_cells.specs.Places.{tabled, reach-of, MadeTo, Short, Made, Spot, SpotTo}
-use Rattle.states.proofs.Noted.{figure-plain, note-plain}
-use Rattle.table.proofs.Across.{across, across-joins, piece-most}
-use Rattle.table.proofs.Covered.{Joins}
-use Rattle.table.proofs.Complete.{along, complete}
-use Rattle.states.proofs.Growing.{order-of, under-zero}
-use Rattle.states.proofs.Ties.{one-digit}
+use Rattle.state_cells.proofs.Prelude.{_≡_, refl, sym, _∙_, ap, subst, _⊎_, inl, inr, Bool, List, [], _∷_, ℕ, _+_, _-_, _*_, _≤_, _<_, min, decLe, arith, T, length, getD, Direction, Length, Width, upright, Job, InTableRange, table-lies, position-count, Positions, Outside, Run, Half, remainder, half-parts, positions-axis, below, Order, Covers, figure-in, note-in, held, note, under, Rises, Digits, Summed, cell, Marked, Level, Levelled, tabled, reach-of, MadeTo, Short, Made, Spot, SpotTo, figure-plain, note-plain, across, across-joins, piece-most, Joins, along, complete, order-of, under-zero, one-digit}
 use Rattle.state_cells.proofs.Making.{made-to-same, rising, longer, wider}
 
 -- a state no later than `flat` at which figures that are the same from there on are those of state e

@@ -1,32 +1,5 @@
 -- Rows of made cells: the first row and the first cell of each row hold 0, one cell more, one row more, and the table without its lists.
-use mathlib.Core.Path.{_≡_, refl, sym, _∙_, ap, ap₂, subst}
-use mathlib.Core.Logic.{inl}
-use mathlib.Core.List.{List}
-use Prim.Native.Nat.{ℕ, _+_, _*_, _/_, _%_, _≤_, _<_}
-use native.Mathlib.Nat.{mul-le-mul-right, mod-lt, div-add-mod', div-lt-iff-lt-mul}
-use native.Mathlib.Decide.{ℕ-discrete, decLe}
-use native.Mathlib.Omega.{arith}
-use lib.ListN.{length, getD}
-use Rattle.promises.specs.declared.Direction.the-variants.{Length, Width}
-use Rattle.cutting.specs.Job.{Job}
-use Rattle.cutting.specs.Listed.{InTableRange, listed-weight}
-use Rattle.cutting.proofs.Table.{positions-first, positions-some}
-use Rattle.table.specs.Table.{position-count, Kept}
-use Rattle.table.specs.Contracts.{Positions}
-use Rattle.table.specs.Words.{Outside, Run, HalfReady, Half, Axis}
-use Rattle.table.proofs.Words.{cell-before, words-past}
-use Rattle.table.proofs.Halves.{half-ready, half-next}
-use Rattle.table.proofs.Figures.{entry-is, positions-axis}
-use Rattle.table.specs.States.{figure-at}
-use Rattle.states.specs.States.{figure-in, note-in, held, note, under, Digits, Summed, FirstRow, cell, Figures}
-use Rattle.state_cells.specs.Cells.{Level, Levelled}
-use Rattle.state_cells.specs.Places.{tabled, Made, Rows, Cells, LevelRows, LevelCells, CellsLent, FlatState, Spot}
-use Rattle.state_fill.specs.Tables.{Counted, PastPieces, RowSpot, Bare, Plain}
-use Rattle.states.proofs.Noted.{figure-plain, note-plain, plain-word}
-use Rattle.table.proofs.Across.{no-side}
-use Rattle.states.proofs.Growing.{outside-same, order-of}
-use Rattle.states.proofs.Carries.{summed-before}
-use Rattle.state_cells.proofs.Making.{made-same, made-kept, made-later, level-later}
+use Rattle.state_fill.proofs.Prelude.{_≡_, refl, sym, _∙_, ap, ap₂, subst, inl, List, ℕ, _+_, _*_, _/_, _%_, _≤_, _<_, mul-le-mul-right, mod-lt, div-add-mod', div-lt-iff-lt-mul, ℕ-discrete, decLe, arith, length, getD, Length, Width, Job, InTableRange, listed-weight, positions-first, positions-some, position-count, Kept, Positions, Outside, Run, HalfReady, Half, Axis, cell-before, words-past, half-ready, half-next, entry-is, positions-axis, figure-at, figure-in, note-in, held, note, under, Digits, Summed, FirstRow, cell, Figures, Level, Levelled, tabled, Made, Rows, Cells, LevelRows, LevelCells, CellsLent, FlatState, Spot, Counted, PastPieces, RowSpot, Bare, Plain, figure-plain, note-plain, plain-word, no-side, outside-same, order-of, summed-before, made-same, made-kept, made-later, level-later}
 
 -- there is a state
 some-state : {blocks : List ℕ} {d words : ℕ} → Digits blocks d words → 1 ≤ words

@@ -1,19 +1,6 @@
 -- Joining the lists of two cells: what a loop over a list has taken, one entry more, and the end of the list. The cells that are read lie
 -- before the one that is made, and do not change.
-use mathlib.Core.Path.{_≡_, sym, _∙_, ap}
-use mathlib.Core.Bool.{Bool}
-use mathlib.Core.List.{List}
-use Prim.Native.Nat.{ℕ, _+_, _-_, _*_, _≤_, _<_}
-use native.Mathlib.Decide.{ℕ-discrete, decLe}
-use native.Mathlib.Omega.{arith}
-use lib.Dec.{T}
-use lib.ListN.{length, getD, set}
-use lib.Seq.{getD-set-same, getD-set-other}
-use Rattle.table.specs.Words.{Outside, remainder, Cuts}
-use Rattle.table.proofs.Halves.{remainder-is}
-use Rattle.states.specs.States.{figure-in, note-in, mark-in, held, note, mark, Rises, Low, Grown, Taken}
-use Rattle.state_joins.specs.Joins.{Listed, Entry, Marked, Served, Ready, JoinedWith, Joined, Numbers, Among, Gathered, Cuttable, CutAt}
-use Rattle.states.proofs.Growing.{grown-none, grown-then}
+use Rattle.state_joins.proofs.Prelude.{_≡_, sym, _∙_, ap, Bool, List, ℕ, _+_, _-_, _*_, _≤_, _<_, ℕ-discrete, decLe, arith, T, length, getD, set, getD-set-same, getD-set-other, Outside, remainder, Cuts, remainder-is, figure-in, note-in, mark-in, held, note, mark, Rises, Low, Grown, Taken, Listed, Entry, Marked, Served, Ready, JoinedWith, Joined, Numbers, Among, Gathered, Cuttable, CutAt, grown-none, grown-then}
 
 module _ (at end : ℕ) (old new : List ℕ) (kept : Outside at end old new) where
   pub held-kept : (x s : ℕ) → x + s < at → held new x s ≡ held old x s

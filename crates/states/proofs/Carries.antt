@@ -1,19 +1,5 @@
 -- Digit sums: two states add without a carry exactly if the sums of their digits add up to that of their sum; and the words that hold them.
-use mathlib.Core.Path.{_≡_, refl, sym, _∙_, ap}
-use mathlib.Core.Bool.{Bool, true, false}
-use mathlib.Core.List.{List}
-use Prim.Native.Nat.{ℕ, zero, suc, _+_, _-_, _*_, _/_, _%_, _≤_, _<_}
-use native.Mathlib.Nat.{mod-lt, div-add-mod', mul-le-mul-right}
-use native.Mathlib.Decide.{ℕ-discrete, decLe}
-use native.Mathlib.Omega.{arith}
-use lib.Dec.{T, eqb, eqb→eq, le→leb}
-use lib.ListN.{length, getD, set}
-use lib.Seq.{getD-set-same, getD-set-other}
-use borrow.Author.Tests.{le-leb}
-use Rattle.cutting.proofs.Tests.{eqb-same}
-use Rattle.table.specs.Words.{Outside, Run}
-use Rattle.table.specs.States.{below, Blocks}
-use Rattle.states.specs.States.{under, digit-sum, Sums, Summed, Stepped, FirstRow}
+use Rattle.states.proofs.Prelude.{_≡_, refl, sym, _∙_, ap, Bool, true, false, List, ℕ, zero, suc, _+_, _-_, _*_, _/_, _%_, _≤_, _<_, mod-lt, div-add-mod', mul-le-mul-right, ℕ-discrete, decLe, arith, T, eqb, eqb→eq, le→leb, length, getD, set, getD-set-same, getD-set-other, le-leb, eqb-same, Outside, Run, below, Blocks, under, digit-sum, Sums, Summed, Stepped, FirstRow}
 use Rattle.states.proofs.Digits.{quotient, rest, parts-add, lower-blocks, below-parts, parts-below, below-adds}
 use Rattle.states.proofs.Lifting.{below-zero}
 

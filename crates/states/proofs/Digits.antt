@@ -1,11 +1,5 @@
 -- Numbers of several digits are such an order: digit by digit.
-use mathlib.Core.Path.{_≡_, _∙_, ap}
-use Prim.Native.Nat.{ℕ, zero, suc, _+_, _-_, _*_, _/_, _%_, _≤_, _<_}
-use native.Mathlib.Nat.{mod-lt, div-add-mod', mul-add-div-right, mul-add-mod-self-right, div-eq-of-lt, mod-eq-of-lt, mul-le-mul-right, div-lt-iff-lt-mul}
-use native.Mathlib.Omega.{arith}
-use lib.Dec.{T, leb, leb→le, le→leb}
-use Rattle.cutting.proofs.Tests.{and-T, T-and}
-use Rattle.table.specs.States.{below, Blocks, Order}
+use Rattle.states.proofs.Prelude.{_≡_, _∙_, ap, ℕ, zero, suc, _+_, _-_, _*_, _/_, _%_, _≤_, _<_, mod-lt, div-add-mod', mul-add-div-right, mul-add-mod-self-right, div-eq-of-lt, mod-eq-of-lt, mul-le-mul-right, div-lt-iff-lt-mul, arith, T, leb, leb→le, le→leb, and-T, T-and, below, Blocks, Order}
 
 -- quotient and rest are the only ones
 pub quotient : (x b q r : ℕ) → x ≡ q * b + r → r < b → x / b ≡ q

@@ -1,18 +1,6 @@
 -- A cell that is made grows: nothing taken, one raise, and one after the other. A raise keeps the figures rising with the states, and the
 -- flags cover them: a state that was overwritten is covered by the one that was raised.
-use mathlib.Core.Path.{_≡_, refl, sym, _∙_, ap, subst}
-use mathlib.Core.Logic.{_⊎_, inl, inr}
-use mathlib.Core.Bool.{Bool, true, false}
-use mathlib.Core.List.{List}
-use Prim.Native.Nat.{ℕ, _+_, _-_, _≤_, _<_}
-use native.Mathlib.Decide.{ℕ-discrete}
-use native.Mathlib.Omega.{arith}
-use lib.Dec.{T, le→leb}
-use lib.ListN.{length, getD, set}
-use lib.Seq.{getD-set-same, getD-set-other}
-use Rattle.table.specs.Words.{Outside}
-use Rattle.table.specs.States.{below, Order, Covers}
-use Rattle.states.specs.States.{figure-in, note-in, held, under, Digits, Rises, Growing, Lift, Lifted, Raised, Flagged, Low, Grown, Taken}
+use Rattle.states.proofs.Prelude.{_≡_, refl, sym, _∙_, ap, subst, _⊎_, inl, inr, Bool, true, false, List, ℕ, _+_, _-_, _≤_, _<_, ℕ-discrete, arith, T, le→leb, length, getD, set, getD-set-same, getD-set-other, Outside, below, Order, Covers, figure-in, note-in, held, under, Digits, Rises, Growing, Lift, Lifted, Raised, Flagged, Low, Grown, Taken}
 use Rattle.states.proofs.Digits.{below-last, digits-order}
 use Rattle.states.proofs.Noted.{figure-plain, figure-flagged, note-flagged}
 

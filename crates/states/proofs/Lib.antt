@@ -1,3 +1,4 @@
+mod Prelude
 pub mod Digits
 pub mod Carries
 pub mod Noted

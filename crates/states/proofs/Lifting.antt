@@ -1,19 +1,5 @@
 -- Raising word after word, or block after block of the last digit: what is done below x, and what is left from there on.
-use mathlib.Core.Path.{_≡_, refl, _∙_, ap}
-use mathlib.Core.Logic.{inl, inr}
-use mathlib.Core.Bool.{Bool, false, _&&_}
-use mathlib.Core.List.{List}
-use Prim.Native.Nat.{ℕ, zero, suc, _+_, _-_, _*_, _/_, _%_, _≤_, _<_}
-use native.Mathlib.Nat.{mod-lt, div-add-mod', mul-le-mul-right}
-use native.Mathlib.Decide.{ℕ-discrete, decLe}
-use native.Mathlib.Omega.{arith}
-use lib.Dec.{T, leb, le→leb}
-use lib.ListN.{length, getD, set}
-use borrow.Author.Tests.{le-leb, lt-leb}
-use lib.Seq.{getD-set-same, getD-set-other}
-use Rattle.table.specs.Words.{Outside}
-use Rattle.table.specs.States.{below, Blocks}
-use Rattle.states.specs.States.{figure-in, held, under, Rises, Growing, Lift, Lifted}
+use Rattle.states.proofs.Prelude.{_≡_, refl, _∙_, ap, inl, inr, Bool, false, _&&_, List, ℕ, zero, suc, _+_, _-_, _*_, _/_, _%_, _≤_, _<_, mod-lt, div-add-mod', mul-le-mul-right, ℕ-discrete, decLe, arith, T, leb, le→leb, length, getD, set, le-leb, lt-leb, getD-set-same, getD-set-other, Outside, below, Blocks, figure-in, held, under, Rises, Growing, Lift, Lifted}
 use Rattle.states.proofs.Digits.{quotient, rest, lower-blocks, below-less, below-parts, parts-below}
 
 -- the words below x are raised, and those from x on are as they were

@@ -1,8 +1,5 @@
 -- A figure below 2^41 and a note above it, with or without a mark, put together and taken apart.
-use mathlib.Core.Path.{_≡_}
-use Prim.Native.Nat.{ℕ, _+_, _*_, _≤_, _<_}
-use native.Mathlib.Omega.{arith}
-use Rattle.states.specs.States.{figure-in, note-in, mark-in}
+use Rattle.states.proofs.Prelude.{_≡_, ℕ, _+_, _*_, _≤_, _<_, arith, figure-in, note-in, mark-in}
 
 pub figure-small : (w : ℕ) → figure-in w < 2199023255552
 unfolding figure-in

@@ -1,36 +1,9 @@
 -- The shares that states stand for: one weight, two weights, the remaining copies of each kind. A tree is within a state exactly if, at each
 -- digit, its pieces come to no more than the digit; so the figures over states are those over these shares.
-use mathlib.Core.Path.{_≡_, refl, sym, _∙_, ap, ap₂, subst}
-use mathlib.Core.Bool.{Bool, true, false, _&&_}
-use mathlib.Core.List.{List, [], _∷_}
-use Prim.Native.Nat.{ℕ, zero, suc, _+_, _-_, _*_, _/_, _%_, _≤_, _<_}
-use native.Mathlib.Nat.{mod-lt, div-add-mod', mul-le-mul-right}
-use native.Mathlib.Decide.{ℕ-discrete, decLe}
-use native.Mathlib.Omega.{arith}
-use borrow.Author.Tests.{lt-ltb, le-ltb, eq-eqb, ne-eqb}
-use lib.Dec.{T, leb, ltb, eqb}
-use lib.ListN.{getD}
-use Rattle.promises.specs.declared.Direction.the-variants.{Length, Width}
-use Rattle.cutting.specs.Lists.{only}
-use Rattle.cutting.specs.Tree.{Tree, waste, piece, cut, total, Within}
-use Rattle.cutting.specs.Figure.{figure}
-use Rattle.cutting.specs.Saws.{saw}
-use Rattle.cutting.specs.Shares.{by-weight, paired, state, exact}
-use Rattle.cutting.specs.Pieces.{Piece, kind}
-use Rattle.cutting.specs.Job.{Job, pieces, by-kind, figure-of}
+use Rattle.states.proofs.Prelude.{_≡_, refl, sym, _∙_, ap, ap₂, subst, Bool, true, false, _&&_, List, [], _∷_, ℕ, zero, suc, _+_, _-_, _*_, _/_, _%_, _≤_, _<_, mod-lt, div-add-mod', mul-le-mul-right, ℕ-discrete, decLe, arith, lt-ltb, le-ltb, eq-eqb, ne-eqb, T, leb, ltb, eqb, getD, Length, Width, only, Tree, waste, piece, cut, total, Within, figure, saw, by-weight, paired, state, exact, Piece, kind, Job, pieces, by-kind, figure-of, figure-within, saw-proper, within-weight, weight-within, paired-within, within-paired, exact-within, within-exact, position-count, position, words-needed, word, Figures as Shared, Kept, pair-count, two-words, two-word, TwoBy, below, Blocks, by-state, Order, figure-at, digit, own-state, pair-blocks, figure-pair, two-weights, pair-state, under, Digits, split-state, state-split, one-within, within-one, figure-one}
 use Rattle.cutting.specs.Two as two
-use Rattle.cutting.proofs.Exact.{figure-within}
-use Rattle.cutting.proofs.Saws.{saw-proper}
-use Rattle.cutting.proofs.Weights.{within-weight, weight-within}
-use Rattle.cutting.proofs.Pairs.{paired-within, within-paired, exact-within, within-exact}
-use Rattle.table.specs.Table.{position-count, position, words-needed, word, Figures as Shared, Kept}
-use Rattle.table.specs.Two.{pair-count, two-words, two-word}
-use Rattle.table.specs.Contracts.{TwoBy}
-use Rattle.table.specs.States.{below, Blocks, by-state, Order, figure-at, digit, own-state, pair-blocks, figure-pair, two-weights, pair-state}
-use Rattle.states.specs.States.{under, Digits, Figures}
+use Rattle.states.specs.States.{Figures}
 use Rattle.states.proofs.Digits.{quotient, rest, lower-blocks, below-parts, parts-below, below-less, below-adds, digits-order}
-use Rattle.table.proofs.Shares.{split-state, state-split}
-use Rattle.table.proofs.Weighed.{one-within, within-one, figure-one}
 
 -- the last digit, and those before
 pub digit-last : (B : ℕ → ℕ) (d s : ℕ) → digit B (suc d) (suc d) s ≡ s / B d

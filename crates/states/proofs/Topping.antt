@@ -1,14 +1,5 @@
 -- Which states can be flagged: nothing written, one step after another, a raise, a flag set; and the number that all of them lie below.
-use mathlib.Core.Path.{_≡_, ap}
-use mathlib.Core.Logic.{_⊎_, inl, inr}
-use mathlib.Core.Bool.{Bool}
-use mathlib.Core.List.{List}
-use Prim.Native.Nat.{ℕ, _+_, _<_, max}
-use native.Mathlib.Decide.{ℕ-discrete}
-use native.Mathlib.Omega.{arith}
-use lib.ListN.{getD, set}
-use lib.Seq.{getD-set-other}
-use Rattle.states.specs.States.{note-in, Lift, Raised, Flagged, Topped}
+use Rattle.states.proofs.Prelude.{_≡_, ap, _⊎_, inl, inr, Bool, List, ℕ, _+_, _<_, max, ℕ-discrete, arith, getD, set, getD-set-other, note-in, Lift, Raised, Flagged, Topped}
 use Rattle.states.proofs.Noted.{note-plain}
 
 module _ (at words : ℕ) where

@@ -1,26 +1,5 @@
 -- Lists and floors of pieces: what each step of laying out asks and leaves, from what the step before left; and what a fill then asks.
-use mathlib.Core.Path.{_≡_, refl, sym, subst}
-use mathlib.Core.List.{List}
-use Prim.Native.Nat.{ℕ, _+_, _*_, _≤_, _<_}
-use native.Mathlib.Nat.{mul-le-mul-left}
-use native.Mathlib.Omega.{arith}
-use lib.ListN.{length, drop, length-drop}
-use Rattle.promises.specs.declared.Direction.{Direction}
-use Rattle.promises.specs.declared.Direction.the-variants.{Length, Width}
-use Rattle.cutting.specs.Limits.{most-capacity}
-use Rattle.cutting.specs.Lists.{over}
-use Rattle.cutting.specs.Tree.{Rect, side}
-use Rattle.cutting.specs.Job.{Job, normal-positions}
-use Rattle.cutting.specs.Listed.{InTableRange, pieces-job}
-use Rattle.positions.specs.Contracts.{Holds, field-in, Listable, positions-of, Mappable, Floors}
-use Rattle.positions.proofs.Lists.{holds-take, holds-length}
-use Rattle.positions.proofs.Fitting.{lengths-found, widths-found}
-use Rattle.positions.proofs.Positions.{positions-rising, floors-found}
-use Rattle.table.specs.Table.{position-count}
-use Rattle.table.specs.declared.TableSize.{TableSize}
-use Rattle.table.specs.Contracts.{Mapped, Positions, Fillable}
-use Rattle.storage.specs.declared.Layout.the-variants.{Ready}
-use Rattle.storage.specs.Contracts.{SidesMapped, BothMapped, table-size, LaidOut}
+use Rattle.storage.proofs.Prelude.{_≡_, refl, sym, subst, List, ℕ, _+_, _*_, _≤_, _<_, mul-le-mul-left, arith, length, drop, length-drop, Direction, Length, Width, most-capacity, over, Rect, side, Job, normal-positions, InTableRange, pieces-job, Holds, field-in, Listable, positions-of, Mappable, Floors, holds-take, holds-length, lengths-found, widths-found, positions-rising, floors-found, position-count, TableSize, Mapped, Positions, Fillable, Ready, SidesMapped, BothMapped, table-size, LaidOut}
 use Rattle.storage.proofs.Storage.{ready-laid}
 
 side-most : (J : Job) → InTableRange J → (d : Direction) → side d (J .plate) ≤ 1020

@@ -1,14 +1,5 @@
 -- One array with the floors of both sides: its two parts, and what it holds after each was written.
-use mathlib.Core.Path.{_≡_, sym, _∙_, ap}
-use mathlib.Core.List.{List, _++_}
-use Prim.Native.Nat.{ℕ, _+_, _-_, _≤_, _<_}
-use native.Mathlib.Omega.{arith}
-use lib.ListN.{length, take, drop, length-drop, length-append, List·getD-append}
-use lib.Seq.{length-take-le, take-append-seam, drop-append-seam}
-use Rattle.positions.specs.Contracts.{Floors}
-use Rattle.table.specs.declared.TableSize.{TableSize}
-use Rattle.table.proofs.Words.{second-floors}
-use Rattle.storage.specs.Contracts.{SidesMapped}
+use Rattle.storage.proofs.Prelude.{_≡_, sym, _∙_, ap, List, _++_, ℕ, _+_, _-_, _≤_, _<_, arith, length, take, drop, length-drop, length-append, List·getD-append, length-take-le, take-append-seam, drop-append-seam, Floors, TableSize, second-floors, SidesMapped}
 
 module _ (xs : List ℕ) (e : length xs ≡ 2042) where
   -- either part has 1,021 entries

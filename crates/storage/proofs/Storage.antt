@@ -1,27 +1,7 @@
 -- What the storage checks decide, a short list, a short table or neither, and how lent storage is then laid out; and what a caller has from
 -- either answer.
-use mathlib.Core.Path.{_≡_, refl, _∙_, ap, ap₂, subst}
-use mathlib.Core.Bool.{Bool, true, false, _||_}
-use mathlib.Core.List.{List}
-use Prim.Native.Nat.{ℕ, _+_, _-_, _≤_, _<_}
-use native.Mathlib.Nat.{mul-le-mul}
-use native.Mathlib.Omega.{arith}
-use borrow.Author.Tests.{lt-ltb, le-ltb, ltb-false}
-use lib.Dec.{ltb}
-use lib.ListN.{length}
-use Rattle.promises.specs.declared.Direction.the-variants.{Length, Width}
-use Rattle.cutting.specs.Lists.{over}
-use Rattle.cutting.specs.Job.{Job, normal-positions}
-use Rattle.cutting.proofs.Table.{positions-some}
-use Rattle.refusal.specs.Refusals.{next, refuse-when, by-check, first-refusal}
-use Rattle.promises.specs.declared.Refusal.{Refusal}
-use Rattle.promises.specs.declared.Refusal.the-variants.{ListShort, TableShort}
-use Rattle.promises.specs.declared.Checked.{Checked}
-use Rattle.promises.specs.declared.Checked.the-variants.{Passed, Refused}
-use Rattle.table.specs.declared.TableSize.{TableSize}
+use Rattle.storage.proofs.Prelude.{_≡_, refl, _∙_, ap, ap₂, subst, Bool, true, false, _||_, List, ℕ, _+_, _-_, _≤_, _<_, mul-le-mul, arith, lt-ltb, le-ltb, ltb-false, ltb, length, Length, Width, over, Job, normal-positions, positions-some, next, refuse-when, by-check, first-refusal, Refusal, ListShort, TableShort, Checked, Passed, Refused, TableSize, list-after, BothMapped, table-size, cell-words, lists-verdict, storage-verdict, LaidOut}
 use Rattle.storage.specs.declared.Layout.the-variants as layout
-use Rattle.storage.specs.Storage.{list-after}
-use Rattle.storage.specs.Contracts.{BothMapped, table-size, cell-words, lists-verdict, storage-verdict, LaidOut}
 
 -- none of two tests passes
 or-false : (a b : Bool) → (a || b) ≡ false → (a ≡ false) × (b ≡ false)

@@ -1,29 +1,5 @@
 -- Laws of a job's figures over an order of states: states above, longer sides, two parts, single kinds, the ceiling, and half of the cuts.
-use mathlib.Core.Path.{_≡_}
-use mathlib.Core.Bool.{Bool, _&&_}
-use Prim.Native.Nat.{ℕ, _+_, _-_, _*_, _/_, _≤_, _<_, max}
-use native.Mathlib.Nat.{mul-le-mul-right}
-use native.Mathlib.Decide.{ℕ-discrete}
-use native.Mathlib.Omega.{arith}
-use lib.Dec.{T}
-use Rattle.promises.specs.declared.Direction.{Direction}
-use Rattle.promises.specs.declared.Direction.the-variants.{Length, Width}
-use Rattle.cutting.specs.Lists.{range, only, filter, greatest}
-use Rattle.cutting.specs.Tree.{Rect, side, part}
-use Rattle.cutting.specs.Figure.{leaf, best, step, figure}
-use Rattle.cutting.specs.Pieces.{Piece, kind, fits-in, sized}
-use Rattle.cutting.specs.Saws.{saw, saw-half}
-use Rattle.cutting.specs.Job.{Job, laid, MayLie, members, pieces, normal-side, normal-floor}
-use Rattle.cutting.specs.Listed.{InTableRange}
-use Rattle.cutting.proofs.Recursion.{figure-eq}
-use Rattle.cutting.proofs.Exact.{leaf-ge, best-ge, step-ge}
-use Rattle.cutting.proofs.Saws.{saw-cut, saw-proper}
-use Rattle.cutting.proofs.Pieces.{fits-in-true}
-use Rattle.cutting.proofs.Ceiling.{figure-area}
-use Rattle.cutting.proofs.Half.{half-figure}
-use Rattle.cutting.proofs.Members.{lie-member, member-kind, members-solid, table-solid}
-use Rattle.cutting.proofs.Table.{sides-suffice}
-use Rattle.table.specs.States.{by-state, Order, figure-at}
+use Rattle.table.proofs.Prelude.{_≡_, Bool, _&&_, ℕ, _+_, _-_, _*_, _/_, _≤_, _<_, max, mul-le-mul-right, ℕ-discrete, arith, T, Direction, Length, Width, range, only, filter, greatest, Rect, side, part, leaf, best, step, figure, Piece, kind, fits-in, sized, saw, saw-half, Job, laid, MayLie, members, pieces, normal-side, normal-floor, InTableRange, figure-eq, leaf-ge, best-ge, step-ge, saw-cut, saw-proper, fits-in-true, figure-area, half-figure, lie-member, member-kind, members-solid, table-solid, sides-suffice, by-state, Order, figure-at}
 use Rattle.table.proofs.Covered.{Joins, more-along}
 use Rattle.table.proofs.Shares.{state-split, by-state-monotone, by-state-symmetric, figure-above}
 

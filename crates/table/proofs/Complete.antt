@@ -1,31 +1,8 @@
 -- The figures along one side of a plate, and what makes a cell complete at a state: the cells before it, the kinds of exactly its size,
 -- and the cuts of its sides up to the half give its figure.
-use mathlib.Core.Path.{_≡_, refl, sym, _∙_, ap, subst}
-use mathlib.Core.Bool.{Bool, _&&_}
-use mathlib.Core.List.{List, List·Memᴰ}
-use Prim.Native.Nat.{ℕ, _+_, _-_, _*_, _/_, _≤_, _<_}
-use native.Mathlib.Decide.{ℕ-discrete, decLe}
-use native.Mathlib.Omega.{arith}
-use lib.Dec.{T}
-use lib.ListN.{getD}
-use Rattle.promises.specs.declared.Direction.{Direction}
-use Rattle.promises.specs.declared.Direction.the-variants.{Length, Width}
-use Rattle.cutting.specs.Lists.{range, only, filter, greatest}
-use Rattle.cutting.specs.Tree.{side}
-use Rattle.cutting.specs.Pieces.{Piece, kind, fits-in}
-use Rattle.cutting.specs.Job.{Job, laid, MayLie, members, normal-side, normal-floor}
-use Rattle.cutting.specs.Listed.{InTableRange}
-use Rattle.cutting.proofs.Tests.{only-positive, T-and}
-use Rattle.cutting.proofs.Lists.{mem-range, mem-filter}
-use Rattle.cutting.proofs.Members.{member-lies, member-kind, table-upright}
-use Rattle.cutting.proofs.Greatest.{greatest-le}
-use Rattle.cutting.proofs.Pieces.{true-fits-in}
-use Rattle.cutting.proofs.Table.{sides-suffice, positions-first, positions-entry, positions-normal}
-use Rattle.table.specs.Contracts.{Positions}
-use Rattle.table.specs.Words.{Half, remainder}
+use Rattle.table.proofs.Prelude.{_≡_, refl, sym, _∙_, ap, subst, Bool, _&&_, List, List·Memᴰ, ℕ, _+_, _-_, _*_, _/_, _≤_, _<_, ℕ-discrete, decLe, arith, T, getD, Direction, Length, Width, range, only, filter, greatest, side, Piece, kind, fits-in, Job, laid, MayLie, members, normal-side, normal-floor, InTableRange, only-positive, T-and, mem-range, mem-filter, member-lies, member-kind, table-upright, greatest-le, true-fits-in, sides-suffice, positions-first, positions-entry, positions-normal, Positions, Half, remainder, by-state, Order, figure-at, Covers}
 use Rattle.table.proofs.Halves.{half-parts}
 use Rattle.table.proofs.Figures.{entry-is, entry-side, positions-axis, between}
-use Rattle.table.specs.States.{by-state, Order, figure-at, Covers}
 use Rattle.table.proofs.Shares.{split-state}
 use Rattle.table.proofs.Covered.{Joins, more-along, Along, covered}
 use Rattle.table.proofs.Across.{across, across-joins, piece-most, state-half}

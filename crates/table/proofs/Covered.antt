@@ -1,15 +1,6 @@
 -- Which cuts can give a cell more than the cells before it do: those whose parts make up the whole, at the states that both parts list.
 -- One law for both directions: h i s is the value of entry i of a rising list at state s.
-use mathlib.Core.Path.{_≡_, ap}
-use mathlib.Core.Logic.{_⊎_, inl, inr}
-use mathlib.Core.Bool.{Bool}
-use mathlib.Core.List.{List}
-use Prim.Native.Nat.{ℕ, _+_, _-_, _*_, _≤_, _<_}
-use native.Mathlib.Decide.{ℕ-discrete, decLe}
-use native.Mathlib.Omega.{arith}
-use lib.Dec.{T}
-use lib.ListN.{getD}
-use Rattle.table.specs.States.{Order, Covers}
+use Rattle.table.proofs.Prelude.{_≡_, ap, _⊎_, inl, inr, Bool, List, ℕ, _+_, _-_, _*_, _≤_, _<_, ℕ-discrete, decLe, arith, T, getD, Order, Covers}
 
 -- values by the length of a side and the state: a state above gives no less, and two parts no more than the whole
 pub record Joins (le : ℕ → ℕ → Bool) (h : ℕ → ℕ → ℕ) : Type 0 where

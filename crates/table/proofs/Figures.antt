@@ -1,22 +1,5 @@
 -- The normal positions of a side and their floors as the fills are lent them: what serves for cuts.
-use mathlib.Core.Path.{_≡_, sym, _∙_, ap}
-use mathlib.Core.List.{List}
-use Prim.Native.Nat.{ℕ, _-_, _≤_, _<_}
-use native.Mathlib.Decide.{ℕ-discrete, decLe}
-use native.Mathlib.Omega.{arith}
-use lib.Dec.{T}
-use lib.ListN.{length, getD, length-take}
-use lib.Seq.{getD-take}
-use Rattle.promises.specs.declared.Direction.{Direction}
-use Rattle.promises.specs.declared.Direction.the-variants.{Length, Width}
-use Rattle.cutting.specs.Tree.{side}
-use Rattle.cutting.specs.Job.{Job, normal-side}
-use Rattle.cutting.specs.Listed.{InTableRange}
-use Rattle.cutting.proofs.Floor.{floor-le}
-use Rattle.cutting.proofs.Table.{positions-entry, positions-rise, positions-normal}
-use Rattle.table.specs.Table.{position}
-use Rattle.table.specs.Contracts.{Positions}
-use Rattle.table.specs.Words.{Axis}
+use Rattle.table.proofs.Prelude.{_≡_, sym, _∙_, ap, List, ℕ, _-_, _≤_, _<_, ℕ-discrete, decLe, arith, T, length, getD, length-take, getD-take, Direction, Length, Width, side, Job, normal-side, InTableRange, floor-le, positions-entry, positions-rise, positions-normal, position, Positions, Axis}
 
 -- a side of a plate in range
 side-range : (J : Job) (d : Direction) → InTableRange J → side d (J .plate) ≤ 1020

@@ -1,9 +1,5 @@
 -- The greater of two numbers without a comparison.
-use mathlib.Core.Path.{_≡_, _∙_, ap}
-use Prim.Native.Nat.{ℕ, _+_, _-_, _*_, _/_, _%_, _≤_, _<_, max}
-use native.Mathlib.Nat.{add-mul-mod-self-left, mod-eq-of-lt, div-eq-of-lt-le}
-use native.Mathlib.Decide.{decLe}
-use native.Mathlib.Omega.{arith}
+use Rattle.table.proofs.Prelude.{_≡_, _∙_, ap, ℕ, _+_, _-_, _*_, _/_, _%_, _≤_, _<_, max, add-mul-mod-self-left, mod-eq-of-lt, div-eq-of-lt-le, decLe, arith}
 
 -- by how much a number, given lifted by 2^63, is above another: their difference above 2^63, where it has the top bit
 pub gain-is : (a lifted : ℕ) → a < 9223372036854775808 → 9223372036854775808 ≤ lifted → lifted < 18446744073709551616

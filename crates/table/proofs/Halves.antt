@@ -1,12 +1,5 @@
 -- The cuts of a side up to its half: the search for the first entry past it, and the parts of each cut.
-use mathlib.Core.Path.{_≡_, ap}
-use mathlib.Core.List.{List}
-use Prim.Native.Nat.{ℕ, _+_, _-_, _*_, _≤_, _<_}
-use native.Mathlib.Decide.{ℕ-discrete, decLe}
-use native.Mathlib.Omega.{arith}
-use borrow.Author.Count.{below-more}
-use lib.ListN.{getD}
-use Rattle.table.specs.Words.{HalfReady, Half, remainder, Cuts, Axis}
+use Rattle.table.proofs.Prelude.{_≡_, ap, List, ℕ, _+_, _-_, _*_, _≤_, _<_, ℕ-discrete, decLe, arith, below-more, getD, HalfReady, Half, remainder, Cuts, Axis}
 
 -- an entry up to half of entry b is not entry b
 pub half-below : (positions : List ℕ) (b half-end : ℕ) → half-end ≤ b → 0 < getD positions b 0 → 2 * getD positions half-end 0 ≤ getD positions b 0 → half-end < b

@@ -1,17 +1,5 @@
 -- The shares of an order of states are monotone and symmetric, so what holds of figures in general holds of theirs.
-use mathlib.Core.Path.{_≡_, sym, ap}
-use mathlib.Core.Bool.{Bool}
-use mathlib.Core.List.{List·Memᴰ}
-use Prim.Native.Nat.{ℕ, suc, _+_, _-_, _≤_}
-use native.Mathlib.Omega.{arith}
-use lib.Dec.{T}
-use Rattle.promises.specs.declared.Direction.{Direction}
-use Rattle.cutting.specs.Lists.{range, filter}
-use Rattle.cutting.specs.Tree.{Rect, Tree, waste, piece, cut, Pieces, Saw, Proper, Within, Monotone, Symmetric}
-use Rattle.cutting.specs.Figure.{figure}
-use Rattle.cutting.proofs.Lists.{range-mem, map-mem, mem-map, filter-mem, mem-filter}
-use Rattle.cutting.proofs.Exact.{figure-upper, figure-attained}
-use Rattle.table.specs.States.{by-state, Order}
+use Rattle.table.proofs.Prelude.{_≡_, sym, ap, Bool, List·Memᴰ, ℕ, suc, _+_, _-_, _≤_, arith, T, Direction, range, filter, Rect, Tree, waste, piece, cut, Pieces, Saw, Proper, Within, Monotone, Symmetric, figure, range-mem, map-mem, mem-map, filter-mem, mem-filter, figure-upper, figure-attained, by-state, Order}
 
 module _ {P : Type 0} (le : ℕ → ℕ → Bool) (order : Order le) (own : P → ℕ) where
   -- a state is divided into any two that sum to it without a carry

@@ -1,39 +1,6 @@
 -- The figures of the blocks over an order of states: a state above, larger sides, two parts along the block's direction, one stage fewer,
 -- what makes a cell of a block complete; over one weight they are the blocks of the scope. And the layout of the blocks.
-use mathlib.Core.Path.{_≡_, sym, _∙_, ap}
-use mathlib.Core.Bool.{Bool, _&&_}
-use mathlib.Core.List.{List}
-use Prim.Native.Nat.{ℕ, zero, suc, _+_, _-_, _*_, _/_, _≤_, _<_, max}
-use native.Mathlib.Nat.{mul-le-mul-right}
-use native.Mathlib.Decide.{ℕ-discrete}
-use native.Mathlib.Omega.{arith}
-use lib.Dec.{T, leb}
-use lib.ListN.{getD}
-use Rattle.promises.specs.declared.Direction.{Direction}
-use Rattle.promises.specs.declared.Direction.the-variants.{Length, Width}
-use Rattle.cutting.specs.Lists.{range, only, filter, greatest}
-use Rattle.cutting.specs.Tree.{Rect, side, part, Shares}
-use Rattle.cutting.specs.Figure.{leaf, best, figure}
-use Rattle.cutting.specs.Pieces.{Piece, kind, _⊑_, fits-in, sized}
-use Rattle.cutting.specs.Saws.{saw, saw-half}
-use Rattle.cutting.specs.Shares.{other, staged}
-use Rattle.cutting.specs.Job.{Job, laid, MayLie, members, pieces, by-kind, normal-side, normal-floor}
-use Rattle.cutting.specs.Staged.{block}
-use Rattle.cutting.specs.Listed.{InTableRange}
-use Rattle.cutting.proofs.Exact.{leaf-ge, best-ge, figure-upper, figure-attained, figure-within}
-use Rattle.cutting.proofs.Saws.{saw-cut, saw-proper}
-use Rattle.cutting.proofs.Enlarge.{Enlarges, figure-mono}
-use Rattle.cutting.proofs.Pieces.{fits-in-true, units-enlarge}
-use Rattle.cutting.proofs.Ceiling.{figure-area}
-use Rattle.cutting.proofs.Members.{lie-member, member-kind, members-solid, table-solid}
-use Rattle.cutting.proofs.Weights.{within-weight, weight-within}
-use Rattle.cutting.proofs.Stages.{staged-within, within-staged, staged-fewer, staged-eq, staged-none, staged-half}
-use Rattle.cutting.proofs.Staged.{block-figure}
-use Rattle.cutting.proofs.Table.{sides-suffice}
-use Rattle.table.specs.Contracts.{Positions}
-use Rattle.table.specs.Staged.{block-number}
-use Rattle.table.specs.Words.{Half, remainder}
-use Rattle.table.specs.States.{by-state, Order, block-at}
+use Rattle.table.proofs.Prelude.{_≡_, sym, _∙_, ap, Bool, _&&_, List, ℕ, zero, suc, _+_, _-_, _*_, _/_, _≤_, _<_, max, mul-le-mul-right, ℕ-discrete, arith, T, leb, getD, Direction, Length, Width, range, only, filter, greatest, Rect, side, part, Shares, leaf, best, figure, Piece, kind, _⊑_, fits-in, sized, saw, saw-half, other, staged, Job, laid, MayLie, members, pieces, by-kind, normal-side, normal-floor, block, InTableRange, leaf-ge, best-ge, figure-upper, figure-attained, figure-within, saw-cut, saw-proper, Enlarges, figure-mono, fits-in-true, units-enlarge, figure-area, lie-member, member-kind, members-solid, table-solid, within-weight, weight-within, staged-within, within-staged, staged-fewer, staged-eq, staged-none, staged-half, block-figure, sides-suffice, Positions, block-number, Half, remainder, by-state, Order, block-at}
 use Rattle.table.proofs.Figures.{entry-side}
 use Rattle.table.proofs.Shares.{state-split, within-above, by-state-monotone, by-state-symmetric}
 use Rattle.table.proofs.Weighed.{one-within, within-one}

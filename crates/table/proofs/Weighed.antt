@@ -1,17 +1,6 @@
 -- One weight: plain numbers are an order of states, a tree is within a share exactly if it weighs no more, and the figures over this order
 -- are those by weight.
-use mathlib.Core.Path.{_≡_}
-use Prim.Native.Nat.{ℕ, _+_, _-_, _≤_}
-use native.Mathlib.Omega.{arith}
-use lib.Dec.{leb, leb→le, le→leb}
-use Rattle.cutting.specs.Tree.{Tree, waste, piece, cut, total, Within}
-use Rattle.cutting.specs.Saws.{saw}
-use Rattle.cutting.specs.Pieces.{Piece, kind}
-use Rattle.cutting.specs.Job.{Job, pieces, by-kind, figure-of}
-use Rattle.cutting.proofs.Exact.{figure-within}
-use Rattle.cutting.proofs.Saws.{saw-proper}
-use Rattle.cutting.proofs.Weights.{within-weight, weight-within}
-use Rattle.table.specs.States.{by-state, Order, figure-at}
+use Rattle.table.proofs.Prelude.{_≡_, ℕ, _+_, _-_, _≤_, arith, leb, leb→le, le→leb, Tree, waste, piece, cut, total, Within, saw, Piece, kind, Job, pieces, by-kind, figure-of, figure-within, saw-proper, within-weight, weight-within, by-state, Order, figure-at}
 use Rattle.table.proofs.Shares.{split-state, state-split}
 
 pub plain-order : Order leb

@@ -1,15 +1,6 @@
 -- Laws of written runs: nothing written yet, one word more; of the words past the table; of cells that lie one after the other; and of
 -- the array with the floors of both sides.
-use mathlib.Core.Path.{_≡_, refl, sym, _∙_}
-use mathlib.Core.List.{List}
-use Prim.Native.Nat.{ℕ, _+_, _-_, _*_, _≤_, _<_}
-use native.Mathlib.Nat.{not-suc-le-zero, mul-le-mul-right}
-use native.Mathlib.Omega.{arith}
-use borrow.Author.Count.{below-more}
-use lib.ListN.{length, getD, set, take, drop, length-drop}
-use lib.Seq.{getD-set-same, getD-set-other, getD-drop, ext-getD, take-all}
-use Rattle.table.specs.Table.{Kept}
-use Rattle.table.specs.Words.{Outside, Run}
+use Rattle.table.proofs.Prelude.{_≡_, refl, sym, _∙_, List, ℕ, _+_, _-_, _*_, _≤_, _<_, not-suc-le-zero, mul-le-mul-right, arith, below-more, length, getD, set, take, drop, length-drop, getD-set-same, getD-set-other, getD-drop, ext-getD, take-all, Kept, Outside, Run}
 
 pub outside-none : (at end : ℕ) (xs : List ℕ) → Outside at end xs xs
 outside-none at end xs = record { before = λ i h. refl; after = λ i h. refl }

@@ -1,49 +1,10 @@
 -- The true plan of a plan that passes: what holds of it, what its scans are given, and the answers of the call one by one.
-use mathlib.Core.Path.{_≡_, refl, sym, _∙_, ap, subst}
-use mathlib.Core.List.{List, [], _∷_, _++_}
-use Prim.Native.Nat.{ℕ, _≤_, _<_}
-use native.Mathlib.Omega.{arith}
-use lib.Dec.{ltb}
-use lib.ListN.{length}
-use borrow.Author.Tests.{lt-ltb, le-ltb, ltb-false}
-use Rattle.cutting.specs.Lists.{over}
-use Rattle.cutting.specs.Tree.{Rect, Tree}
+use Rattle.true_plan.proofs.Prelude.{_≡_, refl, sym, _∙_, ap, subst, List, [], _∷_, _++_, ℕ, _≤_, _<_, arith, ltb, length, lt-ltb, le-ltb, ltb-false, over, Rect, Tree, _⊑_, node-count, kinds-of, operands-of, Job, laid, OnPlate, KeepsDemands, profit, SolidKinds, InRange, used-of, neat-of, ChainsFit, Relaxes, range-solid, neat-stages, neat-nodes, neat-used, neat-copies, neat-earns, returned, same-relaxes, relaxed-none, relaxed-staged, next, first-refusal, outcome-by, Refusal, PlanLong, TrueMisfit, Checked, Passed, Refused, Choices, JobRecord, JobAnswer, job-checks, read-of, job-of, block-job, passed-both, cons-passed, TrueSizes, SizesAnswer, sizes-checks, sizes-of, sizes-read, true-job, TrueRange, nodes-in, plan-answer, trees-in, tree-in, DrawnAs, PlanOf, trees-are, drawn-is, plan-is, Used, neat-tree, output-check, as-used, told-side, told-of, pieces-in, nodes-for, Known, Scannable, Writable, TruePlanAnswer, fit-checks, true-checked, true-verdict, block-true, SizesPass, block-neat, block-used, true-answer-by, true-outcome, TruePlan, TrueJudged, TruePromises, true-laid, true-plate, TruePlanned}
 use Rattle.cutting.specs.Pieces as laid
-use Rattle.cutting.specs.Pieces.{_⊑_}
-use Rattle.cutting.specs.Preorder.{node-count, kinds-of, operands-of}
-use Rattle.cutting.specs.Job.{Job, laid, OnPlate, KeepsDemands, profit, SolidKinds, InRange}
-use Rattle.cutting.specs.Neat.{used-of, neat-of}
-use Rattle.cutting.specs.Relaxation.{ChainsFit, Relaxes}
-use Rattle.cutting.proofs.Members.{range-solid}
-use Rattle.cutting.proofs.Neat.{neat-stages, neat-nodes, neat-used}
-use Rattle.cutting.proofs.Relaxation.{neat-copies, neat-earns, returned, same-relaxes, relaxed-none, relaxed-staged}
-use Rattle.refusal.specs.Refusals.{next, first-refusal, outcome-by}
-use Rattle.promises.specs.declared.Refusal.{Refusal}
-use Rattle.promises.specs.declared.Refusal.the-variants.{PlanLong, TrueMisfit}
-use Rattle.promises.specs.declared.Checked.{Checked}
-use Rattle.promises.specs.declared.Checked.the-variants.{Passed, Refused}
-use Rattle.promises.specs.declared.Choices.{Choices}
-use Rattle.promises.specs.declared.JobRecord.{JobRecord}
-use Rattle.promises.specs.declared.JobAnswer.{JobAnswer}
-use Rattle.job.specs.Block.{job-checks, read-of, job-of}
-use Rattle.job.specs.Weights.{block-job}
 use Rattle.job.proofs.Read as read
-use Rattle.job.proofs.Checks.{passed-both, cons-passed}
-use Rattle.sizes.specs.declared.TrueSizes.{TrueSizes}
-use Rattle.sizes.specs.declared.SizesAnswer.{SizesAnswer}
-use Rattle.sizes.specs.Sizes.{sizes-checks, sizes-of, sizes-read, true-job, TrueRange}
 use Rattle.sizes.proofs.Read as sizes
-use Rattle.plan.specs.Plan.{nodes-in, plan-answer}
-use Rattle.plan.specs.Trees.{trees-in, tree-in, DrawnAs, PlanOf}
-use Rattle.plan.proofs.Drawn.{trees-are, drawn-is, plan-is}
-use Rattle.neat.specs.declared.Used.{Used}
-use Rattle.neat.specs.Neat.{neat-tree, output-check}
-use Rattle.neat.specs.Scan.{as-used, told-side, told-of, pieces-in, nodes-for, Known, Scannable, Writable}
 use Rattle.neat.proofs.Plans as neat
-use Rattle.promises.specs.declared.TruePlanAnswer.{TruePlanAnswer}
 use Rattle.promises.specs.declared.TruePlanAnswer.the-variants as answer
-use Rattle.true_plan.specs.TruePlan.{fit-checks, true-checked, true-verdict, block-true, SizesPass, block-neat, block-used, true-answer-by, true-outcome, TruePlan, TrueJudged, TruePromises}
-use Rattle.true_plan.specs.Calls.{true-laid, true-plate, TruePlanned}
 
 -- a side of at most the greatest is exceeded by what is told of another exactly where the other exceeds it
 told-above : (a b : ℕ) {u : ℕ} → a ≤ 100000000 → u ≡ told-side b → a < u → a < b

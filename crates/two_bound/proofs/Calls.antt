@@ -1,38 +1,5 @@
 -- What the call promises, from the verdicts of job and weights and from the bound of an accepted job.
-use mathlib.Core.Path.{_≡_, refl, sym, _∙_, ap, ap₂, subst}
-use mathlib.Core.List.{List}
-use Prim.Native.Nat.{ℕ, _≤_}
-use native.Mathlib.Omega.{arith}
-use lib.ListN.{length}
-use Rattle.cutting.specs.declared.Sides.{Sides}
-use Rattle.cutting.specs.Sides.{rect-of, sides-of}
-use Rattle.cutting.specs.Job.{Job, SolidKinds, InRange, widened, capacity, at-full-demand, ordered, members, pieces}
-use Rattle.cutting.specs.Two.{figure-two, two-bound, TwoFiguresMost}
-use Rattle.cutting.specs.Listed.{listed-weight, pieces-job, PieceArray}
-use Rattle.cutting.proofs.Members.{range-solid, widened-solid}
-use Rattle.cutting.proofs.Finer.{none-finer, two-finer}
-use Rattle.cutting.proofs.Bound.{capacity-less}
-use Rattle.cutting.proofs.Two.{two-recursion, two-floor, two-figures, two-most, two-holds, two-ceiling}
-use Rattle.cutting.proofs.Promises.{normal-listed}
-use Rattle.refusal.specs.Refusals.{next, first-refusal, outcome-by}
-use Rattle.promises.specs.declared.Refusal.{Refusal}
-use Rattle.promises.specs.declared.Checked.{Checked}
-use Rattle.promises.specs.declared.Checked.the-variants.{Passed, Refused}
-use Rattle.promises.specs.declared.Choices.{Choices}
-use Rattle.promises.specs.declared.JobRecord.{JobRecord}
-use Rattle.promises.specs.declared.JobAnswer.{JobAnswer}
-use Rattle.job.specs.Block.{job-checks, record-of, read-of, job-of}
-use Rattle.job.specs.Weights.{block-job, weight-in}
-use Rattle.job.proofs.Checks.{first-append, append-passed, passed-append, passed-both}
-use Rattle.job.proofs.Read.{answered, refused, read-in-range}
-use Rattle.table.specs.Two.{pair-count}
-use Rattle.table.specs.States.{figure-pair, pair-state}
-use Rattle.bound.specs.Bound.{Memory, wide-job, block-capacity}
-use Rattle.bound.proofs.Listed.{pieces-range}
-use Rattle.two_bound.specs.Two.{two-checks, two-storage-checks, two-answer-by, TwoLeaves, weighed-verdict, BothAccepted, two-verdict, block-figure, two-block-report, two-answer, two-values, two-outcome, TwoHolds, TwoPromises}
-use Rattle.two_bound.specs.Contracts.{Statable, Stated, Pairable, Paired}
-use Rattle.promises.specs.declared.TwoReport.{TwoReport}
-use Rattle.promises.specs.declared.TwoAnswer.{TwoAnswer}
+use Rattle.two_bound.proofs.Prelude.{_≡_, refl, sym, _∙_, ap, ap₂, subst, List, ℕ, _≤_, arith, length, Sides, rect-of, sides-of, Job, SolidKinds, InRange, widened, capacity, at-full-demand, ordered, members, pieces, figure-two, two-bound, TwoFiguresMost, listed-weight, pieces-job, PieceArray, range-solid, widened-solid, none-finer, two-finer, capacity-less, two-recursion, two-floor, two-figures, two-most, two-holds, two-ceiling, normal-listed, next, first-refusal, outcome-by, Refusal, Checked, Passed, Refused, Choices, JobRecord, JobAnswer, job-checks, record-of, read-of, job-of, block-job, weight-in, first-append, append-passed, passed-append, passed-both, answered, refused, read-in-range, pair-count, figure-pair, pair-state, Memory, wide-job, block-capacity, pieces-range, two-checks, two-storage-checks, two-answer-by, TwoLeaves, weighed-verdict, BothAccepted, two-verdict, block-figure, two-block-report, two-answer, two-values, two-outcome, TwoHolds, TwoPromises, Statable, Stated, Pairable, Paired, TwoReport, TwoAnswer}
 use Rattle.promises.specs.declared.TwoAnswer.the-variants as answer
 use Rattle.two_bound.proofs.Weights.{Weighs, both-passed}
 use Rattle.two_bound.proofs.States.{statable, stated-array}

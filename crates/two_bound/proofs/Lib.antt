@@ -1,3 +1,4 @@
+mod Prelude
 pub mod Weights
 pub mod States
 pub mod Storage

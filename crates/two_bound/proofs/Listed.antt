@@ -1,41 +1,7 @@
 -- What is answered and left in memory for the array of a job's pieces, with the numbers of their states, is the job's own; and the word
 -- from which the bound is read.
-use mathlib.Core.Path.{_≡_, refl, sym, _∙_, ap, ap₂, subst}
-use mathlib.Core.Bool.{Bool}
-use mathlib.Core.List.{List, [], _∷_}
-use Prim.Native.Nat.{ℕ, _+_, _-_, _*_, _≤_, _<_}
-use native.Mathlib.Omega.{arith}
-use lib.Dec.{ltb}
-use lib.ListN.{length, getD}
-use Rattle.promises.specs.declared.Direction.the-variants.{Length, Width}
-use Rattle.cutting.specs.Tree.{Rect}
-use Rattle.cutting.specs.Figure.{leaf}
-use Rattle.cutting.specs.Saws.{saw}
-use Rattle.cutting.specs.Pieces.{kind, sized}
-use Rattle.cutting.specs.Job.{Job, laid, members, pieces, normal-side, normal-floor}
-use Rattle.cutting.specs.Two.{figure-two}
-use Rattle.cutting.specs.Listed.{InTableRange, size-in, price-in, listed-weight, plain, Listing, pieces-job, PieceArray}
-use Rattle.cutting.proofs.Recursion.{figure-same}
-use Rattle.cutting.proofs.Reduction.{floor-figure}
-use Rattle.cutting.proofs.Members.{members-solid, table-solid}
-use Rattle.cutting.proofs.Table.{sides-suffice, positions-some}
-use Rattle.cutting.proofs.Listed.{greatest-listed}
-use Rattle.refusal.specs.Refusals.{first-refusal}
-use Rattle.promises.specs.declared.Checked.{Checked}
-use Rattle.promises.specs.declared.Checked.the-variants.{Passed, Refused}
-use Rattle.promises.specs.declared.Refusal.the-variants.{TableShort}
-use Rattle.table.specs.Table.{position-count, position, words-needed, Kept}
-use Rattle.table.specs.Two.{two-words, TwoFigures}
-use Rattle.table.specs.States.{below, by-state, figure-at, pair-blocks, figure-pair, pair-state}
-use Rattle.table.proofs.Shares.{by-state-monotone}
-use Rattle.states.proofs.Digits.{digits-order}
-use Rattle.states.proofs.Ties.{pair-blocked, figure-two as figure-numbered}
-use Rattle.bound.specs.Bound.{Memory, list-check, list-after}
-use Rattle.bound.proofs.Last.{last-position, word-last, words-some}
-use Rattle.bound.proofs.Listed.{same-positions, same-count, same-position, same-words}
-use Rattle.two_bound.specs.Two.{TwoAfter, two-storage-checks, two-report, two-answer-by}
-use Rattle.two_bound.specs.Contracts.{Paired}
-use Rattle.promises.specs.declared.TwoAnswer.{TwoAnswer}
+use Rattle.two_bound.proofs.Prelude.{_≡_, refl, sym, _∙_, ap, ap₂, subst, Bool, List, [], _∷_, ℕ, _+_, _-_, _*_, _≤_, _<_, arith, ltb, length, getD, Length, Width, Rect, leaf, saw, kind, sized, Job, laid, members, pieces, normal-side, normal-floor, figure-two, InTableRange, size-in, price-in, listed-weight, plain, Listing, pieces-job, PieceArray, figure-same, floor-figure, members-solid, table-solid, sides-suffice, positions-some, greatest-listed, first-refusal, Checked, Passed, Refused, TableShort, position-count, position, words-needed, Kept, two-words, TwoFigures, below, by-state, figure-at, pair-blocks, figure-pair, pair-state, by-state-monotone, digits-order, pair-blocked, Memory, list-check, list-after, last-position, word-last, words-some, same-positions, same-count, same-position, same-words, TwoAfter, two-storage-checks, two-report, two-answer-by, Paired, TwoAnswer}
+use Rattle.states.proofs.Ties.{figure-two as figure-numbered}
 use Rattle.two_bound.proofs.Storage.{report-is}
 
 module _ (J : Job) (h : InTableRange J) (own : ℕ → ℕ) (q q′ : ℕ) where

@@ -1,31 +1,6 @@
 -- Second weights that are all 0: checks, answer and memory are those of the bound call of the first.
-use mathlib.Core.Path.{_≡_, refl, sym, _∙_, ap, ap₂, subst}
-use mathlib.Core.Bool.{Bool, true, false, not, _||_}
-use mathlib.Core.List.{List, [], _∷_}
-use Prim.Native.Nat.{ℕ}
-use native.Mathlib.Omega.{arith}
-use borrow.Author.Tests.{ltb-false, le-ltb}
-use lib.Dec.{ltb, eqb}
-use lib.ListN.{length, getD}
-use Rattle.promises.specs.declared.Direction.the-variants.{Length, Width}
-use Rattle.cutting.specs.Job.{Job, capacity, normal-positions}
-use Rattle.cutting.specs.Two.{figure-two}
-use Rattle.cutting.proofs.Two.{capacity-none, two-one}
-use Rattle.refusal.specs.Refusals.{next, refuse-when, first-refusal}
-use Rattle.promises.specs.declared.Checked.{Checked}
-use Rattle.promises.specs.declared.Checked.the-variants.{Passed, Refused}
-use Rattle.promises.specs.declared.Refusal.the-variants.{WeightCount, SecondCount, Capacity, CapacityProduct, TableShort}
-use Rattle.promises.specs.declared.Choices.{Choices}
-use Rattle.job.specs.Block.{job-checks}
-use Rattle.job.specs.Weights.{block-job, weight-in, weight-checks}
-use Rattle.job.proofs.Checks.{first-append}
-use Rattle.table.specs.Table.{position, word, words-needed, Figures, Kept}
-use Rattle.table.specs.Two.{pair-count, two-words, two-word, TwoFigures}
-use Rattle.promises.specs.declared.BoundReport.{BoundReport}
-use Rattle.bound.specs.Bound.{Memory, list-check, list-after, TableAfter, wide-job, block-capacity, block-report, accept-verdict, bound-verdict, bound-answer, BoundLeaves}
+use Rattle.two_bound.proofs.Prelude.{_≡_, refl, sym, _∙_, ap, ap₂, subst, Bool, true, false, not, _||_, List, [], _∷_, ℕ, arith, ltb-false, le-ltb, ltb, eqb, length, getD, Length, Width, Job, capacity, normal-positions, figure-two, capacity-none, two-one, next, refuse-when, first-refusal, Checked, Passed, Refused, WeightCount, SecondCount, Capacity, CapacityProduct, TableShort, Choices, job-checks, block-job, weight-in, weight-checks, first-append, position, word, words-needed, Figures, Kept, pair-count, two-words, two-word, TwoFigures, BoundReport, Memory, list-check, list-after, TableAfter, wide-job, block-capacity, block-report, accept-verdict, bound-verdict, bound-answer, BoundLeaves, two-checks, two-storage-checks, two-report, two-answer-by, TwoAfter, TwoLeaves, weighed-verdict, two-verdict, block-figure, two-answer, with-second-none, TwoReport}
 use Rattle.bound.specs.Bound as bound
-use Rattle.two_bound.specs.Two.{two-checks, two-storage-checks, two-report, two-answer-by, TwoAfter, TwoLeaves, weighed-verdict, two-verdict, block-figure, two-answer, with-second-none}
-use Rattle.promises.specs.declared.TwoReport.{TwoReport}
 use Rattle.two_bound.proofs.Storage.{report-is}
 
 -- the verdict of the checks of two lists, by their conditions

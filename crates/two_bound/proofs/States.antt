@@ -1,22 +1,5 @@
 -- The numbers of states in the array of pieces: one more, and what the array then lists.
-use mathlib.Core.Path.{_≡_, refl, sym, _∙_, ap, ap₂}
-use mathlib.Core.Bool.{true, false}
-use mathlib.Core.List.{List}
-use Prim.Native.Nat.{ℕ, _+_, _*_, _/_, _≤_, _<_}
-use native.Mathlib.Nat.{mul-le-mul}
-use native.Mathlib.Decide.{ℕ-discrete}
-use native.Mathlib.Omega.{arith}
-use borrow.Author.Tests.{lt-ltb, le-ltb}
-use lib.ListN.{length, set, length-set}
-use lib.Seq.{getD-set-same, getD-set-other}
-use Rattle.cutting.specs.Pieces.{Piece, upright, turned, kind}
-use Rattle.cutting.specs.Job.{Job, members}
-use Rattle.cutting.specs.Listed.{listed-weight, node-in, node-number, member-at, PieceArray}
-use Rattle.cutting.proofs.Members.{member-kind}
-use Rattle.cutting.proofs.Positions.{getD-mem}
-use Rattle.table.specs.Two.{pair-count}
-use Rattle.table.specs.States.{own-state, pair-state}
-use Rattle.two_bound.specs.Contracts.{Statable, Stated}
+use Rattle.two_bound.proofs.Prelude.{_≡_, refl, sym, _∙_, ap, ap₂, true, false, List, ℕ, _+_, _*_, _/_, _≤_, _<_, mul-le-mul, ℕ-discrete, arith, lt-ltb, le-ltb, length, set, length-set, getD-set-same, getD-set-other, Piece, upright, turned, kind, Job, members, listed-weight, node-in, node-number, member-at, PieceArray, member-kind, getD-mem, pair-count, own-state, pair-state, Statable, Stated}
 
 -- the state of two weights is that of a kind which has them
 pub state-same : (first second : ℕ → ℕ) (q q′ k : ℕ) → pair-state q q′ (λ i. first k) (λ i. second k) 0 ≡ pair-state q q′ first second k

@@ -1,22 +1,6 @@
 -- What the bound of pieces at two capacities answers, and what lent memory then holds, from the storage as it was laid out.
-use mathlib.Core.Path.{_≡_, refl, sym, _∙_, ap}
-use mathlib.Core.List.{List}
-use Prim.Native.Nat.{ℕ}
-use native.Mathlib.Omega.{arith}
-use lib.ListN.{length}
-use Rattle.cutting.specs.Job.{Job}
-use Rattle.promises.specs.declared.Refusal.{Refusal}
-use Rattle.promises.specs.declared.Checked.{Checked}
-use Rattle.table.specs.declared.TableSize.{TableSize}
-use Rattle.table.specs.Two.{pair-count, two-words}
-use Rattle.table.specs.Contracts.{TwoBy}
+use Rattle.two_bound.proofs.Prelude.{_≡_, refl, sym, _∙_, ap, List, ℕ, arith, length, Job, Refusal, Checked, TableSize, pair-count, two-words, TwoBy, cell-words, storage-verdict, LaidOut, refused-laid, ready-laid, lent, two-report, two-answer-by, Paired, TwoReport}
 use Rattle.storage.specs.declared.Layout.the-variants as layout
-use Rattle.storage.specs.Contracts.{cell-words, storage-verdict, LaidOut}
-use Rattle.storage.proofs.Storage.{refused-laid, ready-laid}
-use Rattle.bound.specs.Bound.{lent}
-use Rattle.two_bound.specs.Two.{two-report, two-answer-by}
-use Rattle.two_bound.specs.Contracts.{Paired}
-use Rattle.promises.specs.declared.TwoReport.{TwoReport}
 use Rattle.promises.specs.declared.TwoAnswer.the-variants as answer
 
 -- a report of the five figures

@@ -1,25 +1,7 @@
 -- What the checks of two lists of weights decide: 8, 24, 9, 25, or none.
-use mathlib.Core.Path.{_≡_, _∙_}
-use mathlib.Core.List.{List}
-use Prim.Native.Nat.{ℕ, _≤_, _<_}
-use native.Mathlib.Decide.{decLe}
-use native.Mathlib.Omega.{arith}
-use borrow.Author.Tests.{ltb-false, lt-ltb, le-ltb, eqb-true, eq-eqb, ne-eqb, not-false}
-use lib.Dec.{ltb, eqb}
-use lib.ListN.{length}
-use Rattle.cutting.specs.Job.{Job, capacity}
-use Rattle.refusal.specs.Refusals.{first-refusal}
-use Rattle.promises.specs.declared.Checked.{Checked}
-use Rattle.promises.specs.declared.Checked.the-variants.{Passed, Refused}
-use Rattle.promises.specs.declared.Refusal.{Refusal}
+use Rattle.two_bound.proofs.Prelude.{_≡_, _∙_, List, ℕ, _≤_, _<_, decLe, arith, ltb-false, lt-ltb, le-ltb, eqb-true, eq-eqb, ne-eqb, not-false, ltb, eqb, length, Job, capacity, first-refusal, Checked, Passed, Refused, Refusal, weight-in, weights-answer, cons-passed, answer-passed, capacity-answered, weights-passed, pair-count, or-false, two-checks}
 use Rattle.promises.specs.declared.Refusal.the-variants as refusal
-use Rattle.job.specs.Weights.{weight-in, weights-answer}
 use Rattle.job.specs.declared.WeightsAnswer.the-variants as answer
-use Rattle.job.proofs.Checks.{cons-passed}
-use Rattle.job.proofs.Weights.{answer-passed, capacity-answered, weights-passed}
-use Rattle.table.specs.Two.{pair-count}
-use Rattle.job.proofs.Read.{or-false}
-use Rattle.two_bound.specs.Two.{two-checks}
 
 -- weights of a job, as many as its kinds, that are refused: the capacity is too large
 pub too-heavy : (J : Job) (ws : List ℕ) {x : Refusal} → length ws ≡ J .count → weights-answer J ws ≡ answer.Refused x → 4095 < capacity J (weight-in ws)

@@ -1,3 +1,4 @@
+mod Prelude
 pub mod Sums
 pub mod Roots
 pub mod Rules

@@ -1,13 +1,6 @@
 -- The step is the whole part of the root, or 255 where that is above; and how a search from 0 finds it.
-use mathlib.Core.Path.{_≡_, sym, _∙_, ap}
-use Prim.Native.Nat.{ℕ, zero, suc, _+_, _*_, _≤_, _<_, min}
-use native.Mathlib.Nat.{mul-le-mul, mul-le-mul-right}
-use native.Mathlib.Decide.{decLe}
-use native.Mathlib.Omega.{arith}
-use borrow.Author.Tests.{le-leb, lt-leb}
-use lib.Dec.{leb}
+use Rattle.weight_steps.proofs.Prelude.{_≡_, sym, _∙_, ap, ℕ, zero, suc, _+_, _*_, _≤_, _<_, min, mul-le-mul, mul-le-mul-right, decLe, arith, le-leb, lt-leb, leb, WholeRoot, pick-number, root-below}
 use Rattle.weight_steps.proofs.Sums.{product-most}
-use Rattle.weight_steps.specs.Step.{WholeRoot, pick-number, root-below}
 
 -- squares rise
 square-rises : (x y q : ℕ) → x ≤ y → x * x * q ≤ y * y * q

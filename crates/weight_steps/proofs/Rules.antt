@@ -1,14 +1,5 @@
 -- The steps have the scope's rules: the halving of the factor over the table, the step as a whole root.
-use mathlib.Core.Path.{_≡_, refl, sym, _∙_, ap}
-use mathlib.Core.Bool.{not}
-use Prim.Native.Nat.{ℕ, suc, _+_, _*_, _/_, _^_, _<_, min}
-use native.Mathlib.Nat.{add-div-right, div-div-eq-div-mul, pow-suc, div-eq-of-lt}
-use native.Mathlib.Omega.{arith}
-use borrow.Author.Tests.{eqb-true, not-false}
-use lib.Dec.{eqb}
-use lib.ListN.{getD}
-use Rattle.cutting.specs.Lists.{range, any}
-use Rattle.weight_steps.specs.Step.{most-rounds, factor, factors, WholeRoot, scale, weight-step, StepRules}
+use Rattle.weight_steps.proofs.Prelude.{_≡_, refl, sym, _∙_, ap, not, ℕ, suc, _+_, _*_, _/_, _^_, _<_, min, add-div-right, div-div-eq-div-mul, pow-suc, div-eq-of-lt, arith, eqb-true, not-false, eqb, getD, range, any, most-rounds, factor, factors, WholeRoot, scale, weight-step, StepRules}
 use Rattle.weight_steps.proofs.Sums.{none-passes}
 use Rattle.weight_steps.proofs.Roots.{root-whole, root-exists}
 

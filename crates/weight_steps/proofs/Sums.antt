@@ -1,11 +1,5 @@
 -- Laws of the loops over the kinds: a test of all of them, sums that agree entry by entry.
-use mathlib.Core.Path.{_≡_, refl, sym, _∙_, ap, ap₂}
-use mathlib.Core.Bool.{Bool, true, false, _||_}
-use Prim.Native.Nat.{ℕ, zero, suc, _+_, _*_, _≤_, _<_}
-use native.Mathlib.Nat.{mul-le-mul}
-use native.Mathlib.Decide.{ℕ-discrete}
-use native.Mathlib.Omega.{arith}
-use Rattle.cutting.specs.Lists.{range, sum, any}
+use Rattle.weight_steps.proofs.Prelude.{_≡_, refl, sym, _∙_, ap, ap₂, Bool, true, false, _||_, ℕ, zero, suc, _+_, _*_, _≤_, _<_, mul-le-mul, ℕ-discrete, arith, range, sum, any}
 
 -- whether some number from a on, n of them, passes a test: the last one counted last
 any-last : (f : ℕ → Bool) (a n : ℕ) → any f (range a (suc n)) ≡ any f (range a n) || f (a + n)

@@ -1,34 +1,7 @@
 -- The writing call: what it promises, from the verdict of job and weights and from the plan of an accepted job.
-use mathlib.Core.Path.{_≡_, refl, sym, _∙_, ap, subst}
-use mathlib.Core.List.{List, []}
-use Prim.Native.Nat.{ℕ, _≤_}
-use native.Mathlib.Omega.{arith}
-use lib.ListN.{length}
-use Rattle.cutting.specs.Preorder.{kinds-of, operands-of, node-count}
-use Rattle.cutting.proofs.Members.{range-solid}
-use Rattle.cutting.proofs.Plan.{plan-bound, plan-idle}
-use Rattle.cutting.proofs.Promises.{plan-follows}
-use Rattle.refusal.specs.Refusals.{next, first-refusal, outcome-by}
-use Rattle.promises.specs.declared.Refusal.{Refusal}
-use Rattle.promises.specs.declared.Checked.{Checked}
-use Rattle.promises.specs.declared.Checked.the-variants.{Passed, Refused}
-use Rattle.cutting.specs.Job.{widened, by-kind, plan-under}
-use Rattle.cutting.proofs.Weights.{by-weight-monotone}
-use Rattle.promises.specs.declared.Choices.{Choices}
-use Rattle.promises.specs.declared.JobRecord.{JobRecord}
-use Rattle.job.specs.Block.{job-of}
-use Rattle.job.specs.Weights.{block-job, weight-in, Accepted}
-use Rattle.job.proofs.Checks.{passed-both, cons-passed}
-use Rattle.job.proofs.Weights.{weights-passed, accepted-both, accepted-in-range}
-use Rattle.job.proofs.Taken.{Taken}
+use Rattle.writer.proofs.Prelude.{_≡_, refl, sym, _∙_, ap, subst, List, [], ℕ, _≤_, arith, length, kinds-of, operands-of, node-count, range-solid, plan-bound, plan-idle, plan-follows, next, first-refusal, outcome-by, Refusal, Checked, Passed, Refused, widened, by-kind, plan-under, by-weight-monotone, Choices, JobRecord, job-of, block-job, weight-in, Accepted, passed-both, cons-passed, weights-passed, accepted-both, accepted-in-range, Taken, bound-held, range-taken, weights-there, WriteReport, WriteAnswer, nodes-check, write-report, write-answer-by, write-values, write-outcome, nodes-verdict, block-plan, write-verdict, write-answer, PlanChosen, PlanWritten, BoundWritten, WritePromises, Weighed, room-verdict, Planned}
 use Rattle.bound.specs.Bound as bound
-use Rattle.bound.proofs.Holds.{bound-held}
-use Rattle.bound.proofs.Calls.{range-taken, weights-there}
-use Rattle.promises.specs.declared.WriteReport.{WriteReport}
-use Rattle.promises.specs.declared.WriteAnswer.{WriteAnswer}
 use Rattle.promises.specs.declared.WriteAnswer.the-variants as answer
-use Rattle.writer.specs.Write.{nodes-check, write-report, write-answer-by, write-values, write-outcome, nodes-verdict, block-plan, write-verdict, write-answer, PlanChosen, PlanWritten, BoundWritten, WritePromises}
-use Rattle.writer.specs.Contracts.{Weighed, room-verdict, Planned}
 use Rattle.writer.proofs.Write.{none-long, untouched}
 
 -- what planning asks, from a job and a capacity that were taken from an accepted block

@@ -1,3 +1,4 @@
+mod Prelude
 pub mod Preorder
 pub mod Plan
 pub mod Waiting

@@ -1,17 +1,5 @@
 -- Lists of the nodes' kinds and operands: how they grow as the walk goes on, and what stands in the plan arrays once they are copied.
-use mathlib.Core.Path.{_≡_, refl, sym, _∙_, ap, ap₂}
-use mathlib.Core.List.{List, [], _∷_, _++_, map}
-use Prim.Native.Nat.{ℕ, _+_, _≤_, _<_}
-use native.Mathlib.Numerals.{add-one}
-use native.Mathlib.Omega.{arith}
-use lib.ListN.{length, getD, set, take, drop}
-use lib.Seq.{sets, paste, paste-zero, paste-suc, take-at}
-use Rattle.promises.specs.declared.Node.{Node}
-use Rattle.cutting.specs.Lists.{over}
-use Rattle.cutting.specs.Tree.{Tree}
-use Rattle.cutting.specs.Pieces.{Piece}
-use Rattle.cutting.specs.Preorder.{preorder, kind-of, operand-of, kinds-of, operands-of}
-use Rattle.cutting.proofs.Lists.{over-sets}
+use Rattle.writer.proofs.Prelude.{_≡_, refl, sym, _∙_, ap, ap₂, List, [], _∷_, _++_, map, ℕ, _+_, _≤_, _<_, add-one, arith, length, getD, set, take, drop, sets, paste, paste-zero, paste-suc, take-at, Node, over, Tree, Piece, preorder, kind-of, operand-of, kinds-of, operands-of, over-sets}
 
 -- a list of the nodes' kinds, or of their operands, whose entries from one on are still to be put
 module _ (f : Node → ℕ) where

@@ -1,39 +1,6 @@
 -- The plan behind the bound by its choices: the tree below each node that the choice answers, and the number of its nodes.
-use mathlib.Core.Path.{_≡_, refl, sym, _∙_, ap, subst}
-use mathlib.Core.Bool.{Bool, true, false}
-use mathlib.Core.List.{List, [], _∷_, _++_}
-use Prim.Native.Nat.{ℕ, _+_, _-_, _/_, _%_, _≤_, _<_}
-use native.Mathlib.Nat.{mul-le-mul}
-use native.Mathlib.Decide.{decLe}
-use native.Mathlib.Omega.{arith}
-use borrow.Author.Tests.{lt-ltb, le-ltb}
-use lib.Dec.{T, leb, leb→le, le→leb, eqb}
-use Rattle.promises.specs.declared.Direction.{Direction}
-use Rattle.promises.specs.declared.Direction.the-variants.{Length, Width}
-use Rattle.promises.specs.declared.Node.{Node}
-use Rattle.promises.specs.declared.Node.the-variants.{Waste, Turned, Cut}
+use Rattle.writer.proofs.Prelude.{_≡_, refl, sym, _∙_, ap, subst, Bool, true, false, List, [], _∷_, _++_, ℕ, _+_, _-_, _/_, _%_, _≤_, _<_, mul-le-mul, decLe, arith, lt-ltb, le-ltb, T, leb, leb→le, le→leb, eqb, Direction, Length, Width, Node, Waste, Turned, Cut, Rect, side, part, Tree, piece, Piece, kind, rect-of, sides-of, preorder, node-count, Choice, as-waste, as-piece, as-cut, cut-remains, or-first, Job, lossless-plan, normal-side, plan-choice, KindsAbove, InTableRange, listed-weight, node-in, piece-way, numbered-piece, laid-tree, array-shares, array-plan, table-solid, Sound, choice-sound, state-division, lossless-tree, array-after, array-recursion, positions-above, TableSize, size-job, Order, by-state-monotone, Cell, Chosen, node-way, numbered-node, Inside, chosen-of, chosen-at, plan-at, left-out, first-of, half-of}
 use Rattle.promises.specs.declared.Node.the-variants as node
-use Rattle.cutting.specs.Tree.{Rect, side, part, Tree, piece}
-use Rattle.cutting.specs.Pieces.{Piece, kind}
-use Rattle.cutting.specs.Sides.{rect-of, sides-of}
-use Rattle.cutting.specs.Preorder.{preorder, node-count}
-use Rattle.cutting.specs.Choice.{Choice, as-waste, as-piece, as-cut, cut-remains, or-first}
-use Rattle.cutting.specs.Job.{Job, lossless-plan, normal-side, plan-choice, KindsAbove}
-use Rattle.cutting.specs.Listed.{InTableRange, listed-weight, node-in, piece-way, numbered-piece, laid-tree, array-shares, array-plan}
-use Rattle.cutting.proofs.Members.{table-solid}
-use Rattle.cutting.proofs.Sound.{Sound, choice-sound, state-division}
-use Rattle.cutting.proofs.Plan.{lossless-tree}
-use Rattle.cutting.proofs.Laid.{array-after, array-recursion}
-use Rattle.cutting.proofs.Table.{positions-above}
-use Rattle.table.specs.declared.TableSize.{TableSize}
-use Rattle.table.specs.Contracts.{size-job}
-use Rattle.table.specs.States.{Order}
-use Rattle.table.proofs.Shares.{by-state-monotone}
-use Rattle.choice.specs.declared.Cell.{Cell}
-use Rattle.choice.specs.declared.Chosen.{Chosen}
-use Rattle.choice.specs.Search.{node-way, numbered-node}
-use Rattle.choice.specs.Choice.{Inside, chosen-of, chosen-at}
-use Rattle.writer.specs.Contracts.{plan-at, left-out, first-of, half-of}
 use Rattle.writer.proofs.Preorder.{nodes-most, count-sawn, count-laid}
 
 -- what the walk knows of an array: a plain job in range, and an order of states

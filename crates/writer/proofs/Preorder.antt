@@ -1,18 +1,5 @@
 -- Trees in preorder: how many nodes a tree on a rectangle has.
-use mathlib.Core.Path.{_≡_, refl, sym, _∙_}
-use mathlib.Core.Bool.{Bool, true, false}
-use mathlib.Core.List.{List}
-use Prim.Native.Nat.{ℕ, _+_, _-_, _*_, _≤_}
-use native.Mathlib.Nat.{mul-le-mul, mul-le-mul-right}
-use native.Mathlib.Omega.{arith}
-use Rattle.promises.specs.declared.Direction.the-variants.{Length, Width}
-use Rattle.cutting.specs.Tree.{Rect, side, part, Tree, waste, piece, cut}
-use Rattle.cutting.specs.Pieces.{Piece, upright, turned, kind}
-use Rattle.cutting.specs.Choice.{cut-remains, or-first, sawn}
-use Rattle.cutting.specs.Preorder.{preorder, node-count}
-use Rattle.cutting.specs.Job.{Job, GuillotineTree}
-use Rattle.cutting.proofs.Preorder.{count-cut}
-use Rattle.cutting.specs.Listed.{node-in, numbered-piece, laid-tree}
+use Rattle.writer.proofs.Prelude.{_≡_, refl, sym, _∙_, Bool, true, false, List, ℕ, _+_, _-_, _*_, _≤_, mul-le-mul, mul-le-mul-right, arith, Length, Width, Rect, side, part, Tree, waste, piece, cut, Piece, upright, turned, kind, cut-remains, or-first, sawn, preorder, node-count, Job, GuillotineTree, count-cut, node-in, numbered-piece, laid-tree}
 
 count-waste : node-count waste ≡ 1
 unfolding node-count preorder

@@ -1,28 +1,6 @@
 -- The list of waiting cells: a cell that is put is there and the others stay; what a step takes from the nodes to come; how many cells
 -- can wait.
-use mathlib.Core.Path.{_≡_, refl, sym, _∙_, ap, ap₂, subst}
-use mathlib.Core.Bool.{Bool, false}
-use mathlib.Core.List.{List, [], _∷_, _++_, append-assoc, append-nil}
-use Prim.Native.Nat.{ℕ, zero, suc, _+_, _-_, _*_, _≤_, _<_}
-use native.Mathlib.Numerals.{add-one}
-use native.Mathlib.Decide.{ℕ-discrete}
-use native.Mathlib.Omega.{arith}
-use lib.ListN.{length, getD, set, length-set}
-use lib.Seq.{getD-set-same, getD-set-other}
-use Rattle.promises.specs.declared.Direction.{Direction}
-use Rattle.promises.specs.declared.Node.{Node}
-use Rattle.promises.specs.declared.Node.the-variants.{Cut}
-use Rattle.cutting.specs.declared.Sides.{Sides}
-use Rattle.cutting.specs.Tree.{side}
-use Rattle.cutting.specs.Sides.{rect-of}
-use Rattle.cutting.specs.Preorder.{preorder, node-count}
-use Rattle.cutting.specs.Job.{KindsAbove}
-use Rattle.table.specs.declared.TableSize.{TableSize}
-use Rattle.table.specs.Contracts.{size-job}
-use Rattle.choice.specs.declared.Cell.{Cell}
-use Rattle.choice.specs.Choice.{Inside}
-use Rattle.writer.specs.declared.nodes.Settled.{Settled}
-use Rattle.writer.specs.Contracts.{cell-at, with-cell, plan-at, plate-cell, whole-plan, nodes-left, left-out, half-of, SettledAt, Waiting, Stepped}
+use Rattle.writer.proofs.Prelude.{_≡_, refl, sym, _∙_, ap, ap₂, subst, Bool, false, List, [], _∷_, _++_, append-assoc, append-nil, ℕ, zero, suc, _+_, _-_, _*_, _≤_, _<_, add-one, ℕ-discrete, arith, length, getD, set, length-set, getD-set-same, getD-set-other, Direction, Node, Cut, Sides, side, rect-of, preorder, node-count, KindsAbove, TableSize, size-job, Cell, Inside, Settled, cell-at, with-cell, plan-at, plate-cell, whole-plan, nodes-left, left-out, half-of, SettledAt, Waiting, Stepped}
 use Rattle.writer.proofs.Plan.{Ready, first-cell, second-cell, Parts, plan-nodes, leaf-nodes, cut-position, cut-parts, cut-nodes}
 
 module _ (xs : List ℕ) (i : ℕ) (cell : Cell) where

@@ -1,60 +1,10 @@
 -- Writing the plan of an accepted job: what the bound of the job leaves is what the choice reads, and what each refusal or the count of
 -- the nodes makes of the answer.
-use mathlib.Core.Path.{_≡_, refl, sym, _∙_, ap, subst}
-use mathlib.Core.Bool.{Bool, true, false, _||_}
-use mathlib.Core.List.{List, [], _∷_}
-use Prim.Native.Nat.{ℕ, _+_, _≤_}
-use native.Mathlib.Omega.{arith}
-use borrow.Author.Tests.{ltb-false}
-use lib.Dec.{ltb}
-use lib.ListN.{length, getD, drop, length-append, length-map, List·getD-append}
-use lib.Seq.{paste, length-sets}
-use Rattle.promises.specs.declared.Direction.{Direction}
-use Rattle.promises.specs.declared.Direction.the-variants.{Length, Width}
-use Rattle.cutting.specs.Lists.{over}
-use Rattle.cutting.specs.Preorder.{preorder, kind-of, operand-of, kinds-of, operands-of, node-count}
-use Rattle.cutting.specs.declared.Sides.{Sides}
-use Rattle.cutting.specs.Limits.{most-capacity}
-use Rattle.cutting.specs.Tree.{Tree}
-use Rattle.cutting.specs.Pieces.{Piece, kind}
-use Rattle.cutting.specs.Sides.{rect-of, sides-of}
-use Rattle.cutting.specs.Shares.{by-weight}
-use Rattle.cutting.specs.Job.{Job, widened, normal-positions, plan-of, plan-under}
-use Rattle.cutting.specs.Listed.{InTableRange, size-in, price-in, listed-weight, pieces-job, PieceArray}
-use Rattle.cutting.proofs.Members.{range-solid, widened-above}
-use Rattle.cutting.proofs.Listed.{listed-above}
-use Rattle.cutting.proofs.Laid.{laid-plan, plain-states}
-use Rattle.refusal.specs.Refusals.{next, refuse-when, first-refusal}
-use Rattle.promises.specs.declared.Refusal.{Refusal}
-use Rattle.promises.specs.declared.Refusal.the-variants.{PlanLong}
-use Rattle.promises.specs.declared.Checked.{Checked}
-use Rattle.promises.specs.declared.Checked.the-variants.{Passed, Refused}
-use Rattle.job.specs.Weights.{weight-in}
-use Rattle.job.proofs.Checks.{cons-passed}
-use Rattle.table.specs.Table.{position, words-needed, Figures}
-use Rattle.table.specs.Contracts.{Listed}
-use Rattle.table.specs.States.{below, by-state}
-use Rattle.table.proofs.Shares.{by-state-monotone}
-use Rattle.table.proofs.Weighed.{figure-one}
-use Rattle.states.specs.States.{under}
+use Rattle.writer.proofs.Prelude.{_≡_, refl, sym, _∙_, ap, subst, Bool, true, false, _||_, List, [], _∷_, ℕ, _+_, _≤_, arith, ltb-false, ltb, length, getD, drop, length-append, length-map, List·getD-append, paste, length-sets, Direction, Length, Width, over, preorder, kind-of, operand-of, kinds-of, operands-of, node-count, Sides, most-capacity, Tree, Piece, kind, rect-of, sides-of, by-weight, Job, widened, normal-positions, plan-of, plan-under, InTableRange, size-in, price-in, listed-weight, pieces-job, PieceArray, range-solid, widened-above, listed-above, laid-plan, plain-states, next, refuse-when, first-refusal, Refusal, PlanLong, Checked, Passed, Refused, weight-in, cons-passed, position, words-needed, Figures, Listed, below, by-state, by-state-monotone, figure-one, under, digits-order, one-digit, BoundReport, BoundAnswer, Boundable, Bounded, pieces-range, pieces-bounded, answered-behind, refused-behind, Numbered, ChoiceInput, array-numbered, WriteReport, WriteAnswer, nodes-verdict, reported, NodesListed, Copyable, table-of, whole-plan, Thick, Weighed, room-verdict, Planned}
 use Rattle.states.specs.States as states
-use Rattle.states.proofs.Digits.{digits-order}
-use Rattle.states.proofs.Ties.{one-digit}
-use Rattle.promises.specs.declared.BoundReport.{BoundReport}
-use Rattle.promises.specs.declared.BoundAnswer.{BoundAnswer}
 use Rattle.promises.specs.declared.BoundAnswer.the-variants as bounded
 use Rattle.bound.specs.Bound as bound
-use Rattle.bound.specs.Contracts.{Boundable, Bounded}
-use Rattle.bound.proofs.Listed.{pieces-range, pieces-bounded}
-use Rattle.bound.proofs.Holds.{answered-behind, refused-behind}
-use Rattle.choice.specs.Search.{Numbered}
-use Rattle.choice.specs.Choice.{ChoiceInput}
-use Rattle.choice.proofs.Numbers.{array-numbered}
-use Rattle.promises.specs.declared.WriteReport.{WriteReport}
-use Rattle.promises.specs.declared.WriteAnswer.{WriteAnswer}
 use Rattle.promises.specs.declared.WriteAnswer.the-variants as answer
-use Rattle.writer.specs.Write.{nodes-verdict, reported}
-use Rattle.writer.specs.Contracts.{NodesListed, Copyable, table-of, whole-plan, Thick, Weighed, room-verdict, Planned}
 use Rattle.writer.proofs.Listed.{copied-over}
 
 -- three tests of which none holds

@@ -1,9 +1,6 @@
 -- `answer_words::put_bound` meets its contract, for either answer.
-use mathlib.Core.Path.{refl}
-use denote.Ref.{now}
-use Rattle.bound.specs.Bound.{report-values, bound-outcome}
+use Rattle.answer_words.proofs.Prelude.{refl, now, report-values, bound-outcome, needs}
 use Rattle.answer_words.proofs.Words.{given, values-given}
-use borrow.Author.Needs.{needs}
 use Rattle.answer_words.proofs.put_bound.Statement.{statement}
 use Rattle.answer_words.proofs.put_bound.Tie as tie
 

@@ -1,12 +1,6 @@
 -- `answer_words::put_certificate` meets its contract, for each answer.
-use mathlib.Core.Path.{refl}
-use mathlib.Core.List.{[], _∷_}
-use Prim.Native.Nat.{_+_}
-use native.Mathlib.Omega.{arith}
-use denote.Ref.{now}
-use Rattle.certificate.specs.Certificate.{certificate-outcome}
+use Rattle.answer_words.proofs.Prelude.{refl, [], _∷_, _+_, arith, now, certificate-outcome, needs}
 use Rattle.answer_words.proofs.Words.{given, values-given}
-use borrow.Author.Needs.{needs}
 use Rattle.answer_words.proofs.put_certificate.Statement.{statement}
 use Rattle.answer_words.proofs.put_certificate.Tie as tie
 

@@ -1,10 +1,6 @@
 -- `answer_words::put_checked` meets its contract, for either verdict.
-use mathlib.Core.Path.{refl}
-use mathlib.Core.List.{[]}
-use denote.Ref.{now}
-use Rattle.refusal.specs.Refusals.{outcome-by}
+use Rattle.answer_words.proofs.Prelude.{refl, [], now, outcome-by, needs}
 use Rattle.answer_words.proofs.Words.{given}
-use borrow.Author.Needs.{needs}
 use Rattle.answer_words.proofs.put_checked.Statement.{statement}
 use Rattle.answer_words.proofs.put_checked.Tie as tie
 

@@ -1,9 +1,6 @@
 -- `answer_words::put_exact` meets its contract, for either answer.
-use mathlib.Core.Path.{refl}
-use denote.Ref.{now}
-use Rattle.exact.specs.Exact.{exact-values, exact-outcome}
+use Rattle.answer_words.proofs.Prelude.{refl, now, exact-values, exact-outcome, needs}
 use Rattle.answer_words.proofs.Words.{given, values-given}
-use borrow.Author.Needs.{needs}
 use Rattle.answer_words.proofs.put_exact.Statement.{statement}
 use Rattle.answer_words.proofs.put_exact.Tie as tie
 

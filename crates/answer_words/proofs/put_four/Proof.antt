@@ -1,10 +1,6 @@
 -- `answer_words::put_four` meets its contract: three stores and one more.
-use mathlib.Core.Path.{ap}
-use mathlib.Core.List.{[], _∷_}
-use denote.Ref.{now}
-use lib.ListN.{set}
+use Rattle.answer_words.proofs.Prelude.{ap, [], _∷_, now, set, needs}
 use Rattle.answer_words.proofs.Words.{still}
-use borrow.Author.Needs.{needs}
 use Rattle.answer_words.proofs.put_four.Statement.{statement}
 use Rattle.answer_words.proofs.put_four.Tie as tie
 

@@ -1,9 +1,6 @@
 -- `answer_words::put_lagrangian` meets its contract, for either answer.
-use mathlib.Core.Path.{refl}
-use denote.Ref.{now}
-use Rattle.multipliers.specs.Multipliers.{lagrangian-values, lagrangian-outcome}
+use Rattle.answer_words.proofs.Prelude.{refl, now, lagrangian-values, lagrangian-outcome, needs}
 use Rattle.answer_words.proofs.Words.{given, values-given}
-use borrow.Author.Needs.{needs}
 use Rattle.answer_words.proofs.put_lagrangian.Statement.{statement}
 use Rattle.answer_words.proofs.put_lagrangian.Tie as tie
 

@@ -1,10 +1,6 @@
 -- `answer_words::put_neat` meets its contract, for either answer.
-use mathlib.Core.Path.{refl}
-use mathlib.Core.List.{[], _∷_}
-use denote.Ref.{now}
-use Rattle.neat.specs.Neat.{neat-outcome}
+use Rattle.answer_words.proofs.Prelude.{refl, [], _∷_, now, neat-outcome, needs}
 use Rattle.answer_words.proofs.Words.{given, values-given}
-use borrow.Author.Needs.{needs}
 use Rattle.answer_words.proofs.put_neat.Statement.{statement}
 use Rattle.answer_words.proofs.put_neat.Tie as tie
 

@@ -1,7 +1,5 @@
 -- `answer_words::put_optimum` meets its contract: four stores and one more.
-use mathlib.Core.Path.{ap}
-use lib.ListN.{set}
-use borrow.Author.Needs.{needs}
+use Rattle.answer_words.proofs.Prelude.{ap, set, needs}
 use Rattle.answer_words.proofs.put_optimum.Statement.{statement}
 use Rattle.answer_words.proofs.put_optimum.Tie as tie
 

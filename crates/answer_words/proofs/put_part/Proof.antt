@@ -1,11 +1,5 @@
 -- `answer_words::put_part` meets its contract: two stores.
-use mathlib.Core.Path.{refl}
-use native.Mathlib.Omega.{arith}
-use denote.Ref.{now}
-use lib.Seq.{lt-length-set}
-use Rattle.saw.specs.Parts.{part-said}
-use Rattle.cutting.proofs.Lists.{over-sets}
-use borrow.Author.Needs.{needs}
+use Rattle.answer_words.proofs.Prelude.{refl, arith, now, lt-length-set, part-said, over-sets, needs}
 use Rattle.answer_words.proofs.put_part.Statement.{statement}
 use Rattle.answer_words.proofs.put_part.Tie as tie
 

@@ -1,9 +1,6 @@
 -- `answer_words::put_plates` meets its contract, for either answer.
-use mathlib.Core.Path.{refl}
-use denote.Ref.{now}
-use Rattle.plates_needed.specs.Plates.{plates-values, plates-outcome}
+use Rattle.answer_words.proofs.Prelude.{refl, now, plates-values, plates-outcome, needs}
 use Rattle.answer_words.proofs.Words.{given, values-given}
-use borrow.Author.Needs.{needs}
 use Rattle.answer_words.proofs.put_plates.Statement.{statement}
 use Rattle.answer_words.proofs.put_plates.Tie as tie
 

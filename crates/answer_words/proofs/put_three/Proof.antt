@@ -1,9 +1,5 @@
 -- `answer_words::put_three` meets its contract: stores from word 0 on.
-use mathlib.Core.List.{[], _∷_}
-use native.Mathlib.Omega.{arith}
-use denote.Ref.{now}
-use lib.Seq.{lt-length-set, lt-length-sets}
-use borrow.Author.Needs.{needs}
+use Rattle.answer_words.proofs.Prelude.{[], _∷_, arith, now, lt-length-set, lt-length-sets, needs}
 use Rattle.answer_words.proofs.put_three.Statement.{statement}
 use Rattle.answer_words.proofs.put_three.Tie as tie
 

@@ -1,10 +1,6 @@
 -- `answer_words::put_true` meets its contract, for either answer.
-use mathlib.Core.Path.{refl}
-use mathlib.Core.List.{[], _∷_}
-use denote.Ref.{now}
-use Rattle.true_plan.specs.TruePlan.{true-outcome}
+use Rattle.answer_words.proofs.Prelude.{refl, [], _∷_, now, true-outcome, needs}
 use Rattle.answer_words.proofs.Words.{given, values-given}
-use borrow.Author.Needs.{needs}
 use Rattle.answer_words.proofs.put_true.Statement.{statement}
 use Rattle.answer_words.proofs.put_true.Tie as tie
 

@@ -1,9 +1,6 @@
 -- `answer_words::put_two` meets its contract, for either answer.
-use mathlib.Core.Path.{refl}
-use denote.Ref.{now}
-use Rattle.two_bound.specs.Two.{two-values, two-outcome}
+use Rattle.answer_words.proofs.Prelude.{refl, now, two-values, two-outcome, needs}
 use Rattle.answer_words.proofs.Words.{given, values-given}
-use borrow.Author.Needs.{needs}
 use Rattle.answer_words.proofs.put_two.Statement.{statement}
 use Rattle.answer_words.proofs.put_two.Tie as tie
 

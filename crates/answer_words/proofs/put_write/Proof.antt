@@ -1,9 +1,6 @@
 -- `answer_words::put_write` meets its contract, for either answer.
-use mathlib.Core.Path.{refl}
-use denote.Ref.{now}
-use Rattle.writer.specs.Write.{write-values, write-outcome}
+use Rattle.answer_words.proofs.Prelude.{refl, now, write-values, write-outcome, needs}
 use Rattle.answer_words.proofs.Words.{given, values-given}
-use borrow.Author.Needs.{needs}
 use Rattle.answer_words.proofs.put_write.Statement.{statement}
 use Rattle.answer_words.proofs.put_write.Tie as tie
 

@@ -1,7 +1,5 @@
 -- `answer_words::put_written` meets its contract: four stores and one more.
-use mathlib.Core.Path.{ap}
-use lib.ListN.{set}
-use borrow.Author.Needs.{needs}
+use Rattle.answer_words.proofs.Prelude.{ap, set, needs}
 use Rattle.answer_words.proofs.put_written.Statement.{statement}
 use Rattle.answer_words.proofs.put_written.Tie as tie
 

@@ -1,7 +1,6 @@
 -- `answer_words::refuse` meets its contract: the place in word 0, the number returned.
-use denote.Ref.{now}
+use Rattle.answer_words.proofs.Prelude.{now, needs}
 use Rattle.answer_words.proofs.Words.{refusal-given}
-use borrow.Author.Needs.{needs}
 use Rattle.answer_words.proofs.refuse.Statement.{statement}
 use Rattle.answer_words.proofs.refuse.Tie as tie
 

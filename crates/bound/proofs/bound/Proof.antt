@@ -1,9 +1,6 @@
 -- `bound::bound` meets its contract: job and weights are accepted, and the bound of the record is the job's.
-use denote.Ref.{now}
-use Rattle.job.proofs.Taken.{taken, refused-both}
-use Rattle.bound.specs.Bound.{lent}
+use Rattle.bound.proofs.Prelude.{now, taken, refused-both, lent, needs}
 use Rattle.bound.proofs.Calls.{record-ready, block-bounded, early, accepted}
-use borrow.Author.Needs.{needs}
 use Rattle.bound.proofs.bound.Statement.{statement}
 use Rattle.bound.proofs.bound.Tie as tie
 

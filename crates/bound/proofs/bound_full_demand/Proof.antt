@@ -1,5 +1,5 @@
 -- `bound::bound_full_demand` meets its contract: the bound call, the choices with full demand.
-use borrow.Author.Needs.{needs}
+use Rattle.bound.proofs.Prelude.{needs}
 use Rattle.bound.proofs.bound_full_demand.Statement.{statement}
 use Rattle.bound.proofs.bound_full_demand.Tie as tie
 

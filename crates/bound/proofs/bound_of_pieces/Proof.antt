@@ -1,20 +1,7 @@
 -- `bound::bound_of_pieces` meets its contract. What is known once the storage is laid out is said once, of the context at that point.
-use mathlib.Core.Path.{refl, _∙_, ap, subst}
-use Prim.Native.Nat.{_+_, _-_, _≤_, _<_}
-use native.Mathlib.Omega.{arith}
-use lib.ListN.{length, getD}
-use denote.Ref.{now}
-use Rattle.cutting.specs.Sides.{rect-of}
-use Rattle.cutting.specs.Job.{Job}
-use Rattle.cutting.specs.Listed.{listed-weight, pieces-job}
-use Rattle.table.specs.Contracts.{size-job, FilledBy}
-use Rattle.storage.specs.declared.Layout.the-variants.{Ready}
-use Rattle.storage.specs.Contracts.{LaidOut}
-use Rattle.storage.proofs.Storage.{ready-laid, last-laid}
-use Rattle.storage.proofs.Filled.{fillable}
+use Rattle.bound.proofs.Prelude.{refl, _∙_, ap, subst, _+_, _-_, _≤_, _<_, arith, length, getD, now, rect-of, Job, listed-weight, pieces-job, size-job, FilledBy, Ready, LaidOut, ready-laid, last-laid, fillable, needs, scaled-fits}
 use Rattle.bound.proofs.Storage.{refused, reported, report-is}
 use Rattle.bound.proofs.Last.{bound-last}
-use borrow.Author.Needs.{needs, scaled-fits}
 use Rattle.bound.proofs.bound_of_pieces.Statement.{statement}
 use Rattle.bound.proofs.bound_of_pieces.Tie as tie
 

@@ -1,9 +1,6 @@
 -- `bound::bound_of_record` meets its contract: the record's pieces are listed, and their bound is the record's.
-use mathlib.Core.Path.{refl}
-use denote.Ref.{now}
-use Rattle.job.specs.Weights.{weight-in}
+use Rattle.bound.proofs.Prelude.{refl, now, weight-in, needs}
 use Rattle.bound.proofs.Calls.{record-boundable, record-bounded}
-use borrow.Author.Needs.{needs}
 use Rattle.bound.proofs.bound_of_record.Statement.{statement}
 use Rattle.bound.proofs.bound_of_record.Tie as tie
 

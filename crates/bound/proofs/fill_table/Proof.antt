@@ -1,5 +1,5 @@
 -- `bound::fill_table` meets its contract: both fills ask the same and leave the same.
-use borrow.Author.Needs.{needs}
+use Rattle.bound.proofs.Prelude.{needs}
 use Rattle.bound.proofs.fill_table.Statement.{statement}
 use Rattle.bound.proofs.fill_table.Tie as tie
 

@@ -1,14 +1,6 @@
 -- `certificate::certify` meets its contract. What is known once job and weights were taken apart is said once, of the context at that point.
-use mathlib.Core.Path.{refl}
-use denote.Ref.{now}
-use Rattle.cutting.specs.Job.{InRange}
-use Rattle.job.specs.Block.{job-of}
-use Rattle.job.proofs.Read.{read-in-range, answered}
-use Rattle.job.proofs.Taken.{Taken, taken-apart}
-use Rattle.bound.specs.Bound.{Memory, lent}
-use Rattle.bound.proofs.Calls.{range-taken, weights-there, boundable, job-bounded}
+use Rattle.certificate.proofs.Prelude.{refl, now, InRange, job-of, read-in-range, answered, Taken, taken-apart, Memory, lent, range-taken, weights-there, boundable, job-bounded, needs}
 use Rattle.certificate.proofs.Calls.{job-refused, weights-refused, plan-refused, storage-refused, certified, profit-most}
-use borrow.Author.Needs.{needs}
 use Rattle.certificate.proofs.certify.Statement.{statement}
 use Rattle.certificate.proofs.certify.Tie as tie
 

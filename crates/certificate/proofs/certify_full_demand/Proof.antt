@@ -1,5 +1,5 @@
 -- `certificate::certify_full_demand` meets its contract: certify, the choices with full demand.
-use borrow.Author.Needs.{needs}
+use Rattle.certificate.proofs.Prelude.{needs}
 use Rattle.certificate.proofs.certify_full_demand.Statement.{statement}
 use Rattle.certificate.proofs.certify_full_demand.Tie as tie
 

@@ -1,6 +1,5 @@
 -- `certificate::compare` meets its contract.
-use borrow.Author.Tests.{eq-eqb, ne-eqb}
-use borrow.Author.Needs.{needs}
+use Rattle.certificate.proofs.Prelude.{eq-eqb, ne-eqb, needs}
 use Rattle.certificate.proofs.compare.Statement.{statement}
 use Rattle.certificate.proofs.compare.Tie as tie
 

@@ -1,5 +1,5 @@
 -- `certificate::conclude` meets its contract.
-use borrow.Author.Needs.{needs}
+use Rattle.certificate.proofs.Prelude.{needs}
 use Rattle.certificate.proofs.conclude.Statement.{statement}
 use Rattle.certificate.proofs.conclude.Tie as tie
 

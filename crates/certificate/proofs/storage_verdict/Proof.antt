@@ -1,5 +1,5 @@
 -- `certificate::storage_verdict` meets its contract.
-use borrow.Author.Needs.{needs}
+use Rattle.certificate.proofs.Prelude.{needs}
 use Rattle.certificate.proofs.storage_verdict.Statement.{statement}
 use Rattle.certificate.proofs.storage_verdict.Tie as tie
 

@@ -1,5 +1,5 @@
 -- `certificate::weights_verdict` meets its contract.
-use borrow.Author.Needs.{needs}
+use Rattle.certificate.proofs.Prelude.{needs}
 use Rattle.certificate.proofs.weights_verdict.Statement.{statement}
 use Rattle.certificate.proofs.weights_verdict.Tie as tie
 

@@ -1,5 +1,5 @@
 -- `chains::still_same` meets its contract.
-use borrow.Author.Tests.{eqb-true}
+use Rattle.chains.proofs.Prelude.{eqb-true}
 use Rattle.chains.proofs.still_same.Statement.{statement}
 use Rattle.chains.proofs.still_same.Tie as tie
 

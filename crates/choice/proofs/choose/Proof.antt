@@ -1,12 +1,6 @@
 -- `choice::choose` meets its contract.
 use Rattle.choice.proofs.Choice.{sizes, there, cuts-searchable, none-chosen, piece-chosen, cut-taken}
-use native.Mathlib.Omega.{arith}
-use lib.Seq.{getD-drop}
-use lib.ListN.{getD, drop}
-use Prim.Native.Nat.{_+_}
-use denote.Ref.{now}
-use mathlib.Core.Path.{_≡_, refl, _∙_, sym}
-use borrow.Author.Needs.{needs}
+use Rattle.choice.proofs.Prelude.{arith, getD-drop, getD, drop, _+_, now, _≡_, refl, _∙_, sym, needs}
 use Rattle.choice.proofs.choose.Statement.{statement}
 use Rattle.choice.proofs.choose.Tie as tie
 

@@ -1,12 +1,6 @@
 -- `choice::choose_cut` meets its contract.
 use Rattle.choice.proofs.Choice.{rest-part, length-out, width-out, waste-out}
-use Rattle.choice.specs.Search.{width-search, Searchable}
-use native.Mathlib.Omega.{arith}
-use lib.ListN.{length, take, drop, length-drop}
-use Prim.Native.Nat.{_-_}
-use denote.Ref.{now}
-use mathlib.Core.Path.{_∙_, sym}
-use borrow.Author.Needs.{needs}
+use Rattle.choice.proofs.Prelude.{width-search, Searchable, arith, length, take, drop, length-drop, _-_, now, _∙_, sym, needs}
 use Rattle.choice.proofs.choose_cut.Statement.{statement}
 use Rattle.choice.proofs.choose_cut.Tie as tie
 

@@ -1,13 +1,6 @@
 -- `choice::find_cut` meets its contract.
 use Rattle.choice.proofs.Search.{rows-left, row-left, row-starts, rows-end, row-ends, second-word, pair-fails, pair-passes}
-use Rattle.choice.specs.Search.{pair-test, first-index, cut-found}
-use Rattle.states.specs.States.{under}
-use denote.Ref.{now}
-use Rattle.choice.specs.declared.CutFound.the-variants.{Missing}
-use native.Mathlib.Omega.{arith}
-use borrow.Author.Needs.{needs}
-use Prim.Native.Nat.{_-_, _≤_, _+_}
-use mathlib.Core.Path.{_≡_, refl, _∙_, sym, ap}
+use Rattle.choice.proofs.Prelude.{pair-test, first-index, cut-found, under, now, Missing, arith, needs, _-_, _≤_, _+_, _≡_, refl, _∙_, sym, ap}
 use Rattle.choice.proofs.find_cut.Statement.{statement}
 use Rattle.choice.proofs.find_cut.Tie as tie
 

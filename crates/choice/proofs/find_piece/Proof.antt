@@ -1,12 +1,6 @@
 -- `choice::find_piece` meets its contract.
 use Rattle.choice.proofs.Search.{left, left-start, left-fails, left-passes, left-end}
-use Rattle.choice.specs.Search.{piece-test, piece-found}
-use Rattle.choice.specs.declared.PieceFound.the-variants.{Laid}
-use Rattle.cutting.specs.Lists.{range, first}
-use Rattle.states.specs.States.{under}
-use borrow.Author.Needs.{needs}
-use Prim.Native.Nat.{_-_}
-use mathlib.Core.Path.{_≡_, refl, _∙_, sym, ap}
+use Rattle.choice.proofs.Prelude.{piece-test, piece-found, Laid, range, first, under, needs, _-_, _≡_, refl, _∙_, sym, ap}
 use Rattle.choice.proofs.find_piece.Statement.{statement}
 use Rattle.choice.proofs.find_piece.Tie as tie
 

@@ -1,7 +1,5 @@
 -- `choice::numbered_node` meets its contract.
-use borrow.Author.Needs.{needs}
-use borrow.Author.Tests.{eq-eqb, ne-eqb}
-use Prim.Native.Nat.{_%_}
+use Rattle.choice.proofs.Prelude.{needs, eq-eqb, ne-eqb, _%_}
 use Rattle.choice.proofs.numbered_node.Statement.{statement}
 use Rattle.choice.proofs.numbered_node.Tie as tie
 

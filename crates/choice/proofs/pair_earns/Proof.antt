@@ -1,6 +1,5 @@
 -- `choice::pair_earns` meets its contract.
-use borrow.Author.Tests.{eq-eqb, ne-eqb}
-use borrow.Author.Needs.{needs}
+use Rattle.choice.proofs.Prelude.{eq-eqb, ne-eqb, needs}
 use Rattle.choice.proofs.pair_earns.Statement.{statement}
 use Rattle.choice.proofs.pair_earns.Tie as tie
 

@@ -1,8 +1,5 @@
 -- `choice::piece_earns` meets its contract.
-use mathlib.Core.Path.{_∙_, sym}
-use native.Mathlib.Omega.{arith}
-use borrow.Author.Tests.{le-leb, lt-leb}
-use borrow.Author.Needs.{needs}
+use Rattle.choice.proofs.Prelude.{_∙_, sym, arith, le-leb, lt-leb, needs}
 use Rattle.choice.proofs.piece_earns.Statement.{statement}
 use Rattle.choice.proofs.piece_earns.Tie as tie
 

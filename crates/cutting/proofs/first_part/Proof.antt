@@ -1,5 +1,5 @@
 -- `cutting::first_part` meets its contract: the cut's direction decides.
-use borrow.Author.Needs.{needs}
+use Rattle.cutting.proofs.Prelude.{needs}
 use Rattle.cutting.proofs.first_part.Statement.{statement}
 use Rattle.cutting.proofs.first_part.Tie as tie
 

@@ -1,5 +1,5 @@
 -- `cutting::fits` meets its contract: both sides are compared.
-use borrow.Author.Tests.{le-leb, lt-leb}
+use Rattle.cutting.proofs.Prelude.{le-leb, lt-leb}
 use Rattle.cutting.proofs.fits.Statement.{statement}
 use Rattle.cutting.proofs.fits.Tie as tie
 

@@ -1,5 +1,5 @@
 -- `cutting::second_part` meets its contract: it is the part with what is left of the side.
-use borrow.Author.Needs.{needs}
+use Rattle.cutting.proofs.Prelude.{needs}
 use Rattle.cutting.proofs.second_part.Statement.{statement}
 use Rattle.cutting.proofs.second_part.Tie as tie
 

@@ -1,14 +1,5 @@
 -- `exact::count_states` meets its contract. The loop's invariant: the product and the entries of the kinds passed.
-use mathlib.Core.Path.{_≡_, refl, sym, _∙_, ap, subst}
-use Prim.Native.Nat.{suc, _+_, _-_, _*_, _≤_}
-use native.Mathlib.Numerals.{add-one}
-use native.Mathlib.Omega.{arith}
-use lib.ListN.{length, getD, length-set}
-use denote.Ref.{now}
-use borrow.Author.Needs.{needs}
-use Rattle.cutting.specs.Exact.{states}
-use Rattle.job.specs.Block.{job-of}
-use Rattle.exact.specs.Contracts.{Multiplied}
+use Rattle.exact.proofs.Prelude.{_≡_, refl, sym, _∙_, ap, subst, suc, _+_, _-_, _*_, _≤_, add-one, arith, length, getD, length-set, now, needs, states, job-of, Multiplied}
 use Rattle.exact.proofs.States.{zero-one}
 use Rattle.exact.proofs.Counting.{product-more, product-small, multiplied-none, multiplied-more, counted-many, counted-few}
 use Rattle.exact.proofs.count_states.Statement.{statement}

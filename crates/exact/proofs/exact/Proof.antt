@@ -1,11 +1,5 @@
 -- `exact::exact` meets its contract: the job is read and its states are counted first; the rest is the optimum and the plan of a short order.
-use mathlib.Core.Path.{refl}
-use native.Mathlib.Omega.{arith}
-use denote.Ref.{now}
-use borrow.Author.Needs.{needs}
-use Rattle.job.proofs.Read.{answered, refused}
-use Rattle.plan.proofs.Calls.{read-range}
-use Rattle.bound.specs.Bound.{lent}
+use Rattle.exact.proofs.Prelude.{refl, arith, now, needs, answered, refused, read-range, lent}
 use Rattle.exact.proofs.Call.{job-refused, unaccepted, accepted, read-many, read-some, read-short, short-order, last-is}
 use Rattle.exact.proofs.exact.Statement.{statement}
 use Rattle.exact.proofs.exact.Tie as tie

@@ -1,8 +1,5 @@
 -- `exact::exact_accepted` meets its contract: what the figures and the plan of the pieces say is said of the job.
-use mathlib.Core.Path.{refl}
-use native.Mathlib.Omega.{arith}
-use denote.Ref.{now}
-use borrow.Author.Needs.{needs}
+use Rattle.exact.proofs.Prelude.{refl, arith, now, needs}
 use Rattle.exact.proofs.Pieces.{statable, stated-array}
 use Rattle.exact.proofs.Accepted.{countable, memory-left, storage-refused, plan-ready, plan-thick, plan-made}
 use Rattle.exact.proofs.exact_accepted.Statement.{statement}

@@ -1,7 +1,5 @@
 -- `exact::exact_of` meets its contract.
-use mathlib.Core.Path.{sym, ap}
-use borrow.Author.Needs.{needs}
-use Rattle.exact.specs.Contracts.{exact-of}
+use Rattle.exact.proofs.Prelude.{sym, ap, needs, exact-of}
 use Rattle.exact.proofs.exact_of.Statement.{statement}
 use Rattle.exact.proofs.exact_of.Tie as tie
 

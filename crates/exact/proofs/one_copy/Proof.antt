@@ -1,12 +1,5 @@
 -- `exact::one_copy` meets its contract.
-use mathlib.Core.Path.{_≡_, sym, ap}
-use mathlib.Core.List.{List}
-use Prim.Native.Nat.{ℕ, suc, _-_}
-use native.Mathlib.Omega.{arith}
-use lib.ListN.{getD}
-use denote.Ref.{now}
-use borrow.Author.Needs.{needs}
-use Rattle.exact.specs.Contracts.{stride}
+use Rattle.exact.proofs.Prelude.{_≡_, sym, ap, List, ℕ, suc, _-_, arith, getD, now, needs, stride}
 use Rattle.exact.proofs.one_copy.Statement.{statement}
 use Rattle.exact.proofs.one_copy.Tie as tie
 

@@ -1,10 +1,5 @@
 -- `exact::put_states` meets its contract. The loop's invariant: the pieces passed have their states.
-use mathlib.Core.Path.{_≡_, subst}
-use Prim.Native.Nat.{_-_, _≤_}
-use native.Mathlib.Omega.{arith}
-use denote.Ref.{now}
-use borrow.Author.Needs.{needs}
-use Rattle.exact.specs.Contracts.{stride, Stated}
+use Rattle.exact.proofs.Prelude.{_≡_, subst, _-_, _≤_, arith, now, needs, stride, Stated}
 use Rattle.exact.proofs.Pieces.{stated-none, stated-more, stated-kind}
 use Rattle.exact.proofs.put_states.Statement.{statement}
 use Rattle.exact.proofs.put_states.Tie as tie

@@ -1,24 +1,6 @@
 -- `exact::states_of_pieces` meets its contract. What is known once the storage is laid out is said once, of the context at that point.
-use mathlib.Core.Path.{refl, _∙_, ap, subst}
-use Prim.Native.Nat.{_+_, _-_, _*_, _≤_, _<_}
-use native.Mathlib.Omega.{arith}
-use lib.ListN.{length, getD}
-use denote.Ref.{now}
-use Rattle.promises.specs.declared.Direction.the-variants.{Length, Width}
-use Rattle.cutting.specs.Sides.{rect-of}
-use Rattle.cutting.specs.Job.{Job}
-use Rattle.cutting.specs.Listed.{listed-weight, pieces-job}
-use Rattle.table.specs.Table.{position-count, Kept}
-use Rattle.table.specs.Contracts.{size-job}
-use Rattle.states.specs.States.{under, Figures}
-use Rattle.states.proofs.Digits.{digits-order}
-use Rattle.storage.specs.declared.Layout.the-variants.{Ready}
-use Rattle.storage.specs.Contracts.{LaidOut}
-use Rattle.storage.proofs.Storage.{ready-laid, last-laid}
-use Rattle.storage.proofs.Filled.{fillable}
-use Rattle.bound.proofs.Storage.{report-is}
+use Rattle.exact.proofs.Prelude.{refl, _∙_, ap, subst, _+_, _-_, _*_, _≤_, _<_, arith, length, getD, now, Length, Width, rect-of, Job, listed-weight, pieces-job, position-count, Kept, size-job, under, Figures, digits-order, Ready, LaidOut, ready-laid, last-laid, fillable, report-is, needs, scaled-fits}
 use Rattle.exact.proofs.Storage.{refused, reported, states-last}
-use borrow.Author.Needs.{needs, scaled-fits}
 use Rattle.exact.proofs.states_of_pieces.Statement.{statement}
 use Rattle.exact.proofs.states_of_pieces.Tie as tie
 

@@ -1,11 +1,5 @@
 -- `idle::idle_cut` meets its contract: before node k - 1 is read, the verdict and the trees are those of the nodes from k on.
-use mathlib.Core.Path.{_∙_, ap}
-use Prim.Native.Nat.{_+_, _-_}
-use native.Mathlib.Omega.{arith}
-use denote.Ref.{now}
-use borrow.Author.Needs.{needs}
-use Rattle.promises.specs.declared.Refusal.the-variants.{IdleCut}
-use Rattle.refusal.specs.Refusals.{next, refuse-when}
+use Rattle.idle.proofs.Prelude.{_∙_, ap, _+_, _-_, arith, now, needs, IdleCut, next, refuse-when}
 use Rattle.idle.proofs.Scan.{Scanned, begins, few, ends, goes-on}
 use Rattle.idle.proofs.idle_cut.Statement.{statement}
 use Rattle.idle.proofs.idle_cut.Tie as tie

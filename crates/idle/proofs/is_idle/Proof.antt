@@ -1,5 +1,5 @@
 -- `idle::is_idle` meets its contract.
-use borrow.Author.Needs.{needs}
+use Rattle.idle.proofs.Prelude.{needs}
 use Rattle.idle.proofs.is_idle.Statement.{statement}
 use Rattle.idle.proofs.is_idle.Tie as tie
 

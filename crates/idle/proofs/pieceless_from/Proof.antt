@@ -1,6 +1,5 @@
 -- `idle::pieceless_from` meets its contract: each node tells which it is.
-use native.Mathlib.Omega.{arith}
-use borrow.Author.Needs.{needs}
+use Rattle.idle.proofs.Prelude.{arith, needs}
 use Rattle.idle.proofs.pieceless_from.Statement.{statement}
 use Rattle.idle.proofs.pieceless_from.Tie as tie
 

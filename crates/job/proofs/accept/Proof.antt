@@ -1,7 +1,5 @@
 -- `job::accept` meets its contract.
-use mathlib.Core.Path.{refl, sym, _∙_}
-use borrow.Author.Needs.{needs}
-use denote.Ref.{now}
+use Rattle.job.proofs.Prelude.{refl, sym, _∙_, needs, now}
 use Rattle.job.proofs.Read.{job-passed, header-holds, read-in-range}
 use Rattle.job.proofs.Taken.{job-refused, weights-refused, both-taken}
 use Rattle.job.proofs.accept.Statement.{statement}

@@ -1,8 +1,5 @@
 -- `job::area` meets its contract.
-use Prim.Native.Nat.{_≤_}
-use native.Mathlib.Nat.{mul-le-mul}
-use native.Mathlib.Omega.{arith}
-use borrow.Author.Needs.{needs}
+use Rattle.job.proofs.Prelude.{_≤_, mul-le-mul, arith, needs}
 use Rattle.job.proofs.area.Statement.{statement}
 use Rattle.job.proofs.area.Tie as tie
 

@@ -1,11 +1,5 @@
 -- `job::check_arrays` meets its contract: the sizes come before the pairs, and these before the grain bytes.
-use mathlib.Core.Path.{sym, _∙_, ap}
-use mathlib.Core.List.{[], _∷_}
-use borrow.Author.Needs.{needs}
-use denote.Ref.{now}
-use Rattle.refusal.specs.Refusals.{first-refusal}
-use Rattle.job.specs.Block.{size-check, each-kind}
-use Rattle.job.specs.Contracts.{pairs-by}
+use Rattle.job.proofs.Prelude.{sym, _∙_, ap, [], _∷_, needs, now, first-refusal, size-check, each-kind, pairs-by}
 use Rattle.job.proofs.Checks.{next-stops, next-passes, first-append}
 use Rattle.job.proofs.check_arrays.Statement.{statement}
 use Rattle.job.proofs.check_arrays.Tie as tie

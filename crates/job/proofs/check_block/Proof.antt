@@ -1,11 +1,5 @@
 -- `job::check_block` meets its contract: the header comes before the arrays.
-use mathlib.Core.Path.{sym, _∙_, ap}
-use native.Mathlib.Omega.{arith}
-use borrow.Author.Needs.{needs}
-use denote.Ref.{now}
-use Rattle.refusal.specs.Refusals.{first-refusal}
-use Rattle.job.specs.Block.{array-checks}
-use Rattle.job.specs.Contracts.{header-by, pairs-by}
+use Rattle.job.proofs.Prelude.{sym, _∙_, ap, arith, needs, now, first-refusal, array-checks, header-by, pairs-by}
 use Rattle.job.proofs.Checks.{next-stops, next-passes, first-append}
 use Rattle.job.proofs.Read.{sizes-least, front-passed, counts-hold}
 use Rattle.job.proofs.check_block.Statement.{statement}

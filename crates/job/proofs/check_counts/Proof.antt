@@ -1,15 +1,5 @@
 -- `job::check_counts` meets its contract: the checks run 3, 27, 4.
-use mathlib.Core.Path.{_∙_, ap, ap₂}
-use mathlib.Core.Bool.{not}
-use Prim.Native.Nat.{_+_, _*_}
-use native.Mathlib.Omega.{arith}
-use borrow.Author.Needs.{needs}
-use denote.Ref.{now}
-use lib.Dec.{ltb, eqb}
-use lib.ListN.{length}
-use Rattle.refusal.specs.Refusals.{refuse-when}
-use Rattle.promises.specs.declared.Refusal.the-variants.{KindCount, Kerf, BlockLength}
-use Rattle.job.specs.Block.{outside, kind-bytes}
+use Rattle.job.proofs.Prelude.{_∙_, ap, ap₂, not, _+_, _*_, arith, needs, now, ltb, eqb, length, refuse-when, KindCount, Kerf, BlockLength, outside, kind-bytes}
 use Rattle.job.proofs.Checks.{check-stops, check-passes, check-last}
 use Rattle.job.proofs.Read.{sizes-least}
 use Rattle.job.proofs.check_counts.Statement.{statement}

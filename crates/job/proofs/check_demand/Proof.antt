@@ -1,13 +1,5 @@
 -- `job::check_demand` meets its contract.
-use mathlib.Core.Path.{_≡_, _∙_, ap}
-use Prim.Native.Nat.{_+_, _*_}
-use native.Mathlib.Omega.{arith}
-use borrow.Author.Needs.{needs}
-use denote.Ref.{now}
-use lib.Dec.{ltb}
-use Rattle.refusal.specs.Refusals.{refuse-when}
-use Rattle.promises.specs.declared.Refusal.the-variants.{Demand}
-use Rattle.job.specs.Block.{u16-at, count-at, demand-at}
+use Rattle.job.proofs.Prelude.{_≡_, _∙_, ap, _+_, _*_, arith, needs, now, ltb, refuse-when, Demand, u16-at, count-at, demand-at}
 use Rattle.job.proofs.Checks.{check-last}
 use Rattle.job.proofs.check_demand.Statement.{statement}
 use Rattle.job.proofs.check_demand.Tie as tie

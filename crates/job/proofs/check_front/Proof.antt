@@ -1,5 +1,5 @@
 -- `job::check_front` meets its contract.
-use borrow.Author.Needs.{needs}
+use Rattle.job.proofs.Prelude.{needs}
 use Rattle.job.proofs.check_front.Statement.{statement}
 use Rattle.job.proofs.check_front.Tie as tie
 

@@ -1,12 +1,5 @@
 -- `job::check_grain` meets its contract.
-use mathlib.Core.Path.{_≡_, _∙_, ap}
-use Prim.Native.Nat.{_+_, _*_}
-use borrow.Author.Needs.{needs}
-use denote.Ref.{now}
-use lib.Dec.{ltb}
-use lib.ListN.{getD}
-use Rattle.refusal.specs.Refusals.{refuse-when}
-use Rattle.promises.specs.declared.Refusal.the-variants.{Grain}
+use Rattle.job.proofs.Prelude.{_≡_, _∙_, ap, _+_, _*_, needs, now, ltb, getD, refuse-when, Grain}
 use Rattle.job.proofs.Checks.{check-last}
 use Rattle.job.proofs.check_grain.Statement.{statement}
 use Rattle.job.proofs.check_grain.Tie as tie

@@ -1,11 +1,5 @@
 -- `job::check_grains` meets its contract.
-use mathlib.Core.Path.{sym, _∙_, ap}
-use mathlib.Core.List.{[], _∷_}
-use Prim.Native.Nat.{_+_, _*_, _≤_}
-use denote.Ref.{now}
-use lib.ListN.{length}
-use Rattle.refusal.specs.Refusals.{first-refusal}
-use Rattle.job.specs.Block.{grain-check, kind-bytes, each-kind, grain-checks}
+use Rattle.job.proofs.Prelude.{sym, _∙_, ap, [], _∷_, _+_, _*_, _≤_, now, length, first-refusal, grain-check, kind-bytes, each-kind, grain-checks}
 use Rattle.job.proofs.check_grains.Statement.{statement}
 use Rattle.job.proofs.check_grains.Tie as tie
 

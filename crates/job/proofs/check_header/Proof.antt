@@ -1,12 +1,5 @@
 -- `job::check_header` meets its contract: the checks run 1, 2, then 3, 27 and 4.
-use mathlib.Core.Path.{_∙_, ap}
-use native.Mathlib.Omega.{arith}
-use borrow.Author.Needs.{needs}
-use denote.Ref.{now}
-use lib.ListN.{length}
-use Rattle.refusal.specs.Refusals.{refuse-when}
-use Rattle.promises.specs.declared.Refusal.the-variants.{ShortHeader, PlateSide}
-use Rattle.job.specs.Block.{sizes-end}
+use Rattle.job.proofs.Prelude.{_∙_, ap, arith, needs, now, length, refuse-when, ShortHeader, PlateSide, sizes-end}
 use Rattle.job.proofs.Checks.{passed-least, check-stops, check-passes}
 use Rattle.job.proofs.Read.{sizes-least}
 use Rattle.job.proofs.check_header.Statement.{statement}

@@ -1,6 +1,5 @@
 -- `job::check_job` meets its contract.
-use borrow.Author.Needs.{needs}
-use Rattle.job.specs.Block.{job-checks}
+use Rattle.job.proofs.Prelude.{needs, job-checks}
 use Rattle.job.proofs.check_job.Statement.{statement}
 use Rattle.job.proofs.check_job.Tie as tie
 

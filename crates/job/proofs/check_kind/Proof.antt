@@ -1,5 +1,5 @@
 -- `job::check_kind` meets its contract.
-use borrow.Author.Needs.{needs}
+use Rattle.job.proofs.Prelude.{needs}
 use Rattle.job.proofs.check_kind.Statement.{statement}
 use Rattle.job.proofs.check_kind.Tie as tie
 

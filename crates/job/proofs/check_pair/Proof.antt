@@ -1,12 +1,5 @@
 -- `job::check_pair` meets its contract.
-use mathlib.Core.Path.{_≡_, _∙_, ap}
-use Prim.Native.Nat.{_+_, _*_}
-use borrow.Author.Needs.{needs}
-use denote.Ref.{now}
-use lib.Dec.{ltb}
-use Rattle.refusal.specs.Refusals.{refuse-when}
-use Rattle.promises.specs.declared.Refusal.the-variants.{Price}
-use Rattle.job.specs.Block.{u32-at, price-at}
+use Rattle.job.proofs.Prelude.{_≡_, _∙_, ap, _+_, _*_, needs, now, ltb, refuse-when, Price, u32-at, price-at}
 use Rattle.job.proofs.Checks.{check-stops, check-passes}
 use Rattle.job.proofs.check_pair.Statement.{statement}
 use Rattle.job.proofs.check_pair.Tie as tie

@@ -1,8 +1,5 @@
 -- `job::check_pairs` meets its contract.
-use Prim.Native.Nat.{_-_, _≤_}
-use borrow.Author.Needs.{needs}
-use denote.Ref.{now}
-use Rattle.job.specs.Contracts.{pairs-by}
+use Rattle.job.proofs.Prelude.{_-_, _≤_, needs, now, pairs-by}
 use Rattle.job.proofs.Checks.{Decides, begins, passes, stops, ends}
 use Rattle.job.proofs.check_pairs.Statement.{statement}
 use Rattle.job.proofs.check_pairs.Tie as tie

@@ -1,10 +1,5 @@
 -- `job::check_plateless` meets its contract: the checks run 1, then 3, 27 and 4.
-use mathlib.Core.Path.{_∙_}
-use borrow.Author.Needs.{needs}
-use denote.Ref.{now}
-use lib.ListN.{length}
-use Rattle.promises.specs.declared.Refusal.the-variants.{ShortHeader}
-use Rattle.job.specs.Block.{sizes-end}
+use Rattle.job.proofs.Prelude.{_∙_, needs, now, length, ShortHeader, sizes-end}
 use Rattle.job.proofs.Checks.{passed-least, check-stops, check-passes}
 use Rattle.job.proofs.check_plateless.Statement.{statement}
 use Rattle.job.proofs.check_plateless.Tie as tie

@@ -1,11 +1,5 @@
 -- `job::check_short` meets its contract.
-use mathlib.Core.Path.{_∙_, ap}
-use borrow.Author.Needs.{needs}
-use denote.Ref.{now}
-use lib.Dec.{ltb}
-use lib.ListN.{length}
-use Rattle.refusal.specs.Refusals.{refuse-when}
-use Rattle.promises.specs.declared.Refusal.the-variants.{ShortHeader}
+use Rattle.job.proofs.Prelude.{_∙_, ap, needs, now, ltb, length, refuse-when, ShortHeader}
 use Rattle.job.proofs.check_short.Statement.{statement}
 use Rattle.job.proofs.check_short.Tie as tie
 

@@ -1,13 +1,5 @@
 -- `job::check_size` meets its contract.
-use mathlib.Core.Path.{_≡_, _∙_, ap}
-use mathlib.Core.Bool.{_||_}
-use Prim.Native.Nat.{_+_, _*_}
-use native.Mathlib.Omega.{arith}
-use borrow.Author.Needs.{needs}
-use denote.Ref.{now}
-use Rattle.refusal.specs.Refusals.{refuse-when}
-use Rattle.promises.specs.declared.Refusal.the-variants.{KindSide}
-use Rattle.job.specs.Block.{outside, u16-at}
+use Rattle.job.proofs.Prelude.{_≡_, _∙_, ap, _||_, _+_, _*_, arith, needs, now, refuse-when, KindSide, outside, u16-at}
 use Rattle.job.proofs.Checks.{check-last}
 use Rattle.job.proofs.check_size.Statement.{statement}
 use Rattle.job.proofs.check_size.Tie as tie

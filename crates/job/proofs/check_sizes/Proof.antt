@@ -1,9 +1,5 @@
 -- `job::check_sizes` meets its contract.
-use mathlib.Core.List.{[], _∷_}
-use Prim.Native.Nat.{_-_, _≤_}
-use borrow.Author.Needs.{needs}
-use denote.Ref.{now}
-use Rattle.job.specs.Block.{size-check}
+use Rattle.job.proofs.Prelude.{[], _∷_, _-_, _≤_, needs, now, size-check}
 use Rattle.job.proofs.Checks.{Decides, begins, passes, stops, ends}
 use Rattle.job.proofs.check_sizes.Statement.{statement}
 use Rattle.job.proofs.check_sizes.Tie as tie

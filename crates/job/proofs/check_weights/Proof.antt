@@ -1,7 +1,5 @@
 -- `job::check_weights` meets its contract.
-use borrow.Author.Needs.{needs}
-use denote.Ref.{now}
-use Rattle.job.specs.Block.{job-of}
+use Rattle.job.proofs.Prelude.{needs, now, job-of}
 use Rattle.job.proofs.Weights.{weights-told, answer-count, answer-capacity, answer-passed}
 use Rattle.job.proofs.check_weights.Statement.{statement}
 use Rattle.job.proofs.check_weights.Tie as tie

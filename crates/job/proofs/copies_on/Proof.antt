@@ -1,8 +1,5 @@
 -- `job::copies_on` meets its contract.
-use mathlib.Core.Path.{sym, _∙_, ap}
-use borrow.Author.Needs.{needs}
-use Rattle.cutting.specs.Sides.{rect-of}
-use Rattle.cutting.specs.Job.{copies-on}
+use Rattle.job.proofs.Prelude.{sym, _∙_, ap, needs, rect-of, copies-on}
 use Rattle.job.proofs.copies_on.Statement.{statement}
 use Rattle.job.proofs.copies_on.Tie as tie
 

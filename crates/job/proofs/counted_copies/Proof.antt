@@ -1,8 +1,5 @@
 -- `job::counted_copies` meets its contract.
-use native.Mathlib.Omega.{arith}
-use borrow.Author.Needs.{needs}
-use Rattle.cutting.specs.Sides.{rect-of}
-use Rattle.cutting.specs.Job.{copies-on}
+use Rattle.job.proofs.Prelude.{arith, needs, rect-of, copies-on}
 use Rattle.job.proofs.Weights.{counted-full, counted-held, counted-demand}
 use Rattle.job.proofs.counted_copies.Statement.{statement}
 use Rattle.job.proofs.counted_copies.Tie as tie

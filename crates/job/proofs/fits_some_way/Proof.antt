@@ -1,5 +1,5 @@
 -- `job::fits_some_way` meets its contract.
-use borrow.Author.Needs.{needs}
+use Rattle.job.proofs.Prelude.{needs}
 use Rattle.job.proofs.fits_some_way.Statement.{statement}
 use Rattle.job.proofs.fits_some_way.Tie as tie
 

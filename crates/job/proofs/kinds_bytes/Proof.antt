@@ -1,6 +1,5 @@
 -- `job::kinds_bytes` meets its contract.
-use native.Mathlib.Omega.{arith}
-use borrow.Author.Needs.{needs}
+use Rattle.job.proofs.Prelude.{arith, needs}
 use Rattle.job.proofs.kinds_bytes.Statement.{statement}
 use Rattle.job.proofs.kinds_bytes.Tie as tie
 

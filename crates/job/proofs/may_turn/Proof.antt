@@ -1,7 +1,5 @@
 -- `job::may_turn` meets its contract.
-use mathlib.Core.Path.{sym, ap}
-use mathlib.Core.Bool.{_&&_, not}
-use borrow.Author.Tests.{eq-eqb, ne-eqb}
+use Rattle.job.proofs.Prelude.{sym, ap, _&&_, not, eq-eqb, ne-eqb}
 use Rattle.job.proofs.may_turn.Statement.{statement}
 use Rattle.job.proofs.may_turn.Tie as tie
 

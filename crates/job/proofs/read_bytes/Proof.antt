@@ -1,11 +1,5 @@
 -- `job::read_bytes` meets its contract.
-use mathlib.Core.Path.{_≡_, refl, _∙_, ap}
-use Prim.Native.Nat.{_+_, _-_, _≤_}
-use native.Mathlib.Omega.{arith}
-use borrow.Author.Needs.{needs}
-use denote.Ref.{now}
-use lib.ListN.{length, getD}
-use Rattle.job.specs.Block.{entries}
+use Rattle.job.proofs.Prelude.{_≡_, refl, _∙_, ap, _+_, _-_, _≤_, arith, needs, now, length, getD, entries}
 use Rattle.job.proofs.Entries.{entries-length, entries-none, entries-more}
 use Rattle.job.proofs.read_bytes.Statement.{statement}
 use Rattle.job.proofs.read_bytes.Tie as tie

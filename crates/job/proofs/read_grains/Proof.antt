@@ -1,11 +1,5 @@
 -- `job::read_grains` meets its contract.
-use mathlib.Core.Path.{sym, _∙_, ap}
-use Prim.Native.Nat.{_+_, _*_, _≤_}
-use native.Mathlib.Omega.{arith}
-use borrow.Author.Needs.{needs}
-use denote.Ref.{now}
-use lib.ListN.{length, getD}
-use Rattle.job.specs.Block.{kind-bytes, entries, grains-of}
+use Rattle.job.proofs.Prelude.{sym, _∙_, ap, _+_, _*_, _≤_, arith, needs, now, length, getD, kind-bytes, entries, grains-of}
 use Rattle.job.proofs.Entries.{entries-none}
 use Rattle.job.proofs.read_grains.Statement.{statement}
 use Rattle.job.proofs.read_grains.Tie as tie

@@ -1,9 +1,5 @@
 -- `job::read_job` meets its contract.
-use mathlib.Core.Path.{refl, sym, _∙_}
-use borrow.Author.Needs.{needs}
-use denote.Ref.{now}
-use Rattle.refusal.specs.Refusals.{first-refusal}
-use Rattle.job.specs.Block.{job-checks, record-of}
+use Rattle.job.proofs.Prelude.{refl, sym, _∙_, needs, now, first-refusal, job-checks, record-of}
 use Rattle.job.proofs.Read.{job-passed, header-holds, said-by, passing, refusing}
 use Rattle.job.proofs.Kerf.{kerf-none-read}
 use Rattle.job.proofs.read_job.Statement.{statement}

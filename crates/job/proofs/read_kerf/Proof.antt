@@ -1,7 +1,5 @@
 -- `job::read_kerf` meets its contract.
-use mathlib.Core.Path.{sym, _∙_, ap}
-use denote.Ref.{now}
-use Rattle.job.specs.Block.{kerf-at, sizes-end}
+use Rattle.job.proofs.Prelude.{sym, _∙_, ap, now, kerf-at, sizes-end}
 use Rattle.job.proofs.read_kerf.Statement.{statement}
 use Rattle.job.proofs.read_kerf.Tie as tie
 

@@ -1,5 +1,5 @@
 -- `job::read_old_job` meets its contract: a job read, the choices with the old block.
-use borrow.Author.Needs.{needs}
+use Rattle.job.proofs.Prelude.{needs}
 use Rattle.job.proofs.read_old_job.Statement.{statement}
 use Rattle.job.proofs.read_old_job.Tie as tie
 

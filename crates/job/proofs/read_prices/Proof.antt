@@ -1,10 +1,5 @@
 -- `job::read_prices` meets its contract.
-use mathlib.Core.Path.{_∙_, ap}
-use Prim.Native.Nat.{_+_, _*_}
-use native.Mathlib.Omega.{arith}
-use borrow.Author.Needs.{needs}
-use denote.Ref.{now}
-use Rattle.job.specs.Block.{entries, u32-at}
+use Rattle.job.proofs.Prelude.{_∙_, ap, _+_, _*_, arith, needs, now, entries, u32-at}
 use Rattle.job.proofs.read_prices.Statement.{statement}
 use Rattle.job.proofs.read_prices.Tie as tie
 

@@ -1,6 +1,5 @@
 -- `job::read_record` meets its contract: the record without prices, then the prices.
-use borrow.Author.Needs.{needs}
-use Rattle.job.specs.Block.{record-of}
+use Rattle.job.proofs.Prelude.{needs, record-of}
 use Rattle.job.proofs.read_record.Statement.{statement}
 use Rattle.job.proofs.read_record.Tie as tie
 

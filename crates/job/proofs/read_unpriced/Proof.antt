@@ -1,6 +1,5 @@
 -- `job::read_unpriced` meets its contract.
-use borrow.Author.Needs.{needs}
-use Rattle.job.specs.Block.{record-of}
+use Rattle.job.proofs.Prelude.{needs, record-of}
 use Rattle.job.proofs.Entries.{entries-none}
 use Rattle.job.proofs.read_unpriced.Statement.{statement}
 use Rattle.job.proofs.read_unpriced.Tie as tie

@@ -1,5 +1,5 @@
 -- `job::side_outside` meets its contract.
-use borrow.Author.Needs.{needs}
+use Rattle.job.proofs.Prelude.{needs}
 use Rattle.job.proofs.side_outside.Statement.{statement}
 use Rattle.job.proofs.side_outside.Tie as tie
 

@@ -1,5 +1,5 @@
 -- `job::sides_outside` meets its contract.
-use borrow.Author.Needs.{needs}
+use Rattle.job.proofs.Prelude.{needs}
 use Rattle.job.proofs.sides_outside.Statement.{statement}
 use Rattle.job.proofs.sides_outside.Tie as tie
 

@@ -1,14 +1,5 @@
 -- `job::sum_capacity` meets its contract.
-use mathlib.Core.Path.{_≡_, _∙_, ap, ap₂}
-use Prim.Native.Nat.{ℕ, _+_, _*_, _-_, _≤_}
-use native.Mathlib.Omega.{arith}
-use borrow.Author.Needs.{needs}
-use denote.Ref.{now}
-use Rattle.cutting.specs.Lists.{sum}
-use Rattle.cutting.specs.Sides.{rect-of}
-use Rattle.cutting.specs.Job.{turns, copies-on, counted-of, counted}
-use Rattle.job.specs.Block.{job-of}
-use Rattle.job.specs.Weights.{weight-in}
+use Rattle.job.proofs.Prelude.{_≡_, _∙_, ap, ap₂, ℕ, _+_, _*_, _-_, _≤_, arith, needs, now, sum, rect-of, turns, copies-on, counted-of, counted, job-of, weight-in}
 use Rattle.job.proofs.Weights.{sum-none, sum-more}
 use Rattle.job.proofs.sum_capacity.Statement.{statement}
 use Rattle.job.proofs.sum_capacity.Tie as tie

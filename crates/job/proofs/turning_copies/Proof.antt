@@ -1,12 +1,5 @@
 -- `job::turning_copies` meets its contract.
-use mathlib.Core.Path.{sym, _∙_, ap, ap₂}
-use Prim.Native.Nat.{_*_, _/_, _≤_}
-use native.Mathlib.Nat.{mul-le-mul}
-use native.Mathlib.Omega.{arith}
-use borrow.Author.Needs.{needs}
-use Rattle.cutting.specs.Areas.{area}
-use Rattle.cutting.specs.Lists.{only}
-use Rattle.cutting.specs.Sides.{rect-of}
+use Rattle.job.proofs.Prelude.{sym, _∙_, ap, ap₂, _*_, _/_, _≤_, mul-le-mul, arith, needs, area, only, rect-of}
 use Rattle.job.proofs.turning_copies.Statement.{statement}
 use Rattle.job.proofs.turning_copies.Tie as tie
 

@@ -1,6 +1,5 @@
 -- `job::unaccepted` meets its contract.
-use mathlib.Core.Path.{ap}
-use borrow.Author.Needs.{needs}
+use Rattle.job.proofs.Prelude.{ap, needs}
 use Rattle.job.proofs.unaccepted.Statement.{statement}
 use Rattle.job.proofs.unaccepted.Tie as tie
 

@@ -1,9 +1,5 @@
 -- `job::upright_copies` meets its contract.
-use mathlib.Core.Path.{ap₂}
-use Prim.Native.Nat.{_*_, _≤_}
-use native.Mathlib.Nat.{mul-le-mul}
-use native.Mathlib.Omega.{arith}
-use borrow.Author.Needs.{needs}
+use Rattle.job.proofs.Prelude.{ap₂, _*_, _≤_, mul-le-mul, arith, needs}
 use Rattle.job.proofs.upright_copies.Statement.{statement}
 use Rattle.job.proofs.upright_copies.Tie as tie
 

@@ -1,8 +1,5 @@
 -- `job::weigh` meets its contract.
-use mathlib.Core.Path.{ap}
-use Prim.Native.Nat.{_*_}
-use native.Mathlib.Omega.{arith}
-use borrow.Author.Needs.{needs}
+use Rattle.job.proofs.Prelude.{ap, _*_, arith, needs}
 use Rattle.job.proofs.Weights.{weighed}
 use Rattle.job.proofs.weigh.Statement.{statement}
 use Rattle.job.proofs.weigh.Tie as tie

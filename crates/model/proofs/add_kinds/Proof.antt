@@ -1,13 +1,5 @@
 -- `model::add_kinds` meets its contract.
-use mathlib.Core.Path.{_≡_, refl, _∙_}
-use Prim.Native.Nat.{_-_, _≤_}
-use native.Mathlib.Omega.{arith}
-use borrow.Author.Needs.{needs}
-use lib.ListN.{length}
-use Rattle.cutting.specs.Chains.{least}
-use Rattle.job.specs.Block.{job-of}
-use Rattle.sizes.specs.Sizes.{true-job}
-use Rattle.model.specs.Tables.{Tabled}
+use Rattle.model.proofs.Prelude.{_≡_, refl, _∙_, _-_, _≤_, arith, needs, length, least, job-of, true-job, Tabled}
 use Rattle.model.proofs.Tables.{true-within, model-within, told-upright, told-turned, kind-fits, least-more}
 use Rattle.model.proofs.add_kinds.Statement.{statement}
 use Rattle.model.proofs.add_kinds.Tie as tie

@@ -1,10 +1,5 @@
 -- `model::chains_exceed` meets its contract.
-use mathlib.Core.Path.{sym, _∙_, ap}
-use Prim.Native.Nat.{_+_}
-use native.Mathlib.Omega.{arith}
-use borrow.Author.Needs.{needs}
-use Rattle.job.specs.Block.{job-of}
-use Rattle.sizes.specs.Sizes.{true-job}
+use Rattle.model.proofs.Prelude.{sym, _∙_, ap, _+_, arith, needs, job-of, true-job}
 use Rattle.model.proofs.Tables.{true-plate-within, model-plate-within, true-room, model-room, prefix-length, exceed-told}
 use Rattle.model.proofs.chains_exceed.Statement.{statement}
 use Rattle.model.proofs.chains_exceed.Tie as tie

@@ -1,10 +1,5 @@
 -- `model::check_chains` meets its contract: the length is tried first.
-use mathlib.Core.Path.{_∙_, ap}
-use borrow.Author.Needs.{needs}
-use Rattle.refusal.specs.Refusals.{refuse-when}
-use Rattle.promises.specs.declared.Refusal.the-variants.{NoModel}
-use Rattle.job.proofs.Checks.{check-stops, check-passes, check-last}
-use Rattle.model.specs.Model.{model-checks}
+use Rattle.model.proofs.Prelude.{_∙_, ap, needs, refuse-when, NoModel, check-stops, check-passes, check-last, model-checks}
 use Rattle.model.proofs.check_chains.Statement.{statement}
 use Rattle.model.proofs.check_chains.Tie as tie
 

@@ -1,6 +1,5 @@
 -- `model::check_model` meets its contract: the two blocks are read first.
-use denote.Ref.{now}
-use borrow.Author.Needs.{needs}
+use Rattle.model.proofs.Prelude.{now, needs}
 use Rattle.model.proofs.Model.{model-promised, model-stops, given-ranges, model-decides}
 use Rattle.model.proofs.check_model.Statement.{statement}
 use Rattle.model.proofs.check_model.Tie as tie

@@ -1,9 +1,5 @@
 -- `model::clear` meets its contract.
-use mathlib.Core.Path.{_≡_, refl, _∙_}
-use Prim.Native.Nat.{_-_, _≤_, _<_}
-use native.Mathlib.Omega.{arith}
-use borrow.Author.Needs.{needs}
-use lib.ListN.{length, length-set}
+use Rattle.model.proofs.Prelude.{_≡_, refl, _∙_, _-_, _≤_, _<_, arith, needs, length, length-set}
 use Rattle.model.proofs.Tables.{Cleared, cleared-more, cleared-done}
 use Rattle.model.proofs.clear.Statement.{statement}
 use Rattle.model.proofs.clear.Tie as tie

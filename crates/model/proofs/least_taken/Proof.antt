@@ -1,11 +1,5 @@
 -- `model::least_taken` meets its contract.
-use mathlib.Core.Path.{_∙_}
-use native.Mathlib.Omega.{arith}
-use borrow.Author.Needs.{needs}
-use Rattle.cutting.specs.Relaxation.{room}
-use Rattle.cutting.specs.Chains.{least}
-use Rattle.job.specs.Block.{job-of}
-use Rattle.sizes.specs.Sizes.{true-job}
+use Rattle.model.proofs.Prelude.{_∙_, arith, needs, room, least, job-of, true-job}
 use Rattle.model.proofs.Tables.{true-plate-within, true-room, cleared-least, last-entry}
 use Rattle.model.proofs.least_taken.Statement.{statement}
 use Rattle.model.proofs.least_taken.Tie as tie

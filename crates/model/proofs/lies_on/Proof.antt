@@ -1,5 +1,5 @@
 -- `model::lies_on` meets its contract.
-use borrow.Author.Tests.{le-leb, lt-leb}
+use Rattle.model.proofs.Prelude.{le-leb, lt-leb}
 use Rattle.model.proofs.lies_on.Statement.{statement}
 use Rattle.model.proofs.lies_on.Tie as tie
 

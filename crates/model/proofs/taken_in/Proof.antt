@@ -1,5 +1,5 @@
 -- `model::taken_in` meets its contract.
-use borrow.Author.Needs.{needs}
+use Rattle.model.proofs.Prelude.{needs}
 use Rattle.model.proofs.taken_in.Statement.{statement}
 use Rattle.model.proofs.taken_in.Tie as tie
 

@@ -1,5 +1,5 @@
 -- `model::turned_way` meets its contract: the sides exchanged stay in their ranges, and the grain byte says whether the kind may be turned.
-use borrow.Author.Needs.{needs}
+use Rattle.model.proofs.Prelude.{needs}
 use Rattle.model.proofs.turned_way.Statement.{statement}
 use Rattle.model.proofs.turned_way.Tie as tie
 

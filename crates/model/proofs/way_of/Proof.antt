@@ -1,5 +1,5 @@
 -- `model::way_of` meets its contract.
-use borrow.Author.Needs.{needs}
+use Rattle.model.proofs.Prelude.{needs}
 use Rattle.model.proofs.way_of.Statement.{statement}
 use Rattle.model.proofs.way_of.Tie as tie
 

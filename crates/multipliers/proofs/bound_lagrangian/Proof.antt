@@ -1,8 +1,5 @@
 -- `multipliers::bound_lagrangian` meets its contract: job, weights and multipliers are accepted, and the bound of the record is the job's.
-use denote.Ref.{now}
-use borrow.Author.Needs.{needs}
-use Rattle.job.proofs.Taken.{taken, refused-both}
-use Rattle.bound.specs.Bound.{lent}
+use Rattle.multipliers.proofs.Prelude.{now, needs, taken, refused-both, lent}
 use Rattle.multipliers.proofs.Calls.{job-refused, multipliers-refused, multipliable, prices-there, accepted}
 use Rattle.multipliers.proofs.bound_lagrangian.Statement.{statement}
 use Rattle.multipliers.proofs.bound_lagrangian.Tie as tie

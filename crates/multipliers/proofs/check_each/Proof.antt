@@ -1,10 +1,5 @@
 -- `multipliers::check_each` meets its contract.
-use mathlib.Core.List.{[], _∷_}
-use Prim.Native.Nat.{_-_, _≤_}
-use denote.Ref.{now}
-use Rattle.job.proofs.Checks.{Decides, begins, passes, stops, ends}
-use Rattle.multipliers.specs.Multipliers.{multiplier-check}
-use borrow.Author.Needs.{needs}
+use Rattle.multipliers.proofs.Prelude.{[], _∷_, _-_, _≤_, now, Decides, begins, passes, stops, ends, multiplier-check, needs}
 use Rattle.multipliers.proofs.check_each.Statement.{statement}
 use Rattle.multipliers.proofs.check_each.Tie as tie
 

@@ -1,6 +1,5 @@
 -- `multipliers::check_multiplier` meets its contract.
-use borrow.Author.Needs.{needs}
-use Rattle.job.proofs.Checks.{check-last}
+use Rattle.multipliers.proofs.Prelude.{needs, check-last}
 use Rattle.multipliers.proofs.check_multiplier.Statement.{statement}
 use Rattle.multipliers.proofs.check_multiplier.Tie as tie
 

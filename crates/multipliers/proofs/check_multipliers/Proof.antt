@@ -1,6 +1,5 @@
 -- `multipliers::check_multipliers` meets its contract.
-use native.Mathlib.Omega.{arith}
-use denote.Ref.{now}
+use Rattle.multipliers.proofs.Prelude.{arith, now}
 use Rattle.multipliers.proofs.Calls.{miscounted, counted}
 use Rattle.multipliers.proofs.check_multipliers.Statement.{statement}
 use Rattle.multipliers.proofs.check_multipliers.Tie as tie

@@ -1,10 +1,5 @@
 -- `multipliers::lagrangian_of_record` meets its contract: the bound of the lowered record, and what the multipliers come to.
-use native.Mathlib.Omega.{arith}
-use denote.Ref.{now}
-use borrow.Author.Needs.{needs}
-use Rattle.job.specs.Block.{job-of}
-use Rattle.job.specs.Weights.{weight-in}
-use Rattle.multipliers.specs.Multipliers.{multiplier-in}
+use Rattle.multipliers.proofs.Prelude.{arith, now, needs, job-of, weight-in, multiplier-in}
 use Rattle.multipliers.proofs.Calls.{lowered-ready, summable, answered-low, record-refused, record-answered}
 use Rattle.multipliers.proofs.lagrangian_of_record.Statement.{statement}
 use Rattle.multipliers.proofs.lagrangian_of_record.Tie as tie

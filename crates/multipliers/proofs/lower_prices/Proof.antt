@@ -1,8 +1,5 @@
 -- `multipliers::lower_prices` meets its contract: the prices of the kinds passed are lowered, the others as they were.
-use Prim.Native.Nat.{_-_, _≤_}
-use native.Mathlib.Omega.{arith}
-use denote.Ref.{now}
-use borrow.Author.Needs.{needs}
+use Rattle.multipliers.proofs.Prelude.{_-_, _≤_, arith, now, needs}
 use Rattle.multipliers.proofs.Prices.{Lowering, lowering-begins, lowering-goes, lowering-ends}
 use Rattle.multipliers.proofs.lower_prices.Statement.{statement}
 use Rattle.multipliers.proofs.lower_prices.Tie as tie

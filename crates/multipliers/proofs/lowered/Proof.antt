@@ -1,5 +1,5 @@
 -- `multipliers::lowered` meets its contract: the record with lowered prices is the lowered job's.
-use denote.Ref.{now}
+use Rattle.multipliers.proofs.Prelude.{now}
 use Rattle.multipliers.proofs.Prices.{lowered-record}
 use Rattle.multipliers.proofs.lowered.Statement.{statement}
 use Rattle.multipliers.proofs.lowered.Tie as tie

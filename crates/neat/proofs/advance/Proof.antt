@@ -1,5 +1,5 @@
 -- `neat::advance` meets its contract: the step's used size is put on top.
-use borrow.Author.Needs.{needs}
+use Rattle.neat.proofs.Prelude.{needs}
 use Rattle.neat.proofs.Scan.{advances}
 use Rattle.neat.proofs.advance.Statement.{statement}
 use Rattle.neat.proofs.advance.Tie as tie

@@ -1,7 +1,5 @@
 -- `neat::count_pieces` meets its contract: before node k - 1 is read, the pieces are those of the nodes from k on.
-use native.Mathlib.Omega.{arith}
-use denote.Ref.{now}
-use borrow.Author.Needs.{needs}
+use Rattle.neat.proofs.Prelude.{arith, now, needs}
 use Rattle.neat.proofs.Scan.{Counted, none-counted, one-more, all-counted}
 use Rattle.neat.proofs.count_pieces.Statement.{statement}
 use Rattle.neat.proofs.count_pieces.Tie as tie

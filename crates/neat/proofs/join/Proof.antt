@@ -1,7 +1,5 @@
 -- `neat::join` meets its contract: a part that holds no piece counts for nothing.
-use mathlib.Core.Path.{ap}
-use borrow.Author.Needs.{needs}
-use Rattle.neat.specs.Scan.{used-rect, as-used}
+use Rattle.neat.proofs.Prelude.{ap, needs, used-rect, as-used}
 use Rattle.neat.proofs.Steps.{joined-first, joined-second, joined-length, joined-width}
 use Rattle.neat.proofs.join.Statement.{statement}
 use Rattle.neat.proofs.join.Tie as tie

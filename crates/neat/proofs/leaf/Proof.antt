@@ -1,6 +1,5 @@
 -- `neat::leaf` meets its contract: the node's own kind and operand.
-use mathlib.Core.Path.{refl}
-use borrow.Author.Needs.{needs}
+use Rattle.neat.proofs.Prelude.{refl, needs}
 use Rattle.neat.proofs.leaf.Statement.{statement}
 use Rattle.neat.proofs.leaf.Tie as tie
 

@@ -1,7 +1,5 @@
 -- `neat::move_cut` meets its contract: a cut remains where both parts hold a piece.
-use mathlib.Core.Path.{ap}
-use borrow.Author.Needs.{needs}
-use Rattle.neat.specs.Scan.{entry-of}
+use Rattle.neat.proofs.Prelude.{ap, needs, entry-of}
 use Rattle.neat.proofs.Steps.{moved-first, moved-second, cut-entry}
 use Rattle.neat.proofs.move_cut.Statement.{statement}
 use Rattle.neat.proofs.move_cut.Tie as tie

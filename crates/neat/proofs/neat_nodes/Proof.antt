@@ -1,11 +1,5 @@
 -- `neat::neat_nodes` meets its contract: each answer is one of the call's.
-use mathlib.Core.Path.{sym, _∙_, ap}
-use native.Mathlib.Omega.{arith}
-use denote.Ref.{now}
-use borrow.Author.Needs.{needs}
-use Rattle.cutting.specs.Lists.{over}
-use Rattle.job.specs.Block.{job-of}
-use Rattle.promises.specs.declared.PlanAnswer.{PlanAnswer}
+use Rattle.neat.proofs.Prelude.{sym, _∙_, ap, arith, now, needs, over, job-of, PlanAnswer}
 use Rattle.neat.proofs.Plans.{plan-most, needed, waste-one, waste-kinds, waste-operands, drawn-by, own-writable, kinds-written, operands-written, is-refused, kinds-short, operands-short, is-written, first-stored}
 use Rattle.neat.proofs.neat_nodes.Statement.{statement}
 use Rattle.neat.proofs.neat_nodes.Tie as tie

@@ -1,8 +1,5 @@
 -- `neat::neat_plan` meets its contract: the job is read first; the rest is the neat plan of its arrays.
-use mathlib.Core.Path.{refl}
-use denote.Ref.{now}
-use borrow.Author.Needs.{needs}
-use Rattle.plan.proofs.Calls.{read-range}
+use Rattle.neat.proofs.Prelude.{refl, now, needs, read-range}
 use Rattle.neat.proofs.Plans.{read-on, read-stops}
 use Rattle.neat.proofs.neat_plan.Statement.{statement}
 use Rattle.neat.proofs.neat_plan.Tie as tie

@@ -1,6 +1,5 @@
 -- `neat::nodes_for` meets its contract: one less than twice the pieces.
-use native.Mathlib.Omega.{arith}
-use borrow.Author.Needs.{needs}
+use Rattle.neat.proofs.Prelude.{arith, needs}
 use Rattle.neat.proofs.Steps.{nodes-some}
 use Rattle.neat.proofs.nodes_for.Statement.{statement}
 use Rattle.neat.proofs.nodes_for.Tie as tie

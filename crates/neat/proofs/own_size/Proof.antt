@@ -1,6 +1,5 @@
 -- `neat::own_size` meets its contract: the kind's size as the piece lies.
-use mathlib.Core.Path.{refl}
-use borrow.Author.Needs.{needs}
+use Rattle.neat.proofs.Prelude.{refl, needs}
 use Rattle.neat.proofs.own_size.Statement.{statement}
 use Rattle.neat.proofs.own_size.Tie as tie
 

@@ -1,7 +1,5 @@
 -- `neat::put` meets its contract: one entry of each array, where the node remains.
-use mathlib.Core.Path.{refl}
-use native.Mathlib.Omega.{arith}
-use borrow.Author.Needs.{needs}
+use Rattle.neat.proofs.Prelude.{refl, arith, needs}
 use Rattle.neat.proofs.Steps.{remains-some}
 use Rattle.neat.proofs.put.Statement.{statement}
 use Rattle.neat.proofs.put.Tie as tie

@@ -1,9 +1,5 @@
 -- `neat::scan_node` meets its contract: a cut takes the two used sizes on top, any other node adds one.
-use mathlib.Core.Path.{refl}
-use native.Mathlib.Omega.{arith}
-use denote.Ref.{now}
-use borrow.Author.Needs.{needs}
-use Rattle.neat.specs.Scan.{used-rect}
+use Rattle.neat.proofs.Prelude.{refl, arith, now, needs, used-rect}
 use Rattle.neat.proofs.Steps.{two, both-told, cut-steps, leaf-steps}
 use Rattle.neat.proofs.scan_node.Statement.{statement}
 use Rattle.neat.proofs.scan_node.Tie as tie

@@ -1,6 +1,5 @@
 -- `neat::size_at` meets its contract: both sides in a wider word.
-use mathlib.Core.Path.{refl}
-use borrow.Author.Needs.{needs}
+use Rattle.neat.proofs.Prelude.{refl, needs}
 use Rattle.neat.proofs.size_at.Statement.{statement}
 use Rattle.neat.proofs.size_at.Tie as tie
 

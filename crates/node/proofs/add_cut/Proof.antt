@@ -1,5 +1,5 @@
 -- `node::add_cut` meets its contract: the sawdust is added, the kerf times the side along which the cut runs.
-use borrow.Author.Needs.{needs}
+use Rattle.node.proofs.Prelude.{needs}
 use Rattle.node.proofs.Placed.{cut-grows}
 use Rattle.node.proofs.add_cut.Statement.{statement}
 use Rattle.node.proofs.add_cut.Tie as tie

@@ -1,8 +1,5 @@
 -- `node::add_piece` meets its contract: price, area and trim are added; a piece takes no more than the rectangle that it fits.
-use Prim.Native.Nat.{_-_}
-use native.Mathlib.Omega.{arith}
-use borrow.Author.Needs.{needs}
-use Rattle.cutting.specs.Sides.{rect-of}
+use Rattle.node.proofs.Prelude.{_-_, arith, needs, rect-of}
 use Rattle.node.proofs.Nodes.{fits-area}
 use Rattle.node.proofs.Placed.{piece-grows}
 use Rattle.node.proofs.add_piece.Statement.{statement}

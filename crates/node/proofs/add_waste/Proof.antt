@@ -1,5 +1,5 @@
 -- `node::add_waste` meets its contract: the rectangle's area is added.
-use borrow.Author.Needs.{needs}
+use Rattle.node.proofs.Prelude.{needs}
 use Rattle.node.proofs.Placed.{waste-grows}
 use Rattle.node.proofs.add_waste.Statement.{statement}
 use Rattle.node.proofs.add_waste.Tie as tie

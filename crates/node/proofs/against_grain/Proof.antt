@@ -1,7 +1,5 @@
 -- `node::against_grain` meets its contract.
-use mathlib.Core.Path.{sym, ap}
-use mathlib.Core.Bool.{_&&_}
-use lib.Dec.{eqb}
+use Rattle.node.proofs.Prelude.{sym, ap, _&&_, eqb}
 use Rattle.node.proofs.against_grain.Statement.{statement}
 use Rattle.node.proofs.against_grain.Tie as tie
 

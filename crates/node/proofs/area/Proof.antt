@@ -1,7 +1,5 @@
 -- `node::area` meets its contract: the product of two numbers of 16 bits has at most 32.
-use mathlib.Core.Path.{refl}
-use native.Mathlib.Omega.{arith}
-use borrow.Author.Needs.{needs}
+use Rattle.node.proofs.Prelude.{refl, arith, needs}
 use Rattle.node.proofs.Product.{below}
 use Rattle.node.proofs.area.Statement.{statement}
 use Rattle.node.proofs.area.Tie as tie

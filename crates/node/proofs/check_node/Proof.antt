@@ -1,11 +1,5 @@
 -- `node::check_node` meets its contract: a kind past the last is refused, and else the node decides.
-use mathlib.Core.Path.{_∙_, refl, sym, ap}
-use native.Mathlib.Omega.{arith}
-use denote.Ref.{now}
-use borrow.Author.Needs.{needs}
-use Rattle.cutting.specs.Sides.{rect-of}
-use Rattle.job.specs.Block.{job-from}
-use Rattle.node.specs.Placed.{laying}
+use Rattle.node.proofs.Prelude.{_∙_, refl, sym, ap, arith, now, needs, rect-of, job-from, laying}
 use Rattle.node.proofs.Nodes.{waste-kind, kind-refused}
 use Rattle.node.proofs.Placed.{stops, placed-as, placed-at}
 use Rattle.node.proofs.check_node.Statement.{statement}

@@ -1,5 +1,5 @@
 -- `node::decode` meets its contract: each kind gives its node.
-use borrow.Author.Tests.{ne-eqb}
+use Rattle.node.proofs.Prelude.{ne-eqb}
 use Rattle.node.proofs.decode.Statement.{statement}
 use Rattle.node.proofs.decode.Tie as tie
 

@@ -1,5 +1,5 @@
 -- `node::lay` meets its contract.
-use borrow.Author.Needs.{needs}
+use Rattle.node.proofs.Prelude.{needs}
 use Rattle.node.proofs.lay.Statement.{statement}
 use Rattle.node.proofs.lay.Tie as tie
 

@@ -1,9 +1,5 @@
 -- `node::outside_cut` meets its contract: from 1 on, a position is outside where, with the kerf, it reaches the side.
-use mathlib.Core.Path.{_∙_, ap}
-use Prim.Native.Nat.{_+_}
-use lib.Dec.{leb}
-use borrow.Author.Tests.{lt-ltb}
-use borrow.Author.Needs.{needs}
+use Rattle.node.proofs.Prelude.{_∙_, ap, _+_, leb, lt-ltb, needs}
 use Rattle.node.proofs.Nodes.{past-side}
 use Rattle.node.proofs.outside_cut.Statement.{statement}
 use Rattle.node.proofs.outside_cut.Tie as tie

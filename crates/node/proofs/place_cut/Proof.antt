@@ -1,9 +1,5 @@
 -- `node::place_cut` meets its contract: the position is checked, and the sawdust is counted.
-use mathlib.Core.Path.{_∙_, ap}
-use borrow.Author.Needs.{needs}
-use Rattle.cutting.specs.Sides.{rect-of}
-use Rattle.promises.specs.declared.Refusal.the-variants.{Operand}
-use Rattle.refusal.specs.Refusals.{refuse-when}
+use Rattle.node.proofs.Prelude.{_∙_, ap, needs, rect-of, Operand, refuse-when}
 use Rattle.node.proofs.Placed.{cut-placed}
 use Rattle.node.proofs.place_cut.Statement.{statement}
 use Rattle.node.proofs.place_cut.Tie as tie

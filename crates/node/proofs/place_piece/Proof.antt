@@ -1,12 +1,5 @@
 -- `node::place_piece` meets its contract: the checks run 13, 36, 15, 16; then the piece is counted.
-use mathlib.Core.Path.{_∙_, sym, ap}
-use denote.Ref.{now}
-use borrow.Author.Needs.{needs}
-use borrow.Author.Tests.{not-true, not-false}
-use Rattle.cutting.specs.Sides.{rect-of}
-use Rattle.cutting.specs.Pieces.{fits-in}
-use Rattle.job.specs.Block.{job-from}
-use Rattle.node.specs.Nodes.{with-piece}
+use Rattle.node.proofs.Prelude.{_∙_, sym, ap, now, needs, not-true, not-false, rect-of, fits-in, job-from, with-piece}
 use Rattle.node.proofs.Nodes.{number-refused, grain-refused, misfit-refused, excess-refused}
 use Rattle.node.proofs.Placed.{stops, piece-placed}
 use Rattle.node.proofs.place_piece.Statement.{statement}

@@ -1,6 +1,5 @@
 -- `node::place_waste` meets its contract: a wrong operand is refused, and the area is counted.
-use borrow.Author.Needs.{needs}
-use Rattle.cutting.specs.Sides.{rect-of}
+use Rattle.node.proofs.Prelude.{needs, rect-of}
 use Rattle.node.proofs.Placed.{waste-placed}
 use Rattle.node.proofs.place_waste.Statement.{statement}
 use Rattle.node.proofs.place_waste.Tie as tie

@@ -1,8 +1,5 @@
 -- `orders::plates` meets its contract: the quotient rounded up, or what a bound of 0 gives.
-use mathlib.Core.Path.{_∙_, ap}
-use Prim.Native.Nat.{_+_, _-_, _/_}
-use native.Mathlib.Omega.{arith}
-use borrow.Author.Needs.{needs}
+use Rattle.orders.proofs.Prelude.{_∙_, ap, _+_, _-_, _/_, arith, needs}
 use Rattle.orders.proofs.Needed.{plates-over, plates-endless, plates-none}
 use Rattle.orders.proofs.plates.Statement.{statement}
 use Rattle.orders.proofs.plates.Tie as tie

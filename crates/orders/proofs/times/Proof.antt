@@ -1,6 +1,5 @@
 -- `orders::times` meets its contract.
-use mathlib.Core.Path.{refl}
-use native.Mathlib.Omega.{arith}
+use Rattle.orders.proofs.Prelude.{refl, arith}
 use Rattle.orders.proofs.Sums.{times-low}
 use Rattle.orders.proofs.times.Statement.{statement}
 use Rattle.orders.proofs.times.Tie as tie

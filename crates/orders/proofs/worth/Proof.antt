@@ -1,8 +1,5 @@
 -- `orders::worth` meets its contract: before each kind the total is the sum over the kinds below it.
-use Prim.Native.Nat.{_-_}
-use native.Mathlib.Omega.{arith}
-use borrow.Author.Needs.{needs}
-use denote.Ref.{now}
+use Rattle.orders.proofs.Prelude.{_-_, arith, needs, now}
 use Rattle.orders.proofs.Sums.{Summing, summing-begins, summing-goes, summing-ends}
 use Rattle.orders.proofs.worth.Statement.{statement}
 use Rattle.orders.proofs.worth.Tie as tie

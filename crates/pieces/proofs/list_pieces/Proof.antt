@@ -1,13 +1,5 @@
 -- `pieces::list_pieces` meets its contract: after each kind the array begins with the pieces of the kinds read.
-use mathlib.Core.Path.{_≡_, refl, sym, ap}
-use Prim.Native.Nat.{_-_, _≤_}
-use native.Mathlib.Omega.{arith}
-use borrow.Author.Needs.{needs}
-use denote.Ref.{now}
-use Rattle.cutting.specs.Job.{widened}
-use Rattle.job.specs.Block.{job-of}
-use Rattle.job.specs.Weights.{weight-in}
-use Rattle.pieces.specs.Contracts.{Listed}
+use Rattle.pieces.proofs.Prelude.{_≡_, refl, sym, ap, _-_, _≤_, arith, needs, now, widened, job-of, weight-in, Listed}
 use Rattle.pieces.proofs.Growing.{kinds-below, listed-as, listed-none, kinds-more, kinds-count, listed-all}
 use Rattle.pieces.proofs.list_pieces.Statement.{statement}
 use Rattle.pieces.proofs.list_pieces.Tie as tie

@@ -1,11 +1,5 @@
 -- `pieces::put_kind` meets its contract.
-use mathlib.Core.Path.{_∙_, ap}
-use mathlib.Core.Bool.{true, false}
-use native.Mathlib.Omega.{arith}
-use borrow.Author.Needs.{needs}
-use denote.Ref.{now}
-use lib.ListN.{length}
-use Rattle.cutting.specs.Pieces.{upright, ways}
+use Rattle.pieces.proofs.Prelude.{_∙_, ap, true, false, arith, needs, now, length, upright, ways}
 use Rattle.pieces.proofs.Growing.{listed-as, put-length, listed-more, listed-twice, when-ordered, when-cancelled}
 use Rattle.pieces.proofs.put_kind.Statement.{statement}
 use Rattle.pieces.proofs.put_kind.Tie as tie

@@ -1,5 +1,5 @@
 -- `pieces::turned` meets its contract.
-use borrow.Author.Needs.{needs}
+use Rattle.pieces.proofs.Prelude.{needs}
 use Rattle.pieces.proofs.turned.Statement.{statement}
 use Rattle.pieces.proofs.turned.Tie as tie
 

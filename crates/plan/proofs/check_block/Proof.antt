@@ -1,15 +1,6 @@
 -- `plan::check_block` meets its contract: each answer is one of a plan block's.
-use mathlib.Core.Path.{_≡_, _∙_, sym, ap, ap₂}
-use Prim.Native.Nat.{_+_, _-_}
-use native.Mathlib.Omega.{arith}
-use denote.Ref.{now}
-use lib.ListN.{take, drop}
-use lib.Seq.{length-take-le}
-use Rattle.job.specs.Block.{job-of}
-use Rattle.plan.specs.Plan.{plan-answer}
-use Rattle.plan.specs.Calls.{plan-count}
+use Rattle.plan.proofs.Prelude.{_≡_, _∙_, sym, ap, ap₂, _+_, _-_, arith, now, take, drop, length-take-le, job-of, plan-answer, plan-count, needs}
 use Rattle.plan.proofs.Calls.{block-short, block-odd, block-many, block-on}
-use borrow.Author.Needs.{needs}
 use Rattle.plan.proofs.check_block.Statement.{statement}
 use Rattle.plan.proofs.check_block.Tie as tie
 

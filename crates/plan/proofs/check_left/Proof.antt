@@ -1,7 +1,5 @@
 -- `plan::check_left` meets its contract.
-use borrow.Author.Needs.{needs}
-use borrow.Author.Tests.{lt-ltb, le-ltb}
-use Rattle.refusal.specs.Refusals.{first-refusal}
+use Rattle.plan.proofs.Prelude.{needs, lt-ltb, le-ltb, first-refusal}
 use Rattle.plan.proofs.check_left.Statement.{statement}
 use Rattle.plan.proofs.check_left.Tie as tie
 

@@ -1,11 +1,5 @@
 -- `plan::check_nodes` meets its contract: the walk comes first, then check 26.
-use mathlib.Core.Path.{_∙_, sym, ap}
-use denote.Ref.{now}
-use native.Mathlib.Omega.{arith}
-use borrow.Author.Needs.{needs}
-use Rattle.job.specs.Block.{job-of}
-use Rattle.promises.specs.declared.PlanAnswer.{PlanAnswer}
-use Rattle.plan.specs.Plan.{unreported}
+use Rattle.plan.proofs.Prelude.{_∙_, sym, ap, now, arith, needs, job-of, PlanAnswer, unreported}
 use Rattle.plan.proofs.Whole.{walk-stops, idle-decides}
 use Rattle.plan.proofs.Plans.{walked-counts}
 use Rattle.plan.proofs.check_nodes.Statement.{statement}

@@ -1,9 +1,6 @@
 -- `plan::check_plan` meets its contract: the job is read first; the rest is the check of its arrays.
-use mathlib.Core.Path.{_∙_}
-use denote.Ref.{now}
-use Rattle.plan.specs.Plan.{plan-answer}
+use Rattle.plan.proofs.Prelude.{_∙_, now, plan-answer, needs}
 use Rattle.plan.proofs.Calls.{read-range, read-on, read-stops, arrays-met}
-use borrow.Author.Needs.{needs}
 use Rattle.plan.proofs.check_plan.Statement.{statement}
 use Rattle.plan.proofs.check_plan.Tie as tie
 

@@ -1,9 +1,6 @@
 -- `plan::check_plan_block` meets its contract: the job is read first; the rest is the check of the block.
-use mathlib.Core.Path.{_∙_}
-use denote.Ref.{now}
-use Rattle.plan.specs.Calls.{plan-block-answer}
+use Rattle.plan.proofs.Prelude.{_∙_, now, plan-block-answer, needs}
 use Rattle.plan.proofs.Calls.{read-range, read-on, read-stops, block-met}
-use borrow.Author.Needs.{needs}
 use Rattle.plan.proofs.check_plan_block.Statement.{statement}
 use Rattle.plan.proofs.check_plan_block.Tie as tie
 

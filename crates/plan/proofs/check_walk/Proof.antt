@@ -1,9 +1,5 @@
 -- `plan::check_walk` meets its contract: checks 10 and 11 come first; the rest is the walk.
-use mathlib.Core.Path.{_∙_, sym, ap}
-use denote.Ref.{now}
-use borrow.Author.Needs.{needs}
-use Rattle.job.specs.Block.{job-of}
-use Rattle.plan.specs.Plan.{unreported}
+use Rattle.plan.proofs.Prelude.{_∙_, sym, ap, now, needs, job-of, unreported}
 use Rattle.plan.proofs.Whole.{whole-counts, whole-stops, whole-goes}
 use Rattle.plan.proofs.check_walk.Statement.{statement}
 use Rattle.plan.proofs.check_walk.Tie as tie

@@ -1,6 +1,5 @@
 -- `plan::check_whole` meets its contract: 10 comes before 11.
-use mathlib.Core.Path.{sym}
-use denote.Ref.{now}
+use Rattle.plan.proofs.Prelude.{sym, now}
 use Rattle.plan.proofs.Whole.{length-refused, none-refused, many-refused, whole-passes}
 use Rattle.plan.proofs.check_whole.Statement.{statement}
 use Rattle.plan.proofs.check_whole.Tie as tie

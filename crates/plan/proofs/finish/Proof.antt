@@ -1,7 +1,5 @@
 -- `plan::finish` meets its contract: 17 where a rectangle waits, and else the tree passes.
-use mathlib.Core.Path.{_∙_}
-use borrow.Author.Needs.{needs}
-use Rattle.plan.specs.Plan.{plan-report}
+use Rattle.plan.proofs.Prelude.{_∙_, needs, plan-report}
 use Rattle.plan.proofs.Walk.{missing, filled}
 use Rattle.plan.proofs.finish.Statement.{statement}
 use Rattle.plan.proofs.finish.Tie as tie

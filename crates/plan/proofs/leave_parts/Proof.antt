@@ -1,9 +1,5 @@
 -- `plan::leave_parts` meets its contract: a cut's parts take the place of the rectangle; any other node leaves nothing.
-use native.Mathlib.Omega.{arith}
-use denote.Ref.{now}
-use lib.ListN.{length-set}
-use borrow.Author.Needs.{needs}
-use Rattle.cutting.specs.Sides.{rect-of}
+use Rattle.plan.proofs.Prelude.{arith, now, length-set, needs, rect-of}
 use Rattle.plan.proofs.Walk.{cut-waits}
 use Rattle.plan.proofs.leave_parts.Statement.{statement}
 use Rattle.plan.proofs.leave_parts.Tie as tie

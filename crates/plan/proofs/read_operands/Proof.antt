@@ -1,13 +1,5 @@
 -- `plan::read_operands` meets its contract: after i turns the first i entries are the block's.
-use mathlib.Core.Path.{_≡_, _∙_, refl}
-use mathlib.Core.List.{map}
-use Prim.Native.Nat.{_+_, _*_, _-_, _≤_}
-use native.Mathlib.Omega.{arith}
-use borrow.Author.Needs.{needs}
-use denote.Ref.{now}
-use lib.ListN.{length, take, length-set}
-use Rattle.cutting.specs.Lists.{range}
-use Rattle.job.specs.Block.{u16-at}
+use Rattle.plan.proofs.Prelude.{_≡_, _∙_, refl, map, _+_, _*_, _-_, _≤_, arith, needs, now, length, take, length-set, range, u16-at}
 use Rattle.plan.proofs.Operands.{entry-more, entries-read}
 use Rattle.plan.proofs.read_operands.Statement.{statement}
 use Rattle.plan.proofs.read_operands.Tie as tie

@@ -1,7 +1,5 @@
 -- `plan::stop_tree` meets its contract.
-use mathlib.Core.Path.{ap}
-use borrow.Author.Needs.{needs}
-use Rattle.promises.specs.declared.PlanAnswer.{PlanAnswer}
+use Rattle.plan.proofs.Prelude.{ap, needs, PlanAnswer}
 use Rattle.plan.proofs.stop_tree.Statement.{statement}
 use Rattle.plan.proofs.stop_tree.Tie as tie
 

@@ -1,9 +1,5 @@
 -- `plan::walk_nodes` meets its contract: the walk over the plan's only tree comes first, then 18.
-use mathlib.Core.Path.{_∙_, sym, ap}
-use denote.Ref.{now}
-use borrow.Author.Needs.{needs}
-use Rattle.job.specs.Block.{job-of}
-use Rattle.plan.specs.Plan.{unreported}
+use Rattle.plan.proofs.Prelude.{_∙_, sym, ap, now, needs, job-of, unreported}
 use Rattle.plan.proofs.Ends.{tree-stops, left-decides}
 use Rattle.plan.proofs.walk_nodes.Statement.{statement}
 use Rattle.plan.proofs.walk_nodes.Tie as tie

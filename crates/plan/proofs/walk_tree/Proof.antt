@@ -1,13 +1,5 @@
 -- `plan::walk_tree` meets its contract: before node k the walk stands where the rectangles that wait and the sums say.
-use mathlib.Core.Path.{_≡_, _∙_, refl, ap}
-use Prim.Native.Nat.{_-_}
-use native.Mathlib.Omega.{arith}
-use denote.Ref.{now}
-use borrow.Author.Needs.{needs}
-use lib.ListN.{length}
-use Rattle.job.specs.Block.{job-of}
-use Rattle.node.specs.declared.Rules.{Rules}
-use Rattle.node.proofs.Placed.{sized-more}
+use Rattle.plan.proofs.Prelude.{_≡_, _∙_, refl, ap, _-_, arith, now, needs, length, job-of, Rules, sized-more}
 use Rattle.plan.proofs.Walk.{Walking, by-rules, begins, filled-all, halts, opens, goes-on, ends}
 use Rattle.plan.proofs.walk_tree.Statement.{statement}
 use Rattle.plan.proofs.walk_tree.Tie as tie

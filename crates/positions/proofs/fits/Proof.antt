@@ -1,5 +1,5 @@
 -- `positions::fits` meets its contract.
-use borrow.Author.Tests.{le-leb, lt-leb}
+use Rattle.positions.proofs.Prelude.{le-leb, lt-leb}
 use Rattle.positions.proofs.fits.Statement.{statement}
 use Rattle.positions.proofs.fits.Tie as tie
 

@@ -1,11 +1,5 @@
 -- `positions::fitting_sides` meets its contract. The invariant: the sides of those of the first i pieces that fit are at the front of `fit`.
-use mathlib.Core.Logic.{⊎-elim}
-use Prim.Native.Nat.{_-_, _≤_}
-use mathlib.Core.Path.{_≡_, _∙_, sym}
-use native.Mathlib.Omega.{arith}
-use borrow.Author.Needs.{needs}
-use denote.Ref.{now}
-use Rattle.positions.specs.Contracts.{Holds, fitting}
+use Rattle.positions.proofs.Prelude.{⊎-elim, _-_, _≤_, _≡_, _∙_, sym, arith, needs, now, Holds, fitting}
 use Rattle.positions.proofs.Fitting.{side-most, fitting-none, fitting-taken, fitting-left}
 use Rattle.positions.proofs.fitting_sides.Statement.{statement}
 use Rattle.positions.proofs.fitting_sides.Tie as tie

@@ -1,13 +1,5 @@
 -- `positions::is_normal` meets its contract. The invariant: none of the first i sides leads to x from a marked position.
-use mathlib.Core.Logic.{⊎-elim}
-use Prim.Native.Nat.{ℕ, _-_, _≤_, _<_}
-use mathlib.Core.Path.{_≡_, sym}
-use mathlib.Core.Bool.{true, false}
-use native.Mathlib.Omega.{arith}
-use borrow.Author.Needs.{needs}
-use borrow.Author.Count.{below-more}
-use lib.ListN.{getD}
-use denote.Ref.{now}
+use Rattle.positions.proofs.Prelude.{⊎-elim, ℕ, _-_, _≤_, _<_, _≡_, sym, true, false, arith, needs, below-more, getD, now}
 use Rattle.positions.proofs.Sums.{sum-zero, sum-found, sum-missing}
 use Rattle.positions.proofs.is_normal.Statement.{statement}
 use Rattle.positions.proofs.is_normal.Tie as tie

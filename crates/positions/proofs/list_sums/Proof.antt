@@ -1,15 +1,5 @@
 -- `positions::list_sums` meets its contract. The invariant: the marks below x are right, and the sums below x are listed.
-use mathlib.Core.Logic.{⊎-elim}
-use Prim.Native.Nat.{suc, _+_, _-_, _≤_}
-use mathlib.Core.Path.{_≡_, _∙_, sym, refl, ap}
-use mathlib.Core.Bool.{false}
-use native.Mathlib.Omega.{arith}
-use borrow.Author.Needs.{needs}
-use lib.ListN.{length, take, length-set}
-use denote.Ref.{now}
-use Rattle.cutting.specs.Lists.{range, filter}
-use Rattle.cutting.specs.Normal.{normal?, normals}
-use Rattle.positions.specs.Contracts.{Holds, Marked}
+use Rattle.positions.proofs.Prelude.{⊎-elim, suc, _+_, _-_, _≤_, _≡_, _∙_, sym, refl, ap, false, arith, needs, length, take, length-set, now, range, filter, normal?, normals, Holds, Marked}
 use Rattle.positions.proofs.Lists.{entries-more, filter-taken, filter-left, holds-more}
 use Rattle.positions.proofs.list_sums.Statement.{statement}
 use Rattle.positions.proofs.list_sums.Tie as tie

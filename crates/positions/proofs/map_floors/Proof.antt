@@ -1,12 +1,5 @@
 -- `positions::map_floors` meets its contract. The invariant: the map is right below x, entry i is not above x, and the next is not below it.
-use mathlib.Core.Logic.{⊎-elim}
-use Prim.Native.Nat.{_+_, _-_, _≤_, _<_}
-use mathlib.Core.Path.{_≡_, refl}
-use native.Mathlib.Omega.{arith}
-use borrow.Author.Needs.{needs}
-use lib.ListN.{length, getD, length-set}
-use denote.Ref.{now}
-use Rattle.positions.specs.Contracts.{LastUpTo, Floors}
+use Rattle.positions.proofs.Prelude.{⊎-elim, _+_, _-_, _≤_, _<_, _≡_, refl, arith, needs, length, getD, length-set, now, LastUpTo, Floors}
 use Rattle.positions.proofs.Lists.{entries-more}
 use Rattle.positions.proofs.Positions.{last-next}
 use Rattle.positions.proofs.map_floors.Statement.{statement}

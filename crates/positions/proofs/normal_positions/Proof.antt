@@ -1,7 +1,5 @@
 -- `positions::normal_positions` meets its contract.
-use native.Mathlib.Omega.{arith}
-use borrow.Author.Needs.{needs}
-use denote.Ref.{now}
+use Rattle.positions.proofs.Prelude.{arith, needs, now}
 use Rattle.positions.proofs.Lists.{holds-take}
 use Rattle.positions.proofs.Fitting.{fitting-count, fitting-positive}
 use Rattle.positions.proofs.normal_positions.Statement.{statement}

@@ -1,8 +1,6 @@
 -- `printer::judge_plan` meets its contract: the arrays hold the nodes that were written, and what is said follows from the writing call's
 -- promises and from the check of the demands.
-use mathlib.Core.Path.{sym}
-use borrow.Author.Needs.{needs}
-use lib.Seq.{length-take-le}
+use Rattle.printer.proofs.Prelude.{sym, needs, length-take-le}
 use Rattle.printer.proofs.Judging.{nodes-there, says-plan, says-refused}
 use Rattle.printer.proofs.judge_plan.Statement.{statement}
 use Rattle.printer.proofs.judge_plan.Tie as tie

@@ -1,5 +1,5 @@
 -- `printer::keeps_demands` meets its contract: the verdict of the plan's check decides.
-use borrow.Author.Needs.{needs}
+use Rattle.printer.proofs.Prelude.{needs}
 use Rattle.printer.proofs.Demands.{kept, exceeded}
 use Rattle.printer.proofs.keeps_demands.Statement.{statement}
 use Rattle.printer.proofs.keeps_demands.Tie as tie

@@ -1,8 +1,5 @@
 -- `printer::print_answer` meets its contract: the arrays hold the nodes that were written.
-use mathlib.Core.Path.{sym, _∙_}
-use native.Mathlib.Omega.{arith}
-use borrow.Author.Needs.{needs}
-use lib.Seq.{length-take-le}
+use Rattle.printer.proofs.Prelude.{sym, _∙_, arith, needs, length-take-le}
 use Rattle.printer.proofs.print_answer.Statement.{statement}
 use Rattle.printer.proofs.print_answer.Tie as tie
 

@@ -1,8 +1,5 @@
 -- `printer::print_plan` meets its contract: the job ends within the input.
-use borrow.Author.Needs.{needs}
-use mathlib.Core.Path.{sym}
-use denote.Ref.{now}
-use lib.Seq.{length-take-le}
+use Rattle.printer.proofs.Prelude.{needs, sym, now, length-take-le}
 use Rattle.printer.proofs.print_plan.Statement.{statement}
 use Rattle.printer.proofs.print_plan.Tie as tie
 

@@ -1,12 +1,5 @@
 -- `rack::add_copies` meets its contract: before kind j the totals have the plan's own copies of the kinds below.
-use mathlib.Core.Path.{_∙_, sym, ap}
-use Prim.Native.Nat.{_+_, _-_}
-use borrow.Author.Needs.{needs}
-use borrow.Author.Tests.{ltb-false}
-use denote.Ref.{now}
-use lib.ListN.{getD}
-use Rattle.refusal.specs.Refusals.{refuse-when}
-use Rattle.promises.specs.declared.Refusal.the-variants.{RackDemand}
+use Rattle.rack.proofs.Prelude.{_∙_, sym, ap, _+_, _-_, needs, ltb-false, now, getD, refuse-when, RackDemand}
 use Rattle.rack.proofs.Totals.{Adding, adding-begins, adding-stops, adding-goes, adding-ends}
 use Rattle.rack.proofs.add_copies.Statement.{statement}
 use Rattle.rack.proofs.add_copies.Tie as tie

@@ -1,9 +1,5 @@
 -- `rack::check_before` meets its contract: 28, the job's checks, those of the plates, then 10 and 11.
-use mathlib.Core.Path.{_∙_, sym}
-use denote.Ref.{now}
-use borrow.Author.Needs.{needs}
-use Rattle.job.proofs.Checks.{next-stops, next-passes}
-use Rattle.rack.specs.Check.{order-checks}
+use Rattle.rack.proofs.Prelude.{_∙_, sym, now, needs, next-stops, next-passes, order-checks}
 use Rattle.rack.proofs.Before.{before-parts, size-passed}
 use Rattle.rack.proofs.check_before.Statement.{statement}
 use Rattle.rack.proofs.check_before.Tie as tie

@@ -1,9 +1,5 @@
 -- `rack::check_first` meets its contract: more than 16 plates are refused, and fewer are checked by the first words of the arrays.
-use mathlib.Core.Path.{sym, _∙_}
-use native.Mathlib.Omega.{arith}
-use lib.Seq.{length-take-le}
-use denote.Ref.{now}
-use borrow.Author.Needs.{needs}
+use Rattle.rack.proofs.Prelude.{sym, _∙_, arith, length-take-le, now, needs}
 use Rattle.rack.proofs.Read.{first-stopped, first-checked}
 use Rattle.rack.proofs.check_first.Statement.{statement}
 use Rattle.rack.proofs.check_first.Tie as tie

@@ -1,13 +1,5 @@
 -- `rack::check_own` meets its contract: the walk comes first, then check 26 over the nodes of the tree.
-use mathlib.Core.Path.{_∙_, sym, ap}
-use Prim.Native.Nat.{_-_}
-use native.Mathlib.Omega.{arith}
-use denote.Ref.{now}
-use borrow.Author.Needs.{needs}
-use lib.ListN.{drop, length-drop}
-use lib.Seq.{length-take-le}
-use Rattle.job.specs.Block.{job-of}
-use Rattle.plan.specs.Plan.{tree-stopped}
+use Rattle.rack.proofs.Prelude.{_∙_, sym, ap, _-_, arith, now, needs, drop, length-drop, length-take-le, job-of, tree-stopped}
 use Rattle.rack.proofs.Own.{own-stops, own-decides, own-inside}
 use Rattle.rack.proofs.check_own.Statement.{statement}
 use Rattle.rack.proofs.check_own.Tie as tie

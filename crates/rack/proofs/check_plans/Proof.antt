@@ -1,14 +1,6 @@
 -- `rack::check_plans` meets its contract: before plate i the plates before gave the totals, the profits and the node where its plan begins.
-use mathlib.Core.Path.{_≡_, _∙_, refl, sym, ap}
-use Prim.Native.Nat.{ℕ, _-_}
-use native.Mathlib.Omega.{arith}
-use denote.Ref.{now}
-use borrow.Author.Needs.{needs}
-use lib.ListN.{length, length-replicate}
-use Rattle.promises.specs.declared.JobRecord.{JobRecord}
-use Rattle.job.specs.Block.{job-of}
+use Rattle.rack.proofs.Prelude.{_≡_, _∙_, refl, sym, ap, ℕ, _-_, arith, now, needs, length, length-replicate, JobRecord, job-of, plate-at, own-answer, rack-stopped}
 use Rattle.plan.specs.Walk.{Held}
-use Rattle.rack.specs.Check.{plate-at, own-answer, rack-stopped}
 use Rattle.rack.proofs.Plans.{Racking, begins, ends, own-refused, total-refused, goes-on}
 use Rattle.rack.proofs.check_plans.Statement.{statement}
 use Rattle.rack.proofs.check_plans.Tie as tie

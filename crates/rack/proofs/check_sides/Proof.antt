@@ -1,15 +1,5 @@
 -- `rack::check_sides` meets its contract.
-use mathlib.Core.Path.{_∙_, refl, ap}
-use mathlib.Core.Path.{_≡_}
-use Prim.Native.Nat.{_-_, _≤_}
-use native.Mathlib.Omega.{arith}
-use borrow.Author.Needs.{needs}
-use denote.Ref.{now}
-use lib.ListN.{length}
-use Rattle.refusal.specs.Refusals.{refuse-when}
-use Rattle.promises.specs.declared.Refusal.the-variants.{RackSide}
-use Rattle.job.proofs.Checks.{Decides, begins, passes, stops, ends, check-last}
-use Rattle.rack.specs.Check.{plate-at, plate-check}
+use Rattle.rack.proofs.Prelude.{_∙_, refl, ap, _≡_, _-_, _≤_, arith, needs, now, length, refuse-when, RackSide, Decides, begins, passes, stops, ends, check-last, plate-at, plate-check}
 use Rattle.rack.proofs.check_sides.Statement.{statement}
 use Rattle.rack.proofs.check_sides.Tie as tie
 

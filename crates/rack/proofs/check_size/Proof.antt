@@ -1,10 +1,5 @@
 -- `rack::check_size` meets its contract.
-use denote.Ref.{now}
-use lib.ListN.{length}
-use borrow.Author.Needs.{needs}
-use borrow.Author.Tests.{lt-ltb, le-ltb, eq-eqb, ne-eqb}
-use Rattle.refusal.specs.Refusals.{first-refusal}
-use Rattle.job.proofs.Checks.{check-last}
+use Rattle.rack.proofs.Prelude.{now, length, needs, lt-ltb, le-ltb, eq-eqb, ne-eqb, first-refusal, check-last}
 use Rattle.rack.proofs.check_size.Statement.{statement}
 use Rattle.rack.proofs.check_size.Tie as tie
 

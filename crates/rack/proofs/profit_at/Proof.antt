@@ -1,8 +1,5 @@
 -- `rack::profit_at` meets its contract: past the last of the 16 profits there is none.
-use mathlib.Core.Path.{sym}
-use native.Mathlib.Omega.{arith}
-use lib.ListN.{List·getD-eq-default}
-use borrow.Author.Needs.{needs}
+use Rattle.rack.proofs.Prelude.{sym, arith, List·getD-eq-default, needs}
 use Rattle.rack.proofs.profit_at.Statement.{statement}
 use Rattle.rack.proofs.profit_at.Tie as tie
 

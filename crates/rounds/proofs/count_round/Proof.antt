@@ -1,7 +1,6 @@
 -- `rounds::count_round` meets its contract.
-use mathlib.Core.Path.{_∙_}
+use Rattle.rounds.proofs.Prelude.{_∙_, needs}
 use Rattle.rounds.proofs.Best.{kept-best, first-best, taken-best}
-use borrow.Author.Needs.{needs}
 use Rattle.rounds.proofs.count_round.Statement.{statement}
 use Rattle.rounds.proofs.count_round.Tie as tie
 

@@ -1,8 +1,5 @@
 -- `rounds::end_run` meets its contract.
-use mathlib.Core.Path.{sym, _∙_, ap, ap₂}
-use borrow.Author.Tests.{ne-eqb, eq-eqb}
-use Rattle.rounds.specs.Contracts.{ended}
-use borrow.Author.Needs.{needs}
+use Rattle.rounds.proofs.Prelude.{sym, _∙_, ap, ap₂, ne-eqb, eq-eqb, ended, needs}
 use Rattle.rounds.proofs.end_run.Statement.{statement}
 use Rattle.rounds.proofs.end_run.Tie as tie
 

@@ -1,11 +1,6 @@
 -- `rounds::find_weights` meets its contract.
-use mathlib.Core.Path.{refl, sym, _∙_, ap}
-use denote.Ref.{now}
-use Rattle.job.proofs.Read.{read-in-range, answered, refused}
-use Rattle.promises.specs.declared.PlanAnswer.{PlanAnswer}
-use Rattle.rounds.specs.Rounds.{lent-all}
+use Rattle.rounds.proofs.Prelude.{refl, sym, _∙_, ap, now, read-in-range, answered, refused, PlanAnswer, lent-all, needs}
 use Rattle.rounds.proofs.Calls.{low, job-refused, plan-refused, ran}
-use borrow.Author.Needs.{needs}
 use Rattle.rounds.proofs.find_weights.Statement.{statement}
 use Rattle.rounds.proofs.find_weights.Tie as tie
 

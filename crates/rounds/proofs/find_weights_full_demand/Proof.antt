@@ -1,5 +1,5 @@
 -- `rounds::find_weights_full_demand` meets its contract: find_weights, the choices with full demand.
-use borrow.Author.Needs.{needs}
+use Rattle.rounds.proofs.Prelude.{needs}
 use Rattle.rounds.proofs.find_weights_full_demand.Statement.{statement}
 use Rattle.rounds.proofs.find_weights_full_demand.Tie as tie
 

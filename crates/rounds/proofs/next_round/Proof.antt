@@ -1,7 +1,6 @@
 -- `rounds::next_round` meets its contract.
-use mathlib.Core.Path.{sym}
+use Rattle.rounds.proofs.Prelude.{sym, needs}
 use Rattle.rounds.proofs.Ends.{gap-most, next-room, turned-kept, turned-last, turned-on, turned-full}
-use borrow.Author.Needs.{needs}
 use Rattle.rounds.proofs.next_round.Statement.{statement}
 use Rattle.rounds.proofs.next_round.Tie as tie
 

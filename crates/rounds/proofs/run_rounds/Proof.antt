@@ -1,12 +1,6 @@
 -- `rounds::run_rounds` meets its contract.
-use mathlib.Core.Path.{sym, _∙_, ap}
-use Prim.Native.Nat.{_-_}
-use native.Mathlib.Omega.{arith}
-use denote.Ref.{now}
-use Rattle.promises.specs.declared.JobRecord.{JobRecord}
-use Rattle.rounds.specs.Rounds.{lent-all}
+use Rattle.rounds.proofs.Prelude.{sym, _∙_, ap, _-_, arith, now, JobRecord, lent-all, needs}
 use Rattle.rounds.proofs.Run.{State, starts, weights-room, weights-listed, leaves, ends-refused, made, ends-over, goes-on}
-use borrow.Author.Needs.{needs}
 use Rattle.rounds.proofs.run_rounds.Statement.{statement}
 use Rattle.rounds.proofs.run_rounds.Tie as tie
 

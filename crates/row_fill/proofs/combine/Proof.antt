@@ -1,10 +1,5 @@
 -- `row_fill::combine` meets its contract. The loop's invariant: the words passed have taken their sums, every other word is as it was.
-use borrow.Author.Needs.{needs}
-use native.Mathlib.Omega.{arith}
-use mathlib.Core.Path.{_≡_, refl}
-use Prim.Native.Nat.{_+_, _-_, _≤_}
-use lib.ListN.{length, length-set}
-use Rattle.row_fill.specs.Raised.{Raised, Sums}
+use Rattle.row_fill.proofs.Prelude.{needs, arith, _≡_, refl, _+_, _-_, _≤_, length, length-set, Raised, Sums}
 use Rattle.row_fill.proofs.Raising.{raised-max, sums-none, sums-same, sums-later, sums-next}
 use Rattle.row_fill.proofs.combine.Statement.{statement}
 use Rattle.row_fill.proofs.combine.Tie as tie

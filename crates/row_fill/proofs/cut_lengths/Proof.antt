@@ -1,15 +1,6 @@
 -- `row_fill::cut_lengths` meets its contract. The loop's invariant: the row has taken the cuts passed whose parts make up the whole, every
 -- other word is as it was.
-use borrow.Author.Needs.{needs}
-use native.Mathlib.Omega.{arith}
-use mathlib.Core.Path.{_≡_, _∙_, refl, ap}
-use mathlib.Core.Logic.{⊎-elim}
-use Prim.Native.Nat.{_+_, _-_, _*_, _≤_, _<_}
-use lib.ListN.{length, getD}
-use denote.Ref.{now}
-use Rattle.table.specs.Words.{remainder}
-use Rattle.table.proofs.Halves.{remainder-is}
-use Rattle.row_fill.specs.Raised.{Raised, LengthCuts}
+use Rattle.row_fill.proofs.Prelude.{needs, arith, _≡_, _∙_, refl, ap, ⊎-elim, _+_, _-_, _*_, _≤_, _<_, length, getD, now, remainder, remainder-is, Raised, LengthCuts}
 use Rattle.row_fill.proofs.Raising.{cuts-none, cuts-next, cuts-pass, row-before, sums-ready, lengths-taken}
 use Rattle.row_fill.proofs.cut_lengths.Statement.{statement}
 use Rattle.row_fill.proofs.cut_lengths.Tie as tie

@@ -1,10 +1,5 @@
 -- `row_fill::fill` meets its contract. The loop's invariant is `Filling`; one row more is `copy`, `cut_lengths` and `fill_row`.
-use borrow.Author.Needs.{needs}
-use native.Mathlib.Omega.{arith}
-use mathlib.Core.Path.{_∙_, refl, sym}
-use Prim.Native.Nat.{_-_}
-use Rattle.cutting.specs.Listed.{listed-weight}
-use Rattle.table.specs.Contracts.{size-job}
+use Rattle.row_fill.proofs.Prelude.{needs, arith, _∙_, refl, sym, _-_, listed-weight, size-job}
 use Rattle.row_fill.proofs.Filling.{Filling, zeros-capped, first-row, all-room, few-rows, fill-none, filled, row-above, row-end, end-few, row-half, lengths-ready, row-ready, fill-more}
 use Rattle.row_fill.proofs.fill.Statement.{statement}
 use Rattle.row_fill.proofs.fill.Tie as tie

@@ -1,6 +1,5 @@
 -- `row_fill::fill_row` meets its contract.
-use borrow.Author.Needs.{needs}
-use mathlib.Core.Path.{_∙_}
+use Rattle.row_fill.proofs.Prelude.{needs, _∙_}
 use Rattle.row_fill.proofs.Pushing.{widths-ready, widths-taken}
 use Rattle.row_fill.proofs.fill_row.Statement.{statement}
 use Rattle.row_fill.proofs.fill_row.Tie as tie

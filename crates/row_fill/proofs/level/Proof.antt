@@ -1,10 +1,5 @@
 -- `row_fill::level` meets its contract. The loop's invariant: the units passed are v, every other unit is as it was.
-use borrow.Author.Needs.{needs}
-use native.Mathlib.Omega.{arith}
-use mathlib.Core.Path.{_≡_, refl}
-use Prim.Native.Nat.{_-_, _≤_}
-use lib.ListN.{length, length-set}
-use Rattle.table.specs.Words.{Run}
+use Rattle.row_fill.proofs.Prelude.{needs, arith, _≡_, refl, _-_, _≤_, length, length-set, Run}
 use Rattle.row_fill.proofs.Raising.{level-none, level-more}
 use Rattle.row_fill.proofs.level.Statement.{statement}
 use Rattle.row_fill.proofs.level.Tie as tie

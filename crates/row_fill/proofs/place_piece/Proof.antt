@@ -1,6 +1,5 @@
 -- `row_fill::place_piece` meets its contract.
-use borrow.Author.Needs.{needs}
-use native.Mathlib.Omega.{arith}
+use Rattle.row_fill.proofs.Prelude.{needs, arith}
 use Rattle.row_fill.proofs.Raising.{raised-set, raised-keep, piece-placed}
 use Rattle.row_fill.proofs.place_piece.Statement.{statement}
 use Rattle.row_fill.proofs.place_piece.Tie as tie

@@ -1,10 +1,5 @@
 -- `row_fill::place_pieces` meets its contract. The loop's invariant: the pieces passed are placed.
-use borrow.Author.Needs.{needs}
-use native.Mathlib.Omega.{arith}
-use mathlib.Core.Path.{_≡_, _∙_, refl}
-use Prim.Native.Nat.{_-_, _≤_}
-use lib.ListN.{length}
-use Rattle.row_fill.specs.Raised.{Raised, Pieces}
+use Rattle.row_fill.proofs.Prelude.{needs, arith, _≡_, _∙_, refl, _-_, _≤_, length, Raised, Pieces}
 use Rattle.row_fill.proofs.Raising.{pieces-none, pieces-next}
 use Rattle.row_fill.proofs.place_pieces.Statement.{statement}
 use Rattle.row_fill.proofs.place_pieces.Tie as tie

@@ -1,10 +1,5 @@
 -- `row_fill::push` meets its contract. The loop's invariant: what the units passed give is pushed, and the units up to x are as they were.
-use borrow.Author.Needs.{needs}
-use native.Mathlib.Omega.{arith}
-use mathlib.Core.Path.{_≡_, refl}
-use Prim.Native.Nat.{_+_, _-_, _≤_, max}
-use lib.ListN.{length, length-set}
-use Rattle.row_fill.specs.Raised.{Raised, Pushed}
+use Rattle.row_fill.proofs.Prelude.{needs, arith, _≡_, refl, _+_, _-_, _≤_, max, length, length-set, Raised, Pushed}
 use Rattle.row_fill.proofs.Raising.{raised-lifted, push-none, push-same, push-later, push-next, push-end}
 use Rattle.row_fill.proofs.push.Statement.{statement}
 use Rattle.row_fill.proofs.push.Tie as tie

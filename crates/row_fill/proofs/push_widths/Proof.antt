@@ -1,10 +1,5 @@
 -- `row_fill::push_widths` meets its contract. The loop's invariant: the cells passed are final and have pushed their cuts.
-use borrow.Author.Needs.{needs}
-use native.Mathlib.Omega.{arith}
-use mathlib.Core.Path.{_≡_, _∙_, refl}
-use Prim.Native.Nat.{_-_, _≤_}
-use lib.ListN.{length, length-set}
-use Rattle.row_fill.specs.Ready.{Capped}
+use Rattle.row_fill.proofs.Prelude.{needs, arith, _≡_, _∙_, refl, _-_, _≤_, length, length-set, Capped}
 use Rattle.row_fill.proofs.Pushing.{Widening, widening-none, units-small, units-capped, pushed-capped, widening-more, widening-all}
 use Rattle.row_fill.proofs.push_widths.Statement.{statement}
 use Rattle.row_fill.proofs.push_widths.Tie as tie

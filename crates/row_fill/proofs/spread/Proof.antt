@@ -1,10 +1,5 @@
 -- `row_fill::spread` meets its contract. The loop's invariant: the units of the entries passed have their words.
-use borrow.Author.Needs.{needs}
-use native.Mathlib.Omega.{arith}
-use mathlib.Core.Path.{_≡_, refl}
-use Prim.Native.Nat.{_-_, _≤_}
-use lib.ListN.{length, length-set}
-use Rattle.row_fill.specs.Rows.{Spread}
+use Rattle.row_fill.proofs.Prelude.{needs, arith, _≡_, refl, _-_, _≤_, length, length-set, Spread}
 use Rattle.row_fill.proofs.Raising.{spread-none, spread-more}
 use Rattle.row_fill.proofs.spread.Statement.{statement}
 use Rattle.row_fill.proofs.spread.Tie as tie

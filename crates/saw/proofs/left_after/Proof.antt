@@ -1,6 +1,5 @@
 -- `saw::left_after` meets its contract: each node tells which it is.
-use native.Mathlib.Omega.{arith}
-use borrow.Author.Needs.{needs}
+use Rattle.saw.proofs.Prelude.{arith, needs}
 use Rattle.saw.proofs.left_after.Statement.{statement}
 use Rattle.saw.proofs.left_after.Tie as tie
 

@@ -1,9 +1,5 @@
 -- `saw::node_kinds` meets its contract: the part lies where `node_part` says.
-use Prim.Native.Nat.{_+_}
-use native.Mathlib.Omega.{arith}
-use denote.Ref.{now, ptr}
-use borrow.Author.Needs.{needs}
-use Rattle.cutting.specs.Preorder.{kind-of, kinds-of}
+use Rattle.saw.proofs.Prelude.{_+_, arith, now, ptr, needs, kind-of, kinds-of}
 use Rattle.saw.proofs.Parts.{part-lies, handed}
 use Rattle.saw.proofs.node_kinds.Statement.{statement}
 use Rattle.saw.proofs.node_kinds.Tie as tie

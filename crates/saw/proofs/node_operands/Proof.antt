@@ -1,9 +1,5 @@
 -- `saw::node_operands` meets its contract: the part lies where `node_part` says.
-use Prim.Native.Nat.{_+_, _*_}
-use native.Mathlib.Omega.{arith}
-use denote.Ref.{now, ptr}
-use borrow.Author.Needs.{needs}
-use Rattle.cutting.specs.Preorder.{operand-of, operands-of}
+use Rattle.saw.proofs.Prelude.{_+_, _*_, arith, now, ptr, needs, operand-of, operands-of}
 use Rattle.saw.proofs.Parts.{part-lies, handed}
 use Rattle.saw.proofs.node_operands.Statement.{statement}
 use Rattle.saw.proofs.node_operands.Tie as tie

@@ -1,10 +1,5 @@
 -- `saw::node_part` meets its contract, case by case: a plan that does not pass, a node past it, a node of it.
-use mathlib.Core.Path.{sym, _∙_, ap}
-use native.Mathlib.Omega.{arith}
-use denote.Ref.{now}
-use borrow.Author.Needs.{needs}
-use Rattle.promises.specs.declared.SawAnswer.{SawAnswer}
-use Rattle.saw.specs.Saw.{saw-answer}
+use Rattle.saw.proofs.Prelude.{sym, _∙_, ap, arith, now, needs, SawAnswer, saw-answer}
 use Rattle.saw.proofs.Parts.{part-refused, part-past, part-at, same-length}
 use Rattle.saw.proofs.node_part.Statement.{statement}
 use Rattle.saw.proofs.node_part.Tie as tie

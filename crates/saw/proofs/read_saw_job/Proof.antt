@@ -1,10 +1,5 @@
 -- `saw::read_saw_job` meets its contract: the block's checks, then its record.
-use mathlib.Core.Path.{sym, _∙_}
-use borrow.Author.Needs.{needs}
-use denote.Ref.{now}
-use Rattle.refusal.specs.Refusals.{first-refusal}
-use Rattle.job.proofs.Read.{passing, refusing}
-use Rattle.saw.specs.Saw.{saw-checks, saw-record}
+use Rattle.saw.proofs.Prelude.{sym, _∙_, needs, now, first-refusal, passing, refusing, saw-checks, saw-record}
 use Rattle.saw.proofs.Calls.{saw-holds, read-met}
 use Rattle.saw.proofs.read_saw_job.Statement.{statement}
 use Rattle.saw.proofs.read_saw_job.Tie as tie

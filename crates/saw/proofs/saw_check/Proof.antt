@@ -1,7 +1,5 @@
 -- `saw::saw_check` meets its contract: the block is read first; the rest is the check of the plan's nodes, without the profit.
-use mathlib.Core.Path.{_∙_}
-use borrow.Author.Needs.{needs}
-use denote.Ref.{now}
+use Rattle.saw.proofs.Prelude.{_∙_, needs, now}
 use Rattle.saw.proofs.Calls.{read-range, read-on, read-stops, check-met}
 use Rattle.saw.proofs.saw_check.Statement.{statement}
 use Rattle.saw.proofs.saw_check.Tie as tie

@@ -1,11 +1,5 @@
 -- `saw::tree_end` meets its contract: the trees left to read end where the node's tree does.
-use mathlib.Core.Path.{_≡_, refl, sym, _∙_, ap}
-use Prim.Native.Nat.{_+_, _-_, _≤_}
-use native.Mathlib.Omega.{arith}
-use denote.Ref.{now}
-use borrow.Author.Needs.{needs}
-use lib.ListN.{length, drop}
-use Rattle.saw.specs.Parts.{left-after, extent, end-of}
+use Rattle.saw.proofs.Prelude.{_≡_, refl, sym, _∙_, ap, _+_, _-_, _≤_, arith, now, needs, length, drop, left-after, extent, end-of}
 use Rattle.saw.proofs.Parts.{extent-zero, extent-more, extent-none}
 use Rattle.saw.proofs.tree_end.Statement.{statement}
 use Rattle.saw.proofs.tree_end.Tie as tie

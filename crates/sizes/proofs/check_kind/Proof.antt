@@ -1,14 +1,5 @@
 -- `sizes::check_kind` meets its contract.
-use mathlib.Core.Path.{_≡_, _∙_, ap}
-use Prim.Native.Nat.{_+_, _*_}
-use native.Mathlib.Omega.{arith}
-use borrow.Author.Needs.{needs}
-use denote.Ref.{now}
-use Rattle.refusal.specs.Refusals.{refuse-when}
-use Rattle.promises.specs.declared.Refusal.the-variants.{TrueSize}
-use Rattle.job.specs.Block.{u32-at}
-use Rattle.job.proofs.Checks.{check-last}
-use Rattle.sizes.specs.Sizes.{true-sides-outside}
+use Rattle.sizes.proofs.Prelude.{_≡_, _∙_, ap, _+_, _*_, arith, needs, now, refuse-when, TrueSize, u32-at, check-last, true-sides-outside}
 use Rattle.sizes.proofs.check_kind.Statement.{statement}
 use Rattle.sizes.proofs.check_kind.Tie as tie
 

@@ -1,10 +1,5 @@
 -- `sizes::check_kinds` meets its contract.
-use mathlib.Core.List.{[], _∷_}
-use Prim.Native.Nat.{_-_, _≤_}
-use borrow.Author.Needs.{needs}
-use denote.Ref.{now}
-use Rattle.job.proofs.Checks.{Decides, begins, passes, stops, ends}
-use Rattle.sizes.specs.Sizes.{kind-check}
+use Rattle.sizes.proofs.Prelude.{[], _∷_, _-_, _≤_, needs, now, Decides, begins, passes, stops, ends, kind-check}
 use Rattle.sizes.proofs.check_kinds.Statement.{statement}
 use Rattle.sizes.proofs.check_kinds.Tie as tie
 

@@ -1,5 +1,5 @@
 -- `sizes::check_plate` meets its contract.
-use borrow.Author.Needs.{needs}
+use Rattle.sizes.proofs.Prelude.{needs}
 use Rattle.sizes.proofs.check_plate.Statement.{statement}
 use Rattle.sizes.proofs.check_plate.Tie as tie
 

@@ -1,10 +1,5 @@
 -- `sizes::check_sizes` meets its contract: the checks run 31, then 32 of the plate, then of the kinds.
-use native.Mathlib.Omega.{arith}
-use mathlib.Core.Path.{_∙_}
-use borrow.Author.Needs.{needs}
-use denote.Ref.{now}
-use Rattle.job.proofs.Checks.{check-stops, check-passes}
-use Rattle.sizes.specs.Sizes.{sizes-checks}
+use Rattle.sizes.proofs.Prelude.{arith, _∙_, needs, now, check-stops, check-passes, sizes-checks}
 use Rattle.sizes.proofs.Read.{bytes-passed}
 use Rattle.sizes.proofs.check_sizes.Statement.{statement}
 use Rattle.sizes.proofs.check_sizes.Tie as tie

@@ -1,5 +1,5 @@
 -- `sizes::empty_sizes` meets its contract.
-use Rattle.job.proofs.Entries.{entries-none}
+use Rattle.sizes.proofs.Prelude.{entries-none}
 use Rattle.sizes.proofs.empty_sizes.Statement.{statement}
 use Rattle.sizes.proofs.empty_sizes.Tie as tie
 

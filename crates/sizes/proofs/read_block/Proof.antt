@@ -1,6 +1,5 @@
 -- `sizes::read_block` meets its contract.
-use borrow.Author.Needs.{needs}
-use Rattle.sizes.specs.Sizes.{sizes-of}
+use Rattle.sizes.proofs.Prelude.{needs, sizes-of}
 use Rattle.sizes.proofs.read_block.Statement.{statement}
 use Rattle.sizes.proofs.read_block.Tie as tie
 

@@ -1,10 +1,5 @@
 -- `sizes::read_sizes` meets its contract.
-use mathlib.Core.Path.{sym, _∙_}
-use native.Mathlib.Omega.{arith}
-use borrow.Author.Needs.{needs}
-use denote.Ref.{now}
-use Rattle.refusal.specs.Refusals.{first-refusal}
-use Rattle.sizes.specs.Sizes.{sizes-checks, sizes-of}
+use Rattle.sizes.proofs.Prelude.{sym, _∙_, arith, needs, now, first-refusal, sizes-checks, sizes-of}
 use Rattle.sizes.proofs.Read.{sizes-bytes, passing, refusing}
 use Rattle.sizes.proofs.read_sizes.Statement.{statement}
 use Rattle.sizes.proofs.read_sizes.Tie as tie

@@ -1,7 +1,5 @@
 -- `sizes::read_true_job` meets its contract: the job block is read first.
-use borrow.Author.Needs.{needs}
-use native.Mathlib.Omega.{arith}
-use denote.Ref.{now}
+use Rattle.sizes.proofs.Prelude.{needs, arith, now}
 use Rattle.sizes.proofs.Read.{job-stops, counted, sizes-stop, both-pass}
 use Rattle.sizes.proofs.read_true_job.Statement.{statement}
 use Rattle.sizes.proofs.read_true_job.Tie as tie

@@ -1,5 +1,5 @@
 -- `sizes::refuse_true` meets its contract.
-use borrow.Author.Needs.{needs}
+use Rattle.sizes.proofs.Prelude.{needs}
 use Rattle.sizes.proofs.refuse_true.Statement.{statement}
 use Rattle.sizes.proofs.refuse_true.Tie as tie
 

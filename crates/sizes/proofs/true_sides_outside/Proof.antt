@@ -1,5 +1,5 @@
 -- `sizes::true_sides_outside` meets its contract.
-use borrow.Author.Needs.{needs}
+use Rattle.sizes.proofs.Prelude.{needs}
 use Rattle.sizes.proofs.true_sides_outside.Statement.{statement}
 use Rattle.sizes.proofs.true_sides_outside.Tie as tie
 

@@ -1,7 +1,5 @@
 -- `stage_fill::fill` meets its contract: one digit, whose states are the shares.
-use borrow.Author.Needs.{needs}
-use native.Mathlib.Omega.{arith}
-use mathlib.Core.Path.{refl, _∙_}
+use Rattle.stage_fill.proofs.Prelude.{needs, arith, refl, _∙_}
 use Rattle.stage_fill.proofs.Filling.{all-bare, staged-filled, staged-room, staged-few, stages-lent}
 use Rattle.stage_fill.proofs.fill.Statement.{statement}
 use Rattle.stage_fill.proofs.fill.Tie as tie

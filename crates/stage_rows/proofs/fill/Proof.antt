@@ -1,8 +1,5 @@
 -- `stage_rows::fill` meets its contract. The loop's invariant is `Staging`; one stage more is `fill_lengths` and `fill_widths`.
-use borrow.Author.Needs.{needs}
-use native.Mathlib.Omega.{arith}
-use mathlib.Core.Path.{_∙_}
-use Prim.Native.Nat.{_-_}
+use Rattle.stage_rows.proofs.Prelude.{needs, arith, _∙_, _-_}
 use Rattle.stage_rows.proofs.Filling.{Staging, cells-few, all-few, uncut-lent, staging-none, stage-end, lengths-lent, source-before, widths-lent, staging-more, staged-filled}
 use Rattle.stage_rows.proofs.fill.Statement.{statement}
 use Rattle.stage_rows.proofs.fill.Tie as tie

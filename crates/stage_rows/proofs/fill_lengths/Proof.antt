@@ -1,10 +1,5 @@
 -- `stage_rows::fill_lengths` meets its contract. The loop's invariant is `Lengthening`; one row more is `greater_row` and `cut_lengths`.
-use borrow.Author.Needs.{needs}
-use native.Mathlib.Omega.{arith}
-use mathlib.Core.Path.{_≡_, _∙_}
-use Prim.Native.Nat.{_-_}
-use Rattle.table.proofs.Words.{cell-before}
-use Rattle.stage_rows.specs.Blocks.{LengthsLent}
+use Rattle.stage_rows.proofs.Prelude.{needs, arith, _≡_, _∙_, _-_, cell-before, LengthsLent}
 use Rattle.stage_rows.proofs.Lengths.{Lengthening, lengths-kept, lengths-none, lengths-all, length-end, length-above, half-asked, start-ready, cuts-ready, lengths-more}
 use Rattle.stage_rows.proofs.fill_lengths.Statement.{statement}
 use Rattle.stage_rows.proofs.fill_lengths.Tie as tie

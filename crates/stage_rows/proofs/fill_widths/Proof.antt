@@ -1,12 +1,5 @@
 -- `stage_rows::fill_widths` meets its contract. The loop's invariant: the rows passed are made.
-use borrow.Author.Needs.{needs}
-use native.Mathlib.Omega.{arith}
-use mathlib.Core.Path.{_≡_, refl, sym, _∙_}
-use Prim.Native.Nat.{_-_, _≤_}
-use lib.ListN.{length}
-use Rattle.row_fill.specs.Ready.{Capped}
-use Rattle.row_fill.proofs.Filling.{zeros-capped}
-use Rattle.stage_rows.specs.Blocks.{WidthBlock}
+use Rattle.stage_rows.proofs.Prelude.{needs, arith, _≡_, refl, sym, _∙_, _-_, _≤_, length, Capped, zeros-capped, WidthBlock}
 use Rattle.stage_rows.proofs.Widths.{widths-none, width-row, widen-ready, widths-more}
 use Rattle.stage_rows.proofs.fill_widths.Statement.{statement}
 use Rattle.stage_rows.proofs.fill_widths.Tie as tie

@@ -1,10 +1,5 @@
 -- `stage_rows::gather` meets its contract. The loop's invariant: the words passed are gathered, every other word is as it was.
-use borrow.Author.Needs.{needs}
-use native.Mathlib.Omega.{arith}
-use mathlib.Core.Path.{_≡_, refl}
-use Prim.Native.Nat.{_-_, _≤_}
-use lib.ListN.{length, length-set}
-use Rattle.stage_rows.specs.Blocks.{Gathered}
+use Rattle.stage_rows.proofs.Prelude.{needs, arith, _≡_, refl, _-_, _≤_, length, length-set, Gathered}
 use Rattle.stage_rows.proofs.Uncut.{gathered-none, gathered-more, gathered-low}
 use Rattle.stage_rows.proofs.gather.Statement.{statement}
 use Rattle.stage_rows.proofs.gather.Tie as tie

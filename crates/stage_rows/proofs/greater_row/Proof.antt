@@ -1,12 +1,6 @@
 -- `stage_rows::greater_row` meets its contract. The loop's invariant: the words passed are the greater of their fellows, every other word is
 -- as it was.
-use borrow.Author.Needs.{needs}
-use native.Mathlib.Omega.{arith}
-use mathlib.Core.Path.{_≡_, refl, _∙_, ap₂}
-use Prim.Native.Nat.{_+_, _-_, _≤_, max}
-use lib.ListN.{length, getD, length-set}
-use Rattle.table.specs.Words.{Run}
-use Rattle.table.proofs.Words.{run-none, run-more}
+use Rattle.stage_rows.proofs.Prelude.{needs, arith, _≡_, refl, _∙_, ap₂, _+_, _-_, _≤_, max, length, getD, length-set, Run, run-none, run-more}
 use Rattle.stage_rows.proofs.greater_row.Statement.{statement}
 use Rattle.stage_rows.proofs.greater_row.Tie as tie
 

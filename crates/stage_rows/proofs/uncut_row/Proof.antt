@@ -1,7 +1,5 @@
 -- `stage_rows::uncut_row` meets its contract.
-use borrow.Author.Needs.{needs}
-use mathlib.Core.Path.{_∙_}
-use Rattle.row_fill.proofs.Pushing.{widths-ready}
+use Rattle.stage_rows.proofs.Prelude.{needs, _∙_, widths-ready}
 use Rattle.stage_rows.proofs.Uncut.{uncut-row}
 use Rattle.stage_rows.proofs.uncut_row.Statement.{statement}
 use Rattle.stage_rows.proofs.uncut_row.Tie as tie

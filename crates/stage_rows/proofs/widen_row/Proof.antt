@@ -1,8 +1,5 @@
 -- `stage_rows::widen_row` meets its contract.
-use borrow.Author.Needs.{needs}
-use mathlib.Core.Path.{_∙_}
-use lib.ListN.{getD, length-set}
-use denote.Ref.{now}
+use Rattle.stage_rows.proofs.Prelude.{needs, _∙_, getD, length-set, now}
 use Rattle.stage_rows.proofs.Widths.{push-ready, widened-row}
 use Rattle.stage_rows.proofs.widen_row.Statement.{statement}
 use Rattle.stage_rows.proofs.widen_row.Tie as tie

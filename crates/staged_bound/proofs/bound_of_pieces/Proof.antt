@@ -1,27 +1,8 @@
 -- `staged_bound::bound_of_pieces` meets its contract. What is known once the storage is laid out, and once the table is filled, is said
 -- once, of the context at that point.
-use mathlib.Core.Path.{_≡_, refl, _∙_, ap, ap₂, subst}
-use Prim.Native.Nat.{_+_, _-_, _*_, _≤_, _<_, max}
-use native.Mathlib.Nat.{mul-le-mul}
-use native.Mathlib.Omega.{arith}
-use lib.ListN.{length, getD}
-use denote.Ref.{now}
-use Rattle.promises.specs.declared.Direction.the-variants.{Length, Width}
-use Rattle.cutting.specs.Sides.{rect-of}
-use Rattle.cutting.specs.Job.{Job}
-use Rattle.cutting.specs.Staged.{block}
-use Rattle.cutting.specs.Listed.{listed-weight, pieces-job}
-use Rattle.table.specs.Table.{words-needed}
-use Rattle.table.specs.Staged.{staged-words}
-use Rattle.table.specs.Contracts.{size-job, StagedBy}
-use Rattle.storage.specs.declared.Layout.the-variants.{Ready}
-use Rattle.storage.specs.Contracts.{LaidOut}
-use Rattle.storage.proofs.Storage.{ready-laid, last-laid}
-use Rattle.storage.proofs.Filled.{fillable}
-use Rattle.bound.proofs.Storage.{report-is}
+use Rattle.staged_bound.proofs.Prelude.{_≡_, refl, _∙_, ap, ap₂, subst, _+_, _-_, _*_, _≤_, _<_, max, mul-le-mul, arith, length, getD, now, Length, Width, rect-of, Job, block, listed-weight, pieces-job, words-needed, staged-words, size-job, StagedBy, Ready, LaidOut, ready-laid, last-laid, fillable, report-is, needs, scaled-fits}
 use Rattle.staged_bound.proofs.Storage.{blocks-cell, all-words, refused, reported}
 use Rattle.staged_bound.proofs.Listed.{block-last, block-small, last-word, before-word, one-less}
-use borrow.Author.Needs.{needs, scaled-fits}
 use Rattle.staged_bound.proofs.bound_of_pieces.Statement.{statement}
 use Rattle.staged_bound.proofs.bound_of_pieces.Tie as tie
 

@@ -1,11 +1,6 @@
 -- `staged_bound::bound_staged` meets its contract: the pieces of an accepted job are listed, and their staged bound is the job's.
-use mathlib.Core.Path.{refl, sym, _∙_}
-use denote.Ref.{now}
-use Rattle.job.proofs.Taken.{taken, refused-both}
-use Rattle.bound.specs.Bound.{lent}
-use Rattle.bound.proofs.Calls.{range-taken, weights-there}
+use Rattle.staged_bound.proofs.Prelude.{refl, sym, _∙_, now, taken, refused-both, lent, range-taken, weights-there, needs}
 use Rattle.staged_bound.proofs.Calls.{stageable, job-staged, early, limit-refused, accepted}
-use borrow.Author.Needs.{needs}
 use Rattle.staged_bound.proofs.bound_staged.Statement.{statement}
 use Rattle.staged_bound.proofs.bound_staged.Tie as tie
 

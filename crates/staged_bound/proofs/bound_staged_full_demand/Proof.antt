@@ -1,5 +1,5 @@
 -- `staged_bound::bound_staged_full_demand` meets its contract: the staged bound call, the choices with full demand.
-use borrow.Author.Needs.{needs}
+use Rattle.staged_bound.proofs.Prelude.{needs}
 use Rattle.staged_bound.proofs.bound_staged_full_demand.Statement.{statement}
 use Rattle.staged_bound.proofs.bound_staged_full_demand.Tie as tie
 

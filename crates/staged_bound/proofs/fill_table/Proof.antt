@@ -1,5 +1,5 @@
 -- `staged_bound::fill_table` meets its contract: both fills ask the same and leave the same.
-use borrow.Author.Needs.{needs}
+use Rattle.staged_bound.proofs.Prelude.{needs}
 use Rattle.staged_bound.proofs.fill_table.Statement.{statement}
 use Rattle.staged_bound.proofs.fill_table.Tie as tie
 

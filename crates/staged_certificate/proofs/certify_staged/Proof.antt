@@ -1,20 +1,7 @@
 -- `staged_certificate::certify_staged` meets its contract. What is known once job, weights and limit passed, and once the bound answered, is
 -- said once, of the context at that point.
-use mathlib.Core.Path.{_≡_, refl, sym, _∙_}
-use mathlib.Core.Bool.{false}
-use native.Mathlib.Omega.{arith}
-use denote.Ref.{now}
-use Rattle.cutting.specs.Limits.{most-limit}
-use Rattle.job.specs.Block.{outside}
-use Rattle.job.specs.Weights.{weight-in}
-use Rattle.job.proofs.Taken.{Taken, taken, refused-both}
-use Rattle.stages.proofs.Limit.{limit-inside}
-use Rattle.bound.specs.Bound.{Memory, lent, wide-job, block-capacity}
-use Rattle.bound.proofs.Calls.{range-taken, weights-there}
-use Rattle.staged_bound.specs.Contracts.{Staged}
-use Rattle.staged_bound.proofs.Calls.{stageable, job-staged}
+use Rattle.staged_certificate.proofs.Prelude.{_≡_, refl, sym, _∙_, false, arith, now, most-limit, outside, weight-in, Taken, taken, refused-both, limit-inside, Memory, lent, wide-job, block-capacity, range-taken, weights-there, Staged, stageable, job-staged, needs}
 use Rattle.staged_certificate.proofs.Calls.{job-refused, limit-refused, plan-refused, storage-refused, certified, profit-most}
-use borrow.Author.Needs.{needs}
 use Rattle.staged_certificate.proofs.certify_staged.Statement.{statement}
 use Rattle.staged_certificate.proofs.certify_staged.Tie as tie
 

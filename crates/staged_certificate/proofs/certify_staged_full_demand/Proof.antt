@@ -1,5 +1,5 @@
 -- `staged_certificate::certify_staged_full_demand` meets its contract: the staged certificate, the choices with full demand.
-use borrow.Author.Needs.{needs}
+use Rattle.staged_certificate.proofs.Prelude.{needs}
 use Rattle.staged_certificate.proofs.certify_staged_full_demand.Statement.{statement}
 use Rattle.staged_certificate.proofs.certify_staged_full_demand.Tie as tie
 

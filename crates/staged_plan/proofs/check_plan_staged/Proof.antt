@@ -1,10 +1,5 @@
 -- `staged_plan::check_plan_staged` meets its contract: the job is read first, then the limit; the rest is the check within it.
-use mathlib.Core.Path.{_∙_, sym}
-use native.Mathlib.Omega.{arith}
-use denote.Ref.{now}
-use borrow.Author.Needs.{needs}
-use Rattle.stages.proofs.Limit.{limit-inside}
-use Rattle.plan.proofs.Calls.{read-range}
+use Rattle.staged_plan.proofs.Prelude.{_∙_, sym, arith, now, needs, limit-inside, read-range}
 use Rattle.staged_plan.proofs.Calls.{check-met, read-stops, limit-stops, read-on}
 use Rattle.staged_plan.proofs.check_plan_staged.Statement.{statement}
 use Rattle.staged_plan.proofs.check_plan_staged.Tie as tie

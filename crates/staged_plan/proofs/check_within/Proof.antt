@@ -1,8 +1,5 @@
 -- `staged_plan::check_within` meets its contract: the plan check comes first, then check 23.
-use mathlib.Core.Path.{_∙_}
-use denote.Ref.{now}
-use borrow.Author.Needs.{needs}
-use Rattle.job.specs.Block.{job-of}
+use Rattle.staged_plan.proofs.Prelude.{_∙_, now, needs, job-of}
 use Rattle.staged_plan.proofs.Within.{plan-stops, some-nodes, is-within, is-past}
 use Rattle.staged_plan.proofs.check_within.Statement.{statement}
 use Rattle.staged_plan.proofs.check_within.Tie as tie

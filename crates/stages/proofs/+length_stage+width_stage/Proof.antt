@@ -1,13 +1,6 @@
 -- `stages::length_stage` and `stages::width_stage` meet their contracts: a walk begins, stands and is resumed. The measure of the calls is the
 -- nodes left.
-use Prim.Native.Nat.{ℕ, _-_, _<_}
-use native.Mathlib.Omega.{arith}
-use borrow.Author.Needs.{needs}
-use borrow.Fn.Kinds.{In}
-use borrow.Fn.PlainCycle.{Measures, is, falls, and}
-use lib.ListN.{length}
-use Rattle.promises.specs.declared.Direction.the-variants.{Length, Width}
-use Rattle.stages.specs.Walks.{Stands, nodes-left}
+use Rattle.stages.proofs.Prelude.{ℕ, _-_, _<_, arith, needs, In, Measures, is, falls, and, length, Length, Width, Stands, nodes-left}
 use Rattle.stages.proofs.Steps.{at-end, at-change, change-left}
 use Rattle.stages.proofs.length_stage.Reads as length-stage
 use Rattle.stages.proofs.length_stage.Kinds.{ps}

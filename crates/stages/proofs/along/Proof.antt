@@ -1,9 +1,5 @@
 -- `stages::along` meets its contract: each turn of the loop passes one node that keeps the direction.
-use mathlib.Core.Path.{refl}
-use Prim.Native.Nat.{_-_}
-use native.Mathlib.Omega.{arith}
-use borrow.Author.Needs.{needs}
-use lib.ListN.{length}
+use Rattle.stages.proofs.Prelude.{refl, _-_, arith, needs, length}
 use Rattle.stages.proofs.Steps.{own-small, Going, sets-out, passed-next, passes, along-ends, along-lacks, along-past, along-changes}
 use Rattle.stages.proofs.along.Statement.{statement}
 use Rattle.stages.proofs.along.Tie as tie

@@ -1,6 +1,5 @@
 -- `stages::answer` meets its contract.
-use mathlib.Core.Path.{refl}
-use borrow.Author.Needs.{needs}
+use Rattle.stages.proofs.Prelude.{refl, needs}
 use Rattle.stages.proofs.answer.Statement.{statement}
 use Rattle.stages.proofs.answer.Tie as tie
 

@@ -1,5 +1,5 @@
 -- `stages::begin` meets its contract: two trees wait at the first node.
-use borrow.Author.Needs.{needs}
+use Rattle.stages.proofs.Prelude.{needs}
 use Rattle.stages.proofs.Walks.{begins}
 use Rattle.stages.proofs.begin.Statement.{statement}
 use Rattle.stages.proofs.begin.Tie as tie

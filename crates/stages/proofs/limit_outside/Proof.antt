@@ -1,7 +1,5 @@
 -- `stages::limit_outside` meets its contract.
-use mathlib.Core.Path.{refl}
-use borrow.Author.Tests.{lt-ltb, le-ltb}
-use native.Mathlib.Omega.{arith}
+use Rattle.stages.proofs.Prelude.{refl, lt-ltb, le-ltb, arith}
 use Rattle.stages.proofs.limit_outside.Statement.{statement}
 use Rattle.stages.proofs.limit_outside.Tie as tie
 

@@ -1,5 +1,5 @@
 -- `stages::pass` meets its contract.
-use borrow.Author.Needs.{needs}
+use Rattle.stages.proofs.Prelude.{needs}
 use Rattle.stages.proofs.pass.Statement.{statement}
 use Rattle.stages.proofs.pass.Tie as tie
 

@@ -1,6 +1,5 @@
 -- `stages::resume` meets its contract: the walk goes on where that of the cut's parts ended.
-use native.Mathlib.Omega.{arith}
-use borrow.Author.Needs.{needs}
+use Rattle.stages.proofs.Prelude.{arith, needs}
 use Rattle.stages.proofs.Steps.{resumed-past, resumed-next}
 use Rattle.stages.proofs.resume.Statement.{statement}
 use Rattle.stages.proofs.resume.Tie as tie

@@ -1,7 +1,5 @@
 -- `stages::stages_within` meets its contract: the walk begins below the first cut.
-use mathlib.Core.Path.{refl, _∙_}
-use borrow.Author.Needs.{needs}
-use Rattle.promises.specs.declared.Direction.the-variants.{Length, Width}
+use Rattle.stages.proofs.Prelude.{refl, _∙_, needs, Length, Width}
 use Rattle.stages.proofs.Walks.{plan-leaf, plan-cut}
 use Rattle.stages.proofs.stages_within.Statement.{statement}
 use Rattle.stages.proofs.stages_within.Tie as tie

@@ -1,5 +1,5 @@
 -- `stages::walk_of` meets its contract: each arm of the match tells which step it is.
-use borrow.Author.Needs.{needs}
+use Rattle.stages.proofs.Prelude.{needs}
 use Rattle.stages.proofs.walk_of.Statement.{statement}
 use Rattle.stages.proofs.walk_of.Tie as tie
 

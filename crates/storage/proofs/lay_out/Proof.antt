@@ -1,17 +1,7 @@
 -- `storage::lay_out` meets its contract. What is known once both lists are written is said once, of the context at that point.
-use mathlib.Core.Path.{_≡_, sym, _∙_, ap₂}
-use Prim.Native.Nat.{_*_}
-use lib.ListN.{length}
-use denote.Ref.{now}
-use Rattle.promises.specs.declared.Direction.the-variants.{Length, Width}
-use Rattle.cutting.specs.Sides.{rect-of}
-use Rattle.cutting.specs.Job.{Job, normal-positions}
-use Rattle.cutting.specs.Listed.{pieces-job}
-use Rattle.positions.specs.Contracts.{Holds}
-use Rattle.storage.specs.Contracts.{cell-words}
+use Rattle.storage.proofs.Prelude.{_≡_, sym, _∙_, ap₂, _*_, length, now, Length, Width, rect-of, Job, normal-positions, pieces-job, Holds, cell-words, needs}
 use Rattle.storage.proofs.Storage.{lists-long, lists-short, table-short, laid-out}
 use Rattle.storage.proofs.Filled.{lengths-ready, widths-ready, lengths-listed, widths-listed, map-ready, size-is, both-mapped}
-use borrow.Author.Needs.{needs}
 use Rattle.storage.proofs.lay_out.Statement.{statement}
 use Rattle.storage.proofs.lay_out.Tie as tie
 

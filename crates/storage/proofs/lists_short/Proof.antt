@@ -1,6 +1,5 @@
 -- `storage::lists_short` meets its contract.
-use borrow.Author.Tests.{lt-ltb, le-ltb}
-use borrow.Author.Needs.{needs}
+use Rattle.storage.proofs.Prelude.{lt-ltb, le-ltb, needs}
 use Rattle.storage.proofs.lists_short.Statement.{statement}
 use Rattle.storage.proofs.lists_short.Tie as tie
 

@@ -1,9 +1,6 @@
 -- `storage::map_sides` meets its contract.
-use mathlib.Core.Path.{sym}
-use native.Mathlib.Omega.{arith}
-use denote.Ref.{now}
+use Rattle.storage.proofs.Prelude.{sym, arith, now, needs}
 use Rattle.storage.proofs.Sides.{first-part, second-part, half-written, half-length, sides-mapped}
-use borrow.Author.Needs.{needs}
 use Rattle.storage.proofs.map_sides.Statement.{statement}
 use Rattle.storage.proofs.map_sides.Tie as tie
 

@@ -1,8 +1,5 @@
 -- `storage::words` meets its contract: two numbers of 16 bits and one of 32 have a product of 64 bits.
-use Prim.Native.Nat.{_≤_}
-use native.Mathlib.Nat.{mul-le-mul}
-use native.Mathlib.Omega.{arith}
-use borrow.Author.Needs.{needs}
+use Rattle.storage.proofs.Prelude.{_≤_, mul-le-mul, arith, needs}
 use Rattle.storage.proofs.words.Statement.{statement}
 use Rattle.storage.proofs.words.Tie as tie
 

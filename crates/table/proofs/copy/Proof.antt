@@ -1,10 +1,5 @@
 -- `table::copy` meets its contract. The loop's invariant: the words passed are copied, every other word is as it was.
-use borrow.Author.Needs.{needs}
-use native.Mathlib.Omega.{arith}
-use mathlib.Core.Path.{_≡_, refl}
-use Prim.Native.Nat.{_+_, _-_, _≤_}
-use lib.ListN.{length, getD, length-set}
-use Rattle.table.specs.Words.{Run}
+use Rattle.table.proofs.Prelude.{needs, arith, _≡_, refl, _+_, _-_, _≤_, length, getD, length-set, Run}
 use Rattle.table.proofs.Words.{run-none, run-more}
 use Rattle.table.proofs.copy.Statement.{statement}
 use Rattle.table.proofs.copy.Tie as tie

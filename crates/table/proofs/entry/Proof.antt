@@ -1,7 +1,5 @@
 -- `table::entry` meets its contract. The element of a u16 slice is below 65,536, so its cast loses nothing.
-use borrow.Author.Needs.{needs}
-use native.Mathlib.Omega.{arith}
-use mathlib.Core.Path.{refl}
+use Rattle.table.proofs.Prelude.{needs, arith, refl}
 use Rattle.table.proofs.entry.Statement.{statement}
 use Rattle.table.proofs.entry.Tie as tie
 

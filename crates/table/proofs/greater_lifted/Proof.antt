@@ -1,6 +1,5 @@
 -- `table::greater_lifted` meets its contract.
-use native.Mathlib.Omega.{arith}
-use borrow.Author.Needs.{needs}
+use Rattle.table.proofs.Prelude.{arith, needs}
 use Rattle.table.proofs.Gains.{gain-is}
 use Rattle.table.proofs.greater_lifted.Statement.{statement}
 use Rattle.table.proofs.greater_lifted.Tie as tie

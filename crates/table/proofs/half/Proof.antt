@@ -1,11 +1,6 @@
 -- `table::half` meets its contract. The loop's invariant: every entry passed from 1 on is up to half of entry b. It stops before entry b,
 -- which is past its own half.
-use borrow.Author.Needs.{needs}
-use native.Mathlib.Omega.{arith}
-use mathlib.Core.Path.{_≡_}
-use Prim.Native.Nat.{ℕ, _-_, _*_, _≤_, _<_}
-use lib.ListN.{getD}
-use denote.Ref.{now}
+use Rattle.table.proofs.Prelude.{needs, arith, _≡_, ℕ, _-_, _*_, _≤_, _<_, getD, now}
 use Rattle.table.proofs.Halves.{half-below, half-more}
 use Rattle.table.proofs.half.Statement.{statement}
 use Rattle.table.proofs.half.Tie as tie

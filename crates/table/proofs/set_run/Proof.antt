@@ -1,10 +1,5 @@
 -- `table::set_run` meets its contract.
-use borrow.Author.Needs.{needs}
-use native.Mathlib.Omega.{arith}
-use mathlib.Core.Path.{_≡_, refl}
-use Prim.Native.Nat.{_-_, _≤_}
-use lib.ListN.{length, length-set}
-use Rattle.table.specs.Words.{Run}
+use Rattle.table.proofs.Prelude.{needs, arith, _≡_, refl, _-_, _≤_, length, length-set, Run}
 use Rattle.table.proofs.Words.{run-none, run-more}
 use Rattle.table.proofs.set_run.Statement.{statement}
 use Rattle.table.proofs.set_run.Tie as tie

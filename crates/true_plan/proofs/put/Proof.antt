@@ -1,8 +1,5 @@
 -- `true_plan::put` meets its contract: one entry of each array, where the node remains.
-use mathlib.Core.Path.{refl}
-use native.Mathlib.Omega.{arith}
-use borrow.Author.Needs.{needs}
-use Rattle.neat.proofs.Steps.{remains-some}
+use Rattle.true_plan.proofs.Prelude.{refl, arith, needs, remains-some}
 use Rattle.true_plan.proofs.put.Statement.{statement}
 use Rattle.true_plan.proofs.put.Tie as tie
 

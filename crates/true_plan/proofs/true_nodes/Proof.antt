@@ -1,13 +1,5 @@
 -- `true_plan::true_nodes` meets its contract: each answer is one of the call's.
-use mathlib.Core.Path.{sym, _∙_, ap}
-use native.Mathlib.Omega.{arith}
-use denote.Ref.{now}
-use borrow.Author.Needs.{needs}
-use Rattle.cutting.specs.Lists.{over}
-use Rattle.job.specs.Block.{job-of}
-use Rattle.sizes.specs.Sizes.{true-job}
-use Rattle.promises.specs.declared.PlanAnswer.{PlanAnswer}
-use Rattle.neat.proofs.Plans.{plan-most, needed, kinds-written, operands-written, first-stored}
+use Rattle.true_plan.proofs.Prelude.{sym, _∙_, ap, arith, now, needs, over, job-of, true-job, PlanAnswer, plan-most, needed, kinds-written, operands-written, first-stored}
 use Rattle.true_plan.proofs.Plans.{drawn-by, true-scannable, true-writable, is-refused, too-long, too-wide, within, kinds-short, positions-short, is-written, waste-written}
 use Rattle.true_plan.proofs.true_nodes.Statement.{statement}
 use Rattle.true_plan.proofs.true_nodes.Tie as tie

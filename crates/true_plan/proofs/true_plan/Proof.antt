@@ -1,7 +1,5 @@
 -- `true_plan::true_plan` meets its contract: the job is read first, then its true sizes; the rest is the true plan of the arrays.
-use mathlib.Core.Path.{refl}
-use denote.Ref.{now}
-use borrow.Author.Needs.{needs}
+use Rattle.true_plan.proofs.Prelude.{refl, now, needs}
 use Rattle.true_plan.proofs.Plans.{job-stops, count-most, sizes-stop, in-ranges, goes-on}
 use Rattle.true_plan.proofs.true_plan.Statement.{statement}
 use Rattle.true_plan.proofs.true_plan.Tie as tie

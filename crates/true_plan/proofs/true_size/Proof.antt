@@ -1,6 +1,5 @@
 -- `true_plan::true_size` meets its contract: the kind's size as the piece lies.
-use mathlib.Core.Path.{refl}
-use borrow.Author.Needs.{needs}
+use Rattle.true_plan.proofs.Prelude.{refl, needs}
 use Rattle.true_plan.proofs.true_size.Statement.{statement}
 use Rattle.true_plan.proofs.true_size.Tie as tie
 

@@ -1,12 +1,5 @@
 -- `true_plan::used_size` meets its contract: before node k - 1 is read, the used sizes are those of the trees that the nodes from k on draw.
-use mathlib.Core.Path.{_∙_, ap}
-use Prim.Native.Nat.{ℕ}
-use native.Mathlib.Omega.{arith}
-use borrow.Author.Needs.{needs}
-use lib.ListN.{getD, length-replicate}
-use Rattle.cutting.specs.Pieces.{lying}
-use Rattle.neat.specs.Scan.{used-rect, as-used}
-use Rattle.neat.proofs.Scan.{Scanning, scan-begins, scan-on, numbered, ready, few-kept, one-kept, one-used}
+use Rattle.true_plan.proofs.Prelude.{_∙_, ap, ℕ, arith, needs, getD, length-replicate, lying, used-rect, as-used, Scanning, scan-begins, scan-on, numbered, ready, few-kept, one-kept, one-used}
 use Rattle.true_plan.proofs.used_size.Statement.{statement}
 use Rattle.true_plan.proofs.used_size.Tie as tie
 

@@ -1,13 +1,6 @@
 -- `true_plan::write_nodes` meets its contract: before node k - 1 is read, the used sizes are those of the trees that the nodes from k on draw,
 -- and the arrays hold what is written of them.
-use mathlib.Core.Path.{refl, ap}
-use Prim.Native.Nat.{ℕ}
-use native.Mathlib.Omega.{arith}
-use borrow.Author.Needs.{needs}
-use lib.ListN.{getD, length-replicate}
-use Rattle.cutting.specs.Pieces.{lying}
-use Rattle.neat.specs.Scan.{used-rect}
-use Rattle.neat.proofs.Scan.{Writing, begins, ends, numbered, ready, few-kept, room, goes-on, same-kinds, same-operands}
+use Rattle.true_plan.proofs.Prelude.{refl, ap, ℕ, arith, needs, getD, length-replicate, lying, used-rect, Writing, begins, ends, numbered, ready, few-kept, room, goes-on, same-kinds, same-operands}
 use Rattle.true_plan.proofs.write_nodes.Statement.{statement}
 use Rattle.true_plan.proofs.write_nodes.Tie as tie
 

@@ -1,10 +1,7 @@
 -- `two_bound::bound_two` meets its contract: the pieces of an accepted job are listed with their states, and their bound is the job's.
 -- What is known once job and weights are accepted is said once, of the context at that point.
-use mathlib.Core.Path.{refl}
-use denote.Ref.{now}
-use Rattle.bound.specs.Bound.{lent}
+use Rattle.two_bound.proofs.Prelude.{refl, now, lent, needs}
 use Rattle.two_bound.proofs.Calls.{job-refused, weights-refused, early, accepted, TwoTaken, range-read, two-taken, weights-there, states-ready, pairable, job-paired}
-use borrow.Author.Needs.{needs}
 use Rattle.two_bound.proofs.bound_two.Statement.{statement}
 use Rattle.two_bound.proofs.bound_two.Tie as tie
 

@@ -1,5 +1,5 @@
 -- `two_bound::bound_two_full_demand` meets its contract: the call, the choices with full demand.
-use borrow.Author.Needs.{needs}
+use Rattle.two_bound.proofs.Prelude.{needs}
 use Rattle.two_bound.proofs.bound_two_full_demand.Statement.{statement}
 use Rattle.two_bound.proofs.bound_two_full_demand.Tie as tie
 

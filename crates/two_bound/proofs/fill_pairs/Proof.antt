@@ -1,11 +1,5 @@
 -- `two_bound::fill_pairs` meets its contract: both fills leave the figures of the pairs.
-use mathlib.Core.Path.{sym, subst}
-use denote.Ref.{now}
-use Rattle.cutting.specs.Listed.{listed-weight}
-use Rattle.table.specs.States.{figure-pair}
-use Rattle.table.specs.Contracts.{size-job, TwoBy}
-use Rattle.states.proofs.Ties.{figures-pairs}
-use borrow.Author.Needs.{needs}
+use Rattle.two_bound.proofs.Prelude.{sym, subst, now, listed-weight, figure-pair, size-job, TwoBy, figures-pairs, needs}
 use Rattle.two_bound.proofs.fill_pairs.Statement.{statement}
 use Rattle.two_bound.proofs.fill_pairs.Tie as tie
 

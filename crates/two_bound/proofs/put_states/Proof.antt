@@ -1,13 +1,6 @@
 -- `two_bound::put_states` meets its contract. The loop's invariant: the pieces passed have their states.
-use mathlib.Core.Path.{_≡_, _∙_, subst}
-use Prim.Native.Nat.{_-_, _≤_, _/_, _+_, _*_}
-use native.Mathlib.Omega.{arith}
-use lib.ListN.{getD}
-use denote.Ref.{now}
-use Rattle.job.specs.Weights.{weight-in}
-use Rattle.two_bound.specs.Contracts.{Stated}
+use Rattle.two_bound.proofs.Prelude.{_≡_, _∙_, subst, _-_, _≤_, _/_, _+_, _*_, arith, getD, now, weight-in, Stated, needs}
 use Rattle.two_bound.proofs.States.{state-same, stated-none, stated-more, stated-kind}
-use borrow.Author.Needs.{needs}
 use Rattle.two_bound.proofs.put_states.Statement.{statement}
 use Rattle.two_bound.proofs.put_states.Tie as tie
 

@@ -1,7 +1,6 @@
 -- `two_bound::state_of` meets its contract.
-use native.Mathlib.Omega.{arith}
+use Rattle.two_bound.proofs.Prelude.{arith, needs}
 use Rattle.two_bound.proofs.States.{weight-small, state-open, state-past}
-use borrow.Author.Needs.{needs}
 use Rattle.two_bound.proofs.state_of.Statement.{statement}
 use Rattle.two_bound.proofs.state_of.Tie as tie
 

@@ -1,22 +1,7 @@
 -- `two_bound::two_of_pieces` meets its contract. What is known once the storage is laid out is said once, of the context at that point.
-use mathlib.Core.Path.{refl, _∙_, ap, subst}
-use Prim.Native.Nat.{_-_, _≤_, _<_}
-use native.Mathlib.Omega.{arith}
-use lib.ListN.{length, getD}
-use denote.Ref.{now}
-use Rattle.cutting.specs.Sides.{rect-of}
-use Rattle.cutting.specs.Job.{Job}
-use Rattle.cutting.specs.Listed.{listed-weight, pieces-job}
-use Rattle.table.specs.Two.{pair-count}
-use Rattle.table.specs.States.{figure-pair}
-use Rattle.table.specs.Contracts.{size-job, TwoBy}
-use Rattle.storage.specs.declared.Layout.the-variants.{Ready}
-use Rattle.storage.specs.Contracts.{LaidOut}
-use Rattle.storage.proofs.Storage.{ready-laid, last-laid}
-use Rattle.storage.proofs.Filled.{fillable}
+use Rattle.two_bound.proofs.Prelude.{refl, _∙_, ap, subst, _-_, _≤_, _<_, arith, length, getD, now, rect-of, Job, listed-weight, pieces-job, pair-count, figure-pair, size-job, TwoBy, Ready, LaidOut, ready-laid, last-laid, fillable, needs, scaled-fits}
 use Rattle.two_bound.proofs.Storage.{report-is, pair-words, refused, reported}
 use Rattle.two_bound.proofs.Listed.{pair-last}
-use borrow.Author.Needs.{needs, scaled-fits}
 use Rattle.two_bound.proofs.two_of_pieces.Statement.{statement}
 use Rattle.two_bound.proofs.two_of_pieces.Tie as tie
 

@@ -1,13 +1,6 @@
 -- `two_bound::weigh_two` meets its contract: 8, 24, 9 of either list, 25, or both capacities.
-use mathlib.Core.Path.{sym, _∙_, ap₂}
-use Prim.Native.Nat.{_+_, _≤_}
-use native.Mathlib.Nat.{mul-le-mul}
-use native.Mathlib.Omega.{arith}
-use denote.Ref.{now}
-use Rattle.job.specs.Block.{job-of}
-use Rattle.table.specs.Two.{pair-count}
+use Rattle.two_bound.proofs.Prelude.{sym, _∙_, ap₂, _+_, _≤_, mul-le-mul, arith, now, job-of, pair-count, needs}
 use Rattle.two_bound.proofs.Weights.{too-heavy, light, unweighed-said, first-count, second-count, first-heavy, second-heavy, product-heavy, both-light}
-use borrow.Author.Needs.{needs}
 use Rattle.two_bound.proofs.weigh_two.Statement.{statement}
 use Rattle.two_bound.proofs.weigh_two.Tie as tie
 

@@ -1,11 +1,6 @@
 -- `weight_steps::adjust` meets its contract.
-use mathlib.Core.Path.{sym, _∙_, ap, ap₂}
-use Prim.Native.Nat.{_*_}
-use native.Mathlib.Omega.{arith}
-use borrow.Author.Tests.{lt-ltb, le-ltb}
-use Rattle.weight_steps.specs.Step.{root-below, stepped}
+use Rattle.weight_steps.proofs.Prelude.{sym, _∙_, ap, ap₂, _*_, arith, lt-ltb, le-ltb, root-below, stepped, needs}
 use Rattle.weight_steps.proofs.Sums.{product-most}
-use borrow.Author.Needs.{needs}
 use Rattle.weight_steps.proofs.adjust.Statement.{statement}
 use Rattle.weight_steps.proofs.adjust.Tie as tie
 

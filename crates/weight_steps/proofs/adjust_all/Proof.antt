@@ -1,14 +1,5 @@
 -- `weight_steps::adjust_all` meets its contract.
-use mathlib.Core.Path.{_≡_, _∙_, ap}
-use Prim.Native.Nat.{ℕ, _*_, _-_, _≤_}
-use native.Mathlib.Omega.{arith}
-use denote.Ref.{now}
-use lib.Dec.{ltb}
-use lib.ListN.{length, getD}
-use Rattle.job.specs.Block.{entries}
-use Rattle.job.proofs.Entries.{entries-length, entries-none, entries-more}
-use Rattle.weight_steps.specs.Step.{distance, root-below, stepped}
-use borrow.Author.Needs.{needs}
+use Rattle.weight_steps.proofs.Prelude.{_≡_, _∙_, ap, ℕ, _*_, _-_, _≤_, arith, now, ltb, length, getD, entries, entries-length, entries-none, entries-more, distance, root-below, stepped, needs}
 use Rattle.weight_steps.proofs.adjust_all.Statement.{statement}
 use Rattle.weight_steps.proofs.adjust_all.Tie as tie
 

@@ -1,9 +1,5 @@
 -- `weight_steps::factor_of` meets its contract: no entry of the table is above 32.
-use mathlib.Core.Path.{refl}
-use Prim.Native.Nat.{_/_, _^_}
-use native.Mathlib.Nat.{div-le-self}
-use native.Mathlib.Omega.{arith}
-use borrow.Author.Needs.{needs}
+use Rattle.weight_steps.proofs.Prelude.{refl, _/_, _^_, div-le-self, arith, needs}
 use Rattle.weight_steps.proofs.Rules.{factor-tabled}
 use Rattle.weight_steps.proofs.factor_of.Statement.{statement}
 use Rattle.weight_steps.proofs.factor_of.Tie as tie

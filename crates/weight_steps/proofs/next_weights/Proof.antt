@@ -1,13 +1,6 @@
 -- `weight_steps::next_weights` meets its contract: the table's entry is the round's factor.
-use mathlib.Core.Path.{_∙_, ap₂}
-use Prim.Native.Nat.{_*_}
-use denote.Ref.{now}
-use lib.Dec.{ltb}
-use lib.ListN.{getD}
-use Rattle.job.specs.Block.{entries}
-use Rattle.weight_steps.specs.Step.{distance, root-below, scale, stepped}
+use Rattle.weight_steps.proofs.Prelude.{_∙_, ap₂, _*_, now, ltb, getD, entries, distance, root-below, scale, stepped, needs}
 use Rattle.weight_steps.proofs.Rules.{step-rules}
-use borrow.Author.Needs.{needs}
 use Rattle.weight_steps.proofs.next_weights.Statement.{statement}
 use Rattle.weight_steps.proofs.next_weights.Tie as tie
 

@@ -1,10 +1,7 @@
 -- `weight_steps::root` meets its contract.
-use mathlib.Core.Path.{_≡_, sym}
-use Prim.Native.Nat.{_+_, _*_, _-_, _≤_}
+use Rattle.weight_steps.proofs.Prelude.{_≡_, sym, _+_, _*_, _-_, _≤_, arith, needs}
 use Rattle.weight_steps.proofs.Sums.{product-most}
-use native.Mathlib.Omega.{arith}
 use Rattle.weight_steps.proofs.Roots.{root-found}
-use borrow.Author.Needs.{needs}
 use Rattle.weight_steps.proofs.root.Statement.{statement}
 use Rattle.weight_steps.proofs.root.Tie as tie
 

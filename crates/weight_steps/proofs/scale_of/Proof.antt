@@ -1,7 +1,6 @@
 -- `weight_steps::scale_of` meets its contract.
 use Rattle.weight_steps.proofs.Sums.{product-most}
-use native.Mathlib.Omega.{arith}
-use borrow.Author.Needs.{needs}
+use Rattle.weight_steps.proofs.Prelude.{arith, needs}
 use Rattle.weight_steps.proofs.scale_of.Statement.{statement}
 use Rattle.weight_steps.proofs.scale_of.Tie as tie
 

@@ -1,14 +1,6 @@
 -- `weight_steps::sum_squares` meets its contract.
-use mathlib.Core.Path.{_≡_, _∙_, ap, ap₂}
-use Prim.Native.Nat.{ℕ, _+_, _*_, _-_, _≤_}
+use Rattle.weight_steps.proofs.Prelude.{_≡_, _∙_, ap, ap₂, ℕ, _+_, _*_, _-_, _≤_, arith, now, getD, sum, sum-none, sum-more, distance, needs}
 use Rattle.weight_steps.proofs.Sums.{product-most}
-use native.Mathlib.Omega.{arith}
-use denote.Ref.{now}
-use lib.ListN.{getD}
-use Rattle.cutting.specs.Lists.{sum}
-use Rattle.job.proofs.Weights.{sum-none, sum-more}
-use Rattle.weight_steps.specs.Step.{distance}
-use borrow.Author.Needs.{needs}
 use Rattle.weight_steps.proofs.sum_squares.Statement.{statement}
 use Rattle.weight_steps.proofs.sum_squares.Tie as tie
 

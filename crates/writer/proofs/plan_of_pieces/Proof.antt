@@ -1,8 +1,5 @@
 -- `writer::plan_of_pieces` meets its contract.
-use mathlib.Core.Path.{refl}
-use borrow.Author.Needs.{needs}
-use denote.Ref.{now}
-use Rattle.writer.specs.Contracts.{sawn-plan}
+use Rattle.writer.proofs.Prelude.{refl, needs, now, sawn-plan}
 use Rattle.writer.proofs.Write.{plan-refused, copy-ready, plan-written}
 use Rattle.writer.proofs.plan_of_pieces.Statement.{statement}
 use Rattle.writer.proofs.plan_of_pieces.Tie as tie

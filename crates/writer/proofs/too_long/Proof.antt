@@ -1,5 +1,5 @@
 -- `writer::too_long` meets its contract.
-use borrow.Author.Tests.{lt-ltb, le-ltb}
+use Rattle.writer.proofs.Prelude.{lt-ltb, le-ltb}
 use Rattle.writer.proofs.too_long.Statement.{statement}
 use Rattle.writer.proofs.too_long.Tie as tie
 

@@ -1,7 +1,5 @@
 -- `writer::write_accepted` meets its contract: what the bound and the plan of the pieces say is said of the job.
-use mathlib.Core.Path.{refl}
-use borrow.Author.Needs.{needs}
-use denote.Ref.{now}
+use Rattle.writer.proofs.Prelude.{refl, needs, now}
 use Rattle.writer.proofs.Write.{boundable, memory-left, bound-refused, plan-ready, plan-thick, plan-made}
 use Rattle.writer.proofs.write_accepted.Statement.{statement}
 use Rattle.writer.proofs.write_accepted.Tie as tie

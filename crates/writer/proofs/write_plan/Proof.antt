@@ -1,8 +1,5 @@
 -- `writer::write_plan` meets its contract.
-use borrow.Author.Needs.{needs}
-use denote.Ref.{now}
-use Rattle.job.proofs.Taken.{taken, refused-both}
-use Rattle.bound.specs.Bound.{lent}
+use Rattle.writer.proofs.Prelude.{needs, now, taken, refused-both, lent}
 use Rattle.writer.proofs.Call.{weighed, unaccepted, accepted}
 use Rattle.writer.proofs.write_plan.Statement.{statement}
 use Rattle.writer.proofs.write_plan.Tie as tie

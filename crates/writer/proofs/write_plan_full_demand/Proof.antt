@@ -1,5 +1,5 @@
 -- `writer::write_plan_full_demand` meets its contract: the writing call, the choices with full demand.
-use borrow.Author.Needs.{needs}
+use Rattle.writer.proofs.Prelude.{needs}
 use Rattle.writer.proofs.write_plan_full_demand.Statement.{statement}
 use Rattle.writer.proofs.write_plan_full_demand.Tie as tie
 

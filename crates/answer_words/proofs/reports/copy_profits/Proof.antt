@@ -1,14 +1,6 @@
 -- `answer_words::reports::copy_profits` meets its contract: after i turns the first i profits stand in the slice.
-use mathlib.Core.Path.{_≡_, _∙_, refl, ap}
-use Prim.Native.Nat.{_≤_, _-_}
-use native.Mathlib.Omega.{arith}
-use denote.Ref.{now}
-use mir.Syntax.{w64}
-use lib.ListN.{length, take, length-set}
-use lib.Seq.{paste, paste-zero}
-use borrow.Kind.Array.{eInt, good-length}
+use Rattle.answer_words.proofs.Prelude.{_≡_, _∙_, refl, ap, _≤_, _-_, arith, now, w64, length, take, length-set, paste, paste-zero, eInt, good-length, needs}
 use Rattle.answer_words.proofs.Words.{front-more, pasted-front}
-use borrow.Author.Needs.{needs}
 use Rattle.answer_words.proofs.reports.copy_profits.Statement.{statement}
 use Rattle.answer_words.proofs.reports.copy_profits.Tie as tie
 

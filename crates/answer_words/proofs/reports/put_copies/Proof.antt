@@ -1,14 +1,6 @@
 -- `answer_words::reports::put_copies` meets its contract: after i turns the first i copies stand from that word on.
-use mathlib.Core.Path.{_≡_, _∙_, refl, ap}
-use Prim.Native.Nat.{_≤_, _-_}
-use native.Mathlib.Omega.{arith}
-use denote.Ref.{now}
-use mir.Syntax.{w16}
-use lib.ListN.{length, length-set}
-use lib.Seq.{paste, paste-zero}
-use borrow.Kind.Array.{eInt, good-length}
+use Rattle.answer_words.proofs.Prelude.{_≡_, _∙_, refl, ap, _≤_, _-_, arith, now, w16, length, length-set, paste, paste-zero, eInt, good-length, needs}
 use Rattle.answer_words.proofs.Words.{pasted, pasted-more}
-use borrow.Author.Needs.{needs}
 use Rattle.answer_words.proofs.reports.put_copies.Statement.{statement}
 use Rattle.answer_words.proofs.reports.put_copies.Tie as tie
 

@@ -1,10 +1,6 @@
 -- `answer_words::reports::put_found` meets its contract, for either verdict.
-use mathlib.Core.Path.{refl}
-use denote.Ref.{now}
-use Rattle.refusal.specs.Refusals.{outcome-by}
-use Rattle.rounds.specs.Rounds.{found-values}
+use Rattle.answer_words.proofs.Prelude.{refl, now, outcome-by, found-values, needs}
 use Rattle.answer_words.proofs.Words.{given}
-use borrow.Author.Needs.{needs}
 use Rattle.answer_words.proofs.reports.put_found.Statement.{statement}
 use Rattle.answer_words.proofs.reports.put_found.Tie as tie
 

@@ -1,11 +1,5 @@
 -- `answer_words::reports::put_least` meets its contract: two stores, and the weights behind them.
-use mathlib.Core.Path.{_∙_, ap}
-use native.Mathlib.Omega.{arith}
-use denote.Ref.{now}
-use lib.Seq.{sets}
-use Rattle.rounds.specs.Rounds.{found-values}
-use Rattle.cutting.proofs.Lists.{over-sets}
-use borrow.Author.Needs.{needs}
+use Rattle.answer_words.proofs.Prelude.{_∙_, ap, arith, now, sets, found-values, over-sets, needs}
 use Rattle.answer_words.proofs.reports.put_least.Statement.{statement}
 use Rattle.answer_words.proofs.reports.put_least.Tie as tie
 

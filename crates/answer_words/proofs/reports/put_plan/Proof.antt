@@ -1,10 +1,6 @@
 -- `answer_words::reports::put_plan` meets its contract, for either verdict.
-use mathlib.Core.Path.{refl}
-use denote.Ref.{now}
-use Rattle.refusal.specs.Refusals.{outcome-by}
-use Rattle.plan.specs.Calls.{plan-values}
+use Rattle.answer_words.proofs.Prelude.{refl, now, outcome-by, plan-values, needs}
 use Rattle.answer_words.proofs.Words.{given}
-use borrow.Author.Needs.{needs}
 use Rattle.answer_words.proofs.reports.put_plan.Statement.{statement}
 use Rattle.answer_words.proofs.reports.put_plan.Tie as tie
 

@@ -1,11 +1,6 @@
 -- `answer_words::reports::put_profits` meets its contract, for either verdict.
-use mathlib.Core.Path.{refl, sym, _∙_, ap}
-use mathlib.Core.List.{[]}
-use denote.Ref.{now}
-use lib.ListN.{length, take}
-use Rattle.refusal.specs.Refusals.{by-check, outcome-by}
+use Rattle.answer_words.proofs.Prelude.{refl, sym, _∙_, ap, [], now, length, take, by-check, outcome-by, needs}
 use Rattle.answer_words.proofs.Words.{given}
-use borrow.Author.Needs.{needs}
 use Rattle.answer_words.proofs.reports.put_profits.Statement.{statement}
 use Rattle.answer_words.proofs.reports.put_profits.Tie as tie
 

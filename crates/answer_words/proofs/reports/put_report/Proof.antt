@@ -1,12 +1,6 @@
 -- `answer_words::reports::put_report` meets its contract: four stores, the copies, and the sawdust behind them.
-use mathlib.Core.Path.{_≡_}
-use mathlib.Core.List.{[], _∷_}
-use native.Mathlib.Omega.{arith}
-use denote.Ref.{now}
-use lib.ListN.{length, length-append}
-use Rattle.plan.specs.Calls.{plan-values}
+use Rattle.answer_words.proofs.Prelude.{_≡_, [], _∷_, arith, now, length, length-append, plan-values, needs}
 use Rattle.answer_words.proofs.Words.{report-over}
-use borrow.Author.Needs.{needs}
 use Rattle.answer_words.proofs.reports.put_report.Statement.{statement}
 use Rattle.answer_words.proofs.reports.put_report.Tie as tie
 

@@ -1,10 +1,6 @@
 -- `answer_words::reports::put_saw` meets its contract, for either verdict.
-use mathlib.Core.Path.{refl}
-use denote.Ref.{now}
-use Rattle.refusal.specs.Refusals.{outcome-by}
-use Rattle.saw.specs.Saw.{saw-values}
+use Rattle.answer_words.proofs.Prelude.{refl, now, outcome-by, saw-values, needs}
 use Rattle.answer_words.proofs.Words.{given}
-use borrow.Author.Needs.{needs}
 use Rattle.answer_words.proofs.reports.put_saw.Statement.{statement}
 use Rattle.answer_words.proofs.reports.put_saw.Tie as tie
 

@@ -1,9 +1,6 @@
 -- `answer_words::reports::put_saw_report` meets its contract: three stores, the copies, and the sawdust behind them.
-use mathlib.Core.List.{[], _∷_}
-use native.Mathlib.Omega.{arith}
-use denote.Ref.{now}
+use Rattle.answer_words.proofs.Prelude.{[], _∷_, arith, now, needs}
 use Rattle.answer_words.proofs.Words.{report-over}
-use borrow.Author.Needs.{needs}
 use Rattle.answer_words.proofs.reports.put_saw_report.Statement.{statement}
 use Rattle.answer_words.proofs.reports.put_saw_report.Tie as tie
 

@@ -1,12 +1,6 @@
 -- `answer_words::reports::put_staged` meets its contract, for either verdict: the report's words, then the stages.
-use mathlib.Core.Path.{refl, _∙_, ap}
-use denote.Ref.{now}
-use lib.ListN.{set}
-use Rattle.refusal.specs.Refusals.{outcome-by}
-use Rattle.plan.specs.Calls.{plan-values}
-use Rattle.staged_plan.specs.Check.{staged-values}
+use Rattle.answer_words.proofs.Prelude.{refl, _∙_, ap, now, set, outcome-by, plan-values, staged-values, needs}
 use Rattle.answer_words.proofs.Words.{given, over-more}
-use borrow.Author.Needs.{needs}
 use Rattle.answer_words.proofs.reports.put_staged.Statement.{statement}
 use Rattle.answer_words.proofs.reports.put_staged.Tie as tie
 

@@ -1,13 +1,6 @@
 -- `answer_words::reports::widened` meets its contract: after i turns the first i weights stand in the entries.
-use mathlib.Core.Path.{_≡_, _∙_, refl, ap}
-use Prim.Native.Nat.{_≤_, _-_}
-use native.Mathlib.Omega.{arith}
-use mir.Syntax.{w8}
-use lib.ListN.{length, take, length-set, replicate}
-use lib.Seq.{paste, take-length}
-use borrow.Kind.Array.{eInt, good-length}
+use Rattle.answer_words.proofs.Prelude.{_≡_, _∙_, refl, ap, _≤_, _-_, arith, w8, length, take, length-set, replicate, paste, take-length, eInt, good-length, needs}
 use Rattle.answer_words.proofs.Words.{front-more, pasted-front}
-use borrow.Author.Needs.{needs}
 use Rattle.answer_words.proofs.reports.widened.Statement.{statement}
 use Rattle.answer_words.proofs.reports.widened.Tie as tie
 

@@ -1,6 +1,5 @@
 -- `every_unit::block::put_fields` is safe and ends; the loop counts up to its end.
-use Prim.Native.Nat.{_-_, _≤_}
-use borrow.Author.Needs.{needs}
+use Rattle.every_unit.proofs.Prelude.{_-_, _≤_, needs}
 use Rattle.every_unit.proofs.block.put_fields.Statement.{statement}
 use Rattle.every_unit.proofs.block.put_fields.Tie as tie
 

@@ -1,6 +1,5 @@
 -- `every_unit::shapes::draw_multipliers` is safe and ends; the loop counts up to its end.
-use Prim.Native.Nat.{_-_, _≤_}
-use borrow.Author.Needs.{needs}
+use Rattle.every_unit.proofs.Prelude.{_-_, _≤_, needs}
 use Rattle.every_unit.proofs.shapes.draw_multipliers.Statement.{statement}
 use Rattle.every_unit.proofs.shapes.draw_multipliers.Tie as tie
 

@@ -1,6 +1,5 @@
 -- `every_unit::shares::no_more_copies` is safe and ends; the loop counts up to its end.
-use Prim.Native.Nat.{_-_, _≤_}
-use borrow.Author.Needs.{needs}
+use Rattle.every_unit.proofs.Prelude.{_-_, _≤_, needs}
 use Rattle.every_unit.proofs.shares.no_more_copies.Statement.{statement}
 use Rattle.every_unit.proofs.shares.no_more_copies.Tie as tie
 

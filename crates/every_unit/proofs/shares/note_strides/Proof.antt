@@ -1,6 +1,5 @@
 -- `every_unit::shares::note_strides` is safe and ends; the loop counts up to its end.
-use Prim.Native.Nat.{_-_, _≤_}
-use borrow.Author.Needs.{needs}
+use Rattle.every_unit.proofs.Prelude.{_-_, _≤_, needs}
 use Rattle.every_unit.proofs.shares.note_strides.Statement.{statement}
 use Rattle.every_unit.proofs.shares.note_strides.Tie as tie
 

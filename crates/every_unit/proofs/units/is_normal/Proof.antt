@@ -1,6 +1,5 @@
 -- `every_unit::units::is_normal` is safe and ends; the loop counts up to its end.
-use Prim.Native.Nat.{_-_, _≤_}
-use borrow.Author.Needs.{needs}
+use Rattle.every_unit.proofs.Prelude.{_-_, _≤_, needs}
 use Rattle.every_unit.proofs.units.is_normal.Statement.{statement}
 use Rattle.every_unit.proofs.units.is_normal.Tie as tie
 

@@ -1,13 +1,6 @@
 -- `rounds::copies::count_copies` meets its contract.
-use mathlib.Core.Path.{_≡_, _∙_, ap}
-use Prim.Native.Nat.{ℕ, _+_, _-_, _≤_, _<_}
-use native.Mathlib.Omega.{arith}
-use denote.Ref.{now}
-use lib.ListN.{length, getD, length-replicate, getD-replicate}
-use Rattle.job.proofs.Weights.{sum-none, sum-more}
-use Rattle.rounds.specs.Contracts.{piece-here, pieces-in}
+use Rattle.rounds.proofs.Prelude.{_≡_, _∙_, ap, ℕ, _+_, _-_, _≤_, _<_, arith, now, length, getD, length-replicate, getD-replicate, sum-none, sum-more, piece-here, pieces-in, needs}
 use Rattle.rounds.proofs.Count.{pieces-most}
-use borrow.Author.Needs.{needs}
 use Rattle.rounds.proofs.copies.count_copies.Statement.{statement}
 use Rattle.rounds.proofs.copies.count_copies.Tie as tie
 

@@ -1,12 +1,6 @@
 -- `rounds::copies::count_node` meets its contract.
-use mathlib.Core.Path.{sym, _∙_}
-use Prim.Native.Nat.{_+_}
-use lib.ListN.{getD, length-set}
-use native.Mathlib.Omega.{arith}
-use borrow.Author.Tests.{not-true, not-false}
-use denote.Ref.{now}
+use Rattle.rounds.proofs.Prelude.{sym, _∙_, _+_, getD, length-set, arith, not-true, not-false, now, needs}
 use Rattle.rounds.proofs.Count.{none-here, none-past, one-here}
-use borrow.Author.Needs.{needs}
 use Rattle.rounds.proofs.copies.count_node.Statement.{statement}
 use Rattle.rounds.proofs.copies.count_node.Tie as tie
 

@@ -1,5 +1,5 @@
 -- `rounds::copies::is_piece` meets its contract.
-use borrow.Author.Tests.{eq-eqb, ne-eqb}
+use Rattle.rounds.proofs.Prelude.{eq-eqb, ne-eqb}
 use Rattle.rounds.proofs.copies.is_piece.Statement.{statement}
 use Rattle.rounds.proofs.copies.is_piece.Tie as tie
 

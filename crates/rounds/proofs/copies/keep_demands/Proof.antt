@@ -1,15 +1,5 @@
 -- `rounds::copies::keep_demands` meets its contract.
-use mathlib.Core.Path.{_≡_, sym, _∙_, ap}
-use mathlib.Core.Bool.{Bool, false, not}
-use Prim.Native.Nat.{ℕ, _-_, _≤_}
-use borrow.Author.Tests.{lt-ltb, le-ltb}
-use native.Mathlib.Omega.{arith}
-use denote.Ref.{now}
-use lib.Dec.{ltb}
-use lib.ListN.{getD}
-use Rattle.cutting.specs.Lists.{range, any}
-use Rattle.weight_steps.proofs.Sums.{any-none, any-more, any-some}
-use borrow.Author.Needs.{needs}
+use Rattle.rounds.proofs.Prelude.{_≡_, sym, _∙_, ap, Bool, false, not, ℕ, _-_, _≤_, lt-ltb, le-ltb, arith, now, ltb, getD, range, any, any-none, any-more, any-some, needs}
 use Rattle.rounds.proofs.copies.keep_demands.Statement.{statement}
 use Rattle.rounds.proofs.copies.keep_demands.Tie as tie
 

@@ -1,8 +1,5 @@
 -- `stage_fill::blocks::block_of` meets its contract.
-use borrow.Author.Needs.{needs}
-use native.Mathlib.Omega.{arith}
-use mathlib.Core.Path.{_≡_}
-use Prim.Native.Nat.{ℕ}
+use Rattle.stage_fill.proofs.Prelude.{needs, arith, _≡_, ℕ}
 use Rattle.stage_fill.proofs.blocks.block_of.Statement.{statement}
 use Rattle.stage_fill.proofs.blocks.block_of.Tie as tie
 

@@ -1,8 +1,5 @@
 -- `stage_fill::blocks::fill_block` meets its contract. The loop's invariant: the cells passed are made.
-use native.Mathlib.Omega.{arith}
-use Prim.Native.Nat.{_*_, _-_}
-use Rattle.cutting.specs.Listed.{listed-weight}
-use Rattle.state_cells.specs.Places.{job-in}
+use Rattle.stage_fill.proofs.Prelude.{arith, _*_, _-_, listed-weight, job-in}
 use Rattle.stage_fill.proofs.Numbers.{few-cells}
 use Rattle.stage_fill.proofs.Filling.{block-kept, InBlock, block-begins, block-more, block-ends}
 use Rattle.stage_fill.proofs.blocks.fill_block.Statement.{statement}

@@ -1,12 +1,5 @@
 -- `stage_fill::blocks::fill_blocks` meets its contract. The loop's invariant: the blocks before number n are made.
-use borrow.Author.Needs.{needs}
-use native.Mathlib.Omega.{arith}
-use mathlib.Core.Path.{_≡_, refl, _∙_, ap}
-use Prim.Native.Nat.{ℕ, _+_, _*_, _-_, _≤_}
-use lib.ListN.{length}
-use Rattle.cutting.specs.Listed.{listed-weight}
-use Rattle.state_cells.specs.Places.{job-in}
-use Rattle.stage_fill.specs.Blocks.{BlockMade}
+use Rattle.stage_fill.proofs.Prelude.{needs, arith, _≡_, refl, _∙_, ap, ℕ, _+_, _*_, _-_, _≤_, length, listed-weight, job-in, BlockMade}
 use Rattle.stage_fill.proofs.Numbers.{below-none}
 use Rattle.stage_fill.proofs.Filling.{stages-kept, stage-block, made-then}
 use Rattle.stage_fill.proofs.blocks.fill_blocks.Statement.{statement}

@@ -1,11 +1,5 @@
 -- `stage_fill::blocks::fill_cell` meets its contract: each kind of cell is one law.
-use borrow.Author.Needs.{needs}
-use native.Mathlib.Omega.{arith}
-use mathlib.Core.Path.{refl, ap}
-use mathlib.Core.Logic.{inl, inr}
-use denote.Ref.{now}
-use Rattle.table.proofs.Words.{second-floors}
-use Rattle.stage_fill.specs.Blocks.{direction-of}
+use Rattle.stage_fill.proofs.Prelude.{needs, arith, refl, ap, inl, inr, now, second-floors, direction-of}
 use Rattle.stage_fill.proofs.Numbers.{some-columns, cell-room, few-cells, few-blocks, few-words, zero-done, uncut-asks, uncut-done, few-source, few-source-words, length-line, length-fits, length-asks, length-done, width-line, width-fits, width-asks, width-done, entries-listed}
 use Rattle.stage_fill.proofs.blocks.fill_cell.Statement.{statement}
 use Rattle.stage_fill.proofs.blocks.fill_cell.Tie as tie

@@ -1,7 +1,5 @@
 -- `stage_fill::blocks::number` meets its contract.
-use borrow.Author.Needs.{needs}
-use native.Mathlib.Omega.{arith}
-use mathlib.Core.Path.{refl}
+use Rattle.stage_fill.proofs.Prelude.{needs, arith, refl}
 use Rattle.stage_fill.proofs.blocks.number.Statement.{statement}
 use Rattle.stage_fill.proofs.blocks.number.Tie as tie
 

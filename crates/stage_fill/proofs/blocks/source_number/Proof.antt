@@ -1,6 +1,5 @@
 -- `stage_fill::blocks::source_number` meets its contract.
-use borrow.Author.Needs.{needs}
-use mathlib.Core.Path.{refl}
+use Rattle.stage_fill.proofs.Prelude.{needs, refl}
 use Rattle.stage_fill.proofs.blocks.source_number.Statement.{statement}
 use Rattle.stage_fill.proofs.blocks.source_number.Tie as tie
 

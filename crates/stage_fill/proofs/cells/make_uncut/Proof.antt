@@ -1,11 +1,5 @@
 -- `stage_fill::cells::make_uncut` meets its contract: each step leaves what the next one asks.
-use borrow.Author.Needs.{needs}
-use native.Mathlib.Omega.{arith}
-use mathlib.Core.Path.{_∙_}
-use mathlib.Core.List.{[], _∷_}
-use Rattle.states.proofs.Growing.{outside-chain}
-use Rattle.state_joins.proofs.Joining.{ready-kept}
-use Rattle.states.proofs.Topping.{topped-then}
+use Rattle.stage_fill.proofs.Prelude.{needs, arith, _∙_, [], _∷_, outside-chain, ready-kept, topped-then}
 use Rattle.stage_fill.proofs.Steps.{one-order, rises-same, growing, unsummed, start-rises, start-topped}
 use Rattle.stage_fill.proofs.cells.make_uncut.Statement.{statement}
 use Rattle.stage_fill.proofs.cells.make_uncut.Tie as tie

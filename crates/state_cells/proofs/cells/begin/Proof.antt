@@ -1,8 +1,5 @@
 -- `state_cells::cells::begin` meets its contract: the words from state `flat` on are all the same.
-use borrow.Author.Needs.{needs}
-use native.Mathlib.Omega.{arith}
-use mathlib.Core.Path.{_≡_, sym, _∙_, ap₂}
-use Prim.Native.Nat.{max}
+use Rattle.state_cells.proofs.Prelude.{needs, arith, _≡_, sym, _∙_, ap₂, max}
 use Rattle.state_cells.proofs.Listing.{run-held, run-level}
 use Rattle.state_cells.proofs.cells.begin.Statement.{statement}
 use Rattle.state_cells.proofs.cells.begin.Tie as tie

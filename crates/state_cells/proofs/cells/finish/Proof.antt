@@ -1,11 +1,5 @@
 -- `state_cells::cells::finish` meets its contract. The loop's invariant: the flags of the first s words are the first k entries of the list.
-use borrow.Author.Needs.{needs}
-use native.Mathlib.Omega.{arith}
-use mathlib.Core.Path.{_≡_, refl}
-use mathlib.Core.Logic.{⊎-elim}
-use Prim.Native.Nat.{_-_, _≤_}
-use lib.ListN.{length, length-set}
-use Rattle.states.specs.States.{note}
+use Rattle.state_cells.proofs.Prelude.{needs, arith, _≡_, refl, ⊎-elim, _-_, _≤_, length, length-set, note}
 use Rattle.state_cells.proofs.Listing.{Listing, listing-none, listing-passed, listing-left, listing-more, listing-end}
 use Rattle.state_cells.proofs.cells.finish.Statement.{statement}
 use Rattle.state_cells.proofs.cells.finish.Tie as tie

@@ -1,7 +1,5 @@
 -- `state_cells::cells::flat_after` meets its contract.
-use native.Mathlib.Omega.{arith}
-use mathlib.Core.Path.{refl}
-use mathlib.Core.Logic.{inl, inr}
+use Rattle.state_cells.proofs.Prelude.{arith, refl, inl, inr}
 use Rattle.state_cells.proofs.cells.flat_after.Statement.{statement}
 use Rattle.state_cells.proofs.cells.flat_after.Tie as tie
 

@@ -1,14 +1,6 @@
 -- `state_cells::cells::inherit` meets its contract. The loop's invariant: the first k entries of the list are inherited.
-use borrow.Author.Needs.{needs}
-use native.Mathlib.Omega.{arith}
-use mathlib.Core.Path.{_≡_, refl, sym, _∙_}
-use mathlib.Core.Logic.{⊎-elim}
-use Prim.Native.Nat.{_-_, _≤_}
-use lib.ListN.{length, length-set}
-use Rattle.states.specs.States.{note, Topped}
-use Rattle.state_joins.proofs.Joining.{note-kept, entry-state, past-end}
+use Rattle.state_cells.proofs.Prelude.{needs, arith, _≡_, refl, sym, _∙_, ⊎-elim, _-_, _≤_, length, length-set, note, Topped, note-kept, entry-state, past-end, topped-none, topped-then, topped-set}
 use Rattle.state_cells.proofs.Listing.{Inherit, inherit-none, inherit-passed, inherit-more, inherit-end}
-use Rattle.states.proofs.Topping.{topped-none, topped-then, topped-set}
 use Rattle.state_cells.proofs.cells.inherit.Statement.{statement}
 use Rattle.state_cells.proofs.cells.inherit.Tie as tie
 

@@ -1,6 +1,5 @@
 -- `state_cells::cells::make_cell` meets its contract: it is made at the states in reach, and the rest of its words are written once.
-use borrow.Author.Needs.{needs}
-use native.Mathlib.Omega.{arith}
+use Rattle.state_cells.proofs.Prelude.{needs, arith}
 use Rattle.state_cells.proofs.Making.{room}
 use Rattle.state_cells.proofs.Reaching.{reach-is, made-whole, spot-whole, spot-part, spot-made}
 use Rattle.state_cells.proofs.cells.make_cell.Statement.{statement}

@@ -1,12 +1,5 @@
 -- `state_cells::cells::make_states` meets its contract: the steps that make the cell, one after the other.
-use borrow.Author.Needs.{needs}
-use native.Mathlib.Omega.{arith}
-use mathlib.Core.Path.{_∙_}
-use lib.ListN.{length-drop}
-use denote.Ref.{now}
-use Rattle.table.proofs.Words.{second-floors}
-use Rattle.states.proofs.Growing.{outside-chain, growing-kept}
-use Rattle.states.proofs.Topping.{topped-then}
+use Rattle.state_cells.proofs.Prelude.{needs, arith, _∙_, length-drop, now, second-floors, outside-chain, growing-kept, topped-then}
 use Rattle.state_cells.proofs.Making.{room, row-fits, cell-fits, few, length-cuts-are, width-cuts-are, shorter-ready, narrower-ready, startable, sums-there, length-cuttable, width-cuttable, start-topped, inherited-rest, inherited-growing, levelled, made, made-rest}
 use Rattle.state_cells.proofs.cells.make_states.Statement.{statement}
 use Rattle.state_cells.proofs.cells.make_states.Tie as tie

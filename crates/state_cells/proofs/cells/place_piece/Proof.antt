@@ -1,8 +1,5 @@
 -- `state_cells::cells::place_piece` meets its contract: a piece whose state is past all states takes nothing.
-use borrow.Author.Needs.{needs}
-use native.Mathlib.Omega.{arith}
-use Rattle.states.proofs.Growing.{taken-none}
-use Rattle.states.proofs.Topping.{topped-none}
+use Rattle.state_cells.proofs.Prelude.{needs, arith, taken-none, topped-none}
 use Rattle.state_cells.proofs.cells.place_piece.Statement.{statement}
 use Rattle.state_cells.proofs.cells.place_piece.Tie as tie
 

@@ -1,19 +1,6 @@
 -- `state_cells::cells::place_pieces` meets its contract. The loop's invariant: the pieces below i are taken.
-use borrow.Author.Needs.{needs}
-use native.Mathlib.Omega.{arith}
-use mathlib.Core.Path.{_≡_, refl, _∙_}
-use mathlib.Core.Logic.{⊎-elim}
-use Prim.Native.Nat.{_-_, _≤_}
-use lib.ListN.{length}
-use denote.Ref.{now}
-use Rattle.cutting.specs.Listed.{listed-weight}
-use Rattle.states.specs.States.{under, Topped}
-use Rattle.state_cells.specs.Cells.{Placed}
-use Rattle.state_cells.specs.Places.{job-in}
-use Rattle.states.proofs.Growing.{order-of, growing-kept}
+use Rattle.state_cells.proofs.Prelude.{needs, arith, _≡_, refl, _∙_, ⊎-elim, _-_, _≤_, length, now, listed-weight, under, Topped, Placed, job-in, order-of, growing-kept, summed-kept, topped-none, topped-then}
 use Rattle.state_cells.proofs.Placing.{placed-none, placed-other, placed-more}
-use Rattle.states.proofs.Carries.{summed-kept}
-use Rattle.states.proofs.Topping.{topped-none, topped-then}
 use Rattle.state_cells.proofs.cells.place_pieces.Statement.{statement}
 use Rattle.state_cells.proofs.cells.place_pieces.Tie as tie
 

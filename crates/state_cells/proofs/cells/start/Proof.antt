@@ -1,12 +1,5 @@
 -- `state_cells::cells::start` meets its contract.
-use borrow.Author.Needs.{needs}
-use native.Mathlib.Omega.{arith}
-use mathlib.Core.Path.{_≡_, refl, _∙_, ap₂}
-use Prim.Native.Nat.{_-_, _≤_, max}
-use lib.ListN.{length, length-set}
-use Rattle.table.specs.Words.{Run}
-use Rattle.table.proofs.Words.{run-none, run-more}
-use Rattle.states.specs.States.{held}
+use Rattle.state_cells.proofs.Prelude.{needs, arith, _≡_, refl, _∙_, ap₂, _-_, _≤_, max, length, length-set, Run, run-none, run-more, held}
 use Rattle.state_cells.proofs.Listing.{run-held}
 use Rattle.state_cells.proofs.cells.start.Statement.{statement}
 use Rattle.state_cells.proofs.cells.start.Tie as tie

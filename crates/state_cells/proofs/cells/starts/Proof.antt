@@ -1,8 +1,5 @@
 -- `state_cells::cells::starts` meets its contract.
-use borrow.Author.Needs.{needs}
-use native.Mathlib.Omega.{arith}
-use mathlib.Core.Path.{subst}
-use lib.Dec.{T}
+use Rattle.state_cells.proofs.Prelude.{needs, arith, subst, T}
 use Rattle.state_cells.proofs.cells.starts.Statement.{statement}
 use Rattle.state_cells.proofs.cells.starts.Tie as tie
 

@@ -1,9 +1,5 @@
 -- `state_cells::shape::shape_of` meets its contract.
-use borrow.Author.Needs.{needs}
-use native.Mathlib.Omega.{arith}
-use native.Mathlib.Nat.{mul-le-mul}
-use mathlib.Core.Path.{refl}
-use Prim.Native.Nat.{_≤_}
+use Rattle.state_cells.proofs.Prelude.{needs, arith, mul-le-mul, refl, _≤_}
 use Rattle.state_cells.proofs.shape.shape_of.Statement.{statement}
 use Rattle.state_cells.proofs.shape.shape_of.Tie as tie
 

@@ -1,12 +1,5 @@
 -- `state_fill::rows::fill` meets its contract. The loop's invariant: the rows passed are made, and no word past the table has changed.
-use borrow.Author.Needs.{needs}
-use native.Mathlib.Omega.{arith}
-use mathlib.Core.Path.{_≡_, refl, _∙_}
-use Prim.Native.Nat.{_-_, _<_}
-use lib.ListN.{length}
-use denote.Ref.{now}
-use Rattle.cutting.specs.Listed.{listed-weight}
-use Rattle.state_cells.specs.Places.{job-in}
+use Rattle.state_fill.proofs.Prelude.{needs, arith, _≡_, refl, _∙_, _-_, _<_, length, now, listed-weight, job-in}
 use Rattle.state_fill.proofs.Filling.{InTable, table-cells, table-first, table-start, table-half, table-spot, table-fits, table-more, table-clear, table-bare, table-end}
 use Rattle.state_fill.proofs.rows.fill.Statement.{statement}
 use Rattle.state_fill.proofs.rows.fill.Tie as tie

@@ -1,13 +1,6 @@
 -- `state_fill::rows::fill_row` meets its contract. The loop's invariant: the rows before and the cells passed are made, and no word outside of
 -- the row has changed.
-use borrow.Author.Needs.{needs}
-use native.Mathlib.Omega.{arith}
-use mathlib.Core.Path.{_≡_, refl, _∙_}
-use Prim.Native.Nat.{_-_, _<_}
-use lib.ListN.{length}
-use denote.Ref.{now}
-use Rattle.cutting.specs.Listed.{listed-weight}
-use Rattle.state_cells.specs.Places.{job-in}
+use Rattle.state_fill.proofs.Prelude.{needs, arith, _≡_, refl, _∙_, _-_, _<_, length, now, listed-weight, job-in}
 use Rattle.state_fill.proofs.Filling.{InRow, row-first, row-start, row-half, row-spot, row-fits, row-more, row-end}
 use Rattle.state_fill.proofs.rows.fill_row.Statement.{statement}
 use Rattle.state_fill.proofs.rows.fill_row.Tie as tie

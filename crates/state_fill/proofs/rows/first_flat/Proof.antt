@@ -1,10 +1,5 @@
 -- `state_fill::rows::first_flat` meets its contract. The loop's invariant: the state is past those of the pieces passed.
-use borrow.Author.Needs.{needs}
-use native.Mathlib.Omega.{arith}
-use mathlib.Core.Path.{_≡_, refl}
-use Prim.Native.Nat.{_-_, _≤_}
-use denote.Ref.{now}
-use Rattle.state_fill.specs.Tables.{PastPieces}
+use Rattle.state_fill.proofs.Prelude.{needs, arith, _≡_, refl, _-_, _≤_, now, PastPieces}
 use Rattle.state_fill.proofs.Filling.{pieces-more}
 use Rattle.state_fill.proofs.rows.first_flat.Statement.{statement}
 use Rattle.state_fill.proofs.rows.first_flat.Tie as tie

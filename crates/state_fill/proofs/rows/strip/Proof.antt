@@ -1,12 +1,5 @@
 -- `state_fill::rows::strip` meets its contract. The loop's invariant: the first k words are figures alone.
-use borrow.Author.Needs.{needs}
-use native.Mathlib.Omega.{arith}
-use mathlib.Core.Path.{_≡_, refl, sym, _∙_, ap}
-use Prim.Native.Nat.{_+_, _-_, _≤_}
-use lib.ListN.{length, length-set}
-use Rattle.table.specs.Words.{Run}
-use Rattle.table.proofs.Words.{run-none, run-more}
-use Rattle.states.specs.States.{figure-in, held}
+use Rattle.state_fill.proofs.Prelude.{needs, arith, _≡_, refl, sym, _∙_, ap, _+_, _-_, _≤_, length, length-set, Run, run-none, run-more, figure-in, held}
 use Rattle.state_fill.proofs.Filling.{strip-stop}
 use Rattle.state_fill.proofs.rows.strip.Statement.{statement}
 use Rattle.state_fill.proofs.rows.strip.Tie as tie

@@ -1,11 +1,5 @@
 -- `state_fill::rows::strip_all` meets its contract. The loop's invariant: the cells passed hold their figures alone.
-use borrow.Author.Needs.{needs}
-use native.Mathlib.Omega.{arith}
-use mathlib.Core.Path.{_≡_, refl, _∙_}
-use Prim.Native.Nat.{_-_, _*_, _≤_}
-use lib.ListN.{length}
-use Rattle.table.proofs.Words.{cell-before}
-use Rattle.state_fill.specs.Tables.{Plain}
+use Rattle.state_fill.proofs.Prelude.{needs, arith, _≡_, refl, _∙_, _-_, _*_, _≤_, length, cell-before, Plain}
 use Rattle.state_fill.proofs.Filling.{plain-none, plain-more, bare-left}
 use Rattle.state_fill.proofs.rows.strip_all.Statement.{statement}
 use Rattle.state_fill.proofs.rows.strip_all.Tie as tie

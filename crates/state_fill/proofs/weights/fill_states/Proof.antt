@@ -1,6 +1,5 @@
 -- `state_fill::weights::fill_states` meets its contract: the fill, lent the lists and floors of both sides.
-use borrow.Author.Needs.{needs}
-use mathlib.Core.Path.{refl}
+use Rattle.state_fill.proofs.Prelude.{needs, refl}
 use Rattle.state_fill.proofs.Filling.{lent-of}
 use Rattle.state_fill.proofs.weights.fill_states.Statement.{statement}
 use Rattle.state_fill.proofs.weights.fill_states.Tie as tie

@@ -1,10 +1,5 @@
 -- `state_fill::weights::fill_two` meets its contract: two digits, whose states are the pairs of shares.
-use borrow.Author.Needs.{needs}
-use native.Mathlib.Omega.{arith}
-use denote.Ref.{now}
-use Rattle.cutting.specs.Listed.{listed-weight}
-use Rattle.table.specs.Contracts.{size-job}
-use Rattle.states.proofs.Ties.{two-digit, figures-two}
+use Rattle.state_fill.proofs.Prelude.{needs, arith, now, listed-weight, size-job, two-digit, figures-two}
 use Rattle.state_fill.proofs.weights.fill_two.Statement.{statement}
 use Rattle.state_fill.proofs.weights.fill_two.Tie as tie
 

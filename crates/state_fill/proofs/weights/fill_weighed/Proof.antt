@@ -1,10 +1,5 @@
 -- `state_fill::weights::fill_weighed` meets its contract: one digit, whose states are the shares.
-use borrow.Author.Needs.{needs}
-use native.Mathlib.Omega.{arith}
-use denote.Ref.{now}
-use Rattle.cutting.specs.Listed.{listed-weight}
-use Rattle.table.specs.Contracts.{size-job}
-use Rattle.states.proofs.Ties.{one-digit, figures-one}
+use Rattle.state_fill.proofs.Prelude.{needs, arith, now, listed-weight, size-job, one-digit, figures-one}
 use Rattle.state_fill.proofs.weights.fill_weighed.Statement.{statement}
 use Rattle.state_fill.proofs.weights.fill_weighed.Tie as tie
 

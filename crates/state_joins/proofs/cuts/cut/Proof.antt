@@ -1,15 +1,6 @@
 -- `state_joins::cuts::cut` meets its contract. The loop's invariant: the cuts before i are taken.
-use borrow.Author.Needs.{needs}
-use native.Mathlib.Omega.{arith}
-use mathlib.Core.Path.{_≡_, refl, _∙_}
-use Prim.Native.Nat.{_-_, _≤_}
-use lib.ListN.{length}
-use Rattle.states.specs.States.{under, Topped}
-use Rattle.state_joins.specs.Joins.{CutAt}
+use Rattle.state_joins.proofs.Prelude.{needs, arith, _≡_, refl, _∙_, _-_, _≤_, length, under, Topped, CutAt, growing-kept, summed-kept, topped-none, topped-then}
 use Rattle.state_joins.proofs.Joining.{ready-kept, cut-none, cut-then, cuts-fewer}
-use Rattle.states.proofs.Growing.{growing-kept}
-use Rattle.states.proofs.Carries.{summed-kept}
-use Rattle.states.proofs.Topping.{topped-none, topped-then}
 use Rattle.state_joins.proofs.cuts.cut.Statement.{statement}
 use Rattle.state_joins.proofs.cuts.cut.Tie as tie
 

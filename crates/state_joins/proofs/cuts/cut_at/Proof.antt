@@ -1,11 +1,6 @@
 -- `state_joins::cuts::cut_at` meets its contract: both parts lie before the cell.
-use borrow.Author.Needs.{needs}
-use native.Mathlib.Omega.{arith}
-use mathlib.Core.Path.{ap}
-use lib.ListN.{getD}
-use denote.Ref.{now}
+use Rattle.state_joins.proofs.Prelude.{needs, arith, ap, getD, now, topped-none}
 use Rattle.state_joins.proofs.Joining.{first-part, second-entry, cut-passed, cut-part}
-use Rattle.states.proofs.Topping.{topped-none}
 use Rattle.state_joins.proofs.cuts.cut_at.Statement.{statement}
 use Rattle.state_joins.proofs.cuts.cut_at.Tie as tie
 

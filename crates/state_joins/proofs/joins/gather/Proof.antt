@@ -1,10 +1,5 @@
 -- `state_joins::joins::gather` meets its contract. The loop's invariant: of the first k entries, those to be read are gathered.
-use borrow.Author.Needs.{needs}
-use native.Mathlib.Omega.{arith}
-use mathlib.Core.Path.{_≡_, sym, _∙_}
-use mathlib.Core.Logic.{⊎-elim}
-use Prim.Native.Nat.{_-_, _≤_}
-use lib.ListN.{length, length-set}
+use Rattle.state_joins.proofs.Prelude.{needs, arith, _≡_, sym, _∙_, ⊎-elim, _-_, _≤_, length, length-set}
 use Rattle.state_joins.proofs.Joining.{past-end, Gathering, gather-none, gather-passed, gather-more, gather-end}
 use Rattle.state_joins.proofs.joins.gather.Statement.{statement}
 use Rattle.state_joins.proofs.joins.gather.Tie as tie

@@ -1,5 +1,5 @@
 -- `state_joins::joins::join` meets its contract: each way joins at least the states that a cut reads.
-use native.Mathlib.Omega.{arith}
+use Rattle.state_joins.proofs.Prelude.{arith}
 use Rattle.state_joins.proofs.Joining.{joined-one, joined-several}
 use Rattle.state_joins.proofs.joins.join.Statement.{statement}
 use Rattle.state_joins.proofs.joins.join.Tie as tie

@@ -1,15 +1,6 @@
 -- `state_joins::joins::join_all` meets its contract. The loop's invariant: the first k entries of the first list are joined.
-use borrow.Author.Needs.{needs}
-use native.Mathlib.Omega.{arith}
-use mathlib.Core.Path.{_≡_, refl, sym, _∙_}
-use Prim.Native.Nat.{_-_, _≤_}
-use lib.ListN.{length}
-use Rattle.states.specs.States.{under, note, Topped}
-use Rattle.state_joins.specs.Joins.{Listed}
+use Rattle.state_joins.proofs.Prelude.{needs, arith, _≡_, refl, sym, _∙_, _-_, _≤_, length, under, note, Topped, Listed, growing-kept, summed-kept, topped-none, topped-then}
 use Rattle.state_joins.proofs.Joining.{note-kept, ready-kept, entry-state, past-end, At, Join, join-none, join-listed, join-listed-end}
-use Rattle.states.proofs.Growing.{growing-kept}
-use Rattle.states.proofs.Carries.{summed-kept}
-use Rattle.states.proofs.Topping.{topped-none, topped-then}
 use Rattle.state_joins.proofs.joins.join_all.Statement.{statement}
 use Rattle.state_joins.proofs.joins.join_all.Tie as tie
 

@@ -1,15 +1,6 @@
 -- `state_joins::joins::join_list` meets its contract. The loop's invariant: the first k numbers of the list are taken.
-use borrow.Author.Needs.{needs}
-use native.Mathlib.Omega.{arith}
-use mathlib.Core.Path.{_≡_, refl, _∙_}
-use Prim.Native.Nat.{_-_, _≤_}
-use lib.ListN.{length}
-use denote.Ref.{now}
-use Rattle.states.specs.States.{under, Topped}
+use Rattle.state_joins.proofs.Prelude.{needs, arith, _≡_, refl, _∙_, _-_, _≤_, length, now, under, Topped, growing-kept, summed-kept, topped-none, topped-then}
 use Rattle.state_joins.proofs.Joining.{ready-kept, past-numbers, Number, With, with-none, with-number, with-number-end, with-skip}
-use Rattle.states.proofs.Growing.{growing-kept}
-use Rattle.states.proofs.Carries.{summed-kept}
-use Rattle.states.proofs.Topping.{topped-none, topped-then}
 use Rattle.state_joins.proofs.joins.join_list.Statement.{statement}
 use Rattle.state_joins.proofs.joins.join_list.Tie as tie
 

@@ -1,17 +1,7 @@
 -- `state_joins::joins::join_marked` meets its contract. The loop's invariant: of the first k entries of the first list, those to be read
 -- are joined with the gathered states.
-use borrow.Author.Needs.{needs}
-use native.Mathlib.Omega.{arith}
-use mathlib.Core.Path.{_≡_, refl, sym, _∙_}
-use mathlib.Core.Logic.{⊎-elim}
-use Prim.Native.Nat.{_-_, _≤_}
-use lib.ListN.{length}
-use Rattle.states.specs.States.{under, note, Topped}
-use Rattle.state_joins.specs.Joins.{Entry, Marked, Gathered}
+use Rattle.state_joins.proofs.Prelude.{needs, arith, _≡_, refl, sym, _∙_, ⊎-elim, _-_, _≤_, length, under, note, Topped, Entry, Marked, Gathered, growing-kept, summed-kept, topped-none, topped-then}
 use Rattle.state_joins.proofs.Joining.{note-kept, ready-kept, ready-later, entry-state, past-end, Join, join-none, join-marked, join-unmarked, join-marked-end, joined-marked}
-use Rattle.states.proofs.Growing.{growing-kept}
-use Rattle.states.proofs.Carries.{summed-kept}
-use Rattle.states.proofs.Topping.{topped-none, topped-then}
 use Rattle.state_joins.proofs.joins.join_marked.Statement.{statement}
 use Rattle.state_joins.proofs.joins.join_marked.Tie as tie
 

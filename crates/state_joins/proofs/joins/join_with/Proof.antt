@@ -1,14 +1,6 @@
 -- `state_joins::joins::join_with` meets its contract. The loop's invariant: the first k entries of the list are taken.
-use borrow.Author.Needs.{needs}
-use native.Mathlib.Omega.{arith}
-use mathlib.Core.Path.{_≡_, refl, sym, _∙_}
-use Prim.Native.Nat.{_-_, _≤_}
-use lib.ListN.{length}
-use Rattle.states.specs.States.{under, note, Topped}
+use Rattle.state_joins.proofs.Prelude.{needs, arith, _≡_, refl, sym, _∙_, _-_, _≤_, length, under, note, Topped, growing-kept, summed-kept, topped-none, topped-then}
 use Rattle.state_joins.proofs.Joining.{note-kept, ready-kept, entry-state, past-end, past-states, At, With, with-none, with-listed, with-listed-end, with-skip}
-use Rattle.states.proofs.Growing.{growing-kept}
-use Rattle.states.proofs.Carries.{summed-kept}
-use Rattle.states.proofs.Topping.{topped-none, topped-then}
 use Rattle.state_joins.proofs.joins.join_with.Statement.{statement}
 use Rattle.state_joins.proofs.joins.join_with.Tie as tie
 

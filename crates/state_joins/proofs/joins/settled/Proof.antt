@@ -1,7 +1,5 @@
 -- `state_joins::joins::settled` meets its contract.
-use borrow.Author.Needs.{needs}
-use native.Mathlib.Omega.{arith}
-use borrow.Author.Tests.{leb-true}
+use Rattle.state_joins.proofs.Prelude.{needs, arith, leb-true}
 use Rattle.state_joins.proofs.joins.settled.Statement.{statement}
 use Rattle.state_joins.proofs.joins.settled.Tie as tie
 

@@ -1,15 +1,7 @@
 -- `states::raise::up` meets its contract. The measure is the last digit. The loop's invariant: the blocks of the last digit before x are
 -- raised, the others as they were.
-use borrow.Author.Needs.{needs}
-use native.Mathlib.Omega.{arith}
-use mathlib.Core.Path.{_≡_, refl, _∙_}
-use Prim.Native.Nat.{_-_, ℕ, _<_}
-use native.Mathlib.Nat.{mod-le, mod-lt}
-use lib.ListN.{length}
-use denote.Ref.{now}
+use Rattle.states.proofs.Prelude.{needs, arith, _≡_, refl, _∙_, _-_, ℕ, _<_, mod-le, mod-lt, length, now, In, Measures, is, falls, and}
 use Rattle.states.proofs.Lifting.{Blockwise, first-block, some-size, room-block, stop-block, inner-block, more-block, partly-all, one-digit, digit-lifted}
-use borrow.Fn.Kinds.{In}
-use borrow.Fn.PlainCycle.{Measures, is, falls, and}
 use Rattle.states.proofs.raise.up.Reads as up
 use Rattle.states.proofs.raise.up.Kinds as up-kinds
 use Rattle.states.proofs.raise.+up.Lts-up as up-lts

@@ -1,11 +1,6 @@
 -- `states::raise::below` meets its contract. The loop's invariant: the digits above e are passed, and what is left of t and s compares as
 -- t and s do.
-use borrow.Author.Needs.{needs}
-use native.Mathlib.Omega.{arith}
-use mathlib.Core.Path.{_≡_, refl, sym, _∙_, ap}
-use Prim.Native.Nat.{_-_, _≤_}
-use denote.Ref.{now}
-use Rattle.states.specs.States.{under}
+use Rattle.states.proofs.Prelude.{needs, arith, _≡_, refl, sym, _∙_, ap, _-_, _≤_, now, under}
 use Rattle.states.proofs.Lifting.{below-zero, below-digit, below-not}
 use Rattle.states.proofs.raise.below.Statement.{statement}
 use Rattle.states.proofs.raise.below.Tie as tie

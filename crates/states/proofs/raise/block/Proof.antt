@@ -1,7 +1,5 @@
 -- `states::raise::block` meets its contract. The element of a u32 slice is below 2^32, so its cast loses nothing.
-use borrow.Author.Needs.{needs}
-use native.Mathlib.Omega.{arith}
-use mathlib.Core.Path.{refl}
+use Rattle.states.proofs.Prelude.{needs, arith, refl}
 use Rattle.states.proofs.raise.block.Statement.{statement}
 use Rattle.states.proofs.raise.block.Tie as tie
 

@@ -1,6 +1,5 @@
 -- `states::raise::raise` meets its contract.
-use borrow.Author.Needs.{needs}
-use native.Mathlib.Omega.{arith}
+use Rattle.states.proofs.Prelude.{needs, arith}
 use Rattle.states.proofs.Growing.{raised-flag, growing-states, lifted-states}
 use Rattle.states.proofs.raise.raise.Statement.{statement}
 use Rattle.states.proofs.raise.raise.Tie as tie

@@ -1,10 +1,5 @@
 -- `states::raise::run` meets its contract. The loop's invariant: the words before j are raised, the others as they were.
-use borrow.Author.Needs.{needs}
-use native.Mathlib.Omega.{arith}
-use mathlib.Core.Path.{_≡_, refl}
-use Prim.Native.Nat.{_-_, _≤_}
-use lib.Dec.{leb, leb→le}
-use lib.ListN.{length, length-set}
+use Rattle.states.proofs.Prelude.{needs, arith, _≡_, refl, _-_, _≤_, leb, leb→le, length, length-set}
 use Rattle.states.proofs.Lifting.{Partly, partly-first, partly-all, partly-word, word-stop}
 use Rattle.states.proofs.raise.run.Statement.{statement}
 use Rattle.states.proofs.raise.run.Tie as tie

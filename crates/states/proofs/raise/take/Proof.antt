@@ -1,6 +1,5 @@
 -- `states::raise::take` meets its contract.
-use borrow.Author.Needs.{needs}
-use native.Mathlib.Omega.{arith}
+use Rattle.states.proofs.Prelude.{needs, arith}
 use Rattle.states.proofs.Growing.{order-of, taken-none, taken-raised, test-true, test-false}
 use Rattle.states.proofs.Topping.{topped-none, topped-raised}
 use Rattle.states.proofs.raise.take.Statement.{statement}

@@ -1,10 +1,5 @@
 -- `states::sums::add_steps` meets its contract. The loop's invariant: the words below s are written, and each is at most its index.
-use borrow.Author.Needs.{needs}
-use native.Mathlib.Omega.{arith}
-use mathlib.Core.Path.{_≡_, refl}
-use Prim.Native.Nat.{ℕ, _-_, _≤_, _<_}
-use lib.ListN.{length, length-set, getD}
-use Rattle.states.specs.States.{Stepped}
+use Rattle.states.proofs.Prelude.{needs, arith, _≡_, refl, ℕ, _-_, _≤_, _<_, length, length-set, getD, Stepped}
 use Rattle.states.proofs.Carries.{stepped-none, stepped-more, small-more}
 use Rattle.states.proofs.sums.add_steps.Statement.{statement}
 use Rattle.states.proofs.sums.add_steps.Tie as tie

@@ -1,10 +1,5 @@
 -- `states::sums::apart` meets its contract.
-use borrow.Author.Needs.{needs}
-use native.Mathlib.Omega.{arith}
-use mathlib.Core.Path.{sym}
-use Prim.Native.Nat.{_+_}
-use lib.ListN.{getD}
-use denote.Ref.{now}
+use Rattle.states.proofs.Prelude.{needs, arith, sym, _+_, getD, now}
 use Rattle.states.proofs.Carries.{sum-most, sums-test, one-apart}
 use Rattle.states.proofs.sums.apart.Statement.{statement}
 use Rattle.states.proofs.sums.apart.Tie as tie

@@ -1,6 +1,5 @@
 -- `states::sums::first_row` meets its contract.
-use borrow.Author.Needs.{needs}
-use native.Mathlib.Omega.{arith}
+use Rattle.states.proofs.Prelude.{needs, arith}
 use Rattle.states.proofs.Carries.{first-row-of}
 use Rattle.states.proofs.sums.first_row.Statement.{statement}
 use Rattle.states.proofs.sums.first_row.Tie as tie

@@ -1,11 +1,5 @@
 -- `states::sums::put_sums` meets its contract. The loop's invariant: the sums of the digits up to e stand in the table's first words.
-use borrow.Author.Needs.{needs}
-use native.Mathlib.Omega.{arith}
-use mathlib.Core.Path.{_≡_, refl, _∙_}
-use Prim.Native.Nat.{ℕ, _+_, _-_, _≤_}
-use lib.ListN.{length, getD}
-use denote.Ref.{now}
-use Rattle.states.specs.States.{Sums}
+use Rattle.states.proofs.Prelude.{needs, arith, _≡_, refl, _∙_, ℕ, _+_, _-_, _≤_, length, getD, now, Sums}
 use Rattle.states.proofs.Carries.{blocks-rise, sums-first, sums-more, sums-small, fewer-blocks}
 use Rattle.states.proofs.sums.put_sums.Statement.{statement}
 use Rattle.states.proofs.sums.put_sums.Tie as tie

@@ -1,7 +1,5 @@
 -- `states::words::figure` meets its contract.
-use native.Mathlib.Omega.{arith}
-use mathlib.Core.Path.{refl}
-use Rattle.states.specs.States.{figure-in}
+use Rattle.states.proofs.Prelude.{arith, refl, figure-in}
 use Rattle.states.proofs.words.figure.Statement.{statement}
 use Rattle.states.proofs.words.figure.Tie as tie
 

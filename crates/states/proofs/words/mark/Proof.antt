@@ -1,7 +1,5 @@
 -- `states::words::mark` meets its contract.
-use borrow.Author.Needs.{needs}
-use mathlib.Core.Path.{refl}
-use Rattle.states.specs.States.{mark-in}
+use Rattle.states.proofs.Prelude.{needs, refl, mark-in}
 use Rattle.states.proofs.words.mark.Statement.{statement}
 use Rattle.states.proofs.words.mark.Tie as tie
 

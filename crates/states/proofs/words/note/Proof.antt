@@ -1,7 +1,5 @@
 -- `states::words::note` meets its contract: a word is below 2^64.
-use borrow.Author.Needs.{needs}
-use native.Mathlib.Omega.{arith}
-use Rattle.states.specs.States.{note-in}
+use Rattle.states.proofs.Prelude.{needs, arith, note-in}
 use Rattle.states.proofs.words.note.Statement.{statement}
 use Rattle.states.proofs.words.note.Tie as tie
 

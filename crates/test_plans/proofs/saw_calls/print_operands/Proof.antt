@@ -1,6 +1,5 @@
 -- `test_plans::saw_calls::print_operands` is safe and ends; the loop counts up to its end.
-use Prim.Native.Nat.{_-_, _≤_}
-use borrow.Author.Needs.{needs}
+use Rattle.test_plans.proofs.Prelude.{_-_, _≤_, needs}
 use Rattle.test_plans.proofs.saw_calls.print_operands.Statement.{statement}
 use Rattle.test_plans.proofs.saw_calls.print_operands.Tie as tie
 

@@ -1,6 +1,5 @@
 -- `test_plans::true_sizes::put_sizes` is safe and ends; the loop counts up to its end.
-use Prim.Native.Nat.{_-_, _≤_}
-use borrow.Author.Needs.{needs}
+use Rattle.test_plans.proofs.Prelude.{_-_, _≤_, needs}
 use Rattle.test_plans.proofs.true_sizes.put_sizes.Statement.{statement}
 use Rattle.test_plans.proofs.true_sizes.put_sizes.Tie as tie
 

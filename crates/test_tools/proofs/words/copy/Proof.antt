@@ -1,6 +1,5 @@
 -- `test_tools::words::copy` is safe and ends; the loop counts up to its end.
-use Prim.Native.Nat.{_-_, _≤_}
-use borrow.Author.Needs.{needs}
+use Rattle.test_tools.proofs.Prelude.{_-_, _≤_, needs}
 use Rattle.test_tools.proofs.words.copy.Statement.{statement}
 use Rattle.test_tools.proofs.words.copy.Tie as tie
 

@@ -1,7 +1,5 @@
 -- `test_tools::words::times` is safe and ends: the product of two numbers below 2^32 is below 2^64.
-use native.Mathlib.Omega.{arith}
-use native.Mathlib.Nat.{mul-le-mul-right}
-use borrow.Author.Needs.{needs}
+use Rattle.test_tools.proofs.Prelude.{arith, mul-le-mul-right, needs}
 use Rattle.test_tools.proofs.words.times.Statement.{statement}
 use Rattle.test_tools.proofs.words.times.Tie as tie
 

@@ -1,11 +1,5 @@
 -- `writer::nodes::copy_nodes` meets its contract.
-use mathlib.Core.Path.{_≡_, refl, _∙_, ap}
-use Prim.Native.Nat.{_-_, _≤_}
-use native.Mathlib.Omega.{arith}
-use borrow.Author.Needs.{needs}
-use lib.ListN.{length, length-set}
-use lib.Seq.{paste}
-use denote.Ref.{now}
+use Rattle.writer.proofs.Prelude.{_≡_, refl, _∙_, ap, _-_, _≤_, arith, needs, length, length-set, paste, now}
 use Rattle.writer.proofs.Listed.{none-copied, one-copied}
 use Rattle.writer.proofs.nodes.copy_nodes.Statement.{statement}
 use Rattle.writer.proofs.nodes.copy_nodes.Tie as tie

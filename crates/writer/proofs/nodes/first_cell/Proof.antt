@@ -1,9 +1,5 @@
 -- `writer::nodes::first_cell` meets its contract.
-use mathlib.Core.Path.{sym, _∙_, ap}
-use mathlib.Core.List.{[], _∷_}
-use types.Run.{miss}
-use borrow.Author.Needs.{needs}
-use Rattle.writer.specs.Contracts.{first-of}
+use Rattle.writer.proofs.Prelude.{sym, _∙_, ap, [], _∷_, miss, needs, first-of}
 use Rattle.writer.proofs.Plan.{no-first}
 use Rattle.writer.proofs.nodes.first_cell.Statement.{statement}
 use Rattle.writer.proofs.nodes.first_cell.Tie as tie

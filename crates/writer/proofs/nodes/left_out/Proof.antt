@@ -1,12 +1,5 @@
 -- `writer::nodes::left_out` meets its contract.
-use mathlib.Core.Path.{sym, _∙_, ap}
-use mathlib.Core.List.{[], _∷_}
-use Prim.Native.Nat.{_+_}
-use types.Run.{miss}
-use borrow.Author.Needs.{needs}
-use lib.Dec.{leb}
-use Rattle.cutting.specs.Sides.{rect-of}
-use Rattle.writer.specs.Contracts.{left-out}
+use Rattle.writer.proofs.Prelude.{sym, _∙_, ap, [], _∷_, _+_, miss, needs, leb, rect-of, left-out}
 use Rattle.writer.proofs.Plan.{none-left-out}
 use Rattle.writer.proofs.nodes.left_out.Statement.{statement}
 use Rattle.writer.proofs.nodes.left_out.Tie as tie

@@ -1,15 +1,5 @@
 -- `writer::nodes::list_nodes` meets its contract. The measure is the number of nodes to come.
-use mathlib.Core.Path.{_≡_, refl, _∙_, ap}
-use mathlib.Core.List.{map}
-use Prim.Native.Nat.{_+_}
-use native.Mathlib.Omega.{arith}
-use borrow.Author.Needs.{needs}
-use lib.ListN.{length, replicate, length-set}
-use lib.Seq.{sets}
-use denote.Ref.{now}
-use Rattle.cutting.specs.Preorder.{kind-of, operand-of, kinds-of, operands-of, node-count}
-use Rattle.states.specs.States.{under}
-use Rattle.writer.specs.Contracts.{with-cell, sawn-plan, nodes-left, Waiting}
+use Rattle.writer.proofs.Prelude.{_≡_, refl, _∙_, ap, map, _+_, arith, needs, length, replicate, length-set, sets, now, kind-of, operand-of, kinds-of, operands-of, node-count, under, with-cell, sawn-plan, nodes-left, Waiting}
 use Rattle.writer.proofs.Plan.{Ready}
 use Rattle.writer.proofs.Waiting.{none-left, whole-nodes, plate-waits, plan-left, count-left}
 use Rattle.writer.proofs.Listed.{kinds-begin, operands-begin, one-listed, all-listed}

@@ -1,14 +1,5 @@
 -- `writer::nodes::next_node` meets its contract.
-use mathlib.Core.Path.{_∙_, ap}
-use mathlib.Core.List.{[], _∷_}
-use Prim.Native.Nat.{_-_, _≤_, _<_}
-use native.Mathlib.Omega.{arith}
-use types.Run.{miss}
-use borrow.Author.Needs.{needs}
-use lib.ListN.{length, length-set}
-use Rattle.cutting.specs.Sides.{rect-of, sides-of}
-use Rattle.cutting.specs.Tree.{side, part}
-use Rattle.writer.specs.Contracts.{first-of}
+use Rattle.writer.proofs.Prelude.{_∙_, ap, [], _∷_, _-_, _≤_, _<_, arith, miss, needs, length, length-set, rect-of, sides-of, side, part, first-of}
 use Rattle.writer.proofs.Waiting.{place, top-inside, leaf-stepped, cut-ready, cut-stepped}
 use Rattle.writer.proofs.nodes.next_node.Statement.{statement}
 use Rattle.writer.proofs.nodes.next_node.Tie as tie

@@ -1,8 +1,5 @@
 -- `writer::nodes::put_operand` meets its contract: past the end of the list nothing is set.
-use mathlib.Core.Path.{sym}
-use native.Mathlib.Omega.{arith}
-use lib.Seq.{set-out}
-use borrow.Author.Needs.{needs}
+use Rattle.writer.proofs.Prelude.{sym, arith, set-out, needs}
 use Rattle.writer.proofs.nodes.put_operand.Statement.{statement}
 use Rattle.writer.proofs.nodes.put_operand.Tie as tie
 

@@ -1,14 +1,5 @@
 -- `writer::nodes::settle` meets its contract. The measure is the half perimeter of the cell.
-use mathlib.Core.Path.{_≡_, refl, sym, _∙_}
-use mathlib.Core.Bool.{Bool}
-use Prim.Native.Nat.{ℕ, _≤_, _<_}
-use native.Mathlib.Omega.{arith}
-use borrow.Author.Needs.{needs}
-use denote.Ref.{now}
-use Rattle.table.specs.Contracts.{size-job}
-use Rattle.states.specs.States.{under}
-use Rattle.choice.specs.Choice.{Inside, chosen-at}
-use Rattle.writer.specs.Contracts.{plan-at, half-of}
+use Rattle.writer.proofs.Prelude.{_≡_, refl, sym, _∙_, Bool, ℕ, _≤_, _<_, arith, needs, now, size-job, under, Inside, chosen-at, plan-at, half-of}
 use Rattle.writer.proofs.Plan.{goes-on}
 use Rattle.writer.proofs.nodes.settle.Statement.{statement}
 use Rattle.writer.proofs.nodes.settle.Tie as tie
