@@ -1,11 +1,1 @@
-pub mod Exports
-pub mod Saw
-pub mod Within
-pub mod Two
-pub mod Exact
-pub mod Found
-pub mod Racks
-pub mod Orders
-pub mod TruePlans
-pub mod Models
-pub mod Lagrangian
+pub mod Early

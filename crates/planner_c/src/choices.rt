@@ -3,11 +3,13 @@
 use promises::Choices;
 ghost use mathlib.Core.Path.{_≡_};
 ghost use Prim.Native.Nat.{_≤_};
-ghost use Rattle.planner_c.specs.Exports.{unknown, bit, choices-of, early};
+ghost use lib.Dec.{ltb};
+ghost use Rattle.promises.specs.C.{bit, choices-of};
+ghost use Rattle.planner_c.specs.Early.{early};
 
 // Whether a bit of the word is no choice.
 fn unknown(choices: u32) -> bool
-    ensures { λ r. ⌜ r ≡ unknown choices ⌝ }
+    ensures { λ r. ⌜ r ≡ ltb 15 choices ⌝ }
 {
     15 < choices
 }

@@ -15,10 +15,7 @@ mod true_plans;
 mod two;
 mod whole_orders;
 
-ghost use mathlib.Core.Path.{_≡_};
-ghost use Rattle.plan.specs.Calls.{arrays-before-idle, block-before-idle, plan-outcome, arrays-said, block-said, plan-kinds, plan-operands, JobPasses, BlockPasses};
-ghost use Rattle.neat.specs.Neat.{neat-said, NeatJudged};
-ghost use Rattle.planner_c.specs.Exports.{choices-of, job-with, returned, answered, Left, NeatLeft, NeatGiven, TreeChecked};
+ghost use Rattle.promises.specs.C.{words, BlockC, CheckC, NeatC};
 
 // The check of a plan's arrays for a job block. The answer has 69 words: profit, the areas of pieces, waste nodes and trim, the copies of
 // 64 kinds, and the area of the sawdust.
@@ -30,17 +27,14 @@ pub extern "C" fn planner_check_plan(
     operands: &[u16],
     answer: &mut [u64],
 ) -> u32
-    ensures number { λ n. ⌜ n ≡ returned 69 (now (answer .entry)) choices (arrays-said (now (block .entry)) (choices-of choices) (now (kinds .entry)) (now (operands .entry))) ⌝ }
-    ensures words { λ _. ⌜ now (answer .exit) ≡ answered 69 (now (answer .entry)) choices (arrays-said (now (block .entry)) (choices-of choices) (now (kinds .entry)) (now (operands .entry))) ⌝ }
-    ensures trees { λ n. ⌜ TreeChecked (JobPasses (now (block .entry)) (choices-of choices)) (now (block .entry)) choices (now (kinds .entry)) (now (operands .entry))
-        (plan-outcome (arrays-before-idle (now (block .entry)) (choices-of choices) (now (kinds .entry)) (now (operands .entry)))) (now (answer .entry)) (now (answer .exit)) n ⌝ }
+    ensures { λ n. ⌜ CheckC (words choices (now (answer .entry)) (now (answer .exit)) n) (now (block .entry)) (now (kinds .entry)) (now (operands .entry)) ⌝ }
 {
     let stop = choices::early(answer.len(), 69, choices);
     if 0 < stop {
         return stop;
     }
     let c = choices::choices_of(choices);
-    let a = plan::check_plan(block, c, kinds, operands);
+    let a = planner::check_plan(block, c, kinds, operands);
     answer_words::put_plan(a, answer)
 }
 
@@ -52,17 +46,14 @@ pub extern "C" fn planner_check_plan_block(
     plan: &[u8],
     answer: &mut [u64],
 ) -> u32
-    ensures number { λ n. ⌜ n ≡ returned 69 (now (answer .entry)) choices (block-said (now (block .entry)) (choices-of choices) (now (plan .entry))) ⌝ }
-    ensures words { λ _. ⌜ now (answer .exit) ≡ answered 69 (now (answer .entry)) choices (block-said (now (block .entry)) (choices-of choices) (now (plan .entry))) ⌝ }
-    ensures trees { λ n. ⌜ TreeChecked (JobPasses (now (block .entry)) (choices-of choices) × BlockPasses (now (plan .entry))) (now (block .entry)) choices (plan-kinds (now (plan .entry))) (plan-operands (now (plan .entry)))
-        (plan-outcome (block-before-idle (now (block .entry)) (choices-of choices) (now (plan .entry)))) (now (answer .entry)) (now (answer .exit)) n ⌝ }
+    ensures { λ n. ⌜ BlockC (words choices (now (answer .entry)) (now (answer .exit)) n) (now (block .entry)) (now (plan .entry)) ⌝ }
 {
     let stop = choices::early(answer.len(), 69, choices);
     if 0 < stop {
         return stop;
     }
     let c = choices::choices_of(choices);
-    let a = plan::check_plan_block(block, c, plan);
+    let a = planner::check_plan_block(block, c, plan);
     answer_words::put_plan(a, answer)
 }
 
@@ -77,19 +68,13 @@ pub extern "C" fn planner_neat_plan(
     neat_operands: &mut [u16],
     answer: &mut [u64],
 ) -> u32
-    ensures number { λ n. ⌜ n ≡ returned 1 (now (answer .entry)) choices (neat-said (now (block .entry)) (choices-of choices) (now (kinds .entry)) (now (operands .entry)) (now («neat_kinds» .entry)) (now («neat_operands» .entry))) ⌝ }
-    ensures words { λ _. ⌜ now (answer .exit) ≡ answered 1 (now (answer .entry)) choices (neat-said (now (block .entry)) (choices-of choices) (now (kinds .entry)) (now (operands .entry)) (now («neat_kinds» .entry)) (now («neat_operands» .entry))) ⌝ }
-    ensures plan { λ _. ⌜ Left 1 (now (answer .entry)) choices
-        (NeatLeft (now (block .entry)) (choices-of choices) (now (kinds .entry)) (now (operands .entry)))
-        (now («neat_kinds» .entry), now («neat_operands» .entry)) (now («neat_kinds» .exit), now («neat_operands» .exit)) ⌝ }
-    ensures trees { λ n. ⌜ (n ≡ 0 → NeatGiven (job-with (now (block .entry)) choices) (now (kinds .entry)) (now (operands .entry)) (now («neat_kinds» .entry), now («neat_operands» .entry)) (now («neat_kinds» .exit), now («neat_operands» .exit)) (now (answer .exit))) ⌝ }
-    ensures judged { λ _. ⌜ NeatJudged (now (block .entry)) (choices-of choices) (now (kinds .entry)) (now (operands .entry)) ⌝ }
+    ensures { λ n. ⌜ NeatC (words choices (now (answer .entry)) (now (answer .exit)) n) (now (block .entry)) (now (kinds .entry)) (now (operands .entry)) (now («neat_kinds» .entry), now («neat_operands» .entry)) (now («neat_kinds» .exit), now («neat_operands» .exit)) ⌝ }
 {
     let stop = choices::early(answer.len(), 1, choices);
     if 0 < stop {
         return stop;
     }
     let c = choices::choices_of(choices);
-    let a = neat::neat_plan(block, c, kinds, operands, neat_kinds, neat_operands);
+    let a = planner::neat_plan(block, c, kinds, operands, neat_kinds, neat_operands);
     answer_words::put_neat(a, answer)
 }

@@ -2,9 +2,7 @@
 // `rack::check_plates`.
 use crate::choices;
 use promises::Refusal;
-ghost use mathlib.Core.Path.{_≡_};
-ghost use Rattle.planner_c.specs.Exports.{choices-of, returned, answered, Left};
-ghost use Rattle.planner_c.specs.Racks.{racked-said, ProfitsLeft, RackGiven};
+ghost use Rattle.promises.specs.C.{words, RackC};
 
 // The plans of a rack of plates for a job block: lengths and widths of the plates, and their profits, which a pass writes. The answer has
 // 1 word, for the place of a refusal.
@@ -19,12 +17,7 @@ pub extern "C" fn planner_check_rack(
     operands: &[u16],
     answer: &mut [u64],
 ) -> u32
-    ensures number { λ n. ⌜ n ≡ returned 1 (now (answer .entry)) choices (racked-said (now (block .entry)) (choices-of choices) (now (lengths .entry)) (now (widths .entry)) (now (profits .entry)) (now (kinds .entry)) (now (operands .entry))) ⌝ }
-    ensures words { λ _. ⌜ now (answer .exit) ≡ answered 1 (now (answer .entry)) choices (racked-said (now (block .entry)) (choices-of choices) (now (lengths .entry)) (now (widths .entry)) (now (profits .entry)) (now (kinds .entry)) (now (operands .entry))) ⌝ }
-    ensures memory { λ _. ⌜ Left 1 (now (answer .entry)) choices
-        (ProfitsLeft (now (block .entry)) (choices-of choices) (now (lengths .entry)) (now (widths .entry)) (now (kinds .entry)) (now (operands .entry)))
-        (now (profits .entry)) (now (profits .exit)) ⌝ }
-    ensures trees { λ n. ⌜ RackGiven (now (block .entry)) choices (now (lengths .entry)) (now (widths .entry)) (now (kinds .entry)) (now (operands .entry)) (now (profits .entry)) (now (profits .exit)) (now (answer .entry)) (now (answer .exit)) n ⌝ }
+    ensures { λ n. ⌜ RackC (words choices (now (answer .entry)) (now (answer .exit)) n) (now (block .entry)) (record { lengths = now (lengths .entry); widths = now (widths .entry); kinds = now (kinds .entry); operands = now (operands .entry) }) (now (profits .entry)) (now (profits .exit)) ⌝ }
 {
     let stop = choices::early(answer.len(), 1, choices);
     if 0 < stop {
@@ -34,6 +27,6 @@ pub extern "C" fn planner_check_rack(
         return answer_words::refuse(Refusal::RackSize, answer);
     }
     let c = choices::choices_of(choices);
-    let a = rack::check_plates(block, c, lengths, widths, kinds, operands);
+    let a = planner::check_plates(block, c, lengths, widths, kinds, operands);
     answer_words::put_profits(a, profits, answer)
 }

@@ -2,12 +2,14 @@
 // function for both arrays.
 use crate::choices;
 ghost use mathlib.Core.Path.{_≡_};
+ghost use mathlib.Core.List.{List, []};
+ghost use Prim.Native.Nat.{ℕ};
 ghost use lib.ListN.{length};
-ghost use Rattle.cutting.specs.Preorder.{kinds-of, operands-of};
-ghost use Rattle.saw.specs.Saw.{saw-answer, saw-said};
-ghost use Rattle.saw.specs.Parts.{part-by, node-part, part-said};
-ghost use Rattle.planner_c.specs.Exports.{choices-of, returned, answered};
-ghost use Rattle.planner_c.specs.Saw.{SawChecked, PartGiven};
+ghost use Rattle.promises.specs.declared.Part.{Part};
+ghost use Rattle.promises.specs.Saw.{part-outcome};
+ghost use Rattle.promises.specs.C.{words, InC, SawC, SawKindsC, SawOperandsC};
+ghost use Rattle.saw.specs.Saw.{saw-answer};
+ghost use Rattle.saw.specs.Parts.{part-by};
 
 // The saw's check of a plan's arrays for a job block, whose prices it does not read. The answer has 68 words: the areas of pieces, waste
 // nodes and trim, the copies of 64 kinds, and the area of the sawdust.
@@ -19,16 +21,14 @@ pub extern "C" fn planner_saw_check(
     operands: &[u16],
     answer: &mut [u64],
 ) -> u32
-    ensures number { λ n. ⌜ n ≡ returned 68 (now (answer .entry)) choices (saw-said (now (block .entry)) (choices-of choices) (now (kinds .entry)) (now (operands .entry))) ⌝ }
-    ensures words { λ _. ⌜ now (answer .exit) ≡ answered 68 (now (answer .entry)) choices (saw-said (now (block .entry)) (choices-of choices) (now (kinds .entry)) (now (operands .entry))) ⌝ }
-    ensures trees { λ n. ⌜ SawChecked (now (block .entry)) choices (now (kinds .entry)) (now (operands .entry)) (now (answer .entry)) (now (answer .exit)) n ⌝ }
+    ensures { λ n. ⌜ SawC (words choices (now (answer .entry)) (now (answer .exit)) n) (now (block .entry)) (now (kinds .entry), now (operands .entry)) ⌝ }
 {
     let stop = choices::early(answer.len(), 68, choices);
     if 0 < stop {
         return stop;
     }
     let c = choices::choices_of(choices);
-    let a = saw::saw_check(block, c, kinds, operands);
+    let a = planner::saw_check(block, c, kinds, operands);
     answer_words::put_saw(a, answer)
 }
 
@@ -43,8 +43,8 @@ fn put_node_part(
     answer: &mut [u64],
 ) -> u32
     requires { ⌜ (length (now kinds) ≡ length (now operands) → count ≡ length (now kinds)) ⌝ }
-    ensures number { λ n. ⌜ n ≡ returned 2 (now (answer .entry)) choices (part-said (part-by (saw-answer (now (block .entry)) (choices-of choices) (now (kinds .entry)) (now (operands .entry)) .verdict) (now (kinds .entry)) count node)) ⌝ }
-    ensures words { λ _. ⌜ now (answer .exit) ≡ answered 2 (now (answer .entry)) choices (part-said (part-by (saw-answer (now (block .entry)) (choices-of choices) (now (kinds .entry)) (now (operands .entry)) .verdict) (now (kinds .entry)) count node)) ⌝ }
+    ensures { λ n. ⌜ InC {A = Part} {L = List ℕ} 2 part-outcome (words choices (now (answer .entry)) (now (answer .exit)) n) [] []
+        (λ c p. p ≡ part-by (saw-answer (now (block .entry)) c (now (kinds .entry)) (now (operands .entry)) .verdict) (now (kinds .entry)) count node) ⌝ }
 {
     let stop = choices::early(answer.len(), 2, choices);
     if 0 < stop {
@@ -66,9 +66,7 @@ pub extern "C" fn planner_saw_kinds(
     node: u64,
     answer: &mut [u64],
 ) -> u32
-    ensures number { λ n. ⌜ n ≡ returned 2 (now (answer .entry)) choices (part-said (node-part (now (block .entry)) (choices-of choices) (now (kinds .entry)) (now (operands .entry)) (now (kinds .entry)) node)) ⌝ }
-    ensures words { λ _. ⌜ now (answer .exit) ≡ answered 2 (now (answer .entry)) choices (part-said (node-part (now (block .entry)) (choices-of choices) (now (kinds .entry)) (now (operands .entry)) (now (kinds .entry)) node)) ⌝ }
-    ensures part { λ n. ⌜ PartGiven (now (block .entry)) choices (now (kinds .entry)) (now (operands .entry)) (now (kinds .entry)) kinds-of node (now (answer .entry)) (now (answer .exit)) n ⌝ }
+    ensures { λ n. ⌜ SawKindsC (words choices (now (answer .entry)) (now (answer .exit)) n) (now (block .entry)) (now (kinds .entry), now (operands .entry)) node ⌝ }
 {
     put_node_part(block, choices, kinds, operands, kinds.len(), node, answer)
 }
@@ -83,11 +81,7 @@ pub extern "C" fn planner_saw_operands(
     node: u64,
     answer: &mut [u64],
 ) -> u32
-    ensures number { λ n. ⌜ n ≡ returned 2 (now (answer .entry)) choices
-        (part-said (node-part (now (block .entry)) (choices-of choices) (now (kinds .entry)) (now (operands .entry)) (now (operands .entry)) node)) ⌝ }
-    ensures words { λ _. ⌜ now (answer .exit) ≡ answered 2 (now (answer .entry)) choices
-        (part-said (node-part (now (block .entry)) (choices-of choices) (now (kinds .entry)) (now (operands .entry)) (now (operands .entry)) node)) ⌝ }
-    ensures part { λ n. ⌜ PartGiven (now (block .entry)) choices (now (kinds .entry)) (now (operands .entry)) (now (operands .entry)) operands-of node (now (answer .entry)) (now (answer .exit)) n ⌝ }
+    ensures { λ n. ⌜ SawOperandsC (words choices (now (answer .entry)) (now (answer .exit)) n) (now (block .entry)) (now (kinds .entry), now (operands .entry)) node ⌝ }
 {
     put_node_part(
         block,

@@ -1,5 +1,5 @@
 -- `planner_c::choices::choices_of` meets its contract.
-use borrow.Author.Needs.{needs}
+use Rattle.planner_c.proofs.Prelude.{needs}
 use Rattle.planner_c.proofs.choices.choices_of.Statement.{statement}
 use Rattle.planner_c.proofs.choices.choices_of.Tie as tie
 

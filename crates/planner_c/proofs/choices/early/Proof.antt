@@ -1,7 +1,5 @@
 -- `planner_c::choices::early` meets its contract, for either test and for none.
-use mathlib.Core.Path.{sym, _∙_}
-use borrow.Author.Tests.{lt-ltb, le-ltb}
-use borrow.Author.Needs.{needs}
+use Rattle.planner_c.proofs.Prelude.{sym, _∙_, lt-ltb, le-ltb, needs}
 use Rattle.planner_c.proofs.choices.early.Statement.{statement}
 use Rattle.planner_c.proofs.choices.early.Tie as tie
 

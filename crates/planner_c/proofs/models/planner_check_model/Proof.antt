@@ -1,24 +1,19 @@
 -- `planner_c::models::planner_check_model` meets its contract: stopped, or the verdict on the model.
-use denote.Ref.{now}
-use Rattle.planner_c.proofs.Exports.{words-enough}
-use Rattle.planner_c.proofs.ModelCheck.{model-stops, model-called}
-use borrow.Author.Needs.{needs}
+use Rattle.planner_c.proofs.Prelude.{now, needs}
+use Rattle.planner_c.proofs.Rule.{halted, enough, met}
 use Rattle.planner_c.proofs.models.planner_check_model.Statement.{statement}
 use Rattle.planner_c.proofs.models.planner_check_model.Tie as tie
 
 returns : tie.Need-returns
-returns c =
-    let a = c .before .before .before .before .before .args in
-    model-stops (now (a .block)) (a .choices) (now (a .sizes)) (now (a .answer)) (c .before .early .ensures) (c .if1 .taken)
+returns c = let a = c .before .before .before .before .before .args in halted 1 (a .choices) (now (a .answer)) (c .before .early .ensures) (c .if1 .taken)
 
 put-checked-requires : tie.Need-put-checked-requires
-put-checked-requires c κs = let a = c .before .before .before .before .before .before .before .before .args in words-enough 1 (a .choices) (now (a .answer)) (c .before .before .before .before .early .ensures) (c .before .before .before .if1 .left)
+put-checked-requires c κs = let a = c .before .before .before .before .before .before .before .before .args in enough 1 (a .choices) (now (a .answer)) (c .before .before .before .before .early .ensures) (c .before .before .before .if1 .left)
 
 returns-2 : tie.Need-returns-2
 returns-2 c =
     let a = c .before .before .before .before .before .before .before .before .before .before .before .args in
-    let e = rw (c .before .before .before .before .before .choices-of .ensures) at (c .before .before .before .before .check-model .ensures) in
-    model-called (now (a .block)) (a .choices) (now (a .sizes)) (now (a .answer)) (c .before .before .before .before .before .before .before .early .ensures) (c .before .before .before .before .before .before .if1 .left) e (c .before .before .put-checked .ensures)
+    met 1 (a .choices) (now (a .answer)) (c .before .before .before .before .before .before .before .early .ensures) (c .before .before .before .before .before .before .if1 .left) _ (rw (c .before .before .before .before .before .choices-of .ensures) at (c .before .before .before .before .check-model .ensures)) (c .before .before .put-checked .ensures)
 
 pub planner-check-model-spec : {M : Type 1} → statement M
 planner-check-model-spec = tie.close (tie.spec (search needs) returns (search needs) (search needs) put-checked-requires (search needs) returns-2)
