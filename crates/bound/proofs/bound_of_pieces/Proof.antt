@@ -24,10 +24,10 @@ last : (k : tie.After-known-told2) → (1 ≤ k .before .layout2 .given .0 .1 .0
 last k = last-laid (laid k) (omega arith)
 
 sub-t32 : tie.Need-sub-t32
-sub-t32 c = last (c .before .before .before .before .before .before .before) .0
+sub-t32 c = omega (arith, last (c .before .before .before .before .before .before .before) .0)
 
 mul-t33 : tie.Need-mul-t33
-mul-t33 c = let k = c .before .before .before .before .before .before .before in scaled-fits _ _ 8 (last k .1) (start k .good .1 .1 .1 .1 .1 .1 .1 .0 .1)
+mul-t33 c = let k = c .before .before .before .before .before .before .before in omega (arith, scaled-fits _ _ 8 (last k .1) (start k .good .1 .1 .1 .1 .1 .1 .1 .0 .1))
 
 slice-read-t35 : tie.Need-slice-read-t35
 slice-read-t35 c = omega (arith, c .before .before .before .fill-table .ensures .1 .0, last (c .before .before .before .before .before .before .before .before) .1)
