@@ -2,6 +2,7 @@
  * in the model; and the neat plan at the true sizes, written in one scan from the last node to the first.
  * The sizes block is taken as accepted. */
 #include "check.h"
+#include <string.h>
 
 typedef struct {
     int64_t side[2];
@@ -14,7 +15,7 @@ typedef struct {
 
 /* What a piece takes of the true plate and of the model's, with a kerf. */
 typedef struct {
-    int64_t extent;
+    int32_t extent;
     int model;
 } Way;
 
@@ -47,40 +48,64 @@ static int list_ways(const Order *model, const Sizes *sizes, int kind, int along
         if (side[turned] > sizes->plate.side[0] || side[!turned] > sizes->plate.side[1])
             continue;
         int at = along ^ turned;
-        ways[count++] = (Way){side[at] + sizes->kerf, own[at] + model->kerf};
+        ways[count++] = (Way){(int32_t)(side[at] + sizes->kerf), own[at] + model->kerf};
     }
     return count;
 }
 
-/* One copy more of a kind; says whether an extent became less. */
-static int add_copy(int64_t *least, int room, const Way *ways, int count)
+static int32_t lesser_of(int32_t a, int32_t b)
 {
-    int changed = 0;
-    for (int s = room; s > 0; s--)
-        for (int w = 0; w < count; w++) {
-            int rest = s > ways[w].model ? s - ways[w].model : 0;
-            int64_t extent = least[rest] + ways[w].extent;
-            if (extent < least[s])
-                least[s] = extent, changed = 1;
-        }
-    return changed;
+    return a < b ? a : b;
+}
+
+/* The chains of one table that have one piece more, laid in this way, into the other. */
+static void lay(const int32_t *restrict from, int32_t *restrict to, int room, Way way)
+{
+    int near = way.model < room ? way.model : room;
+    for (int s = 1; s <= near; s++)
+        to[s] = lesser_of(to[s], way.extent);
+    for (int s = near + 1; s <= room; s++)
+        to[s] = lesser_of(to[s], from[s - way.model] + way.extent);
+}
+
+/* The least true extents of the chains that reach each extent in the model, and a table to make the next in.
+ * Extents that the true plate has no room for count as one more than it has. */
+typedef struct {
+    int32_t *least, *next;
+    int room;
+} Chains;
+
+/* One copy more of a kind; says whether an extent became less. */
+static int add_copy(Chains *chains, const Way *ways, int count)
+{
+    int32_t *least = chains->next, *before = chains->least;
+    size_t bytes = sizeof *least * (size_t)(chains->room + 1);
+    memcpy(least, before, bytes);
+    for (int w = 0; w < count; w++)
+        lay(before, least, chains->room, ways[w]);
+    chains->least = least, chains->next = before;
+    return memcmp(least, before, bytes) != 0;
+}
+
+static void add_kind(Chains *chains, const Order *model, const Sizes *sizes, int kind, int along)
+{
+    Way ways[2];
+    int count = list_ways(model, sizes, kind, along, ways), copies = model->demand[kind];
+    while (copies-- > 0 && add_copy(chains, ways, count))
+        ;
 }
 
 static int stands(const Order *model, const Sizes *sizes, int along)
 {
-    int64_t least[MOST_ROOM + 1];
+    int32_t tables[2][MOST_ROOM + 1], most = (int32_t)(sizes->plate.side[along] + sizes->kerf) + 1;
     int side = along ? model->plate.width : model->plate.length;
-    int room = side + model->kerf + 1;
-    Way ways[2];
-    least[0] = 0;
-    for (int s = 1; s <= room; s++)
-        least[s] = INT64_MAX / 2;
-    for (int i = 0; i < model->kinds; i++) {
-        int count = list_ways(model, sizes, i, along, ways), copies = model->demand[i];
-        while (copies-- > 0 && add_copy(least, room, ways, count))
-            ;
-    }
-    return sizes->plate.side[along] + sizes->kerf < least[room];
+    Chains chains = {tables[0], tables[1], side + model->kerf + 1};
+    chains.least[0] = 0;
+    for (int s = 1; s <= chains.room; s++)
+        chains.least[s] = most;
+    for (int i = 0; i < model->kinds; i++)
+        add_kind(&chains, model, sizes, i, along);
+    return chains.least[chains.room] == most;
 }
 
 uint32_t baseline_check_model(const uint8_t *job, size_t bytes, uint32_t choices,

@@ -4,6 +4,7 @@
 // within 32 bits.
 use super::dice::Dice;
 use crate::plan::{direction, Saw, Sides, Tree};
+use planner::Plan;
 
 pub const NONE: u32 = u32::MAX;
 
@@ -128,6 +129,16 @@ impl Board {
         self.kinds_at(self.root)
     }
 
+    /// How many nodes may be looked at for a place for a panel.
+    pub fn looks(&self, panel: [i32; 2]) -> u64 {
+        let none = panel[0] > self.free[0] && panel[1] > self.free[1];
+        if none {
+            0
+        } else {
+            self.nodes.len() as u64
+        }
+    }
+
     /// Looks for a place for a panel that scores less than the best so far. Now and then one is overlooked.
     pub fn place(&self, panel: [i32; 2], score: Score, dice: &mut Dice, best: &mut Place) -> bool {
         let mut found = false;
@@ -139,7 +150,7 @@ impl Board {
                 found = true;
             }
         }
-        if panel[0] > self.free[0] && panel[1] > self.free[1] {
+        if self.looks(panel) == 0 {
             return found;
         }
         for (index, node) in self.nodes.iter().enumerate() {
@@ -190,9 +201,39 @@ impl Board {
     }
 
     pub fn put(&mut self, kind: usize, turned: bool, used: [i32; 2], place: Place, spare: &mut Vec<Node>) {
-        let (parts, up, room) = ([NONE; 2], NONE, [0; 2]);
-        let leaf = Node { cut: PANEL, turned, kind: kind as u16, above: 0, stages: 0, parts, up, used, room };
-        self.rebuild(NONE, Some((place, leaf)), spare);
+        self.rebuild(NONE, Some((place, leaf(kind, turned, used))), spare);
+    }
+
+    /// An empty board with the panels of a plan of its model; none where they do not fit or pass the limit on stages.
+    /// `panel` gives the kind and the sides of a panel of the plan, and none where it is to be left out.
+    pub fn with_plan(
+        &self,
+        plan: &Plan,
+        panel: &mut dyn FnMut(u16, bool) -> Option<(usize, [i32; 2])>,
+    ) -> Option<Board> {
+        let (mut nodes, mut waiting) = (Vec::new(), Vec::new());
+        for (node, operand) in plan.kinds.iter().zip(&plan.operands).rev() {
+            let made = match node {
+                0 => NONE,
+                1 | 4 => panel(*operand, *node == 4)
+                    .map_or(NONE, |(kind, used)| push(leaf(kind, *node == 4, used), &mut nodes)),
+                cut => match [waiting.pop()?, waiting.pop()?] {
+                    [NONE, part] | [part, NONE] => part,
+                    parts => join(cut - 2, parts, &mut nodes),
+                },
+            };
+            waiting.push(made);
+        }
+        let mut board = Board { nodes, root: waiting.pop()?, ..self.clone() };
+        board.settle();
+        let used = board.used();
+        let fits = used[0] <= board.room[0] && used[1] <= board.room[1];
+        (fits && board.stages() <= board.most_stages()).then_some(board)
+    }
+
+    /// The stages of sawing, where they are limited.
+    fn stages(&self) -> u8 {
+        self.nodes.get(self.root as usize).map_or(0, |root| root.stages)
     }
 
     /// Takes a node out; its sibling takes their parent's place.
@@ -208,6 +249,11 @@ impl Board {
             _ => self.copy(self.root, without, &with, spare),
         };
         std::mem::swap(&mut self.nodes, spare);
+        self.settle();
+    }
+
+    /// What follows from the nodes: rooms, what is filled, and stages where they are limited.
+    fn settle(&mut self) {
         self.filled = 0;
         if self.root == NONE {
             self.nodes.clear();
@@ -398,6 +444,11 @@ impl Board {
         used[axis] = a[axis] + b[axis];
         (planner::Tree::cut(direction(axis), a[axis], first, second), used)
     }
+}
+
+fn leaf(kind: usize, turned: bool, used: [i32; 2]) -> Node {
+    let (parts, up, room) = ([NONE; 2], NONE, [0; 2]);
+    Node { cut: PANEL, turned, kind: kind as u16, above: 0, stages: 0, parts, up, used, room }
 }
 
 fn push(node: Node, to: &mut Vec<Node>) -> u32 {

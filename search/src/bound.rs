@@ -1,6 +1,6 @@
 // Bounds by column generation: a simplex finds prices or multipliers, and the proved calls answer what follows from
 // them. One board: the most that it can hold within the order. Whole orders: what every plan must at least cost.
-use super::clock::Clock;
+use super::clock::Work;
 use super::model::Model;
 use super::proof::{Answer, Priced, MOST_PRICE};
 use super::simplex::{Column, Simplex};
@@ -28,12 +28,12 @@ struct Lowered<'a> {
 
 impl Lowered<'_> {
     /// Tries multipliers, keeps the least bound, and gives the plan behind it as a column, if it is not too long.
-    fn try_out(&mut self, at: Vec<f64>) -> Option<Option<Column>> {
+    fn try_out(&mut self, at: Vec<f64>, work: &mut Work) -> Option<Option<Column>> {
         let whole = |(at, price): (&f64, &u32)| at.round().clamp(0.0, f64::from(*price)) as u32;
         let multipliers: Vec<u32> = at.iter().zip(self.prices).map(whole).collect();
         let left: Vec<u32> = self.prices.iter().zip(&multipliers).map(|(price, less)| price - less).collect();
         self.board.set_prices(&left);
-        let Answer { bound, copies } = self.board.price(self.prices.len())?;
+        let Answer { bound, copies } = self.board.price(self.prices.len(), work)?;
         self.calls += 1;
         let charge = |(kind, copies): &(usize, u16)| u64::from(multipliers[*kind]) * u64::from(*copies);
         let bound = bound + self.board.entries.entries.iter().map(charge).sum::<u64>();
@@ -58,7 +58,7 @@ pub fn lagrange(
     prices: &[u32],
     start: &[u32],
     most_calls: usize,
-    clock: Clock,
+    work: &mut Work,
 ) -> Option<Lagrange> {
     let kinds = prices.len();
     let mut right: Vec<f64> = counts.iter().map(|count| f64::from(*count)).collect();
@@ -68,15 +68,16 @@ pub fn lagrange(
         Lowered { board: board.clone(), prices, best: None, steady: vec![0.0; kinds], calls: 0 };
     let mut columns: Vec<Column> = Vec::new();
     if start.len() == kinds {
-        columns.extend(lowered.try_out(start.iter().map(|at| f64::from(*at)).collect())?);
+        let start = start.iter().map(|at| f64::from(*at)).collect();
+        columns.extend(lowered.try_out(start, work)?);
     }
     loop {
-        simplex.solve(&columns, 1.0);
+        simplex.solve(&columns, 1.0, work);
         let value = -simplex.value();
         let duals: Vec<f64> = simplex.duals().iter().map(|dual| -dual).collect();
         let mut gained = false;
         for share in [STEADY, 0.0] {
-            let Some((column, cost)) = lowered.try_out(mixed(share, &lowered.steady, &duals))? else {
+            let Some((column, cost)) = lowered.try_out(mixed(share, &lowered.steady, &duals), work)? else {
                 return lowered.best;
             };
             if cost + column.iter().zip(&duals).map(|(copies, dual)| copies * dual).sum::<f64>() < -0.5 {
@@ -86,7 +87,7 @@ pub fn lagrange(
             }
         }
         let reached = lowered.best.as_ref().is_some_and(|best| (best.bound as f64) < value + 1.0);
-        if !gained || reached || lowered.calls >= most_calls || clock.is_over() {
+        if !gained || reached || lowered.calls >= most_calls || work.is_over() {
             return lowered.best;
         }
     }
@@ -133,26 +134,26 @@ pub fn floor(
     start: &[u32],
     enough: u64,
     most_calls: usize,
-    clock: Clock,
+    work: &mut Work,
 ) -> Option<Floor> {
     let kinds = task.kinds.len();
     let mut master = Master::new(task, offers);
     let mut best: Option<Floor> = None;
     let mut steady: Option<Vec<f64>> = None;
     if start.len() == kinds {
-        let (floor, plans) = priced(offers, start.to_vec())?;
+        let (floor, plans) = priced(offers, start.to_vec(), work)?;
         plans.into_iter().enumerate().for_each(|(index, plan)| master.add(index, offers[index].cost, plan));
         steady = Some(floor.duals(offers));
         best = Some(floor);
     }
     for _ in 0..most_calls {
-        master.simplex.solve(&master.columns, -1.0);
+        master.simplex.solve(&master.columns, -1.0, work);
         let duals = master.simplex.duals();
         let value = master.simplex.value();
         let (mut gained, mut long) = (false, false);
         for share in [STEADY, 0.0] {
             let at = steady.as_ref().map_or(duals[..kinds].to_vec(), |steady| mixed(share, steady, &duals));
-            let (floor, plans) = priced(offers, whole_prices(&at))?;
+            let (floor, plans) = priced(offers, whole_prices(&at), work)?;
             for (index, plan) in plans.into_iter().enumerate() {
                 long |= plan.is_empty();
                 if master.gains(index, offers[index].cost, &plan, &duals) {
@@ -170,7 +171,7 @@ pub fn floor(
         }
         let cost = best.as_ref().map_or(0, |best| best.cost);
         let closed = enough < u64::MAX && cost >= (value - 1e-6).ceil() as u64;
-        if !gained || long || cost >= enough || closed || clock.is_over() {
+        if !gained || long || cost >= enough || closed || work.is_over() {
             break;
         }
     }
@@ -178,11 +179,11 @@ pub fn floor(
 }
 
 /// The floor under prices, and for each board the plan behind its bound, empty where that is too long.
-fn priced(offers: &mut [Offer], prices: Vec<u32>) -> Option<(Floor, Vec<Vec<f64>>)> {
+fn priced(offers: &mut [Offer], prices: Vec<u32>, work: &mut Work) -> Option<(Floor, Vec<Vec<f64>>)> {
     let (mut bounds, mut plans) = (Vec::new(), Vec::new());
     for offer in offers.iter_mut() {
         offer.priced.set_prices(&prices);
-        let Answer { bound, copies } = offer.priced.price(prices.len())?;
+        let Answer { bound, copies } = offer.priced.price(prices.len(), work)?;
         bounds.push(bound);
         plans.push(copies.unwrap_or_default());
     }

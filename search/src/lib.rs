@@ -2,7 +2,7 @@
 //! few any plan needs, [`plan_board`] makes the most of one board, [`judge_plans`] judges plans that somebody has drawn.
 //!
 //! Boards are packed by ruin and recreate at true sizes, and bounds come from the proved calls on small models. Both run
-//! side by side. The search proves nothing and need not: a verdict rests on proved calls alone. Without a time steps are
+//! side by side. The search proves nothing and need not: a verdict rests on proved calls alone. Without a time work is
 //! counted, and the same order always gets the same plan.
 //!
 //! ```
@@ -37,9 +37,13 @@ mod pack;
 pub mod plan;
 mod planning;
 mod proof;
+mod short;
 mod simplex;
+mod table;
 mod task;
 pub mod verdict;
+mod weighing;
+mod weights;
 mod whole;
 
 pub use board::Board;

@@ -1,6 +1,7 @@
 // Small models of a board: whole sizes for panels and plate, so that whatever chain of panels fits the board truly
 // fits the model. Found by a linear program or by scaling, then mended one by one. `planner_check_model` judges them;
 // nothing here is proved or need be.
+use super::clock::Work;
 use super::dice::Dice;
 use super::simplex::{Column, Simplex};
 use super::task::Task;
@@ -13,14 +14,11 @@ pub const MOST_SIZE: i32 = 1_000;
 const FAR: i32 = 1 << 30;
 
 /// A board and its panels in whole units of a model without a kerf.
-#[derive(Clone, Debug, PartialEq, Eq)]
+#[derive(Clone, Debug, Default, PartialEq, Eq)]
 pub struct Model {
     pub plate: [u16; 2],
     pub sides: Vec<[u16; 2]>,
 }
-
-/// What may still be done, counted in cells of tables: about a billion a second.
-pub struct Work(pub i64);
 
 /// A value in a chain, or else another of the same panel turned, and how many there are.
 #[derive(Clone, Copy, Debug, PartialEq, Eq)]
@@ -63,7 +61,7 @@ struct Sums {
 impl Sums {
     /// Adds one more item to every chain, in one of its ways; false where that changes nothing.
     fn pass(&mut self, room: usize, ways: &[(i32, i32)], work: &mut Work) -> bool {
-        work.0 -= 2 * (self.least.len() * ways.len()) as i64;
+        work.spend(self.least.len() * ways.len());
         self.spare.clone_from(&self.least);
         for &(value, size) in ways {
             let size = size as usize;
@@ -153,7 +151,7 @@ impl Chains {
         for _ in 0..sweeps {
             let (before, shift) = (best, dice.below(numbers));
             for (number, step) in (0..numbers).flat_map(|number| [(number, 1), (number, -1)]) {
-                if best == (0, 0, 0) || work.0 < 0 {
+                if best == (0, 0, 0) || work.is_over() {
                     return best;
                 }
                 let number = (number + shift) % numbers;
@@ -182,7 +180,7 @@ impl Chains {
     fn exact(&self, limit: f64, dice: &mut Dice, work: &mut Work) -> Option<Map> {
         let (sizes, rooms) = self.fair(limit, work)?;
         let mut goal = (rooms[0] - 1e-3).ceil();
-        while goal <= limit && work.0 > 0 {
+        while goal <= limit && !work.is_over() {
             let scale = (goal + 0.5) / (rooms[0] + 0.5);
             for rounding in [0.5, 0.4, 0.6] {
                 let mut map = Map {
@@ -204,10 +202,13 @@ impl Chains {
     fn nearest(&self, limit: i32, dice: &mut Dice, work: &mut Work) -> Map {
         let mut sums = Sums::default();
         let mut tried: Vec<(Misses, Map)> = Vec::new();
-        let (mut room, third) = (limit, work.0 / 3 * 2);
-        while room > limit / 2 && (tried.is_empty() || work.0 > third) {
+        let (mut room, third) = (limit, work.left() / 3 * 2);
+        while room > limit / 2 && (tried.is_empty() || work.left() > third && !work.is_over()) {
             for part in [0.0, 0.25, 0.5, 0.75, 0.999] {
-                for rounding in [0.5, 1e-9] {
+                for rounding in [1e-9, 0.5] {
+                    if !tried.is_empty() && work.is_over() {
+                        break;
+                    }
                     let scale = (f64::from(room) + part) / f64::from(self.axes[0].room);
                     let map = Map {
                         sizes: self.values.iter().map(|v| whole(f64::from(*v) * scale + rounding)).collect(),
@@ -225,7 +226,8 @@ impl Chains {
             if best.as_ref().is_none_or(|(least, _)| misses < *least) {
                 best = Some((misses, map));
             }
-            let done = best.as_ref().is_some_and(|(least, _)| least.0 == 0 && (least.1 == 0 || work.0 < 0));
+            let done =
+                best.as_ref().is_some_and(|(least, _)| least.0 == 0 && (least.1 == 0 || work.is_over()));
             if done {
                 break;
             }
@@ -272,7 +274,7 @@ impl Chains {
         let mut simplex = Simplex::new(&vec![1.0; values + axes], &vec![0.0; values + axes], &right);
         let mut planes = self.first_planes();
         loop {
-            if !simplex.solve(&planes, 1.0) || work.0 < 0 {
+            if !simplex.solve(&planes, 1.0, work) || work.is_over() {
                 return None;
             }
             let mut sizes: Vec<f64> = simplex.duals().iter().map(|dual| -dual).collect();
@@ -345,7 +347,7 @@ impl Chains {
         if length * steps.len() > MOST_CELLS {
             return None;
         }
-        work.0 -= 3 * (length * steps.len()) as i64;
+        work.spend(2 * length * steps.len());
         let better = |new: f32, old: f32| if fits { new > old } else { new < old };
         let mut figures = vec![if fits { f32::NEG_INFINITY } else { f32::INFINITY }; length];
         figures[0] = 0.0;
@@ -466,12 +468,15 @@ impl Problem {
         problem
     }
 
-    /// A model with a plate of at most `limit` a side: exact where one is found, else of least excess.
-    pub fn model(&self, limit: i32, work: i64, dice: &mut Dice) -> Model {
+    /// A model with a plate of at most `limit` a side, and whether it is exact, else of least excess. So much work at
+    /// most is for each map of each of both.
+    pub fn model(&self, limit: i32, each: i64, work: &mut Work, dice: &mut Dice) -> (Model, bool) {
         let limit = limit.min(MOST_SIZE - 1);
+        let mut is_exact = true;
         let map = |part: &Chains| {
-            let exact = part.exact(f64::from(limit), dice, &mut Work(work));
-            exact.unwrap_or_else(|| part.nearest(limit, dice, &mut Work(work)))
+            let exact = work.with_part(each, |work| part.exact(f64::from(limit), dice, work));
+            is_exact &= exact.is_some();
+            exact.unwrap_or_else(|| work.with_part(each, |work| part.nearest(limit, dice, work)))
         };
         let maps: Vec<Map> = self.parts.iter().map(map).collect();
         let of = |side: usize| &maps[side.min(maps.len() - 1)];
@@ -486,7 +491,8 @@ impl Problem {
             Some(values) => [0, 1].map(|side| of(side).sizes[values[side]] as u16),
             None => [MOST_SIZE as u16; 2],
         };
-        Model { plate: [0, 1].map(|side| room(side) as u16), sides: self.places.iter().map(sides).collect() }
+        let plate = [0, 1].map(|side| room(side) as u16);
+        (Model { plate, sides: self.places.iter().map(sides).collect() }, is_exact)
     }
 }
 

@@ -20,8 +20,16 @@ const COOLING: f64 = 0.01;
 /// One step in so many empties a whole board.
 const WHOLE: usize = 24;
 
-/// Steps between two looks at the clock.
-const GLANCE: u64 = 32;
+/// Work between two looks at the clock.
+const GLANCE: u64 = 200_000;
+
+/// The work of a step, of a kind in its queue, of a board and of a node of it that is looked at for a place, and of a
+/// node that is copied.
+const STEP: u64 = 600;
+const QUEUED: u64 = 40;
+const BOARD: u64 = 8;
+const LOOK: u64 = 6;
+const COPY: u64 = 24;
 
 pub struct Packer<'a> {
     task: &'a Task,
@@ -29,12 +37,14 @@ pub struct Packer<'a> {
     values: &'a [i64],
     dice: Dice,
     spare: Vec<Node>,
+    /// What was done so far, in what takes about a nanosecond.
+    pub work: u64,
 }
 
-/// A run of steps: how many at most, what may be missing at its end, and the fewest steps in which a run beside it has
-/// come so far.
+/// A run: its work at most, what may be missing at its end, and the least work in which a run beside it has come so
+/// far.
 pub struct Run<'a> {
-    pub steps: u64,
+    pub work: u64,
     pub enough: i64,
     pub clock: Clock,
     pub won: &'a AtomicU64,
@@ -44,7 +54,7 @@ type Touched = Vec<(usize, Board)>;
 
 impl<'a> Packer<'a> {
     pub fn new(task: &'a Task, values: &'a [i64], seed: u64) -> Packer<'a> {
-        Packer { task, values, dice: Dice::new(seed), spare: Vec::new() }
+        Packer { task, values, dice: Dice::new(seed), spare: Vec::new(), work: 0 }
     }
 
     /// The value of what is missing.
@@ -62,23 +72,26 @@ impl<'a> Packer<'a> {
         self.take(packing, board, packing.boards[board].root(), &mut Vec::new());
     }
 
-    /// Runs from a packing and gives the best that is met, with the steps that it took where so little is missing.
+    /// Runs from a packing and gives the best that is met, with the work that it took where so little is missing.
     pub fn improve(&mut self, from: &Packing, run: &Run) -> (Packing, Option<u64>) {
         let (mut now, mut missing) = (from.clone(), self.missing(from));
         let (mut best, mut least) = (now.clone(), missing);
-        let mean = self.mean_value();
-        let mut heat = 0.0;
-        for step in 0..=run.steps {
+        let (start, mean) = (self.work, self.mean_value());
+        let (mut glance, mut heat) = (start, 0.0);
+        loop {
+            let spent = self.work - start;
             if least <= run.enough {
-                run.won.fetch_min(step, Ordering::Relaxed);
-                return (best, Some(step));
+                run.won.fetch_min(spent, Ordering::Relaxed);
+                return (best, Some(spent));
             }
-            if step % GLANCE == 0 {
-                if run.clock.is_over() || step > run.won.load(Ordering::Relaxed) {
-                    break;
+            if self.work >= glance {
+                if spent > run.work || run.clock.is_over() || spent > run.won.load(Ordering::Relaxed) {
+                    return (best, None);
                 }
-                heat = mean * HEAT * COOLING.powf(step as f64 / run.steps as f64);
+                heat = mean * HEAT * COOLING.powf(spent as f64 / run.work as f64);
+                glance = self.work + GLANCE;
             }
+            self.work += STEP;
             let (left, mut touched) = (now.left.clone(), Vec::new());
             self.ruin(&mut now, &mut touched);
             self.recreate(&mut now, &mut |_| None, &mut touched);
@@ -93,7 +106,6 @@ impl<'a> Packer<'a> {
                 now.left = left;
             }
         }
-        (best, None)
     }
 
     fn mean_value(&self) -> f64 {
@@ -128,6 +140,7 @@ impl<'a> Packer<'a> {
         }
         keep(touched, index, board);
         board.kinds_at(node).into_iter().for_each(|kind| packing.left[kind] += 1);
+        self.work += COPY * board.len() as u64;
         board.take(node, &mut self.spare);
     }
 
@@ -146,6 +159,7 @@ impl<'a> Packer<'a> {
                 if let Some((board, turned, place)) = self.best_place(&packing.boards, kind, score) {
                     keep(touched, board, &packing.boards[board]);
                     let used = self.task.wide(kind, turned);
+                    self.work += COPY * packing.boards[board].len() as u64;
                     packing.boards[board].put(kind, turned, used, place, &mut self.spare);
                     packing.left[kind] -= 1;
                 } else if let Some(board) = fresh(kind) {
@@ -164,11 +178,14 @@ impl<'a> Packer<'a> {
         for (index, board) in
             boards.iter().enumerate().filter(|(_, board)| board.filled + area <= board.area())
         {
-            if board.place(upright, score, &mut self.dice, &mut best) {
-                found = Some((index, false));
-            }
-            if self.task.kinds[kind].turns && board.place(turned, score, &mut self.dice, &mut best) {
-                found = Some((index, true));
+            for (turned, sides) in [(false, upright), (true, turned)] {
+                if turned && !self.task.kinds[kind].turns {
+                    continue;
+                }
+                self.work += BOARD + LOOK * board.looks(sides);
+                if board.place(sides, score, &mut self.dice, &mut best) {
+                    found = Some((index, turned));
+                }
             }
         }
         found.map(|(index, turned)| (index, turned, best))
@@ -177,6 +194,7 @@ impl<'a> Packer<'a> {
     /// The kinds that lie outside, large ones first by one of several rules, with some noise, or in any order.
     fn queue(&mut self, left: &[u32]) -> Vec<usize> {
         let rule = self.dice.below(6);
+        self.work += QUEUED * left.len() as u64;
         let outside = (0..left.len()).filter(|kind| left[*kind] > 0);
         let mut queue: Vec<(i64, usize)> = outside
             .map(|kind| {
@@ -196,10 +214,10 @@ impl<'a> Packer<'a> {
     }
 }
 
-/// The packings of runs side by side: of those that came far enough the one in the fewest steps, or else all.
+/// The packings of runs side by side: of those that came far enough the one with the least work, or else all.
 pub fn first(packings: Vec<(Packing, Option<u64>)>) -> Vec<Packing> {
-    let least = packings.iter().filter_map(|(_, steps)| *steps).min();
-    let kept = packings.into_iter().filter(|(_, steps)| *steps == least).map(|(packing, _)| packing);
+    let least = packings.iter().filter_map(|(_, work)| *work).min();
+    let kept = packings.into_iter().filter(|(_, work)| *work == least).map(|(packing, _)| packing);
     if least.is_some() {
         kept.take(1).collect()
     } else {

@@ -1,17 +1,15 @@
 // A board and its model as the proved calls read them. Whatever the search says, a bound counts only where
 // `planner_check_model` has passed the model that it was computed on.
+use super::clock::Work;
 use super::model::Model;
+use super::short::exact_work;
 use super::task::Task;
 use crate::plan::Sides;
-use planner::{Choices, Job, Kind, Planner, TrueSizes};
+use planner::{Choices, Job, Kind, Plan, Planner, TrueSizes};
 
 /// The most copies of a kind and the most kinds in a job block.
 pub const MOST_COPIES: u32 = 255;
 pub const MOST_KINDS: usize = 64;
-
-/// Ways to take copies, and cells of a table, up to which the exact call is quick.
-const MOST_STATES: u64 = 600;
-const MOST_CELLS: u64 = 1_000_000;
 
 /// The most that a price may be.
 pub const MOST_PRICE: u64 = 1_000_000;
@@ -45,25 +43,27 @@ impl Entries {
 }
 
 /// What a proved bound follows from: a model of the boards of a line of the stock, and a price and a multiplier for
-/// each kind of the task.
-#[derive(Clone, Debug, PartialEq, Eq)]
+/// each kind of the task, or weights, one a kind or two.
+#[derive(Clone, Debug, Default, PartialEq, Eq)]
 pub struct Modelled {
     pub stock: usize,
     pub model: Model,
     pub prices: Vec<u32>,
     pub multipliers: Vec<u32>,
+    pub weights: [Vec<u8>; 2],
 }
 
 impl Modelled {
-    /// Whether it has a line of the stock of this task and a size, and where there are some a price and a multiplier,
-    /// for each of its kinds.
+    /// Whether it has a line of the stock of this task and a size, and where there are some a price, a multiplier and
+    /// weights, for each of its kinds.
     pub fn is_of(&self, task: &Task) -> bool {
         let kinds = task.kinds.len();
-        let some = |list: &[u32]| list.is_empty() || list.len() == kinds;
+        let some = |length: usize| length == 0 || length == kinds;
         self.stock < task.stock.len()
             && self.model.sides.len() == kinds
-            && some(&self.prices)
-            && some(&self.multipliers)
+            && some(self.prices.len())
+            && some(self.multipliers.len())
+            && self.weights.iter().all(|weights| some(weights.len()))
     }
 }
 
@@ -78,9 +78,10 @@ pub struct Basis {
 /// A board under prices, for the proved calls.
 #[derive(Clone)]
 pub struct Priced {
+    pub model: Model,
     pub basis: Basis,
     pub entries: Entries,
-    memory: u64,
+    pub memory: u64,
 }
 
 /// What a call of the bound gives: the bound, and the copies of each kind of the task in the plan behind it, where
@@ -104,7 +105,7 @@ impl Priced {
         let sizes = TrueSizes { length: board[0], width: board[1], kerf: task.kerf, kinds: sides };
         let basis = Basis { job, choices: task.choices(), sizes };
         basis.planner(memory).check_model(&basis.sizes).ok()?;
-        Some(Priced { basis, entries, memory })
+        Some(Priced { model: model.clone(), basis, entries, memory })
     }
 
     /// Whether every copy stands in the block.
@@ -120,20 +121,65 @@ impl Priced {
     }
 
     /// The bound under the prices, and the plan behind it.
-    pub fn price(&self, kinds: usize) -> Option<Answer> {
+    pub fn price(&self, kinds: usize, work: &mut Work) -> Option<Answer> {
         let mut planner = self.basis.planner(self.memory);
         let weights = self.basis.no_weights();
         match planner.write_plan(&weights) {
             Ok((bound, plan)) => {
+                work.spend(fill_work(bound.lengths, bound.widths));
                 let mut copies = vec![0.0; kinds];
-                for (node, operand) in plan.kinds.iter().zip(&plan.operands) {
-                    if matches!(node, 1 | 4) {
-                        copies[self.entries.entries[usize::from(*operand)].0] += 1.0;
-                    }
-                }
+                let entries = self.entries.entries.iter().zip(self.copies(&plan));
+                entries.for_each(|((kind, _), of)| copies[*kind] += f64::from(of));
                 Some(Answer { bound: bound.bound, copies: Some(copies) })
             }
-            Err(_) => Some(Answer { bound: planner.bound(&weights).ok()?.bound, copies: None }),
+            Err(_) => {
+                let bound = planner.bound(&weights).ok()?;
+                work.spend(2 * fill_work(bound.lengths, bound.widths));
+                Some(Answer { bound: bound.bound, copies: None })
+            }
+        }
+    }
+
+    /// The copies of each kind of the block in a plan.
+    pub fn copies(&self, plan: &Plan) -> Vec<u32> {
+        let mut copies = vec![0; self.entries.entries.len()];
+        for (node, operand) in plan.kinds.iter().zip(&plan.operands) {
+            if matches!(node, 1 | 4) {
+                copies[usize::from(*operand)] += 1;
+            }
+        }
+        copies
+    }
+
+    /// Whether so many copies of each kind of the block are within the order.
+    pub fn is_within(&self, copies: &[u32]) -> bool {
+        self.entries.entries.iter().zip(copies).all(|((_, demand), copies)| *copies <= u32::from(*demand))
+    }
+
+    /// The copies of each kind of the block that the capacity counts: no more than the plate holds.
+    pub fn counted(&self) -> Vec<u32> {
+        let Basis { job, choices, .. } = &self.basis;
+        let counted = |kind: &Kind| {
+            let [length, width, of_length, of_width] =
+                [job.length, job.width, kind.length, kind.width].map(u32::from);
+            let fits = |length: u32, width: u32| of_length <= length && of_width <= width;
+            let held = if choices.turning && !(choices.grain && kind.grain) {
+                let either = fits(length, width) || fits(width, length);
+                u32::from(either) * (length * width / (of_length * of_width))
+            } else {
+                (length / of_length) * (width / of_width)
+            };
+            held.min(u32::from(kind.demand))
+        };
+        job.kinds.iter().map(counted).collect()
+    }
+
+    /// The bound under one weight a kind of the block, or two.
+    pub fn weighed(&self, weights: &[Vec<u8>; 2]) -> Option<u64> {
+        let mut planner = self.basis.planner(self.memory);
+        match &weights[1][..] {
+            [] => Some(planner.bound(&weights[0]).ok()?.bound),
+            second => Some(planner.bound_two(&weights[0], second).ok()?.bound),
         }
     }
 
@@ -144,21 +190,16 @@ impl Priced {
         Some(planner.bound_lagrangian(&self.basis.no_weights(), &multipliers).ok()?.bound)
     }
 
-    /// Whether the exact call is quick: few ways to take copies, on a small model.
-    pub fn is_short(&self) -> bool {
-        let states: u64 = self
-            .entries
-            .entries
-            .iter()
-            .map(|(_, copies)| u64::from(*copies) + 1)
-            .fold(1, u64::saturating_mul);
-        let Job { length, width, .. } = self.basis.job;
-        states <= MOST_STATES && states * u64::from(length) * u64::from(width) <= MOST_CELLS
+    /// About the work of the exact call; none where the order or its table is too long for it.
+    pub fn exact_work(&self) -> Option<u64> {
+        let (work, words) = exact_work(&self.basis)?;
+        (words <= self.memory / 8).then_some(work)
     }
 
-    /// The most that a plan of the model within the order earns.
-    pub fn exact(&self) -> Option<u64> {
-        Some(self.basis.planner(self.memory).exact().ok()?.0.optimum)
+    /// The most that a plan of the model within the order earns, and a plan that earns it.
+    pub fn exact(&self) -> Option<(u64, Plan)> {
+        let (exact, plan) = self.basis.planner(self.memory).exact().ok()?;
+        Some((exact.optimum, plan))
     }
 
     /// The least number of boards that hold the whole order beside others that hold no more than `other`, and the
@@ -171,6 +212,12 @@ impl Priced {
     fn multipliers(&self, multipliers: &[u32]) -> Vec<u32> {
         self.entries.entries.iter().map(|(kind, _)| multipliers[*kind]).collect()
     }
+}
+
+/// The work of a bound without weights on so many lengths and widths: cuts up to half of each side, several at a time,
+/// and the table itself.
+fn fill_work(lengths: u64, widths: u64) -> usize {
+    (lengths * widths * (8 + (lengths + widths) / 8)) as usize
 }
 
 impl Basis {

@@ -1,5 +1,6 @@
 // A small dense simplex for column generation: least cost · x where the columns' sum is the right side and x >= 0,
 // from a diagonal basis. It guides the search and proves nothing.
+use super::clock::Work;
 
 /// A column and its cost.
 pub type Column = (Vec<f64>, f64);
@@ -41,9 +42,13 @@ impl Simplex {
     }
 
     /// Pivots over columns and slacks, each `sign` in one row and without a cost, until none lowers the cost; false
-    /// where there is no least.
-    pub fn solve(&mut self, columns: &[Column], sign: f64) -> bool {
+    /// where there is no least. Where the work is over, the solution is taken as it is.
+    pub fn solve(&mut self, columns: &[Column], sign: f64, work: &mut Work) -> bool {
         for _ in 0..MOST_PIVOTS {
+            work.spend(self.rows * (2 * self.rows + columns.len()));
+            if work.is_over() {
+                return true;
+            }
             let duals = self.duals();
             let reduced = columns.iter().map(|(column, cost)| cost - dot(column, &duals));
             let slack = duals.iter().map(|dual| -sign * dual);

@@ -42,8 +42,8 @@ pub struct Task {
     pub worths: Vec<u64>,
 }
 
-/// Orders of more panels get fewer steps.
-const MANY_PANELS: u64 = 100;
+/// Units of a model that the smallest side of a panel has at least.
+const UNITS: i64 = 2;
 
 /// Where an order has prices, an area without one counts in square centimetres.
 const SQUARE_CENTIMETRE: u64 = 100_000_000;
@@ -99,10 +99,11 @@ impl Task {
         })
     }
 
-    /// So many steps of packing, or fewer where the order has very many panels and each step takes longer.
-    pub fn steps(&self, steps: u64) -> u64 {
-        let panels: u64 = self.kinds.iter().map(|kind| u64::from(kind.count)).sum();
-        steps * MANY_PANELS / panels.max(MANY_PANELS)
+    /// Whether a model of this side is too coarse for a board: its smallest panel has hardly a unit.
+    pub fn is_coarse(&self, board: Sides, side: i32) -> bool {
+        let wide = (0..self.kinds.len()).flat_map(|kind| self.wide(kind, false));
+        let (least, room) = (wide.min().unwrap_or(i32::MAX), self.room(board));
+        i64::from(side) * i64::from(least) < UNITS * i64::from(room[0].max(room[1]))
     }
 
     /// Whether panels may be turned, and whether some may not.

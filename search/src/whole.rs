@@ -2,36 +2,41 @@
 // last board is packed closer, so that its rest is as large as possible.
 use super::board::Board;
 use super::bound::{floor, Floor, Offer};
-use super::clock::Clock;
+use super::clock::{Clock, Work, SECOND};
 use super::dice::Dice;
 use super::model::Problem;
 use super::pack::{first, Packer, Packing, Run};
 use super::proof::Modelled;
 use super::task::{Stock, Task};
 use super::{Progress, Seen};
-use std::sync::atomic::AtomicU64;
+use std::sync::atomic::{AtomicU64, Ordering};
 use std::thread;
 
-/// Fillings from nothing, of which the best is taken; orders of very many panels get fewer.
-const FILLINGS: u64 = 200;
+/// Fillings from nothing, of which the best is taken, and their work at most.
+const FILLINGS: usize = 200;
+const FILLING: i64 = SECOND;
 
-/// The sides of the models; for each the calls of the bound, the work that finding it may take, and the steps of
-/// packing beside it.
+/// The sides of the models; for each the calls of the bound, the work of finding the models, and the work in all, as
+/// much as packing takes beside it.
 const RUNGS: [Rung; 4] = [
-    Rung { side: 100, calls: 400, work: 50_000_000, steps: 2_000 },
-    Rung { side: 250, calls: 300, work: 150_000_000, steps: 50_000 },
-    Rung { side: 500, calls: 200, work: 300_000_000, steps: 100_000 },
-    Rung { side: 999, calls: 200, work: 300_000_000, steps: 200_000 },
+    Rung { side: 100, calls: 400, finding: SECOND / 20, work: SECOND / 2 },
+    Rung { side: 250, calls: 300, finding: SECOND / 7, work: SECOND },
+    Rung { side: 500, calls: 200, finding: SECOND / 3, work: 3 * SECOND },
+    Rung { side: 999, calls: 200, finding: SECOND / 3, work: 8 * SECOND },
 ];
 
-/// Steps of the rounds of packing after the bounds, on both cores; where there is a time, rounds go on until it is up,
-/// each with half as many again.
-const ROUNDS: [u64; 3] = [400_000, 800_000, 1_200_000];
+/// Work of the rounds of packing after the bounds, on each of both cores, and of all rounds. Where there is a time,
+/// rounds go on until it is up, each with half as much again.
+const ROUNDS: [i64; 3] = [3 * SECOND, 6 * SECOND, 9 * SECOND];
+const ALL_ROUNDS: i64 = 24 * SECOND;
 
-/// Steps of each try to pack the last board closer, and how often its length and its width are halved towards the
+/// Work of each try to pack the last board closer, and how often its length and its width are halved towards the
 /// least.
-const CLOSER: u64 = 12_000;
+const CLOSER: i64 = SECOND / 8;
 const HALVINGS: usize = 7;
+
+/// Packing with less work than this does not pay.
+const LEAST_RUN: i64 = SECOND / 100;
 
 /// A last board is not packed closer than this, in thousandths of a millimetre.
 const CLOSE: i32 = 5_000;
@@ -40,14 +45,14 @@ const CLOSE: i32 = 5_000;
 const MOST_SETS: usize = 100_000;
 const TRIED_SETS: usize = 4;
 
-/// The share of a time after which the last board is packed closer.
+/// The share of a time after which the last board is packed closer; what comes before has so much of it.
 const LAST_BOARD: f64 = 0.85;
 
 struct Rung {
     side: i32,
     calls: usize,
+    finding: i64,
     work: i64,
-    steps: u64,
 }
 
 /// What was found for a whole order.
@@ -82,11 +87,13 @@ pub fn whole(task: &Task, clock: Clock, memory: u64, progress: &Progress) -> Who
     if task.kinds.is_empty() {
         return Whole { packing: best, proof: None };
     }
-    let mut search =
-        Search { task, values, clock, memory, progress, best, proof: None, prices: Vec::new(), seed: 0 };
+    let (proof, prices, seed) = (None, Vec::new(), 0);
+    let before = clock.share(LAST_BOARD);
+    let mut search = Search { task, values, clock: before, memory, progress, best, proof, prices, seed };
     search.fill();
     search.climb();
     search.pack_on();
+    search.clock = clock;
     search.close_up();
     Whole { packing: search.best, proof: search.proof }
 }
@@ -123,7 +130,7 @@ impl Search<'_> {
 
     fn is_done(&self) -> bool {
         let holds = self.missing(&self.best) == 0;
-        holds && self.cost(&self.best) <= self.floor() || self.clock.is_past(LAST_BOARD)
+        holds && self.cost(&self.best) <= self.floor() || self.clock.is_over()
     }
 
     /// What is missing, what the boards cost, and how many they are: the less the better.
@@ -143,7 +150,8 @@ impl Search<'_> {
 
     /// The best of many fillings: the offcuts first, then boards as they are needed.
     fn fill(&mut self) {
-        for _ in 0..=self.task.steps(FILLINGS) {
+        let mut work = Work::new(FILLING, self.clock);
+        for _ in 0..FILLINGS {
             let mut packing = Packing { boards: self.offcuts(), left: self.task.counts() };
             let mut opened = vec![0; self.task.stock.len()];
             let mut fresh = |kind: usize| {
@@ -152,11 +160,13 @@ impl Search<'_> {
                 Some(self.board(stock))
             };
             let values = self.values.clone();
-            Packer::new(self.task, &values, self.seed).fill(&mut packing, &mut fresh);
+            let mut packer = Packer::new(self.task, &values, self.seed);
+            packer.fill(&mut packing, &mut fresh);
+            work.spend(packer.work as usize);
             packing.boards.retain(|board| !board.is_empty());
             self.seed += 1;
             self.offer(packing);
-            if self.clock.is_past(LAST_BOARD) || self.fills_area() {
+            if work.is_over() || self.clock.is_over() || self.fills_area() {
                 return;
             }
         }
@@ -189,23 +199,42 @@ impl Search<'_> {
         open.min_by(|a, b| each(*a).total_cmp(&each(*b)))
     }
 
+    /// The rungs that are not too coarse, or else the last.
+    fn rungs(&self) -> &'static [Rung] {
+        let coarse =
+            |rung: &&Rung| self.task.stock.iter().any(|stock| self.task.is_coarse(stock.sides, rung.side));
+        &RUNGS[RUNGS.iter().take_while(coarse).count().min(RUNGS.len() - 1)..]
+    }
+
     /// Bounds on finer and finer models, while boards are packed beside.
     fn climb(&mut self) {
-        for rung in &RUNGS {
+        for rung in self.rungs() {
             if self.is_done() {
                 return;
             }
             let cost = if self.missing(&self.best) == 0 { self.cost(&self.best) } else { u64::MAX - 1 };
             let start = self.starts().into_iter().next();
-            let (proof, packing) = thread::scope(|scope| {
-                let proof = scope.spawn(|| self.prove(rung, cost));
-                let won = AtomicU64::new(u64::MAX);
-                let packing = start.map(|start| self.packed(&start, rung.steps, self.seed + 1, &won));
-                (proof.join().expect("a bound that ends"), packing)
+            let won = AtomicU64::new(u64::MAX);
+            let pack = |work: i64, seed: u64| {
+                let start = start.as_ref().filter(|_| work > LEAST_RUN)?;
+                Some(self.packed(start, work, self.seed + seed, &won))
+            };
+            let (proof, packings) = thread::scope(|scope| {
+                let beside = scope.spawn(|| {
+                    let mut work = Work::new(rung.work, self.clock);
+                    let proof = self.prove(rung, cost, &mut work);
+                    if proof.as_ref().is_some_and(|proof| proof.floor.cost >= cost) {
+                        won.store(0, Ordering::Relaxed);
+                    }
+                    (proof, pack(work.left(), 2))
+                });
+                let packing = pack(rung.work, 1);
+                let (proof, other) = beside.join().expect("a bound that ends");
+                (proof, packing.into_iter().chain(other).collect())
             });
-            self.seed += 1;
+            self.seed += 2;
             self.keep(proof);
-            packing.into_iter().for_each(|(packing, _)| self.offer(packing));
+            first(packings).into_iter().for_each(|packing| self.offer(packing));
         }
     }
 
@@ -220,18 +249,21 @@ impl Search<'_> {
         }
     }
 
-    /// Rounds of packing towards less cost, with a seed on each core.
+    /// Rounds of packing towards less cost, with a seed on each core. Several sets of boards share the work of a round.
     fn pack_on(&mut self) {
-        let (mut round, mut steps) = (0, ROUNDS[0]);
-        while !self.is_done() && (round < ROUNDS.len() || self.clock.is_timed()) {
-            steps = ROUNDS.get(round).copied().unwrap_or(steps + steps / 2);
+        let (mut round, mut work, mut left) = (0, ROUNDS[0], ALL_ROUNDS);
+        while !self.is_done() && (round < ROUNDS.len() && left > 0 || self.clock.is_timed()) {
+            work = ROUNDS.get(round).copied().unwrap_or(work + work / 2);
+            left -= work;
             let before = self.key(&self.best);
-            for start in self.starts() {
+            let starts = self.starts();
+            let each = work / starts.len().max(1) as i64;
+            for start in starts {
                 let won = AtomicU64::new(u64::MAX);
                 let packings = thread::scope(|scope| {
-                    let beside = scope.spawn(|| self.packed(&start, steps, self.seed + 2, &won));
+                    let beside = scope.spawn(|| self.packed(&start, each, self.seed + 2, &won));
                     vec![
-                        self.packed(&start, steps, self.seed + 1, &won),
+                        self.packed(&start, each, self.seed + 1, &won),
                         beside.join().expect("a search that ends"),
                     ]
                 });
@@ -245,9 +277,9 @@ impl Search<'_> {
         }
     }
 
-    /// A packing of so many steps from a start.
-    fn packed(&self, start: &Packing, steps: u64, seed: u64, won: &AtomicU64) -> (Packing, Option<u64>) {
-        let run = Run { steps: self.task.steps(steps), enough: 0, clock: self.clock, won };
+    /// A packing of so much work from a start.
+    fn packed(&self, start: &Packing, work: i64, seed: u64, won: &AtomicU64) -> (Packing, Option<u64>) {
+        let run = Run { work: work as u64, enough: 0, clock: self.clock, won };
         let (mut packing, taken) = Packer::new(self.task, &self.values, seed).improve(start, &run);
         packing.boards.retain(|board| !board.is_empty());
         (packing, taken)
@@ -320,15 +352,16 @@ impl Search<'_> {
     }
 
     /// A floor on models of this size; `enough` ends it early.
-    fn prove(&self, rung: &Rung, enough: u64) -> Option<Proof> {
+    fn prove(&self, rung: &Rung, enough: u64, work: &mut Work) -> Option<Proof> {
         let (mut offers, mut modelled) = (Vec::new(), Vec::new());
+        let finding = rung.finding / self.task.usable_stock().count().max(1) as i64;
         for index in self.task.usable_stock() {
             let problem = Problem::new(self.task, self.task.stock[index].sides);
-            let model = problem.model(rung.side, rung.work, &mut Dice::new(rung.side as u64));
+            let (model, _) = problem.model(rung.side, finding, work, &mut Dice::new(rung.side as u64));
             offers.push(Offer::new(self.task, index, &model, self.memory)?);
-            modelled.push(Modelled { stock: index, model, prices: Vec::new(), multipliers: Vec::new() });
+            modelled.push(Modelled { stock: index, model, ..Modelled::default() });
         }
-        let floor = floor(self.task, &mut offers, &self.prices, enough, rung.calls, self.clock)?;
+        let floor = floor(self.task, &mut offers, &self.prices, enough, rung.calls, work)?;
         modelled.iter_mut().for_each(|part| part.prices.clone_from(&floor.prices));
         Some(Proof { modelled, floor })
     }
@@ -375,8 +408,8 @@ impl Search<'_> {
             packer.empty(&mut next, last);
             let middle = most - (most - least) / 2;
             next.boards[last].room[axis] = middle;
-            let (steps, won) = (self.task.steps(CLOSER), &AtomicU64::new(u64::MAX));
-            let (next, _) = packer.improve(&next, &Run { steps, enough: 0, clock: self.clock, won });
+            let (work, won) = (CLOSER as u64, &AtomicU64::new(u64::MAX));
+            let (next, _) = packer.improve(&next, &Run { work, enough: 0, clock: self.clock, won });
             if self.missing(&next) == 0 {
                 now = next;
             } else {
@@ -394,8 +427,8 @@ pub fn bounds_of_order(task: &Task, clock: Clock, memory: u64) -> Vec<Modelled> 
     let values = areas(task);
     let (proof, prices, seed) = (None, Vec::new(), 0);
     let mut search = Search { task, values, clock, memory, progress, best, proof, prices, seed };
-    for rung in &RUNGS {
-        search.keep(search.prove(rung, u64::MAX - 1));
+    for rung in search.rungs() {
+        search.keep(search.prove(rung, u64::MAX - 1, &mut Work::new(rung.work, clock)));
         if clock.is_over() {
             break;
         }

@@ -13,6 +13,8 @@ use crate::racks::run_rack;
 use crate::saw_calls::run_entries;
 use crate::saw_calls::run_saw;
 use crate::tidy::run_neat;
+use crate::true_sizes::run_model;
+use crate::true_sizes::run_true;
 use crate::write::run_write;
 use test_tools::Words;
 use test_tools::bytes;
@@ -32,10 +34,12 @@ fn run_on(t: &Words, letter: u8, block: &[u8], kinds: &[u8], operands: &[u16]) {
         b'E' => run_entries(t, block, kinds, operands),
         b'F' => run_find(t, block, kinds, operands),
         b'L' => run_certify(t, true, block, kinds, operands),
+        b'M' => run_model(t, block),
         b'N' => run_neat(t, block, kinds, operands),
         b'O' => run_old_job(block),
         b'R' => run_rack(t, block, kinds, operands),
         b'S' => run_saw(t, block, kinds, operands),
+        b'T' => run_true(t, block, kinds, operands),
         b'W' => run_write(t, block),
         _ => {}
     }

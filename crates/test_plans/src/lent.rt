@@ -52,6 +52,11 @@ pub const PLATE_LENGTHS: usize = 14000;
 
 pub const PLATE_WIDTHS: usize = 15000;
 
+// The sizes block, and the numbers that it is set from.
+pub const SIZES: usize = 16000;
+
+pub const TRUE_SIZES: usize = 17000;
+
 pub const KINDS: usize = 20000;
 
 pub const OPERANDS: usize = 30000;

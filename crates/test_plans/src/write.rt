@@ -41,15 +41,15 @@ fn print_answer(a: WriteAnswer) {
     }
 }
 
-fn print_entry(kind: u8, operand: u16) {
-    print_numbers(b" #.#", &[kind as u64, widen(operand)]);
+pub fn print_entry(kind: u8, operand: u64) {
+    print_numbers(b" #.#", &[kind as u64, operand]);
 }
 
 // Seven entries of both arrays.
 pub fn print_entries(kinds: &[u8; 5000], operands: &[u16; 5000]) {
     text(b":");
     for i in 0..7 {
-        print_entry(kinds[i], operands[i]);
+        print_entry(kinds[i], widen(operands[i]));
     }
 }
 

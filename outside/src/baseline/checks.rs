@@ -7,72 +7,130 @@ use crate::answers::{
 
 extern "C" {
     fn baseline_check_plan(
-        job: *const u8, bytes: usize, choices: u32,
-        kinds: *const u8, operands: *const u16, nodes: usize,
+        job: *const u8,
+        bytes: usize,
+        choices: u32,
+        kinds: *const u8,
+        operands: *const u16,
+        nodes: usize,
         answer: *mut u64,
     ) -> u32;
 
     fn baseline_check_plan_block(
-        job: *const u8, bytes: usize, choices: u32,
-        plan: *const u8, plan_bytes: usize,
+        job: *const u8,
+        bytes: usize,
+        choices: u32,
+        plan: *const u8,
+        plan_bytes: usize,
         answer: *mut u64,
     ) -> u32;
 
     fn baseline_check_plan_staged(
-        job: *const u8, bytes: usize, choices: u32, limit: u32,
-        kinds: *const u8, operands: *const u16, nodes: usize,
+        job: *const u8,
+        bytes: usize,
+        choices: u32,
+        limit: u32,
+        kinds: *const u8,
+        operands: *const u16,
+        nodes: usize,
         answer: *mut u64,
     ) -> u32;
 
     fn baseline_saw_check(
-        job: *const u8, bytes: usize, choices: u32,
-        kinds: *const u8, operands: *const u16, nodes: usize,
+        job: *const u8,
+        bytes: usize,
+        choices: u32,
+        kinds: *const u8,
+        operands: *const u16,
+        nodes: usize,
         answer: *mut u64,
     ) -> u32;
 
     fn baseline_saw_part(
-        job: *const u8, bytes: usize, choices: u32,
-        kinds: *const u8, operands: *const u16, nodes: usize, node: u64,
+        job: *const u8,
+        bytes: usize,
+        choices: u32,
+        kinds: *const u8,
+        operands: *const u16,
+        nodes: usize,
+        node: u64,
         answer: *mut u64,
     ) -> u32;
 
     fn baseline_check_rack(
-        job: *const u8, bytes: usize, choices: u32,
-        lengths: *const u16, widths: *const u16, plates: usize, profits: *mut u64,
-        kinds: *const u8, operands: *const u16, nodes: usize,
+        job: *const u8,
+        bytes: usize,
+        choices: u32,
+        lengths: *const u16,
+        widths: *const u16,
+        plates: usize,
+        profits: *mut u64,
+        kinds: *const u8,
+        operands: *const u16,
+        nodes: usize,
         answer: *mut u64,
     ) -> u32;
 
     fn baseline_neat_plan(
-        job: *const u8, bytes: usize, choices: u32,
-        kinds: *const u8, operands: *const u16, nodes: usize,
-        neat_kinds: *mut u8, neat_operands: *mut u16, room: usize,
+        job: *const u8,
+        bytes: usize,
+        choices: u32,
+        kinds: *const u8,
+        operands: *const u16,
+        nodes: usize,
+        neat_kinds: *mut u8,
+        neat_operands: *mut u16,
+        room: usize,
         answer: *mut u64,
     ) -> u32;
 
     fn baseline_check_model(
-        job: *const u8, bytes: usize, choices: u32, sizes: *const u8,
+        job: *const u8,
+        bytes: usize,
+        choices: u32,
+        sizes: *const u8,
         answer: *mut u64,
     ) -> u32;
 
     fn baseline_true_plan(
-        job: *const u8, bytes: usize, choices: u32, sizes: *const u8,
-        kinds: *const u8, operands: *const u16, nodes: usize,
-        true_kinds: *mut u8, positions: *mut u32,
+        job: *const u8,
+        bytes: usize,
+        choices: u32,
+        sizes: *const u8,
+        kinds: *const u8,
+        operands: *const u16,
+        nodes: usize,
+        true_kinds: *mut u8,
+        positions: *mut u32,
         answer: *mut u64,
     ) -> u32;
 
     fn baseline_certify(
-        job: *const u8, bytes: usize, choices: u32, weights: *const u8,
-        kinds: *const u8, operands: *const u16, nodes: usize,
-        lengths: *mut u16, widths: *mut u16, table: *mut u64,
+        job: *const u8,
+        bytes: usize,
+        choices: u32,
+        weights: *const u8,
+        kinds: *const u8,
+        operands: *const u16,
+        nodes: usize,
+        lengths: *mut u16,
+        widths: *mut u16,
+        table: *mut u64,
         answer: *mut u64,
     ) -> u32;
 
     fn baseline_certify_staged(
-        job: *const u8, bytes: usize, choices: u32, weights: *const u8, limit: u32,
-        kinds: *const u8, operands: *const u16, nodes: usize,
-        lengths: *mut u16, widths: *mut u16, table: *mut u64,
+        job: *const u8,
+        bytes: usize,
+        choices: u32,
+        weights: *const u8,
+        limit: u32,
+        kinds: *const u8,
+        operands: *const u16,
+        nodes: usize,
+        lengths: *mut u16,
+        widths: *mut u16,
+        table: *mut u64,
         answer: *mut u64,
     ) -> u32;
 }
@@ -85,10 +143,15 @@ fn nodes(kinds: &[u8], operands: &[u16], answer: &[u64], words: usize) -> usize 
 
 pub fn check_plan(job: &[u8], choices: u32, kinds: &[u8], operands: &[u16], answer: &mut [u64]) -> u32 {
     let nodes = nodes(kinds, operands, answer, REPORT_WORDS);
+    // SAFETY: the lengths are those of the slices, and the answer has room.
     unsafe {
         baseline_check_plan(
-            job.as_ptr(), job.len(), choices,
-            kinds.as_ptr(), operands.as_ptr(), nodes,
+            job.as_ptr(),
+            job.len(),
+            choices,
+            kinds.as_ptr(),
+            operands.as_ptr(),
+            nodes,
             answer.as_mut_ptr(),
         )
     }
@@ -96,10 +159,14 @@ pub fn check_plan(job: &[u8], choices: u32, kinds: &[u8], operands: &[u16], answ
 
 pub fn check_plan_block(job: &[u8], choices: u32, plan: &[u8], answer: &mut [u64]) -> u32 {
     assert!(answer.len() >= REPORT_WORDS);
+    // SAFETY: the lengths are those of the slices, and the answer has room.
     unsafe {
         baseline_check_plan_block(
-            job.as_ptr(), job.len(), choices,
-            plan.as_ptr(), plan.len(),
+            job.as_ptr(),
+            job.len(),
+            choices,
+            plan.as_ptr(),
+            plan.len(),
             answer.as_mut_ptr(),
         )
     }
@@ -114,10 +181,16 @@ pub fn check_plan_staged(
     answer: &mut [u64],
 ) -> u32 {
     let nodes = nodes(kinds, operands, answer, STAGED_REPORT_WORDS);
+    // SAFETY: the lengths are those of the slices, and the answer has room.
     unsafe {
         baseline_check_plan_staged(
-            job.as_ptr(), job.len(), choices, limit,
-            kinds.as_ptr(), operands.as_ptr(), nodes,
+            job.as_ptr(),
+            job.len(),
+            choices,
+            limit,
+            kinds.as_ptr(),
+            operands.as_ptr(),
+            nodes,
             answer.as_mut_ptr(),
         )
     }
@@ -125,10 +198,15 @@ pub fn check_plan_staged(
 
 pub fn saw_check(job: &[u8], choices: u32, kinds: &[u8], operands: &[u16], answer: &mut [u64]) -> u32 {
     let nodes = nodes(kinds, operands, answer, SAW_WORDS);
+    // SAFETY: the lengths are those of the slices, and the answer has room.
     unsafe {
         baseline_saw_check(
-            job.as_ptr(), job.len(), choices,
-            kinds.as_ptr(), operands.as_ptr(), nodes,
+            job.as_ptr(),
+            job.len(),
+            choices,
+            kinds.as_ptr(),
+            operands.as_ptr(),
+            nodes,
             answer.as_mut_ptr(),
         )
     }
@@ -144,10 +222,16 @@ pub fn saw_part(
     answer: &mut [u64],
 ) -> u32 {
     let nodes = nodes(kinds, operands, answer, 2);
+    // SAFETY: the lengths are those of the slices, and the answer has room.
     unsafe {
         baseline_saw_part(
-            job.as_ptr(), job.len(), choices,
-            kinds.as_ptr(), operands.as_ptr(), nodes, node,
+            job.as_ptr(),
+            job.len(),
+            choices,
+            kinds.as_ptr(),
+            operands.as_ptr(),
+            nodes,
+            node,
             answer.as_mut_ptr(),
         )
     }
@@ -164,11 +248,19 @@ pub fn check_rack(
     let nodes = nodes(kinds, operands, answer, 1);
     let Rack { lengths, widths, profits } = rack;
     assert!(lengths.len() == widths.len() && lengths.len() == profits.len());
+    // SAFETY: the lengths are those of the slices, and the answer has room.
     unsafe {
         baseline_check_rack(
-            job.as_ptr(), job.len(), choices,
-            lengths.as_ptr(), widths.as_ptr(), lengths.len(), profits.as_mut_ptr(),
-            kinds.as_ptr(), operands.as_ptr(), nodes,
+            job.as_ptr(),
+            job.len(),
+            choices,
+            lengths.as_ptr(),
+            widths.as_ptr(),
+            lengths.len(),
+            profits.as_mut_ptr(),
+            kinds.as_ptr(),
+            operands.as_ptr(),
+            nodes,
             answer.as_mut_ptr(),
         )
     }
@@ -184,11 +276,18 @@ pub fn neat_plan(
 ) -> u32 {
     let nodes = nodes(kinds, operands, answer, 1);
     let room = neat.kinds.len().min(neat.operands.len());
+    // SAFETY: the lengths are those of the slices, and the answer has room.
     unsafe {
         baseline_neat_plan(
-            job.as_ptr(), job.len(), choices,
-            kinds.as_ptr(), operands.as_ptr(), nodes,
-            neat.kinds.as_mut_ptr(), neat.operands.as_mut_ptr(), room,
+            job.as_ptr(),
+            job.len(),
+            choices,
+            kinds.as_ptr(),
+            operands.as_ptr(),
+            nodes,
+            neat.kinds.as_mut_ptr(),
+            neat.operands.as_mut_ptr(),
+            room,
             answer.as_mut_ptr(),
         )
     }
@@ -198,7 +297,8 @@ pub fn neat_plan(
 /// The planner accepts the sizes for the job.
 pub unsafe fn check_model(job: &[u8], choices: u32, sizes: &[u8], answer: &mut [u64]) -> u32 {
     assert!(!answer.is_empty());
-    baseline_check_model(job.as_ptr(), job.len(), choices, sizes.as_ptr(), answer.as_mut_ptr())
+    // SAFETY: as the caller promises.
+    unsafe { baseline_check_model(job.as_ptr(), job.len(), choices, sizes.as_ptr(), answer.as_mut_ptr()) }
 }
 
 /// # Safety
@@ -214,12 +314,21 @@ pub unsafe fn true_plan(
     answer: &mut [u64],
 ) -> u32 {
     let nodes = nodes(kinds, operands, answer, 3);
-    baseline_true_plan(
-        job.as_ptr(), job.len(), choices, sizes.as_ptr(),
-        kinds.as_ptr(), operands.as_ptr(), nodes,
-        plan.kinds.as_mut_ptr(), plan.operands.as_mut_ptr(),
-        answer.as_mut_ptr(),
-    )
+    // SAFETY: as the caller promises.
+    unsafe {
+        baseline_true_plan(
+            job.as_ptr(),
+            job.len(),
+            choices,
+            sizes.as_ptr(),
+            kinds.as_ptr(),
+            operands.as_ptr(),
+            nodes,
+            plan.kinds.as_mut_ptr(),
+            plan.operands.as_mut_ptr(),
+            answer.as_mut_ptr(),
+        )
+    }
 }
 
 /// # Safety
@@ -234,16 +343,27 @@ pub unsafe fn certify(
     answer: &mut [u64],
 ) -> u32 {
     let nodes = nodes(kinds, operands, answer, 3);
-    baseline_certify(
-        job.as_ptr(), job.len(), choices, weights.as_ptr(),
-        kinds.as_ptr(), operands.as_ptr(), nodes,
-        storage.lengths.as_mut_ptr(), storage.widths.as_mut_ptr(), storage.table.as_mut_ptr(),
-        answer.as_mut_ptr(),
-    )
+    // SAFETY: as the caller promises.
+    unsafe {
+        baseline_certify(
+            job.as_ptr(),
+            job.len(),
+            choices,
+            weights.as_ptr(),
+            kinds.as_ptr(),
+            operands.as_ptr(),
+            nodes,
+            storage.lengths.as_mut_ptr(),
+            storage.widths.as_mut_ptr(),
+            storage.table.as_mut_ptr(),
+            answer.as_mut_ptr(),
+        )
+    }
 }
 
 /// # Safety
 /// As for `certify`, with storage for the staged table.
+#[allow(clippy::too_many_arguments)]
 pub unsafe fn certify_staged(
     job: &[u8],
     choices: u32,
@@ -255,10 +375,21 @@ pub unsafe fn certify_staged(
     answer: &mut [u64],
 ) -> u32 {
     let nodes = nodes(kinds, operands, answer, 3);
-    baseline_certify_staged(
-        job.as_ptr(), job.len(), choices, weights.as_ptr(), limit,
-        kinds.as_ptr(), operands.as_ptr(), nodes,
-        storage.lengths.as_mut_ptr(), storage.widths.as_mut_ptr(), storage.table.as_mut_ptr(),
-        answer.as_mut_ptr(),
-    )
+    // SAFETY: as the caller promises.
+    unsafe {
+        baseline_certify_staged(
+            job.as_ptr(),
+            job.len(),
+            choices,
+            weights.as_ptr(),
+            limit,
+            kinds.as_ptr(),
+            operands.as_ptr(),
+            nodes,
+            storage.lengths.as_mut_ptr(),
+            storage.widths.as_mut_ptr(),
+            storage.table.as_mut_ptr(),
+            answer.as_mut_ptr(),
+        )
+    }
 }

@@ -21,27 +21,15 @@ pub struct Tabled {
     pub cells: Cells,
 }
 
-pub fn bound(
-    job: &[u8],
-    choices: u32,
-    weights: &[u8],
-    storage: Storage,
-) -> Result<Bound, Refusal> {
+pub fn bound(job: &[u8], choices: u32, weights: &[u8], storage: Storage) -> Result<Bound, Refusal> {
     let job = Job::read(job, choices)?;
     let capacity = capacity(&job, weights)?;
     Ok(tabled(&job, weights, capacity, storage)?.bound)
 }
 
-pub fn tabled(
-    job: &Job,
-    weights: &[u8],
-    capacity: usize,
-    storage: Storage,
-) -> Result<Tabled, Refusal> {
+pub fn tabled(job: &Job, weights: &[u8], capacity: usize, storage: Storage) -> Result<Tabled, Refusal> {
     let cells = Cells::list(job, storage.lengths, storage.widths)?;
-    let blocks = cells.fill(storage.table, 1, capacity + 1, || {
-        vec![Figures::of(job, weights, capacity)]
-    })?;
+    let blocks = cells.fill(storage.table, 1, capacity + 1, || vec![Figures::of(job, weights, capacity)])?;
     let [figures] = blocks.try_into().ok().expect("one block");
     let bound = Bound {
         bound: figures.at(job.length, job.width, capacity),

@@ -1,8 +1,7 @@
 // The reference's calls with codes and answer words, as planner.h has them.
 // A short answer is told before anything else is looked at, and then a bit that is no choice.
 use crate::answers::{
-    PlanArrays, Rack, Refusal, Storage, TruePlanArrays, Words, ANSWER_TOO_SHORT, CHOICES,
-    UNKNOWN_CHOICE,
+    PlanArrays, Rack, Refusal, Storage, TruePlanArrays, Words, ANSWER_TOO_SHORT, CHOICES, UNKNOWN_CHOICE,
 };
 use crate::calls::Calls;
 
@@ -13,6 +12,7 @@ macro_rules! coded_calls {
         pub const CALLS: Calls = Calls { name: "reference", $($name,)* };
 
         $(
+            #[allow(clippy::too_many_arguments)]
             pub fn $name(
                 $job: $block, $choices: u32, $($argument: $takes,)* answer: &mut [u64]
             ) -> u32 {

@@ -13,17 +13,11 @@ pub struct Copies {
     pub states: usize,
 }
 
-pub fn exact(
-    job: &[u8],
-    choices: u32,
-    storage: Storage,
-    plan: PlanArrays,
-) -> Result<Exact, Refusal> {
+pub fn exact(job: &[u8], choices: u32, storage: Storage, plan: PlanArrays) -> Result<Exact, Refusal> {
     let job = Job::read(job, choices)?;
     let copies = Copies::of(&job)?;
     let cells = Cells::list(&job, storage.lengths, storage.widths)?;
-    let figures =
-        &cells.fill(storage.table, 1, copies.states, || vec![figures(&job, &copies)])?[0];
+    let figures = &cells.fill(storage.table, 1, copies.states, || vec![figures(&job, &copies)])?[0];
     let all = copies.states - 1;
     let nodes = write(&job, &copies, (figures, &cells), all, plan)?;
     Ok(Exact {

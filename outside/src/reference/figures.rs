@@ -20,11 +20,7 @@ impl Figures {
     }
 
     /// Figures of which each is found from those of smaller rectangles.
-    pub fn each(
-        job: &Job,
-        shares: usize,
-        best: impl Fn(&Figures, usize, usize) -> Vec<u64>,
-    ) -> Figures {
+    pub fn each(job: &Job, shares: usize, best: impl Fn(&Figures, usize, usize) -> Vec<u64>) -> Figures {
         let cells = (job.length + 1) * (job.width + 1);
         let mut figures = Figures { width: job.width, shares, words: vec![0; cells * shares] };
         for length in 1..=job.length {
@@ -70,13 +66,7 @@ impl Figures {
 }
 
 /// At each share the most that one piece earns on a rectangle.
-pub fn single_pieces(
-    job: &Job,
-    weights: &[u8],
-    capacity: usize,
-    length: usize,
-    width: usize,
-) -> Vec<u64> {
+pub fn single_pieces(job: &Job, weights: &[u8], capacity: usize, length: usize, width: usize) -> Vec<u64> {
     let mut best = vec![0; capacity + 1];
     for piece in job.pieces().filter(|piece| piece.fits(length, width)) {
         let (price, weight) = (job.kinds[piece.kind].price, weights[piece.kind]);

@@ -111,7 +111,7 @@ fn kind(size: &[u8], pair: &[u8], grain: bool) -> Kind {
 }
 
 pub fn is_no_side(side: usize) -> bool {
-    side < 1 || side > 1000
+    !(1..=1000).contains(&side)
 }
 
 fn two(bytes: &[u8], at: usize) -> usize {

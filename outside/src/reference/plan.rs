@@ -11,12 +11,7 @@ const CUT_LENGTH: u8 = 2;
 const CUT_WIDTH: u8 = 3;
 const TURNED_PIECE: u8 = 4;
 
-pub fn check_plan(
-    job: &[u8],
-    choices: u32,
-    kinds: &[u8],
-    operands: &[u16],
-) -> Result<Report, Refusal> {
+pub fn check_plan(job: &[u8], choices: u32, kinds: &[u8], operands: &[u16]) -> Result<Report, Refusal> {
     check(&Job::read(job, choices)?, kinds, operands)
 }
 
@@ -127,26 +122,14 @@ impl Walk<'_> {
     }
 
     /// Cuts a side at a position: the blade runs along the other side. Gives the second part.
-    fn cut(
-        &mut self,
-        at: usize,
-        side: usize,
-        position: usize,
-        along: usize,
-    ) -> Result<usize, Refusal> {
+    fn cut(&mut self, at: usize, side: usize, position: usize, along: usize) -> Result<usize, Refusal> {
         let out_of_range = Refusal { number: 14, place: at as u64 };
         let second = self.job.second(side, position).ok_or(out_of_range)?;
         self.report.sawdust += (self.job.kerf * along) as u64;
         Ok(second)
     }
 
-    fn piece(
-        &mut self,
-        at: usize,
-        piece: Piece,
-        length: usize,
-        width: usize,
-    ) -> Result<(), Refusal> {
+    fn piece(&mut self, at: usize, piece: Piece, length: usize, width: usize) -> Result<(), Refusal> {
         let kind = &self.job.kinds[piece.kind];
         refuse_if(!piece.fits(length, width), 15, at)?;
         refuse_if(self.report.copies[piece.kind] == kind.demand, 16, at)?;

@@ -60,13 +60,7 @@ fn over_demands(job: &Job, plan: &PlanArrays, nodes: usize) -> Vec<i64> {
 }
 
 /// The weights of the round after this one; none where the run stops.
-fn next_weights(
-    job: &Job,
-    round: usize,
-    gap: u64,
-    over: &[i64],
-    weights: &[u8],
-) -> Option<Vec<u8>> {
+fn next_weights(job: &Job, round: usize, gap: u64, over: &[i64], weights: &[u8]) -> Option<Vec<u8>> {
     if over.iter().all(|&over| over <= 0) || round + 1 == MOST_ROUNDS {
         return None;
     }
@@ -76,7 +70,11 @@ fn next_weights(
     let adjusted = |(&over, &weight): (&i64, &u8)| {
         let distance = Fraction { over: over.unsigned_abs().into(), under: 1 };
         let step = distance.times(scale).whole_root().min(255) as u8;
-        if over > 0 { weight.saturating_add(step) } else { weight.saturating_sub(step) }
+        if over > 0 {
+            weight.saturating_add(step)
+        } else {
+            weight.saturating_sub(step)
+        }
     };
     let next: Vec<u8> = over.iter().zip(weights).map(adjusted).collect();
     capacity(job, &next).is_ok().then_some(next)

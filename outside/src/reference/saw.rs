@@ -4,12 +4,7 @@ use super::plan::{check, tree};
 use super::Job;
 use crate::answers::{Part, Refusal, Report, SawReport, OLD_BLOCK};
 
-pub fn saw_check(
-    job: &[u8],
-    choices: u32,
-    kinds: &[u8],
-    operands: &[u16],
-) -> Result<SawReport, Refusal> {
+pub fn saw_check(job: &[u8], choices: u32, kinds: &[u8], operands: &[u16]) -> Result<SawReport, Refusal> {
     let job = Job::read(&without_prices(job, choices), choices)?;
     let Report { pieces, waste, trim, copies, sawdust, .. } = check(&job, kinds, operands)?;
     Ok(SawReport { pieces, waste, trim, copies, sawdust })
@@ -38,13 +33,7 @@ pub fn saw_operands(
 }
 
 /// The part of a node in one of the plan's arrays, which has so many entries.
-fn saw_part(
-    job: &[u8],
-    choices: u32,
-    (kinds, operands): (&[u8], &[u16]),
-    entries: usize,
-    node: u64,
-) -> Part {
+fn saw_part(job: &[u8], choices: u32, (kinds, operands): (&[u8], &[u16]), entries: usize, node: u64) -> Part {
     let passes = saw_check(job, choices, kinds, operands).is_ok();
     if passes && node < entries as u64 {
         let nodes = tree(&kinds[node as usize..]).len();

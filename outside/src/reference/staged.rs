@@ -56,12 +56,7 @@ fn accepted(limit: u32) -> Result<usize, Refusal> {
     Ok(limit as usize)
 }
 
-fn check_staged(
-    job: &Job,
-    limit: usize,
-    kinds: &[u8],
-    operands: &[u16],
-) -> Result<StagedReport, Refusal> {
+fn check_staged(job: &Job, limit: usize, kinds: &[u8], operands: &[u16]) -> Result<StagedReport, Refusal> {
     let report = check(job, kinds, operands)?;
     let stages = stages_of_nodes(kinds);
     for (at, &own) in stages.iter().enumerate() {
@@ -94,9 +89,8 @@ fn tabled_staged(
     storage: Storage,
 ) -> Result<Bound, Refusal> {
     let cells = Cells::list(job, storage.lengths, storage.widths)?;
-    let figures = cells.fill(storage.table, 2 * limit + 1, capacity + 1, || {
-        blocks(job, weights, capacity, limit)
-    })?;
+    let figures =
+        cells.fill(storage.table, 2 * limit + 1, capacity + 1, || blocks(job, weights, capacity, limit))?;
     let last = |block: usize| figures[block].at(job.length, job.width, capacity);
     Ok(Bound {
         bound: last(2 * limit - 1).max(last(2 * limit)),
@@ -122,11 +116,7 @@ fn blocks(job: &Job, weights: &[u8], capacity: usize, limit: usize) -> Vec<Figur
 }
 
 /// What a block of one stage fewer earns, or cuts of one direction between figures of the new block.
-fn first_cuts(
-    job: &Job,
-    before: &Figures,
-    cut: fn(&Figures, &Job, usize, usize, &mut [u64]),
-) -> Figures {
+fn first_cuts(job: &Job, before: &Figures, cut: fn(&Figures, &Job, usize, usize, &mut [u64])) -> Figures {
     Figures::each(job, before.shares(), |figures, length, width| {
         let mut best = before.shares_of(length, width).to_vec();
         cut(figures, job, length, width, &mut best);

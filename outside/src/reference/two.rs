@@ -18,9 +18,7 @@ pub fn bound_two(
     let weights: Vec<[u8; 2]> = first.iter().zip(second).map(|(&a, &b)| [a, b]).collect();
     let cells = Cells::list(&job, storage.lengths, storage.widths)?;
     let pairs = (most + 1) * (other + 1);
-    let figures = cells.fill(storage.table, 1, pairs, || {
-        vec![figures(&job, &weights, [most, other])]
-    })?;
+    let figures = cells.fill(storage.table, 1, pairs, || vec![figures(&job, &weights, [most, other])])?;
     Ok(BoundTwo {
         bound: figures[0].at(job.length, job.width, pairs - 1),
         capacities: [most, other].map(|capacity| capacity as u64),

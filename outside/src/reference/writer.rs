@@ -73,12 +73,7 @@ pub fn write(
     Ok(nodes.len())
 }
 
-fn nodes(
-    job: &Job,
-    shares: &impl Shares,
-    table: (&Figures, &Cells),
-    whole: usize,
-) -> Vec<(u8, usize)> {
+fn nodes(job: &Job, shares: &impl Shares, table: (&Figures, &Cells), whole: usize) -> Vec<(u8, usize)> {
     let mut nodes = Vec::new();
     let mut waiting = vec![(job.length, job.width, whole)];
     while let Some(part) = waiting.pop() {
@@ -127,13 +122,11 @@ fn choose(
         firsts.iter().copied().find(|&c| first[c] + second[share - c] == value)
     };
     let second = |side, cut| job.second(side, cut).unwrap_or(0);
-    let across =
-        |cut| earns((figures.shares_of(cut, width), figures.shares_of(second(length, cut), width)));
+    let across = |cut| earns((figures.shares_of(cut, width), figures.shares_of(second(length, cut), width)));
     if let Some((cut, first)) = first_pair(&cells.lengths, length, across) {
         return Choice::CutLength(cut, first);
     }
-    let along =
-        |cut| earns((figures.shares_of(length, cut), figures.shares_of(length, second(width, cut))));
+    let along = |cut| earns((figures.shares_of(length, cut), figures.shares_of(length, second(width, cut))));
     let (cut, first) = first_pair(&cells.widths, width, along)
         .expect("a figure that no piece and no length cut earns is earned by a width cut");
     Choice::CutWidth(cut, first)

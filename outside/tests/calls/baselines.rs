@@ -22,6 +22,7 @@ const STAGED_ROOM: Sizes = Sizes { table: 1 << 20, answer: 4, ..ROOM };
 type WritePlan = fn(&[u8], u32, &[u8], Storage<'_>, PlanArrays<'_>) -> Written;
 
 fn in_c(job: &[u8], c: u32, weights: &[u8], storage: Storage, plan: PlanArrays) -> Written {
+    // SAFETY: the reference has found the storage enough.
     unsafe { baseline::c::write_plan(job, c, weights, storage, plan) }
 }
 
@@ -63,9 +64,8 @@ fn staged_baseline_agrees(seed: u64, jobs: usize, scale: Scale) {
             compared += 1;
             let (storage, _, answer) = lent.split();
             let Input { job, choices, weights, limit, .. } = &input;
-            // The reference has found the storage enough.
-            let bound =
-                unsafe { baseline::c::bound_staged(job, *choices, weights, *limit, storage) };
+            // SAFETY: the reference has found the storage enough.
+            let bound = unsafe { baseline::c::bound_staged(job, *choices, weights, *limit, storage) };
             answer.copy_from_slice(&bound.to_words());
             assert_eq!(expected.differences(&lent), [""; 0], "{input:?}");
         }
@@ -98,7 +98,7 @@ fn baseline_of_two_agrees(seed: u64, jobs: usize, scale: Scale) {
             compared += 1;
             let (storage, _, answer) = lent.split();
             let Input { job, choices, weights, second, .. } = &input;
-            // The reference has found the storage enough.
+            // SAFETY: the reference has found the storage enough.
             let bound = unsafe { baseline::c::bound_two(job, *choices, weights, second, storage) };
             answer.copy_from_slice(&bound.to_words());
             assert_eq!(expected.differences(&lent), [""; 0], "{input:?}");
@@ -127,7 +127,7 @@ fn exact_baseline_agrees(seed: u64, jobs: usize, scale: Scale) {
         if Call::Exact.run(&reference::calls::CALLS, &input, &mut expected) == 0 {
             compared += 1;
             let (storage, plan, answer) = lent.split();
-            // The reference has found the storage enough.
+            // SAFETY: the reference has found the storage enough.
             let exact = unsafe { baseline::c::exact(&input.job, input.choices, storage, plan) };
             answer.copy_from_slice(&exact.to_words());
             assert_eq!(expected.differences(&lent), [""; 0], "{input:?}");
@@ -159,7 +159,7 @@ fn baseline_of_rounds_agrees(seed: u64, jobs: usize, scale: Scale) {
             compared += 1;
             let lower = reference::check_plan(job, *choices, kinds, operands).expect("a plan").profit;
             let (storage, plan, answer) = lent.split();
-            // The reference has found the storage enough.
+            // SAFETY: the reference has found the storage enough.
             let found = unsafe { baseline::c::find_weights(job, *choices, lower, storage, plan) };
             answer.copy_from_slice(&found.to_words());
             assert_eq!(expected.differences(&lent), [""; 0], "{input:?}");
@@ -196,28 +196,62 @@ fn baselines_agree_without_weights() {
     baselines_agree(12, 400, scale);
 }
 
-/// The calls of the C baseline that check a plan; the reference's in place of all others.
+/// The calls of the C baseline that check a plan or a model, and those over one bound; the reference's in
+/// place of all others.
 const IN_C: Calls = Calls {
     name: "C",
     check_plan: checks::check_plan,
     check_plan_block: checks::check_plan_block,
     check_plan_staged: checks::check_plan_staged,
     neat_plan: checks::neat_plan,
-    certify: |job, choices, weights, kinds, operands, storage, answer| unsafe {
-        checks::certify(job, choices, weights, kinds, operands, storage, answer)
+    certify: |job, choices, weights, kinds, operands, storage, answer| {
+        // SAFETY: `may_get` has let the input pass.
+        unsafe { checks::certify(job, choices, weights, kinds, operands, storage, answer) }
     },
-    certify_staged: |job, choices, weights, limit, kinds, operands, storage, answer| unsafe {
-        checks::certify_staged(job, choices, weights, limit, kinds, operands, storage, answer)
+    certify_staged: |job, choices, weights, limit, kinds, operands, storage, answer| {
+        // SAFETY: `may_get` has let the input pass.
+        unsafe { checks::certify_staged(job, choices, weights, limit, kinds, operands, storage, answer) }
+    },
+    check_model: |job, choices, sizes, answer| {
+        // SAFETY: `may_get` has let the input pass.
+        unsafe { checks::check_model(job, choices, sizes, answer) }
+    },
+    true_plan: |job, choices, sizes, kinds, operands, plan, answer| {
+        // SAFETY: `may_get` has let the input pass.
+        unsafe { checks::true_plan(job, choices, sizes, kinds, operands, plan, answer) }
+    },
+    plates_needed: |job, choices, weights, other, storage, answer| {
+        // SAFETY: `may_get` has let the input pass.
+        let needed = unsafe { baseline::c::plates_needed(job, choices, weights, other, storage) };
+        answer[..3].copy_from_slice(&needed.to_words());
+        0
+    },
+    bound_lagrangian: |job, choices, weights, multipliers, storage, answer| {
+        // SAFETY: `may_get` has let the input pass.
+        let bound = unsafe { baseline::c::bound_lagrangian(job, choices, weights, multipliers, storage) };
+        answer[..5].copy_from_slice(&bound.to_words());
+        0
     },
     ..reference::calls::CALLS
 };
+
+/// Whether the baseline may get an input to which the reference answers so: it trusts its caller for what it
+/// does not check itself.
+fn may_get(call: Call, code: u32) -> bool {
+    match call {
+        Call::Certify | Call::CertifyStaged => matches!(code, 0 | 11..=18 | 23 | 26),
+        Call::CheckModel => matches!(code, 0..=7 | 27 | 33),
+        Call::TruePlan => matches!(code, 0..=7 | 27 | 11..=18 | 26),
+        Call::PlatesNeeded | Call::BoundLagrangian => code == 0,
+        _ => true,
+    }
+}
 
 /// Compares a call on an input that the baseline may get, and gives what it answers.
 fn check_agrees(call: Call, input: &Input) -> Option<u32> {
     let (mut expected, mut lent) = (Lent::new(AMPLE), Lent::new(AMPLE));
     let code = call.run(&reference::calls::CALLS, input, &mut expected);
-    let certifies = matches!(call, Call::Certify | Call::CertifyStaged);
-    if certifies && !matches!(code, 0 | 11..=18 | 23 | 26) {
+    if !may_get(call, code) {
         return None;
     }
     assert_eq!(call.run(&IN_C, input, &mut lent), code, "{call:?} {input:?}");
@@ -248,6 +282,10 @@ fn the_baselines_of_the_checks_agree() {
         Call::NeatPlan,
         Call::Certify,
         Call::CertifyStaged,
+        Call::CheckModel,
+        Call::TruePlan,
+        Call::PlatesNeeded,
+        Call::BoundLagrangian,
     ];
     let mut met = BTreeMap::<u32, usize>::new();
     for i in 0..6000 {
@@ -262,6 +300,6 @@ fn the_baselines_of_the_checks_agree() {
         }
     }
     println!("checks in C met {met:?}");
-    let expected = (0..=7).chain(10..=18).chain([22, 23, 26, 27]);
+    let expected = (0..=7).chain(10..=18).chain([22, 23, 26, 27, 33]);
     assert!(expected.eq(met.keys().copied()) && met[&0] >= 9000, "{met:?}");
 }

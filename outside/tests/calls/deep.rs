@@ -203,11 +203,7 @@ impl Square {
     }
 
     /// Expects the table, from lengths and widths in units.
-    fn table_is<const SHARES: usize>(
-        self,
-        lent: &Lent,
-        figures: impl Fn(u64, u64) -> [u64; SHARES],
-    ) {
+    fn table_is<const SHARES: usize>(self, lent: &Lent, figures: impl Fn(u64, u64) -> [u64; SHARES]) {
         let units = u64::from(self.units);
         let cells = (0..=units).flat_map(|l| (0..=units).map(move |w| (l, w)));
         assert!(lent.table.words().chunks(SHARES).eq(cells.map(|(l, w)| figures(l, w))));

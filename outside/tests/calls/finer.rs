@@ -15,11 +15,8 @@ const ROOM: Sizes = Sizes { table: 1 << 17, ..AMPLE };
 
 /// The job in units of one m-th: sides and kerf have m times as many, and a cut stands at any of them.
 pub fn finer(job: &Job, m: usize) -> Job {
-    let kind = |kind: &reference::Kind| reference::Kind {
-        length: m * kind.length,
-        width: m * kind.width,
-        ..*kind
-    };
+    let kind =
+        |kind: &reference::Kind| reference::Kind { length: m * kind.length, width: m * kind.width, ..*kind };
     Job {
         length: m * job.length,
         width: m * job.width,
@@ -40,8 +37,7 @@ fn generated(seed: u64, count: usize, scale: Scale) -> impl Iterator<Item = (Inp
     let mut random = Random::new(seed);
     (0..count).map(move |i| {
         let drawn = draw(&mut random, scale, ALL_CHOICES[i % 4]);
-        let second: Vec<u8> =
-            drawn.weights.iter().map(|_| random.from(0, scale.weight) as u8).collect();
+        let second: Vec<u8> = drawn.weights.iter().map(|_| random.from(0, scale.weight) as u8).collect();
         let job = Job::read(&drawn.job, drawn.choices).expect("a job");
         (drawn.and(&second), job)
     })

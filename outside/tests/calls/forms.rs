@@ -83,8 +83,7 @@ fn lessened(input: &Input) -> Input {
     };
     let lesser = job.kinds.iter().map(|kind| {
         let (length, width) = (kind.length as u16, kind.width as u16);
-        let alone =
-            Input { job: block(&[(length, width, 1, 255)]), weights: vec![1], ..input.clone() };
+        let alone = Input { job: block(&[(length, width, 1, 255)]), weights: vec![1], ..input.clone() };
         let held = words(Call::Bound, &alone, SMALL_ROOM)[1];
         (length, width, kind.price as u32, held.min(kind.demand) as u16)
     });
@@ -99,13 +98,8 @@ fn lessened(input: &Input) -> Input {
 fn demands_that_the_plate_holds_answer_alike_in_both_forms() {
     for input in generated(43, 1000, SMALL) {
         let lessened = lessened(&input);
-        let counts_orders = [
-            Call::Exact,
-            Call::FindWeights,
-            Call::CheckModel,
-            Call::PlatesNeeded,
-            Call::BoundLagrangian,
-        ];
+        let counts_orders =
+            [Call::Exact, Call::FindWeights, Call::CheckModel, Call::PlatesNeeded, Call::BoundLagrangian];
         for call in ALL_CALLS.into_iter().filter(|call| !counts_orders.contains(call)) {
             let run = |input: &Input| compare(call, input, SMALL_ROOM);
             let (code, lent) = run(&input);
@@ -153,8 +147,8 @@ fn gaps(planned: &Input) -> Option<[u64; 2]> {
 fn plans_are_certified_in_both_forms() {
     let (mut passed, mut best, mut tightened) = (0, 0, 0);
     for input in generated(45, 2000, SMALL) {
-        let written = forms(&input)
-            .map(|form| form.with_written_plan(&done(Call::WritePlan, &form, SMALL_ROOM)));
+        let written =
+            forms(&input).map(|form| form.with_written_plan(&done(Call::WritePlan, &form, SMALL_ROOM)));
         for [held, full] in written.iter().chain([&input]).filter_map(gaps) {
             assert!(held <= full);
             passed += 1;

@@ -126,9 +126,7 @@ fn codes(call: Call) -> Vec<u32> {
         Call::FindWeights => &[10, 11, 12, 13, 14, 15, 16, 17, 18, 19, 20, 21, 26, 36],
         Call::CheckPlanStaged => &[10, 11, 12, 13, 14, 15, 16, 17, 18, 22, 23, 26, 36],
         Call::BoundStaged => &[8, 9, 19, 20, 22],
-        Call::CertifyStaged => {
-            &[8, 9, 10, 11, 12, 13, 14, 15, 16, 17, 18, 19, 20, 22, 23, 26, 36]
-        }
+        Call::CertifyStaged => &[8, 9, 10, 11, 12, 13, 14, 15, 16, 17, 18, 19, 20, 22, 23, 26, 36],
     };
     (0..=7).chain(others.iter().copied()).chain([27, 35, 100, 101]).collect()
 }
@@ -199,13 +197,7 @@ fn few_chains(input: &Input) -> bool {
 }
 
 /// The written plan again, into arrays that just hold it or do not; and as input of the checks.
-fn written_plan_agrees(
-    random: &mut Random,
-    call: Call,
-    planned: &Input,
-    sizes: Sizes,
-    tally: &mut Tally,
-) {
+fn written_plan_agrees(random: &mut Random, call: Call, planned: &Input, sizes: Sizes, tally: &mut Tally) {
     let nodes = planned.kinds.len();
     let short = random.pick(&[(0, 0), (0, 0), (1, 0), (0, 1), (nodes, nodes)]);
     let tight = Sizes { kinds: nodes - short.0, operands: nodes - short.1, ..sizes };
@@ -248,7 +240,11 @@ fn draw_limit(random: &mut Random) -> u32 {
 
 /// The blocks of the staged table; one where the limit is refused.
 fn blocks(input: &Input) -> usize {
-    if (1..=8).contains(&input.limit) { 2 * input.limit as usize + 1 } else { 1 }
+    if (1..=8).contains(&input.limit) {
+        2 * input.limit as usize + 1
+    } else {
+        1
+    }
 }
 
 /// Second weights: none, few, or as heavy as the first.
@@ -319,8 +315,9 @@ fn needs(call: Call, input: &Input) -> (usize, usize, usize) {
     let Ok(job) = Job::read(&input.job, input.choices) else { return (4, 4, 16) };
     let shares = capacity(&job, &input.weights).map_or(1, |q| q + 1);
     let words = match call {
-        Call::BoundTwo => capacities(&job, &input.weights, &input.second)
-            .map_or(1, |both| (both[0] + 1) * (both[1] + 1)),
+        Call::BoundTwo => {
+            capacities(&job, &input.weights, &input.second).map_or(1, |both| (both[0] + 1) * (both[1] + 1))
+        }
         Call::Exact => Copies::of(&job).map_or(1, |copies| copies.states),
         Call::FindWeights => 1,
         call if STAGED_CALLS.contains(&call) => blocks(input) * shares,

@@ -56,9 +56,7 @@ fn grain_bytes_are_0_or_1() {
     for (grains, place) in [([2, 0], 0), ([0, 2], 1), ([255, 255], 0), ([1, 128], 1)] {
         for choices in [KEPT, GRAIN, KEPT | FULL_DEMAND] {
             let bad = Input { weights: vec![], sizes: vec![], ..two_kinds(&grains, &[(9, 9)]) };
-            ALL_CALLS
-                .into_iter()
-                .for_each(|call| refuses(call, &bad.clone().with(choices), 35, place));
+            ALL_CALLS.into_iter().for_each(|call| refuses(call, &bad.clone().with(choices), 35, place));
         }
     }
     let late = |kinds: &[Kind], number, place| {
@@ -208,8 +206,7 @@ fn no_tree_that_keeps_the_grain_earns_more() {
         plain.job.truncate(input.job.len() - input.weights.len());
         let free = Input { weights: vec![0; input.weights.len()], ..input };
         let plain = Input { weights: free.weights.clone(), ..plain };
-        let [none, all] =
-            [choices & FULL_DEMAND, choices & !GRAIN].map(|c| bound(&plain.clone().with(c)));
+        let [none, all] = [choices & FULL_DEMAND, choices & !GRAIN].map(|c| bound(&plain.clone().with(c)));
         let grained = bound(&free);
         assert!(none <= grained && grained <= all);
         between[0] += usize::from(none < grained);
@@ -233,9 +230,8 @@ fn the_saw_and_the_rack_keep_the_grain() {
         for call in [Saw::Check, Saw::Kinds(node), Saw::Operands(node)] {
             *met.entry(call.agrees(&input, 70).0).or_insert(0) += 1;
         }
-        let side = |at: usize| {
-            input.job.get(at..at + 2).map_or(1, |two| u16::from_le_bytes([two[0], two[1]]))
-        };
+        let side =
+            |at: usize| input.job.get(at..at + 2).map_or(1, |two| u16::from_le_bytes([two[0], two[1]]));
         let (lengths, widths) = (vec![side(0)], vec![side(2)]);
         *met.entry(Order { input, lengths, widths, profits: 1 }.agrees(1).0).or_insert(0) += 1;
     }

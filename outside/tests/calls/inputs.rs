@@ -23,16 +23,8 @@ pub struct Scale {
 }
 
 /// Small jobs, whatever they cost the reference.
-pub const SMALL: Scale = Scale {
-    plate: 7,
-    kerf: 2,
-    side: 5,
-    kinds: 4,
-    price: 9,
-    demand: 3,
-    weight: 2,
-    work: usize::MAX,
-};
+pub const SMALL: Scale =
+    Scale { plate: 7, kerf: 2, side: 5, kinds: 4, price: 9, demand: 3, weight: 2, work: usize::MAX };
 
 /// A rectangle and the kerf of the blade that cuts it.
 #[derive(Clone, Copy)]
@@ -55,11 +47,8 @@ pub fn draw(random: &mut Random, scale: Scale, choices: u32) -> Input {
     let grains = if choices & GRAIN != 0 { draw_grains(random, n) } else { vec![] };
     let nodes = draw_plan(random, plate, &kinds, (choices, &grains), &mut left);
     let [length, width, kerf] = [length, width, plate.kerf].map(|field| field as u16);
-    let mut block = if old {
-        old_block(length, width, &kinds)
-    } else {
-        kerf_block(length, width, kerf, &kinds)
-    };
+    let mut block =
+        if old { old_block(length, width, &kinds) } else { kerf_block(length, width, kerf, &kinds) };
     block.extend(grains);
     let seed = block.iter().fold(1, |seed: u64, &byte| seed.wrapping_mul(31).wrapping_add(byte.into()));
     let own = &mut Random::new(seed);
@@ -167,7 +156,11 @@ pub fn draw_plan(
         nodes.push(node);
         waiting.extend(parts(node, rectangle));
     }
-    if random.one_in(4) { nodes } else { without_idle_cuts(&nodes).unwrap_or(nodes) }
+    if random.one_in(4) {
+        nodes
+    } else {
+        without_idle_cuts(&nodes).unwrap_or(nodes)
+    }
 }
 
 /// The plan with waste in place of each part that holds no piece; none where it is no whole tree.
@@ -183,7 +176,11 @@ fn without_idle_cuts(nodes: &[Node]) -> Option<Vec<Node>> {
         trees.push(if pieceless && tree.len() > 1 { vec![(0, 0)] } else { tree });
     }
     let whole = trees.pop();
-    if trees.is_empty() { whole } else { None }
+    if trees.is_empty() {
+        whole
+    } else {
+        None
+    }
 }
 
 fn draw_node(

@@ -56,8 +56,7 @@ fn both_parts_of_a_cut_have_a_unit() {
 
 #[test]
 fn a_side_that_the_blade_takes_whole_is_not_cut() {
-    let cut =
-        |side, position| sawn((side, 1), 20, &[(1, 1, 1, 2)], &[(2, position), (1, 0), (1, 0)]);
+    let cut = |side, position| sawn((side, 1), 20, &[(1, 1, 1, 2)], &[(2, position), (1, 0), (1, 0)]);
     for side in [1, 2, 19, 20, 21] {
         for position in 0..=side {
             plan_refused(&cut(side, position), 14, 0);
@@ -86,8 +85,7 @@ fn a_kerf_larger_than_the_rest() {
 /// that a cut after kind 0 is tried first. Beyond it and the kerf lengths 4, 5 and 6 have -1, 0 and 1.
 #[test]
 fn a_cut_without_a_second_part_is_left_out() {
-    let job =
-        |length, nodes: &[Node]| sawn((length, 8), 2, &[(3, 3, 5, 2), (length, 1, 1, 1)], nodes);
+    let job = |length, nodes: &[Node]| sawn((length, 8), 2, &[(3, 3, 5, 2), (length, 1, 1, 1)], nodes);
     let left_out = [(3, 3), (1, 0), (1, 0)];
     for length in [4, 5] {
         writes(&job(length, &left_out), 10);

@@ -83,11 +83,8 @@ impl Lent {
     }
 
     pub fn split(&mut self) -> (Storage<'_>, PlanArrays<'_>, &mut [u64]) {
-        let storage = Storage {
-            lengths: self.lengths.lend(),
-            widths: self.widths.lend(),
-            table: self.table.lend(),
-        };
+        let storage =
+            Storage { lengths: self.lengths.lend(), widths: self.widths.lend(), table: self.table.lend() };
         let plan = PlanArrays { kinds: self.kinds.lend(), operands: self.operands.lend() };
         (storage, plan, self.answer.lend())
     }

@@ -53,7 +53,7 @@ fn noise(random: &mut Random, how: Noise) -> Input {
     let exactly = |random: &mut Random| (0..n).map(|_| random.word() as u8).collect();
     let mut weights = || if any { bytes(random, 70) } else { exactly(random) };
     let (first, second) = (weights(), weights());
-    let kind = |word: u64| if word % 8 == 0 { (word >> 8) as u8 } else { (word >> 8) as u8 % 5 };
+    let kind = |word: u64| if word.is_multiple_of(8) { (word >> 8) as u8 } else { (word >> 8) as u8 % 5 };
     let mut kinds: Vec<u8> = (0..nodes).map(|_| kind(random.word())).collect();
     let mut operands: Vec<u16> = (0..nodes).map(|_| random.word() as u16 % 8).collect();
     if any {

@@ -189,8 +189,7 @@ fn rack_optimum(rack: &Order) -> u64 {
 
 /// Each plate under weights of its own, one a kind or two.
 fn sum_of_bounds(random: &mut Random, rack: &Order) -> u64 {
-    let mut weights =
-        || rack.input.weights.iter().map(|_| random.from(0, 3) as u8).collect::<Vec<u8>>();
+    let mut weights = || rack.input.weights.iter().map(|_| random.from(0, 3) as u8).collect::<Vec<u8>>();
     let bound = |plate| {
         let (weights, second) = (weights(), weights());
         let call = if plate % 2 == 0 { Call::Bound } else { Call::BoundTwo };

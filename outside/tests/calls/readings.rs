@@ -6,8 +6,7 @@ use crate::run::{compare, Call, Input, ALL_CALLS, ALL_CHOICES, WEIGHING_CALLS};
 use outside::answers::{FULL_DEMAND, OLD_BLOCK};
 use outside::blocks::{job_block, job_s};
 
-const ROOM: Sizes =
-    Sizes { lengths: 64, widths: 64, table: 4096, kinds: 64, operands: 64, ..AMPLE };
+const ROOM: Sizes = Sizes { lengths: 64, widths: 64, table: 4096, kinds: 64, operands: 64, ..AMPLE };
 
 fn all_refuse(input: &Input, number: u32, place: u64) {
     for call in ALL_CALLS {

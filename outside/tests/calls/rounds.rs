@@ -104,12 +104,24 @@ fn turned_and_sawn_pieces_are_copies() {
 /// with d of 2 and 1; two pairs 16, with d of 1 and 1. The squares sum to 10, 5 and 2. So s is, three
 /// rounds at a time: 4, 16, 4; 8, 2, 8; 1, 3/2, 4; 1, 1, 2; and then 1.
 const STRIP_ROUNDS: [[u8; 2]; 18] = [
-    [0, 0], [3, 0], [0, 4],
-    [3, 2], [1, 4], [3, 3],
-    [1, 5], [2, 4], [3, 3],
-    [1, 5], [2, 4], [3, 3],
-    [2, 4], [3, 3], [2, 4],
-    [3, 3], [2, 4], [3, 3],
+    [0, 0],
+    [3, 0],
+    [0, 4],
+    [3, 2],
+    [1, 4],
+    [3, 3],
+    [1, 5],
+    [2, 4],
+    [3, 3],
+    [1, 5],
+    [2, 4],
+    [3, 3],
+    [2, 4],
+    [3, 3],
+    [2, 4],
+    [3, 3],
+    [2, 4],
+    [3, 3],
 ];
 
 fn strip() -> Input {
@@ -268,10 +280,9 @@ fn rounds_of_chw1() {
     let strip = [(2, 3), (3, 2), (1, 5), (3, 4), (1, 3), (1, 3), (2, 3), (3, 3), (1, 4), (1, 1)];
     let rest = [(2, 8), (3, 2), (1, 2), (3, 4), (1, 0), (1, 0), (0, 0)];
     let best = [&strip[..], &rest].concat();
-    for (nodes, found) in [
-        (&best[..], [[0, 0], [1, 1], [2, 0], [2, 1]]),
-        (&WASTE, [[0, 0], [3, 3], [6, 0], [6, 5]]),
-    ] {
+    for (nodes, found) in
+        [(&best[..], [[0, 0], [1, 1], [2, 0], [2, 1]]), (&WASTE, [[0, 0], [3, 3], [6, 0], [6, 5]])]
+    {
         let job = lending(job_block(15, 10, &kinds), nodes);
         let rounds = found.map(|[first, sixth]| [0, first, 0, 0, 0, 0, sixth]);
         let bounds = rounds.map(|weights| {

@@ -144,7 +144,7 @@ fn is_found(input: &Input, shares: usize) {
     let sizes = Sizes { table: lengths.len() * widths.len() * shares, ..AMPLE };
     let mut expected = Lent::new(sizes);
     let (storage, plan, answer) = expected.split();
-    // The job is accepted, and the table is as large as round 0 needs.
+    // SAFETY: the job is accepted, and the table is as large as round 0 needs.
     let found = unsafe { baseline::c::find_weights(&input.job, input.choices, 0, storage, plan) };
     answer[..FOUND_WORDS].copy_from_slice(&found.to_words());
     let (code, lent) = on_small_stack(Call::FindWeights, input, sizes);

@@ -1,9 +1,7 @@
 // One call on one input with fresh memory, and the same call on two implementations, with the new
 // block and the old one.
 use crate::lent::{Lent, Sizes};
-use outside::answers::{
-    FOUND_WORDS, FULL_DEMAND, OLD_BLOCK, REPORT_WORDS, STAGED_REPORT_WORDS, TURNING,
-};
+use outside::answers::{FOUND_WORDS, FULL_DEMAND, OLD_BLOCK, REPORT_WORDS, STAGED_REPORT_WORDS, TURNING};
 use outside::blocks::plan_block;
 use outside::calls::{Calls, PROVED};
 use outside::reference;
@@ -160,9 +158,7 @@ impl Call {
         match self {
             Call::TruePlan => unreachable!("it was run"),
             Call::CheckModel => (calls.check_model)(job, c, sizes, answer),
-            Call::PlatesNeeded => {
-                (calls.plates_needed)(job, c, weights, input.other, storage, answer)
-            }
+            Call::PlatesNeeded => (calls.plates_needed)(job, c, weights, input.other, storage, answer),
             Call::BoundLagrangian => {
                 (calls.bound_lagrangian)(job, c, weights, &input.multipliers, storage, answer)
             }
@@ -172,20 +168,14 @@ impl Call {
             Call::WritePlan => (calls.write_plan)(job, c, weights, storage, plan, answer),
             Call::NeatPlan => (calls.neat_plan)(job, c, kinds, operands, plan, answer),
             Call::Certify => (calls.certify)(job, c, weights, kinds, operands, storage, answer),
-            Call::CheckPlanStaged => {
-                (calls.check_plan_staged)(job, c, limit, kinds, operands, answer)
-            }
+            Call::CheckPlanStaged => (calls.check_plan_staged)(job, c, limit, kinds, operands, answer),
             Call::BoundStaged => (calls.bound_staged)(job, c, weights, limit, storage, answer),
             Call::CertifyStaged => {
                 (calls.certify_staged)(job, c, weights, limit, kinds, operands, storage, answer)
             }
-            Call::BoundTwo => {
-                (calls.bound_two)(job, c, weights, &input.second, storage, answer)
-            }
+            Call::BoundTwo => (calls.bound_two)(job, c, weights, &input.second, storage, answer),
             Call::Exact => (calls.exact)(job, c, storage, plan, answer),
-            Call::FindWeights => {
-                (calls.find_weights)(job, c, kinds, operands, storage, plan, answer)
-            }
+            Call::FindWeights => (calls.find_weights)(job, c, kinds, operands, storage, plan, answer),
         }
     }
 }

@@ -26,7 +26,11 @@ pub enum Saw {
 
 impl Saw {
     fn words(self) -> usize {
-        if let Saw::Check = self { SAW_WORDS } else { 2 }
+        if let Saw::Check = self {
+            SAW_WORDS
+        } else {
+            2
+        }
     }
 
     fn proved(self, i: &Input, answer: &mut [u64]) -> u32 {
@@ -92,10 +96,9 @@ fn copies_and_areas_are_reported_and_no_profit() {
 fn six_is_never_given_and_all_else_in_the_old_order() {
     let kinds = |price, demand| [(2, 3, price, 1), (3, 1, u32::MAX, demand)];
     let waste = |job| input(job, &[], &[(0, 0)]);
-    for (job, choices) in [
-        (job_block(5, 3, &kinds(1_000_001, 2)), 0),
-        (old_block(5, 3, &kinds(1_000_001, 2)), OLD_BLOCK),
-    ] {
+    for (job, choices) in
+        [(job_block(5, 3, &kinds(1_000_001, 2)), 0), (old_block(5, 3, &kinds(1_000_001, 2)), OLD_BLOCK)]
+    {
         assert_eq!(Saw::Check.agrees(&waste(job).with(choices), SAW_WORDS).0, 0);
     }
     let refused = |job, number, place| {

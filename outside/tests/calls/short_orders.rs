@@ -252,8 +252,7 @@ fn plans_pass_the_check_and_no_bound_is_lower() {
         let plan = input.with_written_plan(&lent);
         assert_eq!(words(Call::CheckPlan, &plan, ROOM)[0], optimum, "{input:?}");
         for _ in 0..3 {
-            let mut weights =
-                || plan.weights.iter().map(|_| random.from(0, 3) as u8).collect::<Vec<u8>>();
+            let mut weights = || plan.weights.iter().map(|_| random.from(0, 3) as u8).collect::<Vec<u8>>();
             let weighed = Input { weights: weights(), second: weights(), ..plan.clone() };
             let bound = words(Call::Bound, &weighed, ROOM)[0];
             assert!(bound >= optimum, "{optimum} above {bound}: {weighed:?}");
@@ -286,8 +285,7 @@ fn a_kerf_is_added_to_every_side() {
     let mut shorter = 0;
     let wide = Scale { plate: 12, kerf: 4, side: 6, kinds: 3, demand: 2, ..SMALL };
     for (input, job) in generated(95, 2000, wide) {
-        let [sawn, broad] =
-            [&input, &widened(&input, &job)].map(|input| done(Call::Exact, input, ROOM));
+        let [sawn, broad] = [&input, &widened(&input, &job)].map(|input| done(Call::Exact, input, ROOM));
         assert!(sawn.table == broad.table && sawn.lengths == broad.lengths, "{input:?}");
         assert!(sawn.widths == broad.widths, "{input:?}");
         let [sawn, broad] = [sawn, broad].map(|lent| {
@@ -370,7 +368,7 @@ fn is_answered(input: &Input, states: usize) {
     let sizes = Sizes { table: lengths.len() * widths.len() * states, ..AMPLE };
     let mut expected = Lent::new(sizes);
     let (storage, plan, answer) = expected.split();
-    // The job is accepted, and the table is as large as it must be.
+    // SAFETY: the job is accepted, and the table is as large as it must be.
     let exact = unsafe { baseline::c::exact(&input.job, input.choices, storage, plan) };
     answer[..5].copy_from_slice(&exact.to_words());
     assert_eq!(exact.states, states as u64);

@@ -267,8 +267,7 @@ fn typed_answers() {
     assert_eq!((report.report.profit, report.stages), (16, 2));
     let bound = slices::bound_staged(&job_s(), 0, &[0, 1, 0], 2, lent.split().0);
     assert_eq!(bound.expect("a bound").to_words(), [16, 2, 5, 4]);
-    let best =
-        slices::certify_staged(&job_s(), 0, &[0, 1, 0], 2, &kinds, &operands, lent.split().0);
+    let best = slices::certify_staged(&job_s(), 0, &[0, 1, 0], 2, &kinds, &operands, lent.split().0);
     assert_eq!(best.expect("a certificate").to_words(), [0, 16, 16]);
     let refused = slices::bound_staged(&job_s(), 0, &[0, 1, 0], 9, lent.split().0);
     assert_eq!(refused.map_err(|refusal| refusal.number), Err(22));

@@ -35,10 +35,7 @@ fn cuts(runs: &[usize], kerf: u16) -> Vec<Node> {
 fn nested(cuts: &[Node]) -> [Vec<Node>; 2] {
     let leaves = std::iter::repeat_n((0, 0), cuts.len());
     let slices = cuts.iter().flat_map(|&(kind, _)| [(kind, 1), (0, 0)]);
-    [
-        cuts.iter().copied().chain([UNIT]).chain(leaves).collect(),
-        slices.chain([UNIT]).collect(),
-    ]
+    [cuts.iter().copied().chain([UNIT]).chain(leaves).collect(), slices.chain([UNIT]).collect()]
 }
 
 /// Both parts of every cut are cut in the other direction, down to this depth; a unit in each last
@@ -151,10 +148,9 @@ fn is_filled(input: &Input, capacity: usize) {
     let sizes = Sizes { table: blocks * p * r * (capacity + 1), ..LARGE };
     let mut filled = Lent::new(sizes);
     let Input { job, choices, weights, limit, .. } = input;
-    // The job is accepted, and the table is as large as it must be.
-    let bound = unsafe {
-        baseline::c::bound_staged(job, *choices, weights, *limit, filled.split().0).to_words()
-    };
+    // SAFETY: the job is accepted, and the table is as large as it must be.
+    let bound =
+        unsafe { baseline::c::bound_staged(job, *choices, weights, *limit, filled.split().0).to_words() };
     assert_eq!(bound[1..], [capacity, p, r].map(|number| number as u64));
     let certificate = [bound[0], bound[0], 0];
     for (call, answer) in [(Call::BoundStaged, &bound[..]), (Call::CertifyStaged, &certificate)] {

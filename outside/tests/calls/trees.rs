@@ -25,7 +25,11 @@ struct Tree {
 impl Tree {
     /// Its stages below a cut of this direction.
     fn stages_below(&self, cut: Cut) -> usize {
-        if self.first == Some(cut) { self.stages } else { self.stages + 1 }
+        if self.first == Some(cut) {
+            self.stages
+        } else {
+            self.stages + 1
+        }
     }
 }
 

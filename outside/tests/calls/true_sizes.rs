@@ -88,8 +88,7 @@ fn the_last_piece_needs_no_kerf() {
 #[test]
 fn only_pieces_that_may_lie_on_the_true_plate_are_tried() {
     let sizes = sizes_block(10, 5, 0, &[[10, 2]]);
-    let model =
-        |length, width| modelled(job_block(1, 2, &[(length, width, 1, 9)]), sizes.clone(), &[]);
+    let model = |length, width| modelled(job_block(1, 2, &[(length, width, 1, 9)]), sizes.clone(), &[]);
     for choices in [0, TURNING] {
         stands(&model(1, 1).with(choices));
         refuses(Call::CheckModel, &model(1, 2).with(choices), 33, 1);

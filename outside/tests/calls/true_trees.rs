@@ -11,16 +11,10 @@ use outside::random::Random;
 use outside::reference::{true_job, Job};
 
 const TINY: Scale = Scale { plate: 4, kerf: 1, side: 3, kinds: 3, demand: 2, ..SMALL };
-const ROOM: Sizes =
-    Sizes { lengths: 30, widths: 30, table: 1 << 13, kinds: 300, operands: 300, ..AMPLE };
+const ROOM: Sizes = Sizes { lengths: 30, widths: 30, table: 1 << 13, kinds: 300, operands: 300, ..AMPLE };
 
 /// Generated inputs, their jobs and their true jobs, the words of choices taking turns.
-fn generated(
-    seed: u64,
-    count: usize,
-    scale: Scale,
-    grain: u32,
-) -> impl Iterator<Item = (Input, Job, Job)> {
+fn generated(seed: u64, count: usize, scale: Scale, grain: u32) -> impl Iterator<Item = (Input, Job, Job)> {
     let mut random = Random::new(seed);
     (0..count).filter_map(move |i| {
         let input = draw(&mut random, scale, ALL_CHOICES[i % 4] | grain);
@@ -120,9 +114,7 @@ fn no_true_tree_earns_more(seed: u64, grain: u32) {
         passed += 1;
         earned += usize::from(most == bound);
     }
-    println!(
-        "{earned} of {passed} bounds are earned; {below} are too low where the model is refused"
-    );
+    println!("{earned} of {passed} bounds are earned; {below} are too low where the model is refused");
     assert!(passed >= 300 && earned >= 100 && below >= 10);
 }
 

@@ -128,8 +128,7 @@ fn generated(seed: u64, count: usize, scale: Scale) -> impl Iterator<Item = (Inp
     let mut random = Random::new(seed);
     (0..count).map(move |i| {
         let input = draw(&mut random, scale, ALL_CHOICES[i % 4]);
-        let second: Vec<u8> =
-            input.weights.iter().map(|_| random.from(0, scale.weight) as u8).collect();
+        let second: Vec<u8> = input.weights.iter().map(|_| random.from(0, scale.weight) as u8).collect();
         let job = Job::read(&input.job, input.choices).expect("a job");
         (input.and(&second), job)
     })
@@ -200,9 +199,8 @@ fn two_weights_bound_no_higher_than_one() {
 /// Four units: one of each kind, or two of the dearer one where both weigh alike.
 #[test]
 fn a_cut_shares_out_both_capacities() {
-    let two = |first: &[u8], second: &[u8]| {
-        weighed(job_block(2, 2, &[(1, 1, 10, 1), (1, 1, 9, 1)]), first, second)
-    };
+    let two =
+        |first: &[u8], second: &[u8]| weighed(job_block(2, 2, &[(1, 1, 10, 1), (1, 1, 9, 1)]), first, second);
     answers(Call::BoundTwo, &two(&[1, 0], &[0, 1]), &[19, 1, 1, 3, 3]);
     answers(Call::BoundTwo, &two(&[1, 1], &[0, 1]), &[20, 2, 1, 3, 3]);
     answers(Call::BoundTwo, &two(&[1, 1], &[1, 1]), &[20, 2, 2, 3, 3]);
@@ -234,10 +232,9 @@ fn is_filled(input: &Input, capacities: [usize; 2]) {
     let sizes = Sizes { table: p * r * pairs, ..AMPLE };
     let mut filled = Lent::new(sizes);
     let Input { job, choices, weights, second, .. } = input;
-    // The job is accepted, and the table is as large as it must be.
-    let bound = unsafe {
-        baseline::c::bound_two(job, *choices, weights, second, filled.split().0).to_words()
-    };
+    // SAFETY: the job is accepted, and the table is as large as it must be.
+    let bound =
+        unsafe { baseline::c::bound_two(job, *choices, weights, second, filled.split().0).to_words() };
     let [first, other] = capacities;
     assert_eq!(bound[1..], [first, other, p, r].map(|number| number as u64));
     let (code, lent) = on_small_stack(Call::BoundTwo, input, sizes);

@@ -194,10 +194,7 @@ fn no_fewer_plates_hold_the_order(seed: u64, grain: u32) {
     }
     let seen = [("alone", alone, 500), ("beside one", beside, 500), ("true", true_sizes, 100)];
     for (what, packed, least) in seen {
-        println!(
-            "{what}: {} orders are held, {} by as many plates as needed",
-            packed.orders, packed.met
-        );
+        println!("{what}: {} orders are held, {} by as many plates as needed", packed.orders, packed.met);
         assert!(packed.orders >= least && packed.met >= least / 10, "{what}");
     }
 }

@@ -32,9 +32,10 @@ pub fn changed(
     demand: impl Fn(u64) -> u64,
 ) -> Vec<u8> {
     let side = |old| side(old) as u16;
-    let kinds = job.kinds.iter().map(|kind| {
-        (side(kind.length), side(kind.width), kind.price as u32, demand(kind.demand) as u16)
-    });
+    let kinds = job
+        .kinds
+        .iter()
+        .map(|kind| (side(kind.length), side(kind.width), kind.price as u32, demand(kind.demand) as u16));
     let kinds: Vec<Kind> = kinds.collect();
     kerf_block(side(job.length), side(job.width), kerf as u16, &kinds)
 }
@@ -48,8 +49,7 @@ pub fn widened(input: &Input, job: &Job) -> Input {
 #[test]
 fn bound_lists_and_table_are_those_of_the_widened_job() {
     for (input, job) in generated(52, 1000, WIDE) {
-        let [sawn, wide] =
-            [&input, &widened(&input, &job)].map(|input| done(Call::Bound, input, ROOM));
+        let [sawn, wide] = [&input, &widened(&input, &job)].map(|input| done(Call::Bound, input, ROOM));
         assert_eq!(sawn.differences(&wide), [""; 0], "{input:?}");
     }
 }
@@ -111,10 +111,7 @@ fn no_tree_that_loses_the_kerf_earns_more_at_whole_units_or_finer() {
     for (input, job) in generated(55, 600, tiny) {
         let bound = words(Call::Bound, &input, ROOM)[0];
         let most = [1, 2, 3].map(|m| optimum(&finer(&job, m)));
-        assert!(
-            most.iter().all(|&most| most <= bound),
-            "{most:?} are earned, bound {bound}: {input:?}"
-        );
+        assert!(most.iter().all(|&most| most <= bound), "{most:?} are earned, bound {bound}: {input:?}");
         compared += 1;
         earned += usize::from(most[0] == bound);
     }

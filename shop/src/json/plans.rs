@@ -111,12 +111,15 @@ pub fn tree_document(outcome: &Outcome, board: &Board) -> Value {
 pub fn evidence(part: &Modelled) -> Value {
     let numbers = |numbers: &[u32]| Value::List(numbers.iter().map(Value::number).collect());
     let pair = |pair: [u16; 2]| Value::List(pair.iter().map(Value::number).collect());
+    let weights = part.weights.iter().filter(|weights| !weights.is_empty());
+    let weights = weights.map(|weights| Value::List(weights.iter().map(Value::number).collect()));
     Value::object([
         ("stock", Value::number(part.stock)),
         ("plate", pair(part.model.plate)),
         ("sides", Value::List(part.model.sides.iter().map(|sides| pair(*sides)).collect())),
         ("prices", numbers(&part.prices)),
         ("multipliers", numbers(&part.multipliers)),
+        ("weights", Value::List(weights.collect())),
     ])
 }
 
@@ -208,16 +211,31 @@ fn evidence_of(document: &Value) -> Result<Vec<Modelled>, Expected> {
         None | Some(Value::Null) => return Ok(Vec::new()),
         Some(_) => return Err(Expected::at("evidence", "a list")),
     };
-    let wrong = || Expected::at("evidence", "stock, plate, sides, prices and multipliers in whole numbers");
+    let wrong =
+        || Expected::at("evidence", "stock, plate, sides, prices, multipliers and weights in whole numbers");
     let part = |part: &Value| {
         let stock = usize::try_from(number(part.get("stock")?)?).ok()?;
         let plate = pair(part.get("plate")?)?;
         let sides = list(part.get("sides")?)?.iter().map(pair).collect::<Option<_>>()?;
         let numbers = |name: &str| list(part.get(name)?)?.iter().map(number).collect::<Option<Vec<u32>>>();
         let (prices, multipliers) = (numbers("prices")?, numbers("multipliers")?);
-        Some(Modelled { stock, model: Model { plate, sides }, prices, multipliers })
+        let weights = part.get("weights").map_or(Some(Default::default()), weights_of)?;
+        Some(Modelled { stock, model: Model { plate, sides }, prices, multipliers, weights })
     };
     parts.iter().map(|value| part(value).ok_or_else(wrong)).collect()
+}
+
+/// No weights, one a kind or two.
+fn weights_of(value: &Value) -> Option<[Vec<u8>; 2]> {
+    let weights = |value: &Value| {
+        list(value)?.iter().map(|value| number(value)?.try_into().ok()).collect::<Option<Vec<u8>>>()
+    };
+    match list(value)? {
+        [] => Some(Default::default()),
+        [one] => Some([weights(one)?, Vec::new()]),
+        [first, second] => Some([weights(first)?, weights(second)?]),
+        _ => None,
+    }
 }
 
 fn list(value: &Value) -> Option<&[Value]> {

@@ -3,6 +3,7 @@
 // an exhaustive search.
 mod dialects;
 mod drawings;
+mod effort;
 mod exhaustive;
 mod faults;
 mod filed;

@@ -121,3 +121,24 @@ fn every_reason_has_a_number_and_words_of_its_own() {
     words.dedup();
     assert_eq!(words.len(), numbers.len() + 1);
 }
+
+/// The names of the table of calls.
+macro_rules! names {
+    ($($(#[$doc:meta])* $name:ident $takes:tt -> $answer:ty;)*) => {
+        const NAMES: &[&str] = &[$(stringify!($name)),*];
+    };
+}
+
+planner::calls!(names);
+
+#[test]
+fn the_table_has_the_calls_of_the_header() {
+    let header = include_str!("../../../../include/planner.h");
+    let declared =
+        header.lines().filter_map(|line| line.strip_prefix("uint32_t planner_")?.strip_suffix('('));
+    let mut declared: Vec<&str> = declared.collect();
+    let mut names = NAMES.to_vec();
+    declared.sort_unstable();
+    names.sort_unstable();
+    assert_eq!(names, declared);
+}

@@ -1,7 +1,7 @@
 // The baseline in Rust: the tabled algorithm as fast as we know how to write it.
 // Jobs are taken as accepted, in the new block, and storage as large enough.
-mod row_fill;
 mod plate;
+mod row_fill;
 mod state_fill;
 mod writer;
 
@@ -12,13 +12,7 @@ pub fn bound(job: &[u8], choices: u32, weights: &[u8], storage: Storage) -> Boun
     fill(&Plate::read(job, choices, weights), storage)
 }
 
-pub fn write_plan(
-    job: &[u8],
-    choices: u32,
-    weights: &[u8],
-    storage: Storage,
-    plan: PlanArrays,
-) -> Written {
+pub fn write_plan(job: &[u8], choices: u32, weights: &[u8], storage: Storage, plan: PlanArrays) -> Written {
     let Storage { lengths, widths, table } = storage;
     let plate = Plate::read(job, choices, weights);
     let bound = fill(&plate, Storage { lengths, widths, table });

@@ -71,9 +71,8 @@ impl Tabled<'_> {
             return Choice::Leaf((0, 0));
         }
         let mut pieces = self.plate.pieces.iter();
-        let earns = pieces.find(|piece| {
-            piece.price == value && piece.fits(part.side) && piece.weight <= part.share
-        });
+        let earns =
+            pieces.find(|piece| piece.price == value && piece.fits(part.side) && piece.weight <= part.share);
         if let Some(piece) = earns {
             return Choice::Leaf(piece.node);
         }

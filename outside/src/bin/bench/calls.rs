@@ -37,6 +37,7 @@ pub static BOUND: Call = Call {
         },
         |job, memory| {
             let storage = memory.split().0;
+            // SAFETY: the proved call has accepted job and memory.
             let bound = unsafe { c::bound(&job.block, job.choices, &job.weights, storage) };
             memory.put(bound.to_words());
             0
@@ -59,8 +60,8 @@ pub static PLAN: Call = Call {
         },
         |job, memory| {
             let (storage, plan, _) = memory.split();
-            let written =
-                unsafe { c::write_plan(&job.block, job.choices, &job.weights, storage, plan) };
+            // SAFETY: the proved call has accepted job and memory.
+            let written = unsafe { c::write_plan(&job.block, job.choices, &job.weights, storage, plan) };
             memory.put(written.to_words());
             0
         },
@@ -75,6 +76,7 @@ pub static STAGED: Call = call(
     },
     |Job { block, choices, weights, limit, .. }, memory| {
         let storage = memory.split().0;
+        // SAFETY: the proved call has accepted job and memory.
         let bound = unsafe { c::bound_staged(block, *choices, weights, *limit, storage) };
         memory.put(bound.to_words());
         0
@@ -89,6 +91,7 @@ pub static TWO_WEIGHTS: Call = call(
     },
     |Job { block, choices, weights, second, .. }, memory| {
         let storage = memory.split().0;
+        // SAFETY: the proved call has accepted job and memory.
         let bound = unsafe { c::bound_two(block, *choices, weights, second, storage) };
         memory.put(bound.to_words());
         0
@@ -103,6 +106,7 @@ pub static EXACT: Call = call(
     },
     |job, memory| {
         let (storage, plan, _) = memory.split();
+        // SAFETY: the proved call has accepted job and memory.
         let exact = unsafe { c::exact(&job.block, job.choices, storage, plan) };
         memory.put(exact.to_words());
         0
@@ -120,6 +124,7 @@ pub static ROUNDS: Call = Call {
         },
         |job, memory| {
             let (storage, plan, _) = memory.split();
+            // SAFETY: the proved call has accepted job and memory.
             let found = unsafe { c::find_weights(&job.block, job.choices, 0, storage, plan) };
             memory.put(found.to_words());
             0
@@ -135,6 +140,7 @@ pub static CERTIFICATE: Call = call(
     },
     |Job { block, choices, weights, kinds, operands, .. }, memory| {
         let (storage, _, answer) = memory.split();
+        // SAFETY: the proved call has accepted job and memory.
         unsafe { checks::certify(block, *choices, weights, kinds, operands, storage, answer) }
     },
 );
@@ -147,9 +153,8 @@ pub static STAGED_CERTIFICATE: Call = call(
     },
     |Job { block, choices, weights, limit, kinds, operands, .. }, memory| {
         let (storage, _, answer) = memory.split();
-        unsafe {
-            checks::certify_staged(block, *choices, weights, *limit, kinds, operands, storage, answer)
-        }
+        // SAFETY: the proved call has accepted job and memory.
+        unsafe { checks::certify_staged(block, *choices, weights, *limit, kinds, operands, storage, answer) }
     },
 );
 
@@ -157,9 +162,7 @@ pub static STAGED_CERTIFICATE: Call = call(
 pub static CHECKS: [Call; 7] = [
     call(
         "check",
-        |job, memory| {
-            ours::check_plan(&job.block, job.choices, &job.kinds, &job.operands, memory.split().2)
-        },
+        |job, memory| ours::check_plan(&job.block, job.choices, &job.kinds, &job.operands, memory.split().2),
         |job, memory| {
             checks::check_plan(&job.block, job.choices, &job.kinds, &job.operands, memory.split().2)
         },
@@ -180,12 +183,8 @@ pub static CHECKS: [Call; 7] = [
     ),
     call(
         "saw's check",
-        |job, memory| {
-            ours::saw_check(&job.block, job.choices, &job.kinds, &job.operands, memory.split().2)
-        },
-        |job, memory| {
-            checks::saw_check(&job.block, job.choices, &job.kinds, &job.operands, memory.split().2)
-        },
+        |job, memory| ours::saw_check(&job.block, job.choices, &job.kinds, &job.operands, memory.split().2),
+        |job, memory| checks::saw_check(&job.block, job.choices, &job.kinds, &job.operands, memory.split().2),
     ),
     call(
         "saw's kinds",
@@ -225,8 +224,10 @@ pub static TRUE_SIZES: [Call; 2] = [
         |Job { block, choices, sizes, .. }, memory| {
             ours::check_model(block, *choices, sizes, memory.split().2)
         },
-        |Job { block, choices, sizes, .. }, memory| unsafe {
-            checks::check_model(block, *choices, sizes, memory.split().2)
+        |Job { block, choices, sizes, .. }, memory| {
+            let (_, _, answer) = memory.split();
+            // SAFETY: the proved call has accepted job and sizes.
+            unsafe { checks::check_model(block, *choices, sizes, answer) }
         },
     ),
     call(
@@ -237,6 +238,7 @@ pub static TRUE_SIZES: [Call; 2] = [
         },
         |Job { block, choices, sizes, kinds, operands, .. }, memory| {
             let (plan, answer) = memory.true_plan();
+            // SAFETY: the proved call has accepted job and memory.
             unsafe { checks::true_plan(block, *choices, sizes, kinds, operands, plan, answer) }
         },
     ),
@@ -251,6 +253,7 @@ pub static ORDERS: [Call; 2] = [
         },
         |Job { block, choices, weights, .. }, memory| {
             let storage = memory.split().0;
+            // SAFETY: the proved call has accepted job and memory.
             let needed = unsafe { c::plates_needed(block, *choices, weights, 0, storage) };
             memory.put(needed.to_words());
             0
@@ -264,8 +267,8 @@ pub static ORDERS: [Call; 2] = [
         },
         |Job { block, choices, weights, multipliers, .. }, memory| {
             let storage = memory.split().0;
-            let bound =
-                unsafe { c::bound_lagrangian(block, *choices, weights, multipliers, storage) };
+            // SAFETY: the proved call has accepted job and memory.
+            let bound = unsafe { c::bound_lagrangian(block, *choices, weights, multipliers, storage) };
             memory.put(bound.to_words());
             0
         },

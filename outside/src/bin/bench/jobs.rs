@@ -41,6 +41,8 @@ struct Draw {
     capacity: usize,
     second_weights: &'static [u8],
     second_capacity: usize,
+    /// Each price is about a hundred times the kind's weights, so that most shares have a figure of their own.
+    in_step: bool,
     choices: u32,
 }
 
@@ -53,6 +55,7 @@ const SMALL: Draw = Draw {
     capacity: 0,
     second_weights: &[0],
     second_capacity: 0,
+    in_step: false,
     choices: 0,
 };
 
@@ -71,13 +74,7 @@ pub fn named() -> Vec<Job> {
         capacity: 200,
         ..SMALL
     };
-    let many = Draw {
-        sides: (20, 50),
-        weights: &[0, 16, 48],
-        capacity: 4000,
-        choices: FULL_DEMAND,
-        ..SMALL
-    };
+    let many = Draw { sides: (20, 50), weights: &[0, 16, 48], capacity: 4000, choices: FULL_DEMAND, ..SMALL };
     let mut jobs = vec![s()];
     jobs.extend([SMALL, few, turning, kerf, half, full, shares, many].iter().map(draw));
     jobs
@@ -160,23 +157,23 @@ pub fn exact() -> Vec<Job> {
         (100, (12, 40), &[1, 2, 3, 4, 5, 2]),
         (100, (10, 35), &[1; 12]),
     ];
-    let named = |name: String, block| Job { name, block, ..Job::default() };
-    let first = named("ChW1".into(), kerf_block(15, 10, 0, &chw1));
-    let others = drawn.map(|(plate, sides, demands)| {
-        let random = &mut Random::new(u64::from(plate) + demands.len() as u64);
-        let kinds: Vec<Kind> = demands
-            .iter()
-            .map(|&demand| {
-                let (length, width, price, _) = draw_kind(random, sides);
-                (length, width, price, demand)
-            })
-            .collect();
-        let (low, high) = sides;
-        let copies = demands.iter().map(u16::to_string).collect::<Vec<String>>().join(" ");
-        let name = format!("{plate}×{plate}, demands {copies}, sides {low}–{high}");
-        named(name, kerf_block(plate, plate, 0, &kinds))
-    });
+    let first = Job { name: "ChW1".into(), block: kerf_block(15, 10, 0, &chw1), ..Job::default() };
+    let others = drawn.map(|(plate, sides, demands)| short_order(plate, sides, demands));
     [first].into_iter().chain(others).collect()
+}
+
+/// One kind for each demand.
+fn short_order(plate: u16, sides: (usize, usize), demands: &[u16]) -> Job {
+    let random = &mut Random::new(u64::from(plate) + demands.len() as u64);
+    let draw = |&demand: &u16| {
+        let (length, width, price, _) = draw_kind(random, sides);
+        (length, width, price, demand)
+    };
+    let kinds: Vec<Kind> = demands.iter().map(draw).collect();
+    let (low, high) = sides;
+    let copies = demands.iter().map(u16::to_string).collect::<Vec<String>>().join(" ");
+    let name = format!("{plate}×{plate}, demands {copies}, sides {low}–{high}");
+    Job { name, block: kerf_block(plate, plate, 0, &kinds), ..Job::default() }
 }
 
 /// Weights found in rounds: for short orders, and for one of each of many kinds.
@@ -213,6 +210,27 @@ pub fn orders() -> Vec<Job> {
         Job { multipliers, ..job }
     };
     [SMALL, weighed, half].iter().map(draw).map(lowered).collect()
+}
+
+/// The largest plate with the most kinds, all small against it; within eight stages too.
+pub fn worst_plates() -> [Job; 2] {
+    let full = draw(&Draw { plate: 1000, kinds: 64, sides: (10, 60), ..SMALL });
+    [full.clone(), within(full, 8)]
+}
+
+/// Many small kinds whose prices go with their weights: one weight a kind, and two.
+pub fn worst_shares() -> [Job; 2] {
+    let weights = &[1, 2, 3, 4, 5, 6, 7, 8, 9, 10, 11, 12, 13];
+    let few = &[1, 2];
+    let dense = Draw { kinds: 40, sides: (2, 12), in_step: true, ..SMALL };
+    let one = Draw { plate: 60, weights, capacity: 570, ..dense };
+    let two = Draw { plate: 24, kinds: 20, weights: few, capacity: 30, ..dense };
+    [one, Draw { second_weights: few, second_capacity: 30, ..two }].map(|from| draw(&from))
+}
+
+/// Twelve kinds of one copy each.
+pub fn worst_exact() -> Job {
+    short_order(200, (10, 60), &[1; 12])
 }
 
 /// A plate that is cut into 1,000 strips, 250 of each kind.
@@ -264,6 +282,9 @@ fn draw(from: &Draw) -> Job {
     let mut pick = |weights| (0..from.kinds).map(|_| random.pick(weights)).collect::<Vec<u8>>();
     let (weights, second) = (pick(from.weights), pick(from.second_weights));
     raise_demands(from, &mut kinds, &weights, &second);
+    if from.in_step {
+        price_by_weight(random, &mut kinds, &weights, &second);
+    }
     let [capacity, other] = [&weights, &second].map(|weights| capacity(from, &kinds, weights));
     let &Draw { plate, kerf, sides: (low, high), choices, .. } = from;
     let n = kinds.len();
@@ -273,6 +294,9 @@ fn draw(from: &Draw) -> Job {
     }
     if kerf > 0 {
         name += &format!(", kerf {kerf}");
+    }
+    if from.in_step {
+        name += ", prices in step";
     }
     for (choice, words) in [(TURNING, ", turning"), (FULL_DEMAND, ", full demand")] {
         name += if choices & choice != 0 { words } else { "" };
@@ -285,6 +309,12 @@ fn draw_kind(random: &mut Random, (low, high): (usize, usize)) -> Kind {
     let (length, width) = (random.from(low, high), random.from(low, high));
     let area = length * width;
     (length as u16, width as u16, (area + random.from(0, area / 4)) as u32, 1)
+}
+
+fn price_by_weight(random: &mut Random, kinds: &mut [Kind], weights: &[u8], second: &[u8]) {
+    for (kind, (first, second)) in kinds.iter_mut().zip(weights.iter().zip(second)) {
+        kind.2 = 100 * (u32::from(*first) + u32::from(*second)) + random.from(0, 99) as u32;
+    }
 }
 
 /// Adds copies of kinds that weigh, one kind after the other, as long as both capacities stay within

@@ -1,6 +1,6 @@
 // The benchmark: every call of planner.h, ours against the same algorithm in C and, for bound and written plan,
 // in Rust, in one run. Prints Markdown: how it is measured, then a table for each sort of call. A word given
-// as argument leaves only the jobs whose names have it.
+// as argument leaves only the lines whose job, call or table has it in its name.
 mod calls;
 mod jobs;
 mod measure;
@@ -8,6 +8,7 @@ mod memory;
 mod report;
 
 use calls::Call;
+use jobs::Job;
 use report::{Fact, Table};
 
 const P: (&str, Fact) = ("p", Fact::Answer(2));
@@ -24,18 +25,21 @@ fn main() {
 
 fn preface() {
     println!(
-        "\nMeasured by `outside/run bench`: every call of the proved library against the same algorithm written for speed alone in C\n\
-         (`outside/bench`) and, for bound and written plan, in Rust (`outside/src/baseline/rust`), in one run. They take turns; each figure is the\n\
-         least of {} to {} samples of processor time, and short calls are repeated within a sample. Memory is touched before the first call\n\
-         and not cleared between calls. Before a line is measured, all must give the same answers and leave the same lists, table and plan. The jobs\n\
-         are generated from fixed seeds.",
-        measure::FEWEST, measure::MOST,
+        "\nMeasured by `outside/run bench`: every call of the proved library against the same algorithm written for speed alone in C (`outside/bench`)\n\
+         and, for bound and written plan, in Rust (`outside/src/baseline/rust`), in one run. They take turns; each figure is the least of {} to\n\
+         {} samples of processor time, where one of each takes more than {} s together a single sample; short calls are repeated within a\n\
+         sample. Memory is touched before the first call and not cleared between calls. Before a line is measured, all must give the same\n\
+         answers and leave the same lists, table and plan. The jobs are generated from fixed seeds.",
+        measure::FEWEST,
+        measure::MOST,
+        measure::LINE_SECONDS,
     );
 }
 
 fn tables() -> Vec<Table> {
-    let table = |title, facts: &[_], calls: &[&'static Call], jobs| {
-        Table { title, facts: facts.to_vec(), calls: calls.to_vec(), jobs }
+    let table = |title, facts: &[_], calls: &[&'static Call], jobs: Vec<Job>| {
+        let lines = jobs.iter().flat_map(|job| calls.iter().map(|&call| (job.clone(), call)));
+        Table { title, facts: facts.to_vec(), lines: lines.collect() }
     };
     let sizes = [P, R, Q, WORDS, ("nodes", Fact::Answer(4))];
     let bounds = |title, jobs| table(title, &sizes, &[&calls::BOUND, &calls::PLAN], jobs);
@@ -59,5 +63,20 @@ fn tables() -> Vec<Table> {
         table("Racks", &[NODES], &[&calls::RACK], jobs::racks()),
         table("True sizes", &[NODES], &true_sizes, jobs::true_sizes()),
         table("Orders", &[WORDS], &orders, jobs::orders()),
+        worst(),
     ]
+}
+
+/// Jobs on which the calls that fill a table are slow.
+fn worst() -> Table {
+    let [full, staged] = jobs::worst_plates();
+    let [one, two] = jobs::worst_shares();
+    let lines = vec![
+        (full, &calls::BOUND),
+        (staged, &calls::STAGED),
+        (one, &calls::BOUND),
+        (two, &calls::TWO_WEIGHTS),
+        (jobs::worst_exact(), &calls::EXACT),
+    ];
+    Table { title: "Worst cases", facts: vec![WORDS], lines }
 }

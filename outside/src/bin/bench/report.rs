@@ -2,7 +2,7 @@
 // memory; a difference ends the run.
 use crate::calls::{Call, Run};
 use crate::jobs::Job;
-use crate::measure::least;
+use crate::measure::{least, seconds};
 use crate::memory::{Memory, UNTOUCHED};
 
 /// A column that tells the size of a line's job.
@@ -19,52 +19,67 @@ pub enum Fact {
 pub struct Table {
     pub title: &'static str,
     pub facts: Vec<(&'static str, Fact)>,
-    pub calls: Vec<&'static Call>,
-    pub jobs: Vec<Job>,
+    pub lines: Vec<(Job, &'static Call)>,
 }
 
 impl Table {
-    /// Prints the lines of the jobs whose names have the word.
+    /// Prints the lines whose job, call or table has the word in its name.
     pub fn print(&self, wanted: &str) {
-        let in_rust = self.calls.iter().any(|call| call.rust.is_some());
+        let has_word = |(job, call): &&(Job, &Call)| {
+            [self.title, &job.name, call.name].iter().any(|name| name.contains(wanted))
+        };
+        let lines: Vec<&(Job, &Call)> = self.lines.iter().filter(has_word).collect();
+        if !lines.is_empty() {
+            self.print_lines(&lines);
+        }
+    }
+
+    fn print_lines(&self, lines: &[&(Job, &Call)]) {
+        let in_rust = lines.iter().any(|(_, call)| call.rust.is_some());
         let mut columns = vec!["job"];
         columns.extend(self.facts.iter().map(|(name, _)| *name));
         columns.extend(["call", "ours ms", "C ms"]);
         columns.extend(if in_rust { &["Rust ms", "ours / best"][..] } else { &["ours / C"] });
         let rule = columns.iter().map(|name| if matches!(*name, "job" | "call") { "---|" } else { "--:|" });
         println!("\n## {}\n\n{}\n|{}", self.title, row(&columns), rule.collect::<String>());
-        for job in self.jobs.iter().filter(|job| job.name.contains(wanted)) {
-            self.calls.iter().for_each(|call| println!("{}", self.line(job, call)));
+        for (job, call) in lines {
+            println!("{}", self.line(job, call, in_rust));
         }
     }
 
-    fn line(&self, job: &Job, call: &Call) -> String {
+    fn line(&self, job: &Job, call: &Call, in_rust: bool) -> String {
         let contenders = [Some(call.ours), Some(call.c), call.rust];
         let contenders: Vec<Run> = contenders.into_iter().flatten().collect();
-        let mut memory = compared(job, call, &contenders);
+        let (mut memory, first) = compared(job, call, &contenders);
         let mut cells = vec![job.name.clone()];
         cells.extend(self.facts.iter().map(|(_, fact)| fact.text(job, &memory)));
         cells.push(call.name.into());
-        let seconds = least(&contenders, job, &mut memory);
-        cells.extend(seconds.iter().map(|&seconds| milliseconds(seconds)));
-        let best = seconds[1..].iter().copied().fold(f64::INFINITY, f64::min);
-        cells.push(format!("{:.2}", seconds[0] / best));
+        let least = least(&contenders, &first, job, &mut memory);
+        cells.extend(least.iter().map(|&seconds| milliseconds(seconds)));
+        cells.extend((in_rust && call.rust.is_none()).then(String::new));
+        let best = least[1..].iter().copied().fold(f64::INFINITY, f64::min);
+        cells.push(format!("{:.2}", least[0] / best));
         row(&cells)
     }
 }
 
-/// Runs every contender on memory of its own; gives ours.
-fn compared(job: &Job, call: &Call, contenders: &[Run]) -> Memory {
-    let left = |run: &Run| {
+/// Runs every contender on memory of its own; gives ours, and the seconds of each.
+fn compared(job: &Job, call: &Call, contenders: &[Run]) -> (Memory, Vec<f64>) {
+    let run = |contender: &Run| {
         let mut memory = call.enough_for(job);
-        assert_eq!(run(job, &mut memory), 0, "{} takes {}", call.name, job.name);
-        memory
+        let mut number = 0;
+        let seconds = seconds(|| number = contender(job, &mut memory));
+        assert_eq!(number, 0, "{} takes {}", call.name, job.name);
+        (memory, seconds)
     };
-    let ours = left(&contenders[0]);
+    let (ours, first) = run(&contenders[0]);
+    let mut all = vec![first];
     for other in &contenders[1..] {
-        assert!(left(other) == ours, "all answer the same to {} for {}", call.name, job.name);
+        let (memory, seconds) = run(other);
+        assert!(memory == ours, "all answer the same to {} for {}", call.name, job.name);
+        all.push(seconds);
     }
-    ours
+    (ours, all)
 }
 
 impl Fact {

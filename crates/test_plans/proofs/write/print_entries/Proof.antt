@@ -9,4 +9,4 @@ print-entries-spec =
     tie.close
     (tie.spec
     (λ kinds operands i₀ i. i ≤ 7) (λ kinds operands i₀ i. 7 - i)
-    (search needs) (search needs) (search needs) (search needs) (search needs) (search needs) (search needs) (search needs) (search needs) (search needs) (search needs))
+    (search needs) (search needs) (search needs) (search needs) (search needs) (search needs) (search needs) (search needs) (search needs) (search needs) (search needs) (search needs))
