@@ -99,7 +99,7 @@ impl Task {
         })
     }
 
-    /// Whether a model of this side is too coarse for a board: its smallest panel has hardly a unit.
+    /// Whether a model of this side is too coarse for a board: its smallest panel has hardly some units.
     pub fn is_coarse(&self, board: Sides, side: i32) -> bool {
         let wide = (0..self.kinds.len()).flat_map(|kind| self.wide(kind, false));
         let (least, room) = (wide.min().unwrap_or(i32::MAX), self.room(board));

@@ -128,9 +128,9 @@ impl Search<'_> {
         self.proof.as_ref().map_or(0, |proof| proof.floor.cost)
     }
 
-    fn is_done(&self) -> bool {
-        let holds = self.missing(&self.best) == 0;
-        holds && self.cost(&self.best) <= self.floor() || self.clock.is_over()
+    /// Whether the best packing holds the order and costs no more than it must.
+    fn is_best(&self) -> bool {
+        self.missing(&self.best) == 0 && self.cost(&self.best) <= self.floor()
     }
 
     /// What is missing, what the boards cost, and how many they are: the less the better.
@@ -206,10 +206,10 @@ impl Search<'_> {
         &RUNGS[RUNGS.iter().take_while(coarse).count().min(RUNGS.len() - 1)..]
     }
 
-    /// Bounds on finer and finer models, while boards are packed beside.
+    /// Bounds on finer and finer models, while boards are packed beside; at least one, even where the time is up.
     fn climb(&mut self) {
         for rung in self.rungs() {
-            if self.is_done() {
+            if self.is_best() || self.clock.is_over() && !self.prices.is_empty() {
                 return;
             }
             let cost = if self.missing(&self.best) == 0 { self.cost(&self.best) } else { u64::MAX - 1 };
@@ -252,7 +252,8 @@ impl Search<'_> {
     /// Rounds of packing towards less cost, with a seed on each core. Several sets of boards share the work of a round.
     fn pack_on(&mut self) {
         let (mut round, mut work, mut left) = (0, ROUNDS[0], ALL_ROUNDS);
-        while !self.is_done() && (round < ROUNDS.len() && left > 0 || self.clock.is_timed()) {
+        let timed = self.clock.is_timed();
+        while !self.is_best() && !self.clock.is_over() && (timed || round < ROUNDS.len() && left > 0) {
             work = ROUNDS.get(round).copied().unwrap_or(work + work / 2);
             left -= work;
             let before = self.key(&self.best);
