@@ -6,7 +6,7 @@
 #include <stddef.h>
 #include <stdint.h>
 
-/* The version of the interface: a second number rises with each new function, a first one where an old one changes. */
+/* The version of the interface: its second number rises with each new function, its first where an old one changes. */
 #define PLANNER_VERSION "2.0.0"
 
 #ifdef __cplusplus
@@ -87,9 +87,7 @@ extern "C" {
  * leaves the p normal lengths and the r normal widths in the lists, rising, and in the table at word
  * (a * r + b) * (capacity + 1) + c the figure of the a-th normal length, the b-th normal width and
  * share c, all counted from 0: the most that a tree of weight at most c earns on the rectangle whose
- * sides are these less k, and 0 where a or b is 0. All later words keep what they held. (That the figures
- * follow the recursion, that the normal lengths are these sums, and that the rounds follow their rules is
- * proved of the library's own calls, which these functions pass on.)
+ * sides are these less k, and 0 where a or b is 0. All later words keep what they held.
  *
  * Stages. Those of a tree are the most changes of direction on a path down through its cuts, plus
  * one; a tree without a cut has none. A limit is from 1 to 8.
@@ -159,7 +157,7 @@ extern "C" {
  *       length
  *    1  job of fewer than 8 bytes, an old block of 6           0
  *    2  plate length or width outside 1 to 1000; of a rack,    0, or plate
- *       after 7, that of a plate
+ *       after 35, that of a plate
  *    3  number of kinds outside 1 to 64                        0
  *   27  kerf above 20                                          0
  *    4  job not 8 + 10n bytes, an old block not 6 + 10n; with  0
@@ -195,14 +193,15 @@ extern "C" {
  *   26  an idle cut: neither of its parts holds a piece        first of them
  *   29  a kind's copies in this and all earlier plans of the   plate
  *       rack pass its demand
- *   23  a cut whose path passes the limit on stages            first of them
  *   34  the plan does not fit the plate at the true sizes      0 along the length,
  *                                                              1 along the width
+ *   23  a cut whose path passes the limit on stages            first of them
  *   19  a list too short                                       0
  *   20  table too short                                        words needed
  *   21  plan needs above 4095 nodes, or more than an array     nodes needed
  *       of the plan holds
- * Two numbers are not named below: every function that gives 7 gives 35, every one that gives 13 gives 36.
+ * Two numbers are not named below: every function that gives 7 gives 35 right after it, and every one that gives 13
+ * gives 36 right after it.
  * Numbers 1 to 19 and 22 to 38 change no lent memory but answer[0]. On 20 the lists are filled and the
  * table is untouched. On 21 lists and table are filled and the plan arrays untouched. */
 
