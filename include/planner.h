@@ -79,8 +79,8 @@ extern "C" {
  *
  * Normal lengths, all sides taken with k added. 0 and all sums, with repetition, of lengths of
  * ordered kinds that fit the plate, up to the plate's length; normal widths likewise. With
- * PLANNER_TURNING the lengths are those of kinds that fit the plate upright and the widths of kinds
- * that fit it turned; normal widths the other way about.
+ * PLANNER_TURNING the sums are of the lengths of kinds that fit the plate upright and of the widths of
+ * kinds that fit it turned; for normal widths the other way about.
  *
  * Storage. `lengths` needs plate length + k + 1 words, `widths` plate width + k + 1, `table` p * r *
  * (capacity + 1), where p and r are the numbers of normal lengths and widths. A call that fills them
@@ -106,14 +106,14 @@ extern "C" {
  * (Q + 1) + c) * (R + 1) + d has the figure of the recursion that shares out both: the greatest of 0, of
  * a piece that fits and weighs at most c and d, and of the two parts' figures over all cuts and all
  * divisions of both. It is the most that a tree of first weight at most c and second at most d earns on
- * the rectangle as above. Lists and later words too.
+ * the rectangle as above. Lists and later words are as above too.
  *
  * States. The remaining copies of every kind as one number in mixed radix, kind 0 lowest; the digit of
  * a kind has demand + 1 values, and there are S states. `table` of the exact call needs p * r * S words;
  * word (a * r + b) * S + s has the figure of the recursion over the remaining copies: the greatest of 0, of
  * a piece that fits and of which a copy remains, and of the two parts' figures over all cuts and all
- * divisions of the copies. It is the most that a tree with of no kind more copies than remain earns on
- * the rectangle as above. Lists and later words too.
+ * divisions of the copies. It is the most that a tree with no more copies of any kind than remain earns
+ * on the rectangle as above. Lists and later words are as above too.
  *
  * Rounds. At most 18, numbered from 0; a lower figure is given. Round 0 has all weights 0. A round
  * writes the plan behind the bound of its weights and gives each kind a step: the whole part of the
@@ -134,10 +134,11 @@ extern "C" {
  * width and kerf; then n pairs of length and width, in the order of the kinds; all of four bytes, lowest
  * byte first. 12 + 8n bytes. Sides are from 1 to 100000000, the kerf from 0 to 1000000. The true job
  * has these sizes and the job block's prices, demands, turning and grain; the job block is its model. The
- * model stands for the true sizes if in both directions whatever pieces that may lie on the true plate,
- * no more copies of a kind than its demand, fit one after another on the true plate with a kerf between
- * two, fit so on the model's plate too. Then what no tree of the model that keeps every demand exceeds,
- * within a limit on stages or without, no tree at the true sizes that keeps them exceeds, wherever it is cut.
+ * model stands for the true sizes if in both directions every row of pieces that fits the true plate fits
+ * the model's plate too. A row has pieces that may lie and that fit the true plate by themselves, no more
+ * copies of a kind than its demand, and a kerf between two. Then, if no tree of the model that keeps every
+ * demand earns more than a number, no tree at the true sizes that keeps them does, wherever it is cut; the
+ * same holds within a limit on stages.
  *
  * True plan. The preorder of a tree at the true sizes, as two arrays: the kind of each node, and a word of
  * four bytes with the true position of a cut, the number of a piece, or 0 for waste.
@@ -150,7 +151,7 @@ extern "C" {
  *   1 to 38
  *        refused, see below; answer[0] is the place; the other words of `answer` are kept
  *   100  `answer` has fewer words than the function names; nothing was changed
- *   101  `choices` has a bit that is no choice, `answer` is long enough; nothing was changed
+ *   101  `choices` has a bit that is no choice, and `answer` is long enough; nothing was changed
  *
  * Refusals, in the order of the checks, the first one met, with their places.
  *   28  rack not of 1 to 16 plates, or its slices not of one   0
