@@ -26,7 +26,7 @@ const RUNGS: [Rung; 3] = [
     Rung { side: 999, calls: 150, finding: SECOND / 2 },
 ];
 
-/// The work of the rounds on each of both cores. With a time, rounds go on until it is up, each with half as much again.
+/// The work of the rounds on each of two threads. With a time, rounds go on until it is up, each with half as much again.
 const ROUNDS: [i64; 4] = [SECOND / 4, SECOND / 2, 6 * SECOND, 8 * SECOND];
 
 /// Packing with less work than this does not pay.
@@ -188,7 +188,7 @@ impl Search<'_> {
         self.ceiling.as_ref().map_or(self.all, |ceiling| self.all.min(ceiling.bound as i64))
     }
 
-    /// Packs on both cores. The second looks for a bound first and packs with the work left.
+    /// Packs on two threads. The second looks for a bound first and packs with the work left.
     fn round(&mut self, work: i64) {
         let won = AtomicU64::new(u64::MAX);
         let enough = self.all - self.most();

@@ -25,7 +25,7 @@ const RUNGS: [Rung; 4] = [
     Rung { side: 999, calls: 200, finding: SECOND / 3, work: 8 * SECOND },
 ];
 
-/// Work of the rounds of packing after the bounds, on each of both cores, and of all rounds. Where there is a time,
+/// Work of the rounds of packing after the bounds, on each of two threads, and of all rounds. Where there is a time,
 /// rounds go on until it is up, each with half as much again.
 const ROUNDS: [i64; 3] = [3 * SECOND, 6 * SECOND, 9 * SECOND];
 const ALL_ROUNDS: i64 = 24 * SECOND;
