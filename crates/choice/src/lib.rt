@@ -16,35 +16,35 @@ use states::below;
 use table::TableSize;
 
 // A cell: a rectangle and a share.
-#[derive(Drop)]
+#[derive(Clone, Copy, Drop)]
 pub struct Cell {
     pub sides: Sides,
     pub share: u16,
 }
 
 // What the plan does with a rectangle: the node, and of a cut the first part's share.
-#[derive(Drop)]
+#[derive(Clone, Copy, Drop)]
 pub struct Chosen {
     pub node: Node,
     pub share: u16,
 }
 
 // What a search over the pieces found: the node that lays the piece.
-#[derive(Drop)]
+#[derive(Clone, Copy, Drop)]
 pub enum PieceFound {
     Laid(Node),
     Missing,
 }
 
 // What a search for a cut found: its position and the first part's share.
-#[derive(Drop)]
+#[derive(Clone, Copy, Drop)]
 pub enum CutFound {
     At(u16, u16),
     Missing,
 }
 
 // Where a cell stands in the table: the indexes of its tabled length and width, and its figure.
-#[derive(Drop)]
+#[derive(Clone, Copy, Drop)]
 struct Place {
     pub a: usize,
     pub b: usize,
@@ -53,7 +53,7 @@ struct Place {
 
 // A search for a cut of a cell in one direction: the side that is cut and the index of its tabled length, the words from one row of the
 // table to the next and the word where row 0 begins, the share that is divided and the value that is to be earned.
-#[derive(Drop)]
+#[derive(Clone, Copy, Drop)]
 struct CutSearch {
     pub side: usize,
     pub last: usize,

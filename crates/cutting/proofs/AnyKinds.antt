@@ -1,6 +1,6 @@
 -- Trees of any kinds. One that keeps every demand has a copy of ordered kinds alone, so it is a guillotine tree of the job; and every such
 -- tree is one of any kinds.
-use Rattle.cutting.proofs.Prelude.{ℕ, ◌+◌, ◌-◌, ◌≤◌, ◌<◌, arith, eqb, eqb_refl, Direction, Length, Width, Tree, waste, piece, cut, total, Piece, upright, turned, kind, Job, OfJob, MayLie, AnyTree, AnyOnPlate, GuillotineTree, OnPlate, KeepsDemands, copies_of, profit, NoneAbove}
+use Rattle.cutting.proofs.Prelude.{ℕ, ◌-◌, ◌≤◌, ◌<◌, arith, eqb, eqb_refl, Direction, Length, Width, Tree, waste, piece, cut, total, Piece, upright, turned, kind, Job, OfJob, MayLie, AnyTree, AnyOnPlate, GuillotineTree, OnPlate, KeepsDemands, profit, NoneAbove}
 use Rattle.cutting.proofs.Tests.{only_open}
 
 module _ (J : Job) where

@@ -1,6 +1,8 @@
 // The node of a plan, the sides of a rectangle and the parts of a cut, shared by specifications and code. Everything else of this crate
 // is mathematics: specs/ defines guillotine trees, the relaxed recursion, normal positions and the plan behind the bound; proofs/ has
 // the theory.
+#![tactic(auto)]
+
 ghost use Rattle.std.specs.Prelude.{◌≡◌, ◌+◌, ◌-◌, ◌≤◌};
 ghost use Rattle.cutting.specs.Limits.{most_side, most_kerf};
 ghost use Rattle.cutting.specs.Tree.{side, part};
@@ -38,7 +40,7 @@ pub fn operand(node: Node) -> u16
 }
 
 // The sides of a rectangle.
-#[derive(Drop)]
+#[derive(Clone, Copy, Drop)]
 pub struct Sides {
     pub length: u16,
     pub width: u16,

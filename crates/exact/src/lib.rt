@@ -64,7 +64,7 @@ fn put_states(pieces: &mut [u32; 640], count: u16, blocks: &[u32])
 }
 
 // The last state of an order and its last digit.
-#[derive(Drop)]
+#[derive(Clone, Copy, Drop)]
 struct Last {
     state: u16,
     digit: usize,

@@ -1,5 +1,5 @@
 -- Without the choice of grain a job block is read as before there was grain.
-use Rattle.job.proofs.Prelude.{◌≡◌, refl, ◌∙◌, ap, false, not, List, [], ◌∷◌, ◌++◌, append-nil, ℕ, ◌+◌, ◌*◌, arith, ltb, eqb, length, get_or, most_kinds, most_kerf, turns, loose_turns, alike_members, alike_copies, KindCount, Kerf, BlockLength, Choices, count_at, kerf_at, sizes_end, kind_bytes, outside, size_check, each_kind, array_checks, grains_of, record_of, block_job, Ungrained}
+use Rattle.job.proofs.Prelude.{◌≡◌, ◌∙◌, ap, false, not, List, [], ◌∷◌, ◌++◌, append-nil, ℕ, ◌+◌, ◌*◌, arith, ltb, eqb, length, get_or, most_kinds, most_kerf, turns, loose_turns, alike_members, alike_copies, KindCount, Kerf, BlockLength, Choices, count_at, kerf_at, sizes_end, kind_bytes, outside, size_check, each_kind, array_checks, grains_of, record_of, block_job, Ungrained}
 use Rattle.job.proofs.Entries.{entries_past}
 
 module _ (s : List ℕ) (choices : Choices) (none : choices.grain ≡ false) where

@@ -1,5 +1,5 @@
 -- A new block with kerf 0 is read as the old block: every field behind the kerf stands two bytes further on, and the others where they stood.
-use Rattle.job.proofs.Prelude.{◌≡◌, ◌∙◌, refl, sym, ap, ap₂, subst, Bool, true, false, not, List, [], ◌∷◌, ◌++◌, ℕ, ◌+◌, ◌*◌, ◌≤◌, ◌<◌, ℕ_discrete, dec_le, arith, lt-ltb, le-ltb, eq-eqb, ne_eqb, ltb, eqb, length, get_or, Check, ShortHeader, PlateSide, KindCount, Kerf, BlockLength, KindSide, Price, Demand, Grain, Choices, JobRecord, with_old_block, u16_at, u32_at, plate_length_at, plate_width_at, count_at, kerf_at, length_at, width_at, price_at, demand_at, grain_at, kind_bytes, outside, sides_outside, header_checks, plateless_checks, demand_check, pair_checks, each_kind, grain_checks, array_checks, checks_by, job_checks, entries, grains_of, record_of, KerfNone, ReadAlike, KerfNoneRead}
+use Rattle.job.proofs.Prelude.{◌≡◌, ◌∙◌, refl, sym, ap, ap₂, subst, Bool, true, false, not, List, [], ◌∷◌, ◌++◌, ℕ, ◌+◌, ◌*◌, ◌≤◌, ◌<◌, ℕ_discrete, dec_le, arith, lt-ltb, le-ltb, eq-eqb, ne_eqb, ltb, eqb, length, get_or, Check, ShortHeader, PlateSide, KindCount, Kerf, BlockLength, KindSide, Price, Demand, Grain, Choices, with_old_block, u16_at, u32_at, plate_length_at, plate_width_at, count_at, length_at, width_at, price_at, demand_at, grain_at, kind_bytes, outside, sides_outside, header_checks, plateless_checks, demand_check, pair_checks, each_kind, grain_checks, array_checks, job_checks, entries, grains_of, record_of, KerfNone, ReadAlike, KerfNoneRead}
 
 -- a length two greater against a header two greater
 shorter : (m n : ℕ) → m ≡ n + 2 → ltb m 8 ≡ ltb n 6

@@ -1,7 +1,7 @@
 -- The job block: where each field stands, when a block is refused, the record that a good one gives with its job, and the number and
 -- values of what reading it answers.
 -- docs/SCOPE.md: Job block; The table of refusals.
-use Rattle.std.specs.Prelude.{◌≡◌, Bool, false, List, [], ◌∷◌, ℕ, ltb, eqb, length, get_or}
+use Rattle.std.specs.Prelude.{◌≡◌, Bool, false, List, [], ◌∷◌, ℕ, ltb, eqb, get_or}
 use Rattle.cutting.specs.Limits.{most_demand}
 use Rattle.cutting.specs.Job.{Job}
 use Rattle.refusal.specs.Refusals.{Check, Outcome, first_refusal, by_check, outcome_by}

@@ -1,5 +1,7 @@
 // A job and its weights: the job block is read into a record, the weights give the capacity. Refusals 1 to 9, 27 and 35.
 // Fields are two or four bytes, lowest byte first; specs/Block says where each stands and when a block is refused.
+#![tactic(auto)]
+
 ghost use Rattle.std.specs.Prelude.{◌≡◌, true, false, ◌||◌, ◌&&◌, not, [], ◌∷◌, ℕ, ◌+◌, ◌*◌, ◌/◌, ◌≤◌, ◌<◌, eqb, length, get_or};
 ghost use Rattle.refusal.specs.Refusals.{refuse_when, first_refusal};
 ghost use Rattle.cutting.specs.Areas as measured;
@@ -27,14 +29,14 @@ fn with_old_block(choices: Choices) -> Choices
 }
 
 // What the weights of a job answer.
-#[derive(Drop)]
+#[derive(Clone, Copy, Drop)]
 pub enum WeightsAnswer {
     Capacity(u16),
     Refused(Refusal),
 }
 
 // What a job block and weights answer: the record and the capacity; where they are refused, an empty record and 0.
-#[derive(Drop)]
+#[derive(Clone, Copy, Drop)]
 pub struct Acceptance {
     pub verdict: Checked,
     pub job: JobRecord,

@@ -20,7 +20,7 @@ use refusal::refuse_if;
 use sizes::{TrueSizes, read_true_job};
 
 // A rectangle's sides, and the kerf after it.
-#[derive(Drop)]
+#[derive(Clone, Copy, Drop)]
 struct Span {
     length: u32,
     width: u32,
@@ -28,7 +28,7 @@ struct Span {
 }
 
 // A way of a kind in one direction: whether it lies so on the true plate, and what it takes there, in the model and in truth.
-#[derive(Drop)]
+#[derive(Clone, Copy, Drop)]
 struct Way {
     lies: bool,
     model: usize,

@@ -25,21 +25,21 @@ use plan::check_nodes;
 use promises::{Checked, Choices, Direction, JobRecord, NeatAnswer, Node, Refusal};
 
 // A used size, in any unit: a side above 100,000,000 is told as one more, so that no sum is too great for its word.
-#[derive(Drop)]
+#[derive(Clone, Copy, Drop)]
 pub struct Used {
     pub length: u32,
     pub width: u32,
 }
 
 // What a plan's arrays have of a node: its kind and its operand. Kind 0, waste, stands for nothing.
-#[derive(Drop)]
+#[derive(Clone, Copy, Drop)]
 pub struct Entry {
     pub kind: u8,
     pub operand: u32,
 }
 
 // One node of the scan: what it becomes, the used size of its tree, and how many used sizes stay below that one.
-#[derive(Drop)]
+#[derive(Clone, Copy, Drop)]
 pub struct Step {
     pub entry: Entry,
     pub used: Used,

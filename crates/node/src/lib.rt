@@ -16,7 +16,7 @@ use promises::{Checked, Direction, Node, Refusal};
 use refusal::refuse_if;
 
 // The sums over the nodes read: profit, and the areas of pieces, waste nodes, trim and sawdust.
-#[derive(Drop)]
+#[derive(Clone, Copy, Drop)]
 pub struct Tally {
     pub profit: u64,
     pub pieces: u64,
@@ -26,7 +26,7 @@ pub struct Tally {
 }
 
 // A node as a plan's arrays have it: its place, its kind and its operand.
-#[derive(Drop)]
+#[derive(Clone, Copy, Drop)]
 pub struct NodeEntry {
     pub at: u16,
     pub kind: u8,
@@ -34,7 +34,7 @@ pub struct NodeEntry {
 }
 
 // What a job says of every node: how many kinds there are, whether pieces may be turned, and the kerf.
-#[derive(Drop)]
+#[derive(Clone, Copy, Drop)]
 pub struct Rules {
     pub count: u16,
     pub turning: bool,
@@ -42,7 +42,7 @@ pub struct Rules {
 }
 
 // A node that lays a piece: its place, the number of its kind, and whether it is turned.
-#[derive(Drop)]
+#[derive(Clone, Copy, Drop)]
 struct PieceEntry {
     at: u16,
     number: u16,
@@ -50,7 +50,7 @@ struct PieceEntry {
 }
 
 // What one node answers: its verdict, and the sums with it where it passes.
-#[derive(Drop)]
+#[derive(Clone, Copy, Drop)]
 pub struct NodeAnswer {
     pub verdict: Checked,
     pub tally: Tally,

@@ -1,6 +1,6 @@
 -- The plates needed: the least number that is enough by the bound, so that fewer cannot hold the order, at the job's own sizes and at true
 -- sizes that it stands for. And the two sums of the code.
-use Rattle.orders.proofs.Prelude.{◌≡◌, refl, sym, ◌∙◌, ap, ap₂, Bool, true, false, List, ℕ, zero, suc, ◌+◌, ◌-◌, ◌*◌, ◌/◌, ◌%◌, ◌≤◌, ◌<◌, mul-le-mul, mul-le-mul_right, div-add-mod', mod-lt, ℕ_discrete, arith, lt-ltb, le-ltb, eq-eqb, ne_eqb, ltb, eqb, sum, only, Job, SolidKinds, NoneBetter, NoneAbove, Relaxes, SameKinds, relaxed_none, worth_at, order_worth, endless, plates_by, plates_for, left_beside, plates_needed, Fewest, NotHeldBeside, NoFewer}
+use Rattle.orders.proofs.Prelude.{◌≡◌, refl, sym, ◌∙◌, ap, ap₂, ℕ, zero, suc, ◌+◌, ◌-◌, ◌*◌, ◌/◌, ◌%◌, ◌≤◌, ◌<◌, mul-le-mul_right, div-add-mod', mod-lt, ℕ_discrete, arith, lt-ltb, le-ltb, eq-eqb, ne_eqb, sum, only, Job, SolidKinds, NoneBetter, SameKinds, relaxed_none, order_worth, endless, plates_by, plates_for, left_beside, plates_needed, Fewest, NoFewer}
 use Rattle.orders.proofs.Orders.{not_held_beside}
 
 -- the plates needed where the bound is above 0

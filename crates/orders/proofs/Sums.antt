@@ -1,5 +1,5 @@
 -- The sum of demand times amount, as a loop over the kinds makes it.
-use Rattle.orders.proofs.Prelude.{◌≡◌, refl, ◌∙◌, ap, ap₂, List, ℕ, suc, ◌+◌, ◌*◌, ◌≤◌, ◌<◌, mul-le-mul, mul-le-mul_right, arith, get_or, most_kinds, most_demand, most_price, sum, most_worth, amount_in}
+use Rattle.orders.proofs.Prelude.{◌≡◌, refl, ◌∙◌, ap, ap₂, List, ℕ, suc, ◌+◌, ◌*◌, ◌≤◌, ◌<◌, mul-le-mul, arith, get_or, most_kinds, most_demand, most_price, sum, most_worth, amount_in}
 
 -- a number of copies times an amount, each in its range
 pub times_low : (copies amount : ℕ) → copies ≤ most_demand → amount ≤ most_price → copies * amount ≤ most_demand * most_price

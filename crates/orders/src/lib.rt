@@ -1,5 +1,7 @@
 // A whole order in numbers: demand times a price or a multiplier, summed over the kinds, and the plates needed for what an order is worth.
 // specs/Racks and specs/Orders say in plain words what plans on several plates are and when they hold an order.
+#![tactic(auto)]
+
 ghost use Rattle.std.specs.Prelude.{◌≡◌, ◌-◌, ◌*◌, ◌≤◌, get_or};
 ghost use Rattle.cutting.specs.Limits.{most_demand, most_price, most_figure};
 ghost use Rattle.cutting.specs.Lists.{sum};

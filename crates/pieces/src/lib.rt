@@ -18,7 +18,7 @@ use promises::JobRecord;
 
 // What the array holds of a piece: its size as it lies, its price and its weight, and its node: twice the number of its kind, and 1 more
 // where it is turned.
-#[derive(Drop)]
+#[derive(Clone, Copy, Drop)]
 struct Piece {
     size: Sides,
     price: u32,

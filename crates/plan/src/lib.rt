@@ -19,7 +19,7 @@ use node::{NodeEntry, Rules, Tally, check_node, decode};
 use promises::{Checked, Choices, JobRecord, Node, PlanAnswer, Refusal, Report};
 
 // What the walk over one tree answers: its report, and the number of the node after its last; zeros where it is refused.
-#[derive(Drop)]
+#[derive(Clone, Copy, Drop)]
 pub struct TreeAnswer {
     pub verdict: Checked,
     pub report: Report,

@@ -41,7 +41,7 @@ pub fn keeps_demands(block: &[u8], choices: Choices, kinds: &[u8], operands: &[u
 
 // What is said of a written plan: the writing call's report, the plan's profit, and whether it is best, which is whether it keeps every
 // demand.
-#[derive(Drop)]
+#[derive(Clone, Copy, Drop)]
 pub struct Judged {
     pub report: WriteReport,
     pub profit: u64,
@@ -49,7 +49,7 @@ pub struct Judged {
 }
 
 // What is said of a job block and weights.
-#[derive(Drop)]
+#[derive(Clone, Copy, Drop)]
 pub enum Judgement {
     Plan(Judged),
     Refused(Refusal),

@@ -1,8 +1,8 @@
 -- What the definitions rule out: facts that are read off one definition each, and that an edit of it breaks. The theory stands in the crates
 -- above.
 use mathlib.Core.Path.{◌≡◌, refl}
-use mathlib.Core.Bool.{Bool, true, false}
-use mathlib.Core.List.{List, [], ◌∷◌}
+use mathlib.Core.Bool.{true, false}
+use mathlib.Core.List.{[], ◌∷◌}
 use Prim.Native.Nat.{ℕ, ◌+◌, ◌-◌, ◌*◌, ◌≤◌, ◌<◌}
 use lib.Dec.{T}
 use Rattle.promises.specs.declared.Direction.{Direction}

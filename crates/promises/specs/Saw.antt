@@ -1,7 +1,7 @@
 -- The saw's calls: the block read without its prices, the check of a plan without profit, and the part of a plan's arrays that belongs to a node.
 -- docs/SCOPE.md: Saw and office.
 use Rattle.std.specs.Borrow.{Bor}
-use Rattle.promises.specs.Prelude.{◌≡◌, Bool, true, false, none, List, [], ◌∷◌, ◌++◌, ℕ, ◌+◌, ◌-◌, ◌*◌, ltb, length, take, drop, get_or, RefT, ptr, now, Choices, JobAnswer, Report, SawReport, SawAnswer, Part, Checked, Passed, Refused}
+use Rattle.promises.specs.Prelude.{◌≡◌, Bool, true, false, none, List, [], ◌∷◌, ◌++◌, ℕ, ◌+◌, ◌-◌, ◌*◌, ltb, length, take, drop, get_or, Choices, JobAnswer, Report, SawReport, SawAnswer, Part, Checked, Passed, Refused}
 use Rattle.promises.specs.declared.Refusal.TheVariants.{Price}
 use Rattle.promises.specs.Refusals.{by_check, next, first_refusal, Outcome, outcome_by}
 use Rattle.promises.specs.Job.{Piece, Tree, waste, piece, cut}
@@ -77,6 +77,6 @@ pub record PartPromises (f : Tree Piece → List ℕ) (s : List ℕ) (choices : 
 -- The part itself is handed back as a slice of the caller's array, whose entries have so many bytes: its entries are those, and lie where those do.
 pub record HandsBack (bytes : ℕ) (f : Tree Piece → List ℕ) (s : List ℕ) (choices : Choices) (plan : Arrays) (node : ℕ) (array r : Bor (List ℕ)) : Type 0 where
   pub part : Part
-  pub promises : PartPromises f s choices plan (now array) node part
-  pub entries : now r ≡ take (part.past - part.first) (drop part.first (now array))
-  pub lies : ptr r ≡ ((ptr array).0, part.first * bytes + (ptr array).1)
+  pub promises : PartPromises f s choices plan array.now node part
+  pub entries : r.now ≡ take (part.past - part.first) (drop part.first array.now)
+  pub lies : r.ref_ptr ≡ (array.ref_ptr.0, part.first * bytes + array.ref_ptr.1)

@@ -1,14 +1,15 @@
 // What the calls take and answer: the types that every contract names. No code: specs/ has what is promised of them.
+#![tactic(auto)]
 
 // What a cut divides: the length or the width.
-#[derive(Drop)]
+#[derive(Clone, Copy, Drop)]
 pub enum Direction {
     Length,
     Width,
 }
 
 // A node of a plan: a piece, upright or turned, carries its kind's number, a cut its direction and its position.
-#[derive(Drop)]
+#[derive(Clone, Copy, Drop)]
 pub enum Node {
     Waste,
     Piece(u16),
@@ -17,7 +18,7 @@ pub enum Node {
 }
 
 // The conditions of the table of refusals, in the order of their numbers, with their places; 2 is the job's own plate, or a plate of a rack.
-#[derive(Drop)]
+#[derive(Clone, Copy, Drop)]
 pub enum Refusal {
     ShortHeader,
     PlateSide,
@@ -61,7 +62,7 @@ pub enum Refusal {
 }
 
 // What a check answers: passed, or the first refusal met.
-#[derive(Drop)]
+#[derive(Clone, Copy, Drop)]
 pub enum Checked {
     Passed,
     Refused(Refusal),
@@ -69,7 +70,7 @@ pub enum Checked {
 
 // What a call chooses beside the job: whether pieces may be turned, whether the capacity is that of the full demands, whether the block is
 // the old one, which has no kerf, and whether it says of each kind if it keeps its grain.
-#[derive(Drop)]
+#[derive(Clone, Copy, Drop)]
 pub struct Choices {
     pub turning: bool,
     pub full_demand: bool,
@@ -79,7 +80,7 @@ pub struct Choices {
 
 // A job as it was read: the plate, the kerf, the choices kept, and for each kind its sides, price, demand and grain byte; 0
 // past the last kind.
-#[derive(Drop)]
+#[derive(Clone, Copy, Drop)]
 pub struct JobRecord {
     pub length: u16,
     pub width: u16,
@@ -95,14 +96,14 @@ pub struct JobRecord {
 }
 
 // What reading a job block answers: where it is refused, the record is empty.
-#[derive(Drop)]
+#[derive(Clone, Copy, Drop)]
 pub struct JobAnswer {
     pub verdict: Checked,
     pub job: JobRecord,
 }
 
 // What a passed plan reports: profit, copies of each kind, and the four areas.
-#[derive(Drop)]
+#[derive(Clone, Copy, Drop)]
 pub struct Report {
     pub profit: u64,
     pub copies: [u16; 64],
@@ -113,14 +114,14 @@ pub struct Report {
 }
 
 // What the check of a plan answers: where it is refused, the report is all zeros.
-#[derive(Drop)]
+#[derive(Clone, Copy, Drop)]
 pub struct PlanAnswer {
     pub verdict: Checked,
     pub report: Report,
 }
 
 // What the staged check answers: the stages besides.
-#[derive(Drop)]
+#[derive(Clone, Copy, Drop)]
 pub struct StagedAnswer {
     pub verdict: Checked,
     pub report: Report,
@@ -128,7 +129,7 @@ pub struct StagedAnswer {
 }
 
 // What the saw learns of a plan: no profit.
-#[derive(Drop)]
+#[derive(Clone, Copy, Drop)]
 pub struct SawReport {
     pub copies: [u16; 64],
     pub pieces: u64,
@@ -138,21 +139,21 @@ pub struct SawReport {
 }
 
 // What the saw's check answers.
-#[derive(Drop)]
+#[derive(Clone, Copy, Drop)]
 pub struct SawAnswer {
     pub verdict: Checked,
     pub report: SawReport,
 }
 
 // A part of an array: from its first entry up to one that is not in it.
-#[derive(Drop)]
+#[derive(Clone, Copy, Drop)]
 pub struct Part {
     pub first: usize,
     pub past: usize,
 }
 
 // What the bound calls report: the bound, the capacity, and the numbers p and r of normal lengths and widths.
-#[derive(Drop)]
+#[derive(Clone, Copy, Drop)]
 pub struct BoundReport {
     pub bound: u64,
     pub capacity: u16,
@@ -161,14 +162,14 @@ pub struct BoundReport {
 }
 
 // What the bound calls answer.
-#[derive(Drop)]
+#[derive(Clone, Copy, Drop)]
 pub enum BoundAnswer {
     Answered(BoundReport),
     Refused(Refusal),
 }
 
 // What the bound of two weights reports.
-#[derive(Drop)]
+#[derive(Clone, Copy, Drop)]
 pub struct TwoReport {
     pub bound: u64,
     pub first_capacity: u16,
@@ -178,28 +179,28 @@ pub struct TwoReport {
 }
 
 // What it answers.
-#[derive(Drop)]
+#[derive(Clone, Copy, Drop)]
 pub enum TwoAnswer {
     Answered(TwoReport),
     Refused(Refusal),
 }
 
 // What the bound by multipliers reports: the Lagrangian bound, and what the bound call reports of the lowered job.
-#[derive(Drop)]
+#[derive(Clone, Copy, Drop)]
 pub struct LagrangianReport {
     pub lagrangian: u64,
     pub lowered: BoundReport,
 }
 
 // What it answers.
-#[derive(Drop)]
+#[derive(Clone, Copy, Drop)]
 pub enum LagrangianAnswer {
     Answered(LagrangianReport),
     Refused(Refusal),
 }
 
 // What the call for whole orders reports: the plates needed, the bound of one, and what the order is worth.
-#[derive(Drop)]
+#[derive(Clone, Copy, Drop)]
 pub struct PlatesReport {
     pub plates: u64,
     pub bound: u64,
@@ -207,14 +208,14 @@ pub struct PlatesReport {
 }
 
 // What it answers.
-#[derive(Drop)]
+#[derive(Clone, Copy, Drop)]
 pub enum PlatesAnswer {
     Answered(PlatesReport),
     Refused(Refusal),
 }
 
 // What the writing call reports: the bound's report and the number of nodes.
-#[derive(Drop)]
+#[derive(Clone, Copy, Drop)]
 pub struct WriteReport {
     pub bound: u64,
     pub capacity: u16,
@@ -224,28 +225,28 @@ pub struct WriteReport {
 }
 
 // What it answers.
-#[derive(Drop)]
+#[derive(Clone, Copy, Drop)]
 pub enum WriteAnswer {
     Written(WriteReport),
     Refused(Refusal),
 }
 
 // What the neat call answers: the number of nodes.
-#[derive(Drop)]
+#[derive(Clone, Copy, Drop)]
 pub enum NeatAnswer {
     Written(u64),
     Refused(Refusal),
 }
 
 // What the call of the true plan answers: the number of the true plan's nodes, which it has written, and its used length and width.
-#[derive(Drop)]
+#[derive(Clone, Copy, Drop)]
 pub enum TruePlanAnswer {
     Written(u64, u64, u64),
     Refused(Refusal),
 }
 
 // What the exact call reports: the optimum, the number of states, p, r and the number of nodes.
-#[derive(Drop)]
+#[derive(Clone, Copy, Drop)]
 pub struct ExactReport {
     pub optimum: u64,
     pub states: u32,
@@ -255,14 +256,14 @@ pub struct ExactReport {
 }
 
 // What it answers.
-#[derive(Drop)]
+#[derive(Clone, Copy, Drop)]
 pub enum ExactAnswer {
     Answered(ExactReport),
     Refused(Refusal),
 }
 
 // What the certificates answer: best with the profit, or the profit and the gap.
-#[derive(Drop)]
+#[derive(Clone, Copy, Drop)]
 pub enum Certificate {
     Best(u64),
     Gap(u64, u64),
@@ -270,7 +271,7 @@ pub enum Certificate {
 }
 
 // What the call that finds weights answers: zeros where it is refused.
-#[derive(Drop)]
+#[derive(Clone, Copy, Drop)]
 pub struct WeightsFound {
     pub verdict: Checked,
     pub bound: u64,
@@ -279,7 +280,7 @@ pub struct WeightsFound {
 }
 
 // A plate of a rack, and how much profit its checked plan brought.
-#[derive(Drop)]
+#[derive(Clone, Copy, Drop)]
 pub struct Plate {
     pub length: u16,
     pub width: u16,
@@ -287,7 +288,7 @@ pub struct Plate {
 }
 
 // What the check of a rack on arrays answers: the profits of 16 plates, zeros where it is refused.
-#[derive(Drop)]
+#[derive(Clone, Copy, Drop)]
 pub struct RackAnswer {
     pub verdict: Checked,
     pub profits: [u64; 16],

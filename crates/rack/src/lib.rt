@@ -18,7 +18,7 @@ use promises::{Checked, Choices, JobRecord, Plate, RackAnswer, Refusal};
 use refusal::refuse_if;
 
 // The sides of at most 16 plates as they were read, and 0 past the last.
-#[derive(Drop)]
+#[derive(Clone, Copy, Drop)]
 pub struct RackSides {
     pub lengths: [u16; 16],
     pub widths: [u16; 16],

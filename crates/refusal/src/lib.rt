@@ -1,12 +1,14 @@
 // Refusals: a named case for each condition of the table of refusals, with its place where it has one, and the answer of a check.
 // Numbers and places are given once, by specs/Refusals; every other crate hands refusals on as they are.
+#![tactic(auto)]
+
 ghost use Rattle.std.specs.Prelude.{◌≡◌};
 ghost use Rattle.refusal.specs.Refusals.{number_of, place_of, refuse_when};
 
 use promises::{Checked, Refusal};
 
 // A line of the table: the number and the place.
-#[derive(Drop)]
+#[derive(Clone, Copy, Drop)]
 struct Line(u16, u64);
 
 // The table's line of a refusal.

@@ -16,7 +16,7 @@ use promises::{Checked, Choices, JobRecord, WeightsFound, WriteAnswer};
 use weight_steps::next_weights;
 
 // Whether the run stops after a round, and else the weights of the next one.
-#[derive(Drop)]
+#[derive(Clone, Copy, Drop)]
 struct RoundEnd {
     pub over: bool,
     pub weights: [u8; 64],

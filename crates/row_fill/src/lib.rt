@@ -12,7 +12,7 @@ ghost use Rattle.row_fill.specs.Ready.{Capped, SumsReady, LengthsReady, PiecesRe
 use table::{TableSize, copy, entry, greater, greater_lifted, half, set_run, widen};
 
 // A row over the units of its width: its first word and its number of cells, its length, the plate's width and the number of pieces.
-#[derive(Drop)]
+#[derive(Clone, Copy, Drop)]
 pub struct Row {
     pub start: usize,
     pub columns: usize,

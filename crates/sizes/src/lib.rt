@@ -11,7 +11,7 @@ use promises::{Checked, Choices, JobRecord, Refusal};
 use refusal::refuse_if;
 
 // The true sizes: the plate's sides, the kerf, and each kind's sides; 0 past the last kind.
-#[derive(Drop)]
+#[derive(Clone, Copy, Drop)]
 pub struct TrueSizes {
     pub length: u32,
     pub width: u32,
@@ -21,14 +21,14 @@ pub struct TrueSizes {
 }
 
 // What reading a sizes block answers: where it is refused, the sizes are all 0.
-#[derive(Drop)]
+#[derive(Clone, Copy, Drop)]
 pub struct SizesAnswer {
     pub verdict: Checked,
     pub sizes: TrueSizes,
 }
 
 // What reading a job block and a sizes block answers: where one is refused, both records are empty.
-#[derive(Drop)]
+#[derive(Clone, Copy, Drop)]
 pub struct TrueAnswer {
     pub verdict: Checked,
     pub model: JobRecord,

@@ -14,7 +14,7 @@ use state_joins::Line;
 use table::{half, set_run, widen};
 
 // A block: its stage, and whether its first cuts go across the width. The block without a cut counts as one of width cuts.
-#[derive(Drop)]
+#[derive(Clone, Copy, Drop)]
 pub struct Block {
     pub stage: usize,
     pub width_first: bool,

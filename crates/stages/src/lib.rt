@@ -10,14 +10,14 @@ ghost use Rattle.stages.specs.Walks.{cut_kind, passed, Along, Resumed, Stands, w
 use promises::Direction;
 
 // How a walk ends: before the node after its trees, with the stages that they need; or at the first cut that passes the limit.
-#[derive(Drop)]
+#[derive(Clone, Copy, Drop)]
 enum Walk {
     Next(u16, u8),
     Past(u16),
 }
 
 // How far a walk has come: the node that it reads next, the trees that wait there, the most stages met.
-#[derive(Drop)]
+#[derive(Clone, Copy, Drop)]
 struct Reach {
     next: u16,
     waiting: u16,
@@ -25,14 +25,14 @@ struct Reach {
 }
 
 // Where a walk stands: at a cut that changes the direction, whose parts are walked next; or at its end.
-#[derive(Drop)]
+#[derive(Clone, Copy, Drop)]
 enum Step {
     Change(Reach),
     End(Walk),
 }
 
 // Whether a plan keeps the limit: its stages, or the first cut in preorder whose path passes the limit.
-#[derive(Drop)]
+#[derive(Clone, Copy, Drop)]
 pub enum Staged {
     Within(u8),
     Past(u16),

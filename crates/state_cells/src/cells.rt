@@ -195,7 +195,7 @@ fn flat_after(d: usize, words: usize, flat: usize, top: usize) -> usize
 
 // The place of a cell: the indices of its normal length and width, the ends of their first halves, its word, the word of the cell of
 // length 0 and the same width, and the state from which on the figures of all cells before it are the same.
-#[derive(Drop)]
+#[derive(Clone, Copy, Drop)]
 pub struct Place {
     pub a: usize,
     pub b: usize,

@@ -7,7 +7,7 @@ use table::TableSize;
 
 // The plate's length and width and the number of its pieces, the numbers of normal lengths and of normal widths, the last digit d of the
 // states, the words of a cell, and those from a cell to the one of the next normal length.
-#[derive(Drop)]
+#[derive(Clone, Copy, Drop)]
 pub struct Shape {
     pub length: u16,
     pub width: u16,

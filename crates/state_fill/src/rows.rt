@@ -15,7 +15,7 @@ use table::{half, set_run};
 
 // The place of a row: the index of its normal length, the end of that one's first half, its word, and the state from which on the
 // figures of all cells before it are the same.
-#[derive(Drop)]
+#[derive(Clone, Copy, Drop)]
 pub struct Row {
     pub a: usize,
     pub half_end: usize,

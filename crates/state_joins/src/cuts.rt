@@ -9,7 +9,7 @@ use table::entry;
 
 // A line of cells, along the lengths or along the widths: the cell of entry i begins at word base + i · stride, and the one of `index`, at
 // word `at`, is made. `half_end` is the end of the first half of its side, and `skip` the mark of the entries that its cuts need not read.
-#[derive(Drop)]
+#[derive(Clone, Copy, Drop)]
 pub struct Line {
     pub index: usize,
     pub half_end: usize,

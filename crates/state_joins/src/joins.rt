@@ -7,7 +7,7 @@ ghost use Rattle.state_joins.specs.Joins.{Listed, Marked, Served, Ready, Joinabl
 use states::{Cell, figure, mark, note, take};
 
 // The parts of a cut: the words where their cells begin, and the mark of the entries that need not be read.
-#[derive(Drop)]
+#[derive(Clone, Copy, Drop)]
 pub struct Parts {
     pub first: usize,
     pub second: usize,
@@ -15,7 +15,7 @@ pub struct Parts {
 }
 
 // A state of the first part and its figure, and the word where the second part's cell begins.
-#[derive(Drop)]
+#[derive(Clone, Copy, Drop)]
 struct Addend {
     t: usize,
     v: u64,

@@ -3,7 +3,7 @@ ghost use Rattle.std.specs.Prelude.{◌≡◌, ◌<◌};
 ghost use Rattle.states.specs.States.{figure_in, note_in, mark_in};
 
 // A cell that is made: the last digit of its states, its number of words, one for each state, and the word where it begins.
-#[derive(Drop)]
+#[derive(Clone, Copy, Drop)]
 pub struct Cell {
     pub d: usize,
     pub words: usize,

@@ -12,7 +12,7 @@ use promises::Refusal;
 use table::TableSize;
 
 // How lent storage is laid out: the table's size and the words that it needs.
-#[derive(Drop)]
+#[derive(Clone, Copy, Drop)]
 pub enum Layout {
     Ready(TableSize, usize),
     Refused(Refusal),

@@ -1,12 +1,14 @@
 // What the fills of the table share: what a table is made for, reading a list of positions, the half of a side, the greater of two
 // figures, and runs of words. The definitions of the table's contents stand in specs/Table, what a fill asks and leaves in
 // specs/Contracts; which cuts can give a cell more, and what makes a cell complete, is proved in proofs/Covered and proofs/Complete.
+#![tactic(auto)]
+
 ghost use Rattle.std.specs.Prelude.{◌≡◌, ◌+◌, ◌-◌, ◌*◌, ◌≤◌, ◌<◌, max, length, get_or};
 ghost use Rattle.table.specs.Words.{Run, HalfReady, Half};
 
 // What a table is made for: the plate's sides, the number of pieces, p rows and r columns of cells, and the capacity Q; in the exact call
 // that is the last state.
-#[derive(Drop)]
+#[derive(Clone, Copy, Drop)]
 pub struct TableSize {
     pub length: u16,
     pub width: u16,

@@ -50,7 +50,7 @@ pub const PLATES: usize = 1;
 pub const LAGRANGIAN: usize = 2;
 
 // What a call answered: the values as they stand at ANSWER, those that it does not answer 0.
-#[derive(Drop)]
+#[derive(Clone, Copy, Drop)]
 struct Answer {
     refusal: usize,
     bound: usize,
@@ -64,7 +64,7 @@ struct Answer {
 }
 
 // The answer, and how many entries of the lengths, of the widths, and words of the table are not as expected.
-#[derive(Drop)]
+#[derive(Clone, Copy, Drop)]
 struct Seen {
     answer: Answer,
     lengths: usize,

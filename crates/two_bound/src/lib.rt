@@ -26,14 +26,14 @@ use storage::{Layout, lay_out};
 use table::TableSize;
 
 // The capacities of both weights.
-#[derive(Drop)]
+#[derive(Clone, Copy, Drop)]
 struct Capacities {
     first: u16,
     second: u16,
 }
 
 // What two lists of weights answer: both capacities; where they are refused, 0.
-#[derive(Drop)]
+#[derive(Clone, Copy, Drop)]
 struct Weighed {
     verdict: Checked,
     first: u16,

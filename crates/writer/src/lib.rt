@@ -48,7 +48,7 @@ fn with_nodes(report: BoundReport, nodes: u64) -> WriteReport
 
 // What a plan is read from, beside lists and table: the table's size, the bound's report, the last digit of the states and the kerf that
 // the plan loses at each cut.
-#[derive(Drop)]
+#[derive(Clone, Copy, Drop)]
 pub struct Sawing {
     pub size: TableSize,
     pub report: BoundReport,

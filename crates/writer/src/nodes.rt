@@ -19,14 +19,14 @@ use promises::{Direction, Node};
 use table::TableSize;
 
 // A cell and the choice there, which is no cut that is left out.
-#[derive(Drop)]
+#[derive(Clone, Copy, Drop)]
 struct Settled {
     pub cell: Cell,
     pub chosen: Chosen,
 }
 
 // A step of the walk: the node that it reached, and how many cells wait after it.
-#[derive(Drop)]
+#[derive(Clone, Copy, Drop)]
 struct Step {
     pub node: Node,
     pub depth: usize,
