@@ -1,6 +1,8 @@
 // A second computation of the scope's figures and normal positions, straight from the definitions and at every whole unit, and
 // generated jobs to compare it on. It shares no code with the planner. All numbers are words of one array (job.rt says where).
 // Programs compare what it computes; its contracts say only that it is safe and ends.
+#![tactic(auto)]
+
 mod block;
 mod figures;
 mod job;

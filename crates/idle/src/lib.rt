@@ -1,6 +1,8 @@
 // Check 26: the first idle cut of a plan, neither of whose parts holds a piece. The nodes from any node on are a row of trees. One scan,
 // from the last node to the first, keeps one number: how many trees at the front of that row hold no piece. A cut is idle where its two
 // parts are among them.
+#![tactic(auto)]
+
 ghost use Rattle.std.specs.Prelude.{◌≡◌, ◌+◌, ◌≤◌, length};
 ghost use Rattle.cutting.specs.Limits.{most_nodes};
 ghost use Rattle.promises.specs.declared.Refusal.TheVariants.{IdleCut};

@@ -1,5 +1,7 @@
 // One node of a plan on the rectangle that it fills: refusals 12 to 16 and 36, and what the node adds to the sums and to the copies of its
 // kind. The job's arrays and the copies are lent, so that a walk over many nodes copies none of them.
+#![tactic(auto)]
+
 ghost use Rattle.std.specs.Prelude.{◌≡◌, Bool, true, ◌&&◌, List, ℕ, ◌+◌, ◌-◌, ◌≤◌, ◌<◌, ◌^◌, eqb};
 ghost use Rattle.promises.specs.declared.Node.TheVariants.{Cut};
 ghost use Rattle.cutting.specs.Tree.{side};

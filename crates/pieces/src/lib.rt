@@ -1,6 +1,8 @@
 // The pieces that may lie, numbered: the kinds that are ordered, rising, each upright, and then turned where it may be turned. Normal
 // positions, fills and the choice read them from one array; what they compute knows nothing of turning, of grain, of cancelled kinds and of
 // the kerf, which is added to every side here.
+#![tactic(auto)]
+
 ghost use Rattle.std.specs.Prelude.{◌≡◌, List, [], ◌++◌, ℕ, ◌≤◌, ◌<◌, leb, length};
 ghost use Rattle.cutting.specs.Lists.{keep, each};
 ghost use Rattle.cutting.specs.Sides.{sides_of};

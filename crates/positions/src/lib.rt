@@ -1,5 +1,7 @@
 // Normal positions of either side of the plate, and the map of remainders: for each length the last position not above it.
 // One function serves lengths and widths: field 0 of a piece in the array is its length, field 1 its width.
+#![tactic(auto)]
+
 ghost use Rattle.std.specs.Prelude.{◌≡◌, ◌&&◌, ◌+◌, ◌≤◌, ◌<◌, leb, length, take};
 ghost use Rattle.cutting.specs.Limits.{most_pieces};
 ghost use Rattle.cutting.specs.Normal.{normal?, normals};

@@ -1,6 +1,8 @@
 // The true sizes of a job: a sizes block is read into a record, beside the job block that is its model. Refusals 31 and 32.
 // Fields are four bytes, lowest byte first; specs/Sizes says where each stands, when a block is refused, and which job the sizes make of
 // their model.
+#![tactic(auto)]
+
 ghost use Rattle.std.specs.Prelude.{◌≡◌, [], ◌∷◌, ◌+◌, ◌*◌, ◌≤◌, ◌<◌, length};
 ghost use Rattle.refusal.specs.Refusals.{refuse_when, first_refusal};
 ghost use Rattle.job.specs.Block.{u32_at, each_kind};

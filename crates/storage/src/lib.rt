@@ -1,5 +1,7 @@
 // The storage that a bound is lent, laid out for a table: refusals 19 and 20, the normal positions of both sides in the lent lists, the
 // floors of both sides, and the words that the table needs. Every bound begins with it, whatever a cell of its table holds.
+#![tactic(auto)]
+
 ghost use Rattle.std.specs.Prelude.{◌≡◌, ◌||◌, ◌+◌, ◌*◌, ltb, length};
 ghost use Rattle.cutting.specs.Sides.{rect_of};
 ghost use Rattle.cutting.specs.Listed.{InTableRange, pieces_job};

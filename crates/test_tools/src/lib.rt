@@ -1,6 +1,8 @@
 // What the test programs share: one array of words that holds all that a program remembers, scripts of commands and numbers, arrays and
 // memory to lend whose old contents are known, and printing. Contracts say only that nothing here reads or writes out of range, and that
 // it ends: what the programs print is compared.
+#![tactic(auto)]
+
 mod arrays;
 mod memory;
 mod print;

@@ -2,6 +2,8 @@
 // Any other line is a command, known by its first letter, and numbers: 7*3 stands for 7 7 7, and 5-3 for 5 4 3.
 use crate::print::{print_byte, text};
 use crate::words::{Words, copy, minus, plus, put, times};
+use std::io;
+use std::io::Read;
 
 // How many numbers the command has, and where they begin.
 const COUNT: usize = 15;
@@ -36,20 +38,22 @@ fn begin_command(t: &mut Words, letter: u8) {
     t[COUNT] = 0;
 }
 
-fn begin_line(t: &mut Words, b: u8) {
+fn begin_line(rt: &impl Print, t: &mut Words, b: u8) -> io::Result<()> {
     match b {
         b'"' => t[PART] = 1,
-        b'\n' => text(b"\n"),
+        b'\n' => text(rt, b"\n")?,
         _ => begin_command(t, b),
     }
+    Ok(())
 }
 
-fn go_on_text(t: &mut Words, b: u8) {
+fn go_on_text(rt: &impl Print, t: &mut Words, b: u8) -> io::Result<()> {
     if b == b'\n' {
         t[PART] = 0;
     } else {
-        print_byte(b);
+        print_byte(rt, b)?;
     }
+    Ok(())
 }
 
 fn add_digit(t: &mut Words, digit: u8) {
@@ -112,46 +116,46 @@ fn go_on_command(t: &mut Words, b: u8) -> bool {
 }
 
 // Reads a byte of a script, and says whether a command is complete.
-fn read(t: &mut Words, b: u8) -> bool {
+fn read(rt: &impl Print, t: &mut Words, b: u8) -> io::Result<bool> {
     match t[PART] {
-        0 => begin_line(t, b),
-        1 => go_on_text(t, b),
-        _ => return go_on_command(t, b),
+        0 => begin_line(rt, t, b)?,
+        1 => go_on_text(rt, t, b)?,
+        _ => return Ok(go_on_command(t, b)),
     }
-    false
+    Ok(false)
 }
 
-// The next byte of standard input, and 0 at its end.
-fn next_byte() -> u8 {
+// The next byte of the input, and 0 at its end.
+fn next_byte(input: &mut impl Read) -> io::Result<u8> {
     let mut byte = [0u8; 1];
-    io::read_full(0, &mut byte);
-    byte[0]
+    input.read(&mut byte)?;
+    Ok(byte[0])
 }
 
 // Reads the next byte unless a command is complete or the script has ended, and answers the letter of the command that is complete
 // then, 1 where none is, and 0 at the end of the script.
-fn read_on(t: &mut Words, letter: u8) -> u8 {
+fn read_on(rt: &impl Print, input: &mut impl Read, t: &mut Words, letter: u8) -> io::Result<u8> {
     if letter != 1 {
-        return letter;
+        return Ok(letter);
     }
-    let b = next_byte();
+    let b = next_byte(input)?;
     if b == 0 {
-        return 0;
+        return Ok(0);
     }
-    if read(t, b) {
-        (t[LETTER] % 256) as u8
+    if read(rt, t, b)? {
+        Ok((t[LETTER] % 256) as u8)
     } else {
-        1
+        Ok(1)
     }
 }
 
 // Reads up to the end of the next command, and answers its letter, or 0 at the end of the script.
-pub fn next_command(t: &mut Words) -> u8 {
+pub fn next_command(rt: &impl Print, input: &mut impl Read, t: &mut Words) -> io::Result<u8> {
     let mut letter: u8 = 1;
     for i in 0..LONGEST {
-        letter = read_on(t, letter);
+        letter = read_on(rt, input, t, letter)?;
     }
-    letter
+    Ok(letter)
 }
 
 // Copies the numbers of the command: how many there are, and then each.

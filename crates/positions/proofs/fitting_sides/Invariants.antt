@@ -6,4 +6,3 @@ invariant-loop-i l = (l.i ≤ l.count) × (l.n ≤ l.i) × Holds (fitting l.piec
 
 abbrev pub decreases-loop-i : goal.decreases-loop-i
 decreases-loop-i l = l.count - l.i
-

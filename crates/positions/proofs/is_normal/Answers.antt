@@ -1,5 +1,5 @@
 -- `positions::is_normal` meets its contract. The invariant: none of the first i sides leads to x from a marked position.
-use Rattle.positions.proofs.Prelude.{◌-◌, sym, arith}
+use Rattle.positions.proofs.Prelude.{sym, arith}
 use Rattle.positions.proofs.Sums.{sum_zero, sum_found, sum_missing}
 use Rattle.positions.proofs.is_normal.Goals as goal
 
@@ -11,4 +11,3 @@ returns-then-marks-x c = sym (sum_found _ _ _ c.args.marks.now c.requires.positi
 
 pub returns : goal.returns
 returns c = sym (sum_missing _ _ _ c.args.marks.now c.requires.positive c.requires.marked (omega arith) (λ i l. c.loop-i.invariant.1 i (omega arith)))
-

@@ -6,4 +6,3 @@ invariant-loop-i l = (l.i ≤ l.count) × ((k : ℕ) → k < l.i → get_or l.fi
 
 abbrev pub decreases-loop-i : goal.decreases-loop-i
 decreases-loop-i l = l.count - l.i
-

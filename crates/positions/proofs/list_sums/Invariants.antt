@@ -6,4 +6,3 @@ invariant-loop-x l = (l.x ≤ l.top) × (l.top ≡ l.side + 1) × (l.n ≤ l.x) 
 
 abbrev pub decreases-loop-x : goal.decreases-loop-x
 decreases-loop-x l = l.top - l.x
-

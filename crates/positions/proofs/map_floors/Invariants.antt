@@ -6,4 +6,3 @@ invariant-loop-x l = (l.x ≤ l.x-end) × (l.x-end ≡ l.side + 1) × (length l.
 
 abbrev pub decreases-loop-x : goal.decreases-loop-x
 decreases-loop-x l = l.x-end - l.x
-
