@@ -1,7 +1,9 @@
 -- What the calls read: the job block and its record, the saw's reading of it, the weights, and the plan block. Each with its checks in the
 -- order of the table.
 -- docs/SCOPE.md: Job block; Grain; The blade's width; Weights and capacity; Plans; Saw and office; The table of refusals.
-use Rattle.promises.specs.Prelude.{◌≡◌, Bool, true, false, ◌||◌, not, List, [], ◌∷◌, ◌++◌, map, ℕ, ◌+◌, ◌*◌, ◌≤◌, ◌<◌, ltb, eqb, length, get_or, take, drop, Choices, JobRecord}
+use Rattle.std.specs.Prelude.{◌≡◌, Bool, true, false, ◌||◌, not, List, [], ◌∷◌, ◌++◌, ℕ, ◌+◌, ◌*◌, ◌≤◌, ◌<◌, ltb, eqb, length, get_or, take, drop}
+use mathlib.Core.List.{map}
+use Rattle.promises.specs.Prelude.{Choices, JobRecord}
 use Rattle.promises.specs.declared.Refusal.TheVariants as refusal
 use Rattle.promises.specs.Lists.{range, entries}
 use Rattle.promises.specs.Refusals.{Check, outside, each_kind, most_side, most_kerf, most_kinds, most_price, most_demand, most_capacity, most_pairs, most_states, most_limit}

@@ -1,7 +1,9 @@
 -- The C interface: one rule for every exported function. A call that is stopped changes nothing; any other has an answer of which the Rattle call's
 -- whole promise holds, returns its number, and has its values over the old answer words.
 -- docs/SCOPE.md: The C interface.
-use Rattle.promises.specs.Prelude.{◌≡◌, Bool, not, none, some, List, [], ◌∷◌, ℕ, ◌/◌, ◌%◌, ◌≤◌, ◌<◌, eqb, length, take, Choices, Checked}
+use Rattle.std.specs.Prelude.{◌≡◌, Bool, not, List, [], ◌∷◌, ℕ, ◌/◌, ◌%◌, ◌≤◌, ◌<◌, eqb, length, take}
+use Rattle.std.proofs.Math.Option.{none, some}
+use Rattle.promises.specs.Prelude.{Choices, Checked}
 use Rattle.promises.specs.declared.Refusal.TheVariants.{RackSize}
 use Rattle.promises.specs.Lists.{over}
 use Rattle.promises.specs.Refusals.{by_check, next, first_refusal, Outcome, outcome_by}

@@ -1,7 +1,8 @@
 -- What every call promises: its answer is the first refusal of its checks or its report, with the table's number and values; lent memory is
 -- left by one rule, for every system of shares; and what the bound behind an answer is.
 -- docs/SCOPE.md: The table of refusals; Lent memory; The certificate; The written plan.
-use Rattle.promises.specs.Prelude.{◌≡◌, ◌||◌, List, [], ◌∷◌, ℕ, ◌+◌, ◌<◌, ltb, length, Length, Width, Refusal, Checked, Certificate}
+use Rattle.std.specs.Prelude.{◌≡◌, ◌||◌, List, [], ◌∷◌, ℕ, ◌+◌, ◌<◌, ltb, length}
+use Rattle.promises.specs.Prelude.{Length, Width, Refusal, Checked, Certificate}
 use Rattle.promises.specs.declared.Refusal.TheVariants.{ListShort, TableShort, PlanLong}
 use Rattle.promises.specs.declared.Certificate.TheVariants.{Best, Gap}
 use Rattle.promises.specs.Lists.{over}

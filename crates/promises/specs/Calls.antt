@@ -1,7 +1,9 @@
 -- The public calls on one plate, each an instance: its answer's form, its checks in order, its report, and what it promises besides. The
 -- calls `.._full_demand` and `read_old_job` are the same at `with_full_demand choices` and `with_old_block choices`.
 -- docs/SCOPE.md: What contracts say; The table of refusals.
-use Rattle.promises.specs.Prelude.{◌≡◌, Bool, true, false, Option, none, some, List, [], ◌∷◌, ◌++◌, ℕ, ◌+◌, ◌-◌, ◌≤◌, eqb, length, Length, Width, Checked, Passed, Refused, Choices, JobRecord, JobAnswer, Report, PlanAnswer, StagedAnswer, BoundReport, BoundAnswer, TwoReport, TwoAnswer, WriteReport, WriteAnswer, NeatAnswer, ExactReport, ExactAnswer, Certificate}
+use Rattle.std.specs.Prelude.{◌≡◌, Bool, true, false, List, [], ◌∷◌, ◌++◌, ℕ, ◌+◌, ◌-◌, ◌≤◌, eqb, length}
+use Rattle.std.proofs.Math.Option.{Option, none, some}
+use Rattle.promises.specs.Prelude.{Length, Width, Checked, Passed, Refused, Choices, JobRecord, JobAnswer, Report, PlanAnswer, StagedAnswer, BoundReport, BoundAnswer, TwoReport, TwoAnswer, WriteReport, WriteAnswer, NeatAnswer, ExactReport, ExactAnswer, Certificate}
 use Rattle.promises.specs.declared.BoundAnswer.TheVariants as bound
 use Rattle.promises.specs.declared.TwoAnswer.TheVariants as two
 use Rattle.promises.specs.declared.WriteAnswer.TheVariants as write

@@ -1,6 +1,8 @@
 -- The check of a plan: node after node in preorder by 12 to 17 and 36, then 18, 26 and 23 of the tree; and what a verdict on a plan means for trees.
 -- docs/SCOPE.md: Plans; Grain; The table of refusals; No idle cuts; No more than so many stages.
-use Rattle.promises.specs.Prelude.{◌≡◌, Bool, true, false, not, Option, List, [], ◌∷◌, ◌++◌, ℕ, ◌+◌, ◌-◌, ◌*◌, leb, ltb, eqb, length, get_or, set, replicate, Node, Checked, Passed, Refused}
+use Rattle.std.specs.Prelude.{◌≡◌, Bool, true, false, not, List, [], ◌∷◌, ◌++◌, ℕ, ◌+◌, ◌-◌, ◌*◌, leb, ltb, eqb, length, get_or, set, replicate}
+use Rattle.std.proofs.Math.Option.{Option}
+use Rattle.promises.specs.Prelude.{Node, Checked, Passed, Refused}
 use Rattle.promises.specs.declared.Node.TheVariants as node
 use Rattle.promises.specs.declared.Refusal.TheVariants as refusal
 use Rattle.promises.specs.Refusals.{Check, by_check, next, first_refusal, outside, most_kinds, most_nodes}

@@ -1,7 +1,10 @@
 -- The relaxed recursion and the plan behind it, over any shares: the pieces that may lie, normal positions, the figure of a rectangle and a
 -- share, the order of choice and the plan as the saw cuts it.
 -- docs/SCOPE.md: The bound; Normal positions; The written plan; The blade's width.
-use Rattle.promises.specs.Prelude.{◌≡◌, Bool, true, false, ◌&&◌, ◌||◌, Option, none, some, List, [], ◌∷◌, map, List-as-Memᴰ, ℕ, zero, suc, ◌+◌, ◌-◌, max, leb, ltb, eqb, Direction, Length, Width}
+use Rattle.std.specs.Prelude.{◌≡◌, Bool, true, false, ◌&&◌, ◌||◌, List, [], ◌∷◌, ℕ, zero, suc, ◌+◌, ◌-◌, max, leb, ltb, eqb}
+use Rattle.std.proofs.Math.Option.{Option, none, some}
+use mathlib.Core.List.{map, Memᴰ as List-as-Memᴰ}
+use Rattle.promises.specs.Prelude.{Direction, Length, Width}
 use Rattle.promises.specs.Lists.{range, only, filter, any, first, greatest, each, pairs}
 use Rattle.promises.specs.Job.{Rect, side, Piece, upright, turned, kind, fits_in, Tree, waste, piece, cut, Job, laid, turns, widened}
 

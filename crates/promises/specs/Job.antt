@@ -2,7 +2,10 @@
 -- on another plate, and the capacity.
 -- docs/SCOPE.md: Guillotine trees; Weights and capacity; Pieces that may be turned; Grain; Zero ordered means zero; What the plate can hold;
 -- The blade's width; Cuts between the marks; No more than so many stages.
-use Rattle.promises.specs.Prelude.{Bool, true, false, ◌&&◌, ◌||◌, not, Option, none, some, List, [], ◌∷◌, ◌++◌, map, ℕ, ◌+◌, ◌-◌, ◌*◌, ◌/◌, ◌≤◌, ◌<◌, min, T, leb, eqb, Direction, Length, Width}
+use Rattle.std.specs.Prelude.{Bool, true, false, ◌&&◌, ◌||◌, not, List, [], ◌∷◌, ◌++◌, ℕ, ◌+◌, ◌-◌, ◌*◌, ◌/◌, ◌≤◌, ◌<◌, min, T, leb, eqb}
+use Rattle.std.proofs.Math.Option.{Option, none, some}
+use mathlib.Core.List.{map}
+use Rattle.promises.specs.Prelude.{Direction, Length, Width}
 use Rattle.promises.specs.Lists.{sum, only, greatest}
 
 -- a rectangle, length first

@@ -1,6 +1,8 @@
 -- Lists and maxima that the definitions speak of: runs of numbers, members that pass a test, pairs, sums and greatest values.
 -- docs/SCOPE.md: The bound; Lent memory.
-use Rattle.promises.specs.Prelude.{Bool, true, false, ◌||◌, Option, none, some, List, [], ◌∷◌, ◌++◌, map, ℕ, zero, suc, ◌+◌, max, ltb, length, drop}
+use Rattle.std.specs.Prelude.{Bool, true, false, ◌||◌, List, [], ◌∷◌, ◌++◌, ℕ, zero, suc, ◌+◌, max, ltb, length, drop}
+use Rattle.std.proofs.Math.Option.{Option, none, some}
+use mathlib.Core.List.{map}
 
 -- a, a + 1, and on: n numbers, rising
 unfoldable pub range : ℕ → ℕ → List ℕ

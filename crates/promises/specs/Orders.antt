@@ -1,6 +1,8 @@
 -- Whole orders: plans on several plates that hold one, and the plates that it needs; and the bound by multipliers of the lowered job.
 -- docs/SCOPE.md: Whole orders; Multipliers.
-use Rattle.promises.specs.Prelude.{◌≡◌, true, false, not, none, List, [], ◌∷◌, ℕ, ◌+◌, ◌-◌, ◌*◌, ◌/◌, ◌≤◌, ◌<◌, ltb, eqb, length, get_or, Choices, Checked, Passed, BoundAnswer, PlatesReport, PlatesAnswer, LagrangianReport, LagrangianAnswer}
+use Rattle.std.specs.Prelude.{◌≡◌, true, false, not, List, [], ◌∷◌, ℕ, ◌+◌, ◌-◌, ◌*◌, ◌/◌, ◌≤◌, ◌<◌, ltb, eqb, length, get_or}
+use Rattle.std.proofs.Math.Option.{none}
+use Rattle.promises.specs.Prelude.{Choices, Checked, Passed, BoundAnswer, PlatesReport, PlatesAnswer, LagrangianReport, LagrangianAnswer}
 use Rattle.promises.specs.declared.Refusal.TheVariants.{MultiplierCount, Multiplier}
 use Rattle.promises.specs.declared.BoundAnswer.TheVariants as bound
 use Rattle.promises.specs.declared.PlatesAnswer.TheVariants as plates

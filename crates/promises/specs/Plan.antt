@@ -1,7 +1,10 @@
 -- Plans: a tree's nodes in preorder and the arrays that hold them, its report, idle cuts, stages at each node, the neat tree, and what a plan
 -- is: the preorder of a guillotine tree that keeps every demand.
 -- docs/SCOPE.md: Plans; The report; No idle cuts; Neat plans; No more than so many stages.
-use Rattle.promises.specs.Prelude.{◌≡◌, Bool, true, false, Option, none, some, List, [], ◌∷◌, ◌++◌, map, ℕ, zero, suc, ◌+◌, ◌-◌, ◌*◌, ◌≤◌, max, ltb, eqb, length, replicate, Direction, Length, Width, Node, Report}
+use Rattle.std.specs.Prelude.{◌≡◌, Bool, true, false, List, [], ◌∷◌, ◌++◌, ℕ, zero, suc, ◌+◌, ◌-◌, ◌*◌, ◌≤◌, max, ltb, eqb, length, replicate}
+use Rattle.std.proofs.Math.Option.{Option, none, some}
+use mathlib.Core.List.{map}
+use Rattle.promises.specs.Prelude.{Direction, Length, Width, Node, Report}
 use Rattle.promises.specs.declared.Node.TheVariants as node
 use Rattle.promises.specs.declared.Refusal.TheVariants.{IdleCut, ManyStages}
 use Rattle.promises.specs.Lists.{entries}

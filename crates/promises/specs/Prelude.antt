@@ -1,8 +1,4 @@
--- What every file imports: the words of the logic, and the types of src/lib.rt.
-pub use Rattle.std.specs.Prelude.{Bool, true, false, ◌||◌, ◌&&◌, not, ◌≡◌, ◌↔◌, ℕ, zero, suc, ◌+◌, max, ◌*◌, ◌-◌, ◌/◌, ◌≤◌, ◌<◌, min, ◌%◌, ◌^◌, ltb, T, leb, eqb, length, drop, replicate, get_or, take, set}
-pub use Rattle.std.proofs.Math.Option.{Option, none, some}
-pub use mathlib.Core.List.{List, [], ◌∷◌, ◌++◌, map, Memᴰ as List-as-Memᴰ}
-pub use Rattle.std.specs.Borrow.{Bor, MutBor}
+-- What every file imports: the types of src/lib.rt.
 pub use Rattle.promises.specs.declared.Refusal.{Refusal}
 pub use Rattle.promises.specs.declared.Checked.{Checked}
 pub use Rattle.promises.specs.declared.Checked.TheVariants.{Passed, Refused}

@@ -1,7 +1,10 @@
 -- A rack of plates for one order: the plans stand one after another in two arrays and share the demands. The check, what it writes into the
 -- records, and what no set of plans can earn.
 -- docs/SCOPE.md: A rack of plates.
-use Rattle.promises.specs.Prelude.{◌≡◌, ◌||◌, not, ◌↔◌, none, List, [], ◌∷◌, ◌++◌, map, ℕ, zero, suc, ◌+◌, ◌-◌, ◌≤◌, ◌<◌, ltb, eqb, length, take, drop, get_or, set, replicate, Choices, Plate, RackAnswer, Checked, Passed, Refused}
+use Rattle.std.specs.Prelude.{◌≡◌, ◌||◌, not, ◌↔◌, List, [], ◌∷◌, ◌++◌, ℕ, zero, suc, ◌+◌, ◌-◌, ◌≤◌, ◌<◌, ltb, eqb, length, take, drop, get_or, set, replicate}
+use Rattle.std.proofs.Math.Option.{none}
+use mathlib.Core.List.{map}
+use Rattle.promises.specs.Prelude.{Choices, Plate, RackAnswer, Checked, Passed, Refused}
 use Rattle.promises.specs.declared.Refusal.TheVariants.{RackSize, RackSide, RackDemand, IdleCut}
 use Rattle.promises.specs.Lists.{sum}
 use Rattle.promises.specs.Refusals.{Check, by_check, next, first_refusal, outside, each_kind, outcome_by, most_plates}

@@ -1,7 +1,8 @@
 -- The table of refusals: the limits of the scope, the number and the place of each case, and the rule that the first condition that holds
 -- decides. A call's verdict is `Passed` or the first refusal of its checks.
 -- docs/SCOPE.md: The table of refusals.
-use Rattle.promises.specs.Prelude.{Bool, true, false, ◌||◌, List, [], ◌∷◌, ◌++◌, ℕ, zero, suc, ◌*◌, ltb, Refusal, Checked, Passed, Refused}
+use Rattle.std.specs.Prelude.{Bool, true, false, ◌||◌, List, [], ◌∷◌, ◌++◌, ℕ, zero, suc, ◌*◌, ltb}
+use Rattle.promises.specs.Prelude.{Refusal, Checked, Passed, Refused}
 use Rattle.promises.specs.declared.Refusal.TheVariants.{ShortHeader, PlateSide, RackSide, KindCount, BlockLength, KindSide, Price, Demand, WeightCount, Capacity, PlanLength, NodeCount, NodeKind, PieceNumber, Operand, Misfit, Excess, NodeMissing, NodeLeft, ListShort, TableShort, PlanLong, StageLimit, ManyStages, SecondCount, CapacityProduct, IdleCut, Kerf, RackSize, RackDemand, DemandProduct, SizesLength, TrueSize, NoModel, TrueMisfit, Grain, AgainstGrain, MultiplierCount, Multiplier}
 
 -- The greatest side of a plate or a piece, kerf, number of kinds, price, demand, weight, capacity; the most pairs of shares up to two

@@ -1,7 +1,9 @@
 -- Weights found in rounds: the exact steps of formulas 12 and 13, the weights of each round, when the run stops, and what the call answers and
 -- leaves. Round k is a function of the job, the lower figure and k; lent memory decides only whether a round is refused.
 -- docs/SCOPE.md: Weights found; The factor from a table.
-use Rattle.promises.specs.Prelude.{◌≡◌, Bool, true, false, ◌||◌, not, none, List, [], ◌∷◌, ℕ, zero, suc, ◌+◌, ◌-◌, ◌*◌, ◌/◌, ◌^◌, ◌≤◌, ◌<◌, max, min, leb, ltb, eqb, get_or, replicate, take, Choices, Checked, Passed, Refused, WeightsFound}
+use Rattle.std.specs.Prelude.{◌≡◌, Bool, true, false, ◌||◌, not, List, [], ◌∷◌, ℕ, zero, suc, ◌+◌, ◌-◌, ◌*◌, ◌/◌, ◌^◌, ◌≤◌, ◌<◌, max, min, leb, ltb, eqb, get_or, replicate, take}
+use Rattle.std.proofs.Math.Option.{none}
+use Rattle.promises.specs.Prelude.{Choices, Checked, Passed, Refused, WeightsFound}
 use Rattle.promises.specs.Lists.{range, sum, only, any, entries, pick_number}
 use Rattle.promises.specs.Refusals.{by_check, next, first_refusal, outcome_by, most_kinds, most_weight, most_capacity, most_rounds}
 use Rattle.promises.specs.Job.{Job, KeepsDemands, copies_of, capacity, profit}

@@ -1,7 +1,9 @@
 -- The saw's calls: the block read without its prices, the check of a plan without profit, and the part of a plan's arrays that belongs to a node.
 -- docs/SCOPE.md: Saw and office.
 use Rattle.std.specs.Borrow.{Bor}
-use Rattle.promises.specs.Prelude.{◌≡◌, Bool, true, false, none, List, [], ◌∷◌, ◌++◌, ℕ, ◌+◌, ◌-◌, ◌*◌, ltb, length, take, drop, get_or, Choices, JobAnswer, Report, SawReport, SawAnswer, Part, Checked, Passed, Refused}
+use Rattle.std.specs.Prelude.{◌≡◌, Bool, true, false, List, [], ◌∷◌, ◌++◌, ℕ, ◌+◌, ◌-◌, ◌*◌, ltb, length, take, drop, get_or}
+use Rattle.std.proofs.Math.Option.{none}
+use Rattle.promises.specs.Prelude.{Choices, JobAnswer, Report, SawReport, SawAnswer, Part, Checked, Passed, Refused}
 use Rattle.promises.specs.declared.Refusal.TheVariants.{Price}
 use Rattle.promises.specs.Refusals.{by_check, next, first_refusal, Outcome, outcome_by}
 use Rattle.promises.specs.Job.{Piece, Tree, waste, piece, cut}

@@ -3,7 +3,10 @@
 -- trees, once for every system.
 -- docs/SCOPE.md: The bound; Normal positions; Two weights a kind; The exact answer for short orders; No more than so many stages; Cuts
 -- between the marks; What the plate can hold.
-use Rattle.promises.specs.Prelude.{◌≡◌, Bool, ◌&&◌, ◌↔◌, Option, none, some, List, [], ◌∷◌, map, List-as-Memᴰ, ℕ, zero, suc, ◌+◌, ◌-◌, ◌*◌, ◌/◌, ◌%◌, ◌≤◌, ◌<◌, max, T, leb, length, get_or, drop, Direction, Length, Width}
+use Rattle.std.specs.Prelude.{◌≡◌, Bool, ◌&&◌, ◌↔◌, List, [], ◌∷◌, ℕ, zero, suc, ◌+◌, ◌-◌, ◌*◌, ◌/◌, ◌%◌, ◌≤◌, ◌<◌, max, T, leb, length, get_or, drop}
+use Rattle.std.proofs.Math.Option.{Option, none, some}
+use mathlib.Core.List.{map, Memᴰ as List-as-Memᴰ}
+use Rattle.promises.specs.Prelude.{Direction, Length, Width}
 use Rattle.promises.specs.Lists.{range, filter, pairs, greatest}
 use Rattle.promises.specs.Refusals.{most_figure}
 use Rattle.promises.specs.Job.{side, Piece, kind, Tree, Job, laid, GuillotineTree, AnyOnPlate, OnPlate, profit, weight_of, copies_of, KeepsDemands, widened, finer, at_full_demand, plate_copies, capacity, change, paths, path_stages, stages, WithinLimit}

@@ -1,7 +1,10 @@
 -- True sizes: the sizes block and its checks, the true job, chains and when a job is a model of another, and the two calls: the check of a model
 -- and the true plan.
 -- docs/SCOPE.md: True sizes; The true plan.
-use Rattle.promises.specs.Prelude.{◌≡◌, Bool, ◌||◌, not, ◌↔◌, Option, none, List, [], ◌∷◌, List-as-Memᴰ, ℕ, ◌+◌, ◌*◌, ◌≤◌, ◌<◌, T, ltb, eqb, length, get_or, Direction, Length, Width, Choices, Checked, Passed, TruePlanAnswer}
+use Rattle.std.specs.Prelude.{◌≡◌, Bool, ◌||◌, not, ◌↔◌, List, [], ◌∷◌, ℕ, ◌+◌, ◌*◌, ◌≤◌, ◌<◌, T, ltb, eqb, length, get_or}
+use Rattle.std.proofs.Math.Option.{Option, none}
+use mathlib.Core.List.{Memᴰ as List-as-Memᴰ}
+use Rattle.promises.specs.Prelude.{Direction, Length, Width, Choices, Checked, Passed, TruePlanAnswer}
 use Rattle.promises.specs.declared.Refusal.TheVariants.{SizesLength, TrueSize, NoModel, TrueMisfit}
 use Rattle.promises.specs.declared.TruePlanAnswer.TheVariants as true_plan
 use Rattle.promises.specs.Lists.{only, entries}
