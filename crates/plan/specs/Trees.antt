@@ -1,7 +1,7 @@
 -- The tree that a plan's arrays draw, and what a passed plan is: the preorder of a guillotine tree, which the report describes.
 -- docs/SCOPE.md: Plans; The report.
 use Rattle.std.specs.Prelude.{◌≡◌, List, ℕ, ◌+◌, ◌*◌}
-use Rattle.cutting.specs.Tree.{Tree, waste, IdleFree}
+use Rattle.cutting.specs.Tree.{Tree, IdleFree}
 use Rattle.cutting.specs.Pieces.{Piece}
 use Rattle.cutting.specs.Job.{Job, profit, copies_of, pieces_area_of, waste_area_of, trim_area_of, sawdust_area_of}
 use Rattle.refusal.specs.Refusals.{first_refusal}

@@ -1,5 +1,7 @@
 // The check of a plan drawn by anybody: refusals 10 to 18, 36 and 26, and what a passed plan reports. The nodes are read once, in their order,
 // with a list of the rectangles that wait to be filled, so that no plan needs more stack than another; then once more for idle cuts.
+#![tactic(auto)]
+
 ghost use Rattle.std.specs.Prelude.{◌≡◌, List, [], ◌∷◌, ◌++◌, ℕ, ◌+◌, ◌*◌, ◌-◌, ◌≤◌, ◌<◌, length, take, drop, get_or};
 ghost use Rattle.cutting.specs.Limits.{most_kinds, most_nodes};
 ghost use Rattle.cutting.specs.Sides.{rect_of, sides_of};

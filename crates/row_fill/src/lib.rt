@@ -1,6 +1,8 @@
 // The table of figures where the capacity is 0: a cell is one word.
 // A row starts as the row before and takes its length cuts as sums of two earlier rows. Its words are then laid out over the units of
 // the width, where the pieces of exactly its length are placed and each cell that rises over the one before pushes its width cuts.
+#![tactic(auto)]
+
 ghost use Rattle.std.specs.Prelude.{◌≡◌, ◌+◌, ◌-◌, ◌≤◌, ◌<◌, min, length};
 ghost use Rattle.cutting.specs.Listed.{listed_weight};
 ghost use Rattle.table.specs.Clauses.{size_job, Fillable, FilledBy};

@@ -1,5 +1,5 @@
 -- What is known of a block that the saw reads, and that an answer which equals its definition meets the whole contract.
-use Rattle.saw.proofs.Prelude.{◌≡◌, refl, sym, ◌∙◌, ap, subst, List, ℕ, arith, ltb-false, InRange, Refusal, Checked, Passed, Refused, next, first_refusal, outcome_by, Choices, JobRecord, JobAnswer, plate_length_at, plate_width_at, count_at, sizes_end, demand_at, header_checks, entries, record_of, read_by, job_outcome, job_of, HoldsKinds, HoldsBlock, cons_passed, entries_past, header_passed, header_holds, block_passed, pair_passed, range_by, said_by, answered_by, refused_by, PlanAnswer, empty_report, proceed, walk_answer, plan_answer, ChecksPlan, plans_checked, checked_after, SawAnswer, demand_checks, saw_checks, SawPasses, saw_record, saw_job, saw_read, saw_read_said, without_profit, saw_of, saw_values, saw_answer, saw_outcome, saw_said, NeverSix, SawChecks, AtAnyPrices, PricesFree, BesideOffice}
+use Rattle.saw.proofs.Prelude.{◌≡◌, refl, sym, ◌∙◌, ap, subst, List, ℕ, arith, ltb-false, InRange, Refusal, Checked, Passed, Refused, next, first_refusal, outcome_by, Choices, JobRecord, JobAnswer, plate_length_at, plate_width_at, count_at, sizes_end, demand_at, header_checks, entries, record_of, read_by, job_outcome, job_of, HoldsBlock, cons_passed, entries_past, header_passed, header_holds, block_passed, pair_passed, range_by, said_by, answered_by, refused_by, PlanAnswer, empty_report, proceed, walk_answer, plan_answer, ChecksPlan, plans_checked, checked_after, SawAnswer, demand_checks, saw_checks, SawPasses, saw_record, saw_job, saw_read, saw_read_said, without_profit, saw_of, saw_values, saw_answer, saw_outcome, saw_said, NeverSix, SawChecks, AtAnyPrices, PricesFree, BesideOffice}
 use Rattle.saw.proofs.Prices.{same_read, same_answer, prices_free}
 use Rattle.saw.proofs.Six.{read_never, saw_never}
 use Rattle.saw.proofs.Office.{beside}

@@ -1,6 +1,5 @@
 -- The extent of a tree's kinds is the number of its nodes, so that the part of a node holds the entries of its tree and nothing else.
-use denote.Ref.{Bor}
-use Rattle.saw.proofs.Prelude.{◌≡◌, refl, sym, ◌∙◌, ap, ap₂, subst, List, [], ◌∷◌, ◌++◌, map, map-append, append_assoc, append-nil, ℕ, zero, suc, ◌+◌, ◌-◌, ◌*◌, ◌≤◌, ◌<◌, arith, add-one, dec_lt, length, take, drop, get_or, length-append, length-map, drop_of_length-le, List·getD-append, drop-cons, drop-append-add, take_at, get_or-append-add, lt-ltb, le-ltb, RefT, ptr, now, Direction, Length, Width, Node, Cut, only, Tree, waste, piece, cut, preorder, kind_of, node_count, kinds_of, count_cut, Refusal, Checked, Passed, Refused, Choices, PlanOf, kinds_length, operands_length, Part, SawAnswer, SawPasses, saw_job, saw_answer, SawChecks, subtrees, tree_at, left_after, extent, end_of, between, part_if, part_by, node_part, IsPart, AtEnd, HandsBack}
+use Rattle.saw.proofs.Prelude.{◌≡◌, refl, sym, ◌∙◌, ap, ap₂, subst, List, [], ◌∷◌, ◌++◌, map, map-append, append_assoc, append-nil, ℕ, zero, suc, ◌+◌, ◌-◌, ◌*◌, ◌≤◌, ◌<◌, arith, add-one, dec_lt, length, take, drop, get_or, length-append, length-map, drop_of_length-le, List·getD-append, drop-cons, drop-append-add, take_at, get_or-append-add, lt-ltb, le-ltb, Bor, Direction, Length, Width, Node, Cut, only, Tree, waste, piece, cut, preorder, kind_of, node_count, kinds_of, count_cut, Refusal, Checked, Passed, Refused, Choices, PlanOf, kinds_length, operands_length, Part, SawAnswer, SawPasses, saw_job, saw_answer, SawChecks, subtrees, tree_at, left_after, extent, end_of, between, part_if, part_by, node_part, IsPart, AtEnd, HandsBack}
 use Rattle.cutting.specs.Pieces as laid
 use Rattle.node.specs.Nodes.{node_of}
 use Rattle.saw.proofs.Prices.{same_answer}
@@ -129,17 +128,17 @@ same_length s choices kinds operands c e = let t = c.tree e in
     ap length t.1.drawn.kinds_are ∙ kinds_length t.0 ∙ sym (operands_length t.0) ∙ sym (ap length t.1.drawn.operands_are)
 
 -- a part, and where it lies
-pub part_lies : (bytes : ℕ) (array : Bor (List ℕ)) (p q : Part) (o : ℕ) → p ≡ q → o ≡ p.first * bytes + (ptr array).1
-    → (take (p.past - p.first) (drop p.first (now array)) ≡ take (q.past - q.first) (drop q.first (now array))) × (◌≡◌ {A = ℕ × ℕ} ((ptr array).0, o) ((ptr array).0, q.first * bytes + (ptr array).1))
-part_lies bytes array p q o e h = (ap (λ (p : Part). take (p.past - p.first) (drop p.first (now array))) e, ap (λ x. ((ptr array).0, x)) (h ∙ ap (λ (p : Part). p.first * bytes + (ptr array).1) e))
+pub part_lies : (bytes : ℕ) (array : Bor (List ℕ)) (p q : Part) (o : ℕ) → p ≡ q → o ≡ p.first * bytes + array.ref_ptr.1
+    → (take (p.past - p.first) (drop p.first array.now) ≡ take (q.past - q.first) (drop q.first array.now)) × (◌≡◌ {A = ℕ × ℕ} (array.ref_ptr.0, o) (array.ref_ptr.0, q.first * bytes + array.ref_ptr.1))
+part_lies bytes array p q o e h = (ap (λ (p : Part). take (p.past - p.first) (drop p.first array.now)) e, ap (λ x. (array.ref_ptr.0, x)) (h ∙ ap (λ (p : Part). p.first * bytes + array.ref_ptr.1) e))
 
 -- an empty part is the one at the array's end
-at_end : (bytes : ℕ) (array r : Bor (List ℕ)) (p : Part) → p ≡ between (length (now array)) (length (now array)) → IsPart bytes p array r → AtEnd bytes array r
+at_end : (bytes : ℕ) (array r : Bor (List ℕ)) (p : Part) → p ≡ between (length array.now) (length array.now) → IsPart bytes p array r → AtEnd bytes array r
 at_end bytes array r p e i =
-    let n = length (now array) in
+    let n = length array.now in
     let z : n - n ≡ 0 = omega arith in
     let q = subst (λ p. IsPart bytes p array r) e i in
-    (q.0 ∙ ap (λ m. take m (drop n (now array))) z, q.1)
+    (q.0 ∙ ap (λ m. take m (drop n array.now)) z, q.1)
 
 module _ (s : List ℕ) (choices : Choices) (kinds operands : List ℕ) (node : ℕ) where
   abbrev verdict : Checked
@@ -152,16 +151,16 @@ module _ (s : List ℕ) (choices : Choices) (kinds operands : List ℕ) (node : 
       sym (part_at verdict kinds (length array) node ((check_met s choices kinds operands refl).1.1.0.passes b t p) (omega (arith, n, h)) (sym (end_tree t node h) ∙ sym (ap (λ ks. end_of ks node) p.drawn.kinds_are)))
 
   -- a part that is the node's is what the contract promises
-  module _ (bytes : ℕ) (array r : Bor (List ℕ)) (g : Node → ℕ) (drawn : (t : Tree laid.Piece) → PlanOf (saw_job s choices) t kinds operands → now array ≡ listed g t) (i : IsPart bytes (node_part s choices kinds operands (now array) node) array r) where
+  module _ (bytes : ℕ) (array r : Bor (List ℕ)) (g : Node → ℕ) (drawn : (t : Tree laid.Piece) → PlanOf (saw_job s choices) t kinds operands → array.now ≡ listed g t) (i : IsPart bytes (node_part s choices kinds operands array.now node) array r) where
     pub handed : HandsBack bytes (λ t. listed g t) s choices kinds operands node array r
     handed = record {
       part_is = i;
-      blind = λ z o. subst (λ (a : SawAnswer). IsPart bytes (part_by a.verdict kinds (length (now array)) node) array r) (same_answer choices s z o kinds operands) i;
+      blind = λ z o. subst (λ (a : SawAnswer). IsPart bytes (part_by a.verdict kinds (length array.now) node) array r) (same_answer choices s z o kinds operands) i;
       tree = λ b t p h. (
-          let q = subst (λ p. IsPart bytes p array r) (part_tree b t p h (now array) (ap length (drawn t p) ∙ listed_length g t)) i in
+          let q = subst (λ p. IsPart bytes p array r) (part_tree b t p h array.now (ap length (drawn t p) ∙ listed_length g t)) i in
           let l : node + node_count (tree_at t node) - node ≡ node_count (tree_at t node) = omega arith in
           (q.0 ∙ ap₂ (λ m l. take m (drop node l)) l (drawn t p) ∙ own_entries g t node h, q.1)
           );
-      refused = λ x e. at_end bytes array r _ (sym (part_refused verdict kinds (length (now array)) node e)) i;
-      past = λ h. at_end bytes array r _ (past_empty verdict kinds (length (now array)) node h) i;
+      refused = λ x e. at_end bytes array r _ (sym (part_refused verdict kinds (length array.now) node e)) i;
+      past = λ h. at_end bytes array r _ (past_empty verdict kinds (length array.now) node h) i;
     }

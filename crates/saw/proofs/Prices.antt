@@ -1,6 +1,6 @@
 -- Between blocks that differ only in prices the saw's checks and its record are equal, and so is everything that it answers. Whatever the
 -- prices are to be, such a block has them.
-use Rattle.saw.proofs.Prelude.{◌≡◌, refl, sym, ◌∙◌, ap, ap₂, subst, Bool, true, false, ◌||◌, not, List, [], ◌∷◌, ◌++◌, map, ℕ, zero, suc, ◌+◌, ◌*◌, ◌≤◌, ◌<◌, arith, ltb, eqb, length, get_or, set, length-set, get_or-set_same, get_or-set_other, ltb-true, range, only, ShortHeader, PlateSide, KindCount, Kerf, BlockLength, KindSide, Demand, Grain, Check, first_refusal, Choices, u16_at, u32_at, price_at, plate_length_at, plate_width_at, count_at, kerf_at, sizes_end, length_at, width_at, demand_at, outside, header_checks, size_check, each_kind, entries, record_of, read_by, job_of, grain_at, kind_bytes, grain_checks, grains_of, sizes_least, proceed, plan_answer, demand_checks, saw_checks, saw_record, saw_read, saw_of, saw_answer, PriceByte, OnlyPrices, PricesFree}
+use Rattle.saw.proofs.Prelude.{◌≡◌, refl, sym, ◌∙◌, ap, ap₂, subst, Bool, true, false, ◌||◌, not, List, [], ◌∷◌, ◌++◌, map, ℕ, zero, suc, ◌+◌, ◌*◌, ◌≤◌, ◌<◌, arith, ltb, eqb, length, get_or, set, length-set, get_or-set_same, get_or-set_other, ltb-true, range, only, ShortHeader, PlateSide, KindCount, Kerf, BlockLength, KindSide, Demand, Grain, Check, first_refusal, Choices, u16_at, u32_at, plate_length_at, plate_width_at, count_at, kerf_at, sizes_end, length_at, width_at, demand_at, outside, header_checks, size_check, each_kind, entries, record_of, read_by, job_of, grain_at, kind_bytes, grain_checks, grains_of, sizes_least, proceed, plan_answer, demand_checks, saw_checks, saw_record, saw_read, saw_of, saw_answer, PriceByte, OnlyPrices, PricesFree}
 
 -- each of the four bytes of every price is one that may differ
 pub price_bytes : (h n i j : ℕ) → i < n → j < 4 → PriceByte h n (h + 4 * n + 6 * i + j)

@@ -1,5 +1,5 @@
 -- The saw never gives 6: no check of its own, and none of a plan, has that number.
-use Rattle.saw.proofs.Prelude.{◌≡◌, Bool, true, false, List, [], ◌∷◌, ◌++◌, ℕ, zero, suc, ◌+◌, arith, Rect, Job, Refusal, Checked, Passed, Refused, Check, next, refuse_when, first_refusal, Choices, sizes_end, count_at, header_checks, size_check, each_kind, array_checks, grain_check, grain_checks, idle_checks, Report, PlanAnswer, node_of, node_checks, parts, report_after, empty_report, proceed, walk, plan_checks, nodes_in, walk_answer, plan_answer, NeverSix, demand_checks, saw_checks, saw_job, saw_answer}
+use Rattle.saw.proofs.Prelude.{Bool, true, false, List, [], ◌∷◌, ◌++◌, ℕ, zero, suc, ◌+◌, arith, Rect, Job, Refusal, Checked, Passed, Refused, Check, next, refuse_when, first_refusal, Choices, sizes_end, count_at, header_checks, size_check, each_kind, array_checks, grain_check, grain_checks, idle_checks, Report, PlanAnswer, node_of, node_checks, parts, report_after, empty_report, proceed, walk, plan_checks, nodes_in, walk_answer, plan_answer, NeverSix, demand_checks, saw_checks, saw_job, saw_answer}
 
 -- none of a list of checks has number 6
 abbrev NoneSix : List Check → Type 0

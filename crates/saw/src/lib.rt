@@ -1,5 +1,7 @@
 // The saw beside the office: it reads the same job block without its prices, checks a plan and reports copies and areas, and hands back
 // the part of the caller's arrays that belongs to a node and all below it. No answer depends on a price.
+#![tactic(auto)]
+
 ghost use Rattle.std.specs.Prelude.{◌≡◌, ◌+◌, ◌≤◌, ◌<◌, ◌^◌, length};
 ghost use Rattle.cutting.specs.Preorder.{kinds_of, operands_of};
 ghost use Rattle.job.specs.Block.{job_outcome};

@@ -2,6 +2,8 @@
 // In the block without a cut a row starts as the row before and takes its pieces. In a length-first block it starts as the greater of its
 // source's row and the row before, and takes its length cuts. In a width-first block its source's row is laid out over the units of the
 // width, and each cell that rises over the one before pushes its width cuts.
+#![tactic(auto)]
+
 ghost use Rattle.std.specs.Prelude.{◌≡◌, ◌+◌, ◌*◌, ◌≤◌, max, get_or};
 ghost use Rattle.promises.specs.declared.Direction.TheVariants.{Length};
 ghost use Rattle.cutting.specs.Limits.{most_limit};

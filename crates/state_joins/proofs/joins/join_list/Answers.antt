@@ -1,0 +1,10 @@
+-- `state_joins::joins::join_list` meets its contract. The loop's invariant: the first k numbers of the list are taken.
+use Rattle.state_joins.proofs.Prelude.{arith, refl, ◌∙◌, topped_then}
+use Rattle.state_joins.proofs.Joining.{with_number}
+use Rattle.state_joins.proofs.joins.join_list.Goals as goal
+
+pub loop-k-preserved : goal.loop-k-preserved
+loop-k-preserved c = let given = c.requires in
+    let loop = c.loop-k in
+    let state = given.1.states loop.k (omega arith) in
+    (omega arith, c.take-high.auto.table ∙ loop.invariant.1, with_number _ _ _ c.args.list.now _ _ _ _ _ _ _ _ _ given.0.ready.before state refl (omega (arith, c.figure.ensures.0)) loop.invariant.2 c.take-high.ensures.0, topped_then _ _ _ _ _ _ _ _ loop.invariant.3 c.take-high.ensures.1)
