@@ -1,6 +1,8 @@
 // Whether a job is a model of true sizes: refusals 1 to 7, 27, 35, and 31 to 33. In either direction the table of the chains, filled kind by
 // kind, has in its last entry the least that a chain takes in truth which is too long for the model's plate: it must be too long for the
 // true one. One set of functions serves both directions.
+#![tactic(auto)]
+
 ghost use Rattle.std.specs.Prelude.{◌≡◌, ◌&&◌, not, suc, ◌+◌, ◌≤◌, ◌<◌, leb, length};
 ghost use Rattle.cutting.specs.Limits.{most_true_side, most_true_kerf};
 ghost use Rattle.cutting.specs.Tree.{side};

@@ -1,5 +1,5 @@
 -- The trees that a plan's nodes draw: one step of the scan is one node in front of them, and the nodes of a tree make what holds of its parts.
-use Rattle.neat.proofs.Prelude.{◌≡◌, refl, sym, ◌∙◌, ap, ap₂, subst, List, [], ◌∷◌, ◌++◌, map, append_assoc, ℕ, zero, suc, ◌+◌, ◌-◌, ◌≤◌, ◌<◌, max, arith, Direction, Length, Width, Node, Waste, Piece, Turned, Cut, most_kinds, keep, Rect, side, Tree, waste, piece, cut, total, piece_count, ◌⊑◌, preorder, kinds_of, kind_of, operand_of, joined, remaining, used, neat, kinds_cut, used_none, node_back, with_node, written, written_cut, trees_tree, most_told, told_side, told, told_sides, told_of, size_of, moved, used_with, becomes, Ready, Numbered, remains, unless_none, neat_nodes, pieces_in, Fair, Known, Within, Makes, AllMake}
+use Rattle.neat.proofs.Prelude.{◌≡◌, refl, sym, ◌∙◌, ap, ap₂, subst, List, [], ◌∷◌, ◌++◌, map, append_assoc, ℕ, zero, suc, ◌+◌, ◌≤◌, ◌<◌, max, arith, Direction, Length, Width, Node, Waste, Piece, Turned, Cut, most_kinds, keep, Rect, side, Tree, waste, piece, cut, total, piece_count, ◌⊑◌, preorder, kinds_of, kind_of, operand_of, joined, remaining, used, neat, kinds_cut, used_none, node_back, with_node, written, written_cut, trees_tree, told_side, told, told_of, size_of, moved, used_with, becomes, Ready, Numbered, remains, unless_none, neat_nodes, pieces_in, Fair, Known, Within, Makes, AllMake}
 use Rattle.cutting.specs.Pieces as laid
 
 -- the pieces of a tree's kinds in front of others

@@ -2,6 +2,8 @@
 // the number of pieces, so that they are known before anything is written. One scan from the last node to the first keeps the used size of
 // each tree that is complete, and writes what remains from its end to its start: the work is linear in the nodes, and no plan needs more
 // stack than another.
+#![tactic(auto)]
+
 ghost use Rattle.std.specs.Prelude.{◌≡◌, true, map, ◌+◌, ◌-◌, ◌≤◌, ◌<◌, max, length, get_or};
 ghost use Rattle.cutting.specs.Limits.{most_kinds, most_nodes, most_true_kerf};
 ghost use Rattle.cutting.specs.Lists.{only, over};

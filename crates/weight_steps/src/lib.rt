@@ -1,5 +1,7 @@
 // The exact steps of the weight rounds: formulas 12 and 13 of Morabito and Pureza in whole numbers. From the copies of a round's plan, the
 // demands, the round's weights and its gap they give the weights of the next round (specs/Step).
+#![tactic(auto)]
+
 ghost use Rattle.std.specs.Prelude.{◌≡◌, ◌+◌, ◌*◌, ◌-◌, ◌≤◌, ◌<◌, min, ltb, get_or};
 ghost use Rattle.job.specs.Block.{entries};
 ghost use Rattle.weight_steps.specs.Step.{factor, factors, distance, root_below, scale, stepped, adjusted};
