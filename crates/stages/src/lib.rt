@@ -1,5 +1,7 @@
 // Check 22, check 23 and the stages of a plan that passed: a walk below length cuts and a walk below width cuts that call each other where the
 // direction changes. Cuts that keep the direction only add to the trees that wait, so that the walks nest no deeper than the limit.
+#![tactic(auto)]
+
 ghost use Rattle.std.specs.Prelude.{◌≡◌, ◌+◌, ◌-◌, ◌<◌, ◌≤◌, max, length};
 ghost use Rattle.promises.specs.declared.Direction.TheVariants.{Length, Width};
 ghost use Rattle.cutting.specs.Shares.{other};

@@ -1,6 +1,6 @@
 -- The states in reach: past twice the state from which on the figures of its parts are the same, a cell's figures are the same. So it is
 -- made at the states up to there, from cells whose lists are short, and the words past them are written once.
-use Rattle.state_cells.proofs.Prelude.{◌≡◌, refl, sym, ◌∙◌, ap, subst, ◌⊎◌, inl, inr, Bool, List, [], ◌∷◌, ℕ, ◌+◌, ◌-◌, ◌*◌, ◌≤◌, ◌<◌, min, dec_le, arith, T, length, get_or, Direction, Length, Width, upright, Job, InTableRange, table_lies, position_count, Positions, Outside, Run, Half, remainder, half_parts, positions_axis, below, Order, Covers, figure_in, note_in, held, note, under, Rises, Digits, Summed, cell, Marked, Level, Levelled, tabled, reach_of, MadeTo, Short, Made, Spot, SpotTo, figure_plain, note_plain, across, across_joins, piece_most, Joins, along, complete, order_of, under_zero, one_digit}
+use Rattle.state_cells.proofs.Prelude.{◌≡◌, refl, sym, ◌∙◌, ap, ◌⊎◌, inl, inr, Bool, List, [], ◌∷◌, ℕ, ◌+◌, ◌-◌, ◌*◌, ◌≤◌, ◌<◌, min, dec_le, arith, T, get_or, Direction, Length, Width, upright, Job, InTableRange, table_lies, position_count, Positions, Outside, Run, Half, remainder, half_parts, positions_axis, below, Order, Covers, figure_in, note_in, held, note, under, Rises, cell, Marked, Level, Levelled, tabled, reach_of, MadeTo, Made, Spot, SpotTo, figure_plain, note_plain, across, across_joins, piece_most, Joins, along, complete, order_of, under_zero, one_digit}
 use Rattle.state_cells.proofs.Making.{made_to_same, rising, longer, wider}
 
 -- a state no later than `flat` at which figures that are the same from there on are those of state e

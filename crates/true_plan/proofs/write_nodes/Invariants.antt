@@ -1,0 +1,9 @@
+use Rattle.true_plan.proofs.Prelude.{get_or, lying, Writing}
+use Rattle.true_plan.proofs.write_nodes.Given as goal
+
+abbrev pub invariant-loop-k : goal.invariant-loop-k
+invariant-loop-k l = Writing l.kerf (λ p. lying (λ i. (get_or l.lengths i 0, get_or l.widths i 0)) p) l.kinds l.operands l.initial.true_kinds l.initial.positions l.needed l.true_kinds l.positions l.used_lengths l.used_widths l.n l.o l.k
+
+abbrev pub decreases-loop-k : goal.decreases-loop-k
+decreases-loop-k l = l.k
+
