@@ -7,7 +7,7 @@ use std::process::{exit, Command};
 /// The variable that names a folder with the archive.
 const FOLDER: &str = "PLANNER_LIB_DIR";
 
-/// The archive's names, as `make install` and `rt staticlib planner_c` write it.
+/// The archive's names, as `make install` and `tools/archive` write it.
 const NAMES: [&str; 2] = ["planner", "planner_c"];
 
 fn main() {
@@ -17,7 +17,7 @@ fn main() {
         eprintln!("the planner's archive is not found. Use one of these:");
         eprintln!("  {FOLDER}=FOLDER cargo build    where FOLDER has libplanner.a");
         eprintln!("  make install PREFIX=..         and PKG_CONFIG_PATH=../lib/pkgconfig");
-        eprintln!("  rt staticlib planner_c         in the planner's repository");
+        eprintln!("  tools/archive                  in the planner's repository");
         exit(1);
     };
     println!("cargo:rerun-if-changed={}", folder.join(format!("lib{name}.a")).display());
