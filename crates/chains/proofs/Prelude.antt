@@ -6,7 +6,7 @@ pub use lib.ListN.{get_or, length, length-set, set}
 pub use lib.Seq.{get_or-set_other, get_or-set_same}
 pub use mathlib.Core.Bool.{true}
 pub use mathlib.Core.List.{List, [], ◌∷◌}
-pub use mathlib.Core.Path.{◌∙◌, ◌≡◌, ap, refl, sym}
+pub use mathlib.Core.Path.{◌∙◌, ◌≡◌, ap, refl, subst, sym}
 pub use native.Mathlib.Decide.{dec_lt, ℕ_discrete}
 pub use native.Mathlib.Numerals.{add-one}
 pub use native.Mathlib.Omega.{arith}
@@ -16,5 +16,5 @@ pub use Rattle.cutting.specs.Job.{Job}
 pub use Rattle.cutting.specs.Pieces.{Piece}
 pub use Rattle.cutting.specs.Relaxation.{taken}
 pub use Rattle.promises.specs.declared.Direction.{Direction}
-pub use Rattle.chains.specs.Table.{Passed, Repeated, Settled, Steps, entry, most_entry}
+pub use Rattle.chains.specs.Table.{Passed, Repeated, Settled, Steps, Swept, Unmoved, entry, most_entry}
 unfoldable pub use Rattle.chains.specs.Table.{repeated, stepped}

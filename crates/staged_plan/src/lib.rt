@@ -1,4 +1,6 @@
 // The check of a plan within a limit on its stages: refusals 1 to 7, 27 and 35, 22, 10 to 18, 36, 26 and 23.
+#![tactic(auto)]
+
 ghost use Rattle.std.specs.Prelude.{◌≡◌, ◌≤◌};
 ghost use Rattle.cutting.specs.Limits.{most_limit};
 ghost use Rattle.cutting.specs.Job.{InRange};

@@ -1,5 +1,7 @@
 // The table of figures where a cell has many states: numbers of several digits, one digit for one weight, two for two weights, one for the
 // remaining copies of each kind. It is filled cell after cell, and at the end the cells' lists are taken off.
+#![tactic(auto)]
+
 mod rows;
 mod weights;
 

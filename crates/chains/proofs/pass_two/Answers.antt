@@ -1,7 +1,7 @@
--- `chains::pass` meets its contract.
+-- `chains::pass_two` meets its contract.
 use Rattle.chains.proofs.Prelude.{refl, ℕ, ◌-◌, arith, length}
 use Rattle.chains.proofs.Table.{halfway_more, still_more, value}
-use Rattle.chains.proofs.pass.Goals as goal
+use Rattle.chains.proofs.pass_two.Goals as goal
 
 pub loop-i-preserved : goal.loop-i-preserved
 loop-i-preserved c = let turn = c.loop-i in
