@@ -1,5 +1,7 @@
 // The bound call: a job block and weights are accepted or refused, the normal positions of both sides go into the lent lists, the
 // figures into the lent table, and the table's last word is the bound. Refusals 1 to 9, 27, 35, 19 and 20.
+#![tactic(auto)]
+
 ghost use Rattle.cutting.specs.Sides.{rect_of};
 ghost use Rattle.cutting.specs.Job.{widened};
 ghost use Rattle.cutting.specs.Listed.{listed_weight, pieces_job};

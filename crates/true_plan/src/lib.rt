@@ -1,5 +1,7 @@
 // The true plan of a model's plan: its neat plan by the true sizes, found by the neat plan's own scan. The plan is checked for the model
 // first. One scan finds its used size, so that it is known before anything is written whether it fits the true plate; a second one writes.
+#![tactic(auto)]
+
 ghost use Rattle.std.specs.Prelude.{◌≡◌, true, map, ◌-◌, ◌≤◌, ◌<◌, length, get_or};
 ghost use Rattle.cutting.specs.Limits.{most_kinds};
 ghost use Rattle.cutting.specs.Lists.{only, over};

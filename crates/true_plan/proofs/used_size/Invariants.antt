@@ -6,4 +6,3 @@ invariant-loop-k l = Scanning l.kerf (λ p. lying (λ i. (get_or l.lengths i 0, 
 
 abbrev pub decreases-loop-k : goal.decreases-loop-k
 decreases-loop-k l = l.k
-
