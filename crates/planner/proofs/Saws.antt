@@ -1,6 +1,6 @@
 -- The saw's reading and its check: what the inner call promises gives its instance.
 use denote.Ref.{Bor}
-use Rattle.planner.proofs.Prelude.{◌≡◌, refl, sym, ◌∙◌, ap, ap₂, subst, none, Bool, true, false, List, [], ℕ, ◌+◌, ◌-◌, ◌≤◌, ◌<◌, arith, ltb, length, take, drop, RefT, ptr, now, ltb-true, Tree, Piece, node_count, Job, Outcome, by_check, next, first_refusal, Refusal, Checked, Passed, Refused, Choices, JobAnswer, job_checks, block_job, read_in_range, Report, PlanAnswer, proceed, empty_report, plan_answer, tree_in, PlanOf, arrays_answer, plans_checked, SawAnswer, Part, same_answer, part_tree, saw_range, tree_report, saw_record, saw_job, plan_verdict, Answers, Arrays, job_form, plan_form, Checks, NeverSix, saw_form, without_profit, saw_verdict, SawReadPromises, SawPromises, part_if, node_part, PartPromises, HandsBack}
+use Rattle.planner.proofs.Prelude.{◌≡◌, refl, sym, ◌∙◌, ap, ap₂, subst, none, Bool, true, false, List, [], ℕ, ◌+◌, ◌-◌, ◌≤◌, ◌<◌, arith, ltb, length, take, drop, Bor, ltb-true, Tree, Piece, node_count, Job, Outcome, by_check, next, first_refusal, Refusal, Checked, Passed, Refused, Choices, JobAnswer, job_checks, block_job, read_in_range, Report, PlanAnswer, proceed, empty_report, plan_answer, tree_in, PlanOf, arrays_answer, plans_checked, SawAnswer, Part, same_answer, part_tree, saw_range, tree_report, saw_record, saw_job, plan_verdict, Answers, Arrays, job_form, plan_form, Checks, NeverSix, saw_form, without_profit, saw_verdict, SawReadPromises, SawPromises, part_if, node_part, PartPromises, HandsBack}
 use Rattle.saw.specs.Saw as today
 use Rattle.saw.specs.Prices as prices
 use Rattle.saw.specs.Parts as parts
@@ -126,14 +126,14 @@ module _ (f : Tree Piece → List ℕ) (s : List ℕ) (choices : Choices) (plan 
 
 -- the part handed back as a slice
 module _ (bytes : ℕ) (f : Tree Piece → List ℕ) (s : List ℕ) (choices : Choices) (plan : Arrays) (node : ℕ) (array r : Bor (List ℕ)) (sized : (t : Tree Piece) → length (f t) ≡ node_count t)
-    (drawn : (t : Tree Piece) → PlanOf (saw_job s choices) t plan.0 plan.1 → now array ≡ f t) (h : parts.HandsBack bytes f s choices plan.0 plan.1 node array r) where
+    (drawn : (t : Tree Piece) → PlanOf (saw_job s choices) t plan.0 plan.1 → array.now ≡ f t) (h : parts.HandsBack bytes f s choices plan.0 plan.1 node array r) where
   pub part_new : HandsBack bytes f s choices plan node array r
   part_new =
-      let q = subst (λ p. parts.IsPart bytes p array r) (part_is f s choices plan node (now array) sized drawn (saw_verdict s choices plan) refl (ltb node (length (now array))) refl) h.part_is in
-      let j = judged f s choices plan node (now array) sized drawn in
+      let q = subst (λ p. parts.IsPart bytes p array r) (part_is f s choices plan node array.now sized drawn (saw_verdict s choices plan) refl (ltb node (length array.now)) refl) h.part_is in
+      let j = judged f s choices plan node array.now sized drawn in
       record {
-        part = mine f s choices plan node (now array) sized drawn;
-        promises = part_by f s choices plan node (now array) sized drawn (λ e d. sym q.0 ∙ (h.tree (j.before e) (tree_in plan.0 plan.1) (j.tree e).0 (within f s choices plan node (now array) sized drawn e d)).0);
+        part = mine f s choices plan node array.now sized drawn;
+        promises = part_by f s choices plan node array.now sized drawn (λ e d. sym q.0 ∙ (h.tree (j.before e) (tree_in plan.0 plan.1) (j.tree e).0 (within f s choices plan node array.now sized drawn e d)).0);
         entries = q.0;
         lies = q.1;
       }
