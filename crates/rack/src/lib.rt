@@ -1,5 +1,7 @@
 // A rack of plates for one order: plans stand one after another in the two arrays, each is checked on its own plate, and their copies add
 // up against one demand. The job's own plate is not read.
+#![tactic(auto)]
+
 ghost use Rattle.std.specs.Prelude.{◌≡◌, [], ◌∷◌, ◌+◌, ◌≤◌, ◌<◌, length, get_or, ltb};
 ghost use Rattle.cutting.specs.Limits.{most_kinds};
 ghost use Rattle.refusal.specs.Refusals.{first_refusal};
