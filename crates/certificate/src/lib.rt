@@ -1,5 +1,7 @@
 // The certificate: a checked plan's profit against the bound. "Best" is a statement about every guillotine tree that keeps the demands
 // (specs/Promises). The call hands on the first refusal met, 1 to 20, 26, 27, 35 or 36, and leaves lists and table as the bound call does.
+#![tactic(auto)]
+
 ghost use Rattle.std.specs.Prelude.{◌≡◌, ◌≤◌};
 ghost use Rattle.promises.specs.declared.Checked.TheVariants.{Passed};
 ghost use Rattle.job.specs.Block.{with_full_demand};

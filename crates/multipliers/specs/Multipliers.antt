@@ -2,7 +2,7 @@
 -- bound is.
 -- docs/SCOPE.md: Multipliers.
 use Rattle.std.specs.Prelude.{◌≡◌, not, List, [], ◌∷◌, ℕ, ◌+◌, ◌-◌, ltb, eqb, length}
-use Rattle.cutting.specs.Job.{Job, widened, capacity, bound_of}
+use Rattle.cutting.specs.Job.{Job, widened, bound_of}
 use Rattle.cutting.specs.Promises.{NoneAbove, NoneFiner, NoneBetter, FiguresMost}
 use Rattle.cutting.specs.Relaxation.{Relaxes}
 use Rattle.refusal.specs.Refusals.{Check, Outcome, next, first_refusal, by_check, outcome_by}

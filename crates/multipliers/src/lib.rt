@@ -1,5 +1,7 @@
 // A bound of one plate by multipliers in place of demands: each price is lowered by its multiplier, and the lowered job's bound with demand
 // times multiplier beside it bounds what a tree that keeps the demands earns. Refusals 1 to 9, 27, 35, 37, 38, 19 and 20.
+#![tactic(auto)]
+
 ghost use Rattle.std.specs.Prelude.{◌≡◌, [], ◌∷◌, ◌-◌, ◌≤◌, ◌<◌, length};
 ghost use Rattle.cutting.specs.Limits.{most_kinds};
 ghost use Rattle.refusal.specs.Refusals.{first_refusal};

@@ -1,9 +1,9 @@
 -- What the call promises, from the verdict of job and weights, the bound of an accepted job, and the theory of whole orders.
 use mathlib.Core.Path.{◌≡◌, refl, sym, ◌∙◌, ap, ap₂, subst}
 use mathlib.Core.List.{List}
-use Prim.Native.Nat.{ℕ, ◌-◌, ◌≤◌, ◌<◌}
+use Prim.Native.Nat.{ℕ, ◌-◌, ◌≤◌}
 use native.Mathlib.Omega.{arith}
-use lib.ListN.{length, get_or}
+use lib.ListN.{length}
 use Rattle.cutting.specs.Limits.{most_kinds, most_figure}
 use Rattle.cutting.specs.Job.{Job, InRange, widened, capacity, bound_of}
 use Rattle.cutting.proofs.Members.{range_solid}
@@ -15,7 +15,7 @@ use Rattle.promises.specs.declared.Checked.TheVariants.{Passed, Refused}
 use Rattle.promises.specs.declared.Choices.{Choices}
 use Rattle.promises.specs.declared.JobRecord.{JobRecord}
 use Rattle.job.specs.Block.{record_of, job_of}
-use Rattle.job.specs.Weights.{block_job, weight_in, Accepted}
+use Rattle.job.specs.Weights.{block_job, weight_in}
 use Rattle.job.proofs.Checks.{passed_both}
 use Rattle.job.proofs.Entries.{entries_length}
 use Rattle.job.proofs.Weights.{accepted_in_range}
@@ -23,7 +23,7 @@ use Rattle.job.proofs.Taken.{Taken}
 use Rattle.orders.specs.Orders.{order_worth, left_beside, plates_for, plates_needed, Summable}
 use Rattle.orders.proofs.Orders.{costs_not_held}
 use Rattle.orders.proofs.Needed.{fewest, no_fewer}
-use Rattle.bound.specs.Bound.{Memory, Leaves, memory_checks, accept_verdict, bound_verdict, block_capacity, bound_report, BoundLeaves}
+use Rattle.bound.specs.Bound.{Memory, memory_checks, accept_verdict, bound_verdict, block_capacity, bound_report, BoundLeaves}
 use Rattle.bound.specs.Clauses.{RecordBounded}
 use Rattle.promises.specs.declared.BoundReport.{BoundReport}
 use Rattle.promises.specs.declared.BoundAnswer.{BoundAnswer}

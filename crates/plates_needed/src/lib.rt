@@ -1,5 +1,7 @@
 // How many plates a whole order needs: the bound of one plate, what the order is worth at the job's prices, and the least number of plates
 // whose bounds come to that, beside what other plates earn. The numbers and the memory of the bound call.
+#![tactic(auto)]
+
 ghost use Rattle.std.specs.Prelude.{◌≡◌, length};
 ghost use Rattle.cutting.specs.Limits.{most_kinds};
 ghost use Rattle.job.specs.Block.{job_of};

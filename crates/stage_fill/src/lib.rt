@@ -1,6 +1,8 @@
 // The staged table: one block of cells for no cut, then for each stage a block of length cuts first and a block of width cuts first. A
 // length-first block starts from the width-first one a stage before, and the other way about. The cells are made by the steps of the
 // fill by states; their lists are taken off at the end.
+#![tactic(auto)]
+
 mod blocks;
 mod cells;
 
