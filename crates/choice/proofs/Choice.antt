@@ -72,7 +72,7 @@ module _ {J : Job} {le : ℕ → ℕ → Bool} {own : ℕ → ℕ} {columns q : 
     (l w c : ℕ) (on_length : l ≤ J.plate.0) (on_width : w ≤ J.plate.1) (share : c ≤ q) where
   module _ (d : Direction) (positions floors : List ℕ) (listed : Listed J d positions) (mapped : Mapped J d floors) where
     on_side : side d (l, w) ≤ side d J.plate
-    on_side = elim d [ Length ↦ on_length | Width ↦ on_width ]
+    on_side = elim d as (λ k. side k (l, w) ≤ side k J.plate) [ Length ↦ on_length | Width ↦ on_width ]
 
     -- the figure of the whole
     abbrev whole : ℕ

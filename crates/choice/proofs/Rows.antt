@@ -113,7 +113,7 @@ module _ {J : Job} {le : ℕ → ℕ → Bool} {own : ℕ → ℕ} {columns q : 
   -- a cut in one direction can be searched for
   pub searchable : (d : Direction) (positions floors : List ℕ) → Listed J d positions → Mapped J d floors → 1020 < length floors → (c v : ℕ) → c ≤ q → Searchable positions floors table (search_for d floors c v)
   searchable d positions floors listed mapped there c v h =
-      let on : (side d (l, w) ≤ side d J.plate) × (side d J.plate ≤ 1020) = elim d [ Length ↦ (on_length, t.in_range.plate_length.1) | Width ↦ (on_width, t.in_range.plate_width.1) ] in
+      let on : (side d (l, w) ≤ side d J.plate) × (side d J.plate ≤ 1020) = elim d as (λ k. (side k (l, w) ≤ side k J.plate) × (side k J.plate ≤ 1020)) [ Length ↦ (on_length, t.in_range.plate_length.1) | Width ↦ (on_width, t.in_range.plate_width.1) ] in
       let last = mapped (side d (l, w)) on.0 in
       record {
         mapped = omega (arith, on);

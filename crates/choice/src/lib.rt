@@ -1,6 +1,8 @@
 // The choice at a cell of a filled table, a rectangle and a share: what the plan behind the bound does there. Waste where the figure is
 // 0, or the first piece of the array that earns the figure, or the first length cut that earns it, or the first width cut. A share is a
 // state, a number of several digits, and is divided without a carry; one digit: any number up to it.
+#![tactic(auto)]
+
 ghost use Rattle.std.specs.Prelude.{◌≡◌, ◌&&◌, ◌+◌, ◌*◌, ◌<◌, eqb, drop};
 ghost use Rattle.cutting.specs.Lists.{range, first};
 ghost use Rattle.cutting.specs.Pieces.{fits_in};

@@ -1,3 +1,2 @@
 mod Prelude
-pub mod Demands
 pub mod Judging

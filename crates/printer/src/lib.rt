@@ -1,5 +1,7 @@
 // The bound printer: splits the input into an old job block and weights, and prints the bound and the plan behind it, or the refusal.
 // What decides is proved here or in the crates below: where the job ends, the plan with its profit, whether it is best.
+#![tactic(auto)]
+
 ghost use Rattle.std.specs.Prelude.{◌≡◌, ◌≤◌, length};
 ghost use Rattle.job.specs.Weights.{block_job};
 ghost use Rattle.plan.specs.Calls.{JobPasses};
@@ -7,9 +9,10 @@ ghost use Rattle.bound.specs.Bound.{lent};
 ghost use Rattle.printer.specs.Printer.{job_end, DemandsKept, JudgesPlan};
 
 use job::{read_job, read_u16};
-use libc::STDOUT_FILENO;
 use plan::check_plan;
 use promises::{Checked, Choices, Refusal, WriteAnswer, WriteReport};
+use std::io;
+use std::io::Read;
 use writer::write_plan;
 
 // Where the job, an old block, ends in the input.
@@ -87,125 +90,87 @@ pub fn judge_plan(
     }
 }
 
-// A word of a line.
-fn print_word(word: &[u8]) {
-    io::write_all(STDOUT_FILENO, word);
-}
-
-// A number in decimal.
-fn print_number(n: u64) {
-    io::print_decimal(STDOUT_FILENO, n);
-}
-
-// A number of 16 bits.
-fn print_small(n: u16) {
-    print_number(n as u64);
-}
-
-// A number of 8 bits.
-fn print_byte(n: u8) {
-    print_number(n as u64);
-}
-
 // The line of a refusal.
-fn print_refusal(r: Refusal) {
-    print_word(b"refused ");
-    print_small(refusal::number(r));
-    print_word(b" place ");
-    print_number(refusal::place(r));
-    print_word(b"\n");
+fn print_refusal(rt: &impl Print, r: Refusal) -> io::Result<()> {
+    println!(rt;
+        "refused {} place {}",
+        refusal::number(r),
+        refusal::place(r)
+    )
 }
 
 // The line of the plate's sides and the number of kinds.
-fn print_plate(block: &[u8], choices: Choices) {
+fn print_plate(rt: &impl Print, block: &[u8], choices: Choices) -> io::Result<()> {
     let read = read_job(block, choices);
     let job = read.job;
-    print_word(b"plate ");
-    print_small(job.length);
-    print_word(b" ");
-    print_small(job.width);
-    print_word(b" pieces ");
-    print_small(job.count);
-    print_word(b"\n");
-}
-
-// A weight after a space.
-fn print_weight(weight: u8) {
-    print_word(b" ");
-    print_byte(weight);
+    println!(rt; "plate {} {} pieces {}", job.length, job.width, job.count)
 }
 
 // The weights, one after another.
-fn print_each(weights: &[u8]) {
-    for i in 0..weights.len() {
-        print_weight(weights[i]);
+fn print_each(rt: &impl Print, weights: &[u8]) -> io::Result<()> {
+    for weight in weights {
+        print!(rt; " {weight}")?;
     }
+    Ok(())
 }
 
 // The line of the weights and the capacity.
-fn print_weights(weights: &[u8], capacity: u16) {
-    print_word(b"weights");
-    print_each(weights);
-    print_word(b" capacity ");
-    print_small(capacity);
-    print_word(b"\n");
+fn print_weights(rt: &impl Print, weights: &[u8], capacity: u16) -> io::Result<()> {
+    print!(rt; "weights")?;
+    print_each(rt, weights)?;
+    println!(rt; " capacity {capacity}")
 }
 
 // The line of the bound.
-fn print_bound(bound: u64) {
-    print_word(b"bound ");
-    print_number(bound);
-    print_word(b"\n");
+fn print_bound(rt: &impl Print, bound: u64) -> io::Result<()> {
+    println!(rt; "bound {bound}")
 }
 
 // The line of a node: kind, operand.
-fn print_node(kind: u8, operand: u16) {
-    print_byte(kind);
-    print_word(b" ");
-    print_small(operand);
-    print_word(b"\n");
+fn print_node(rt: &impl Print, kind: u8, operand: u16) -> io::Result<()> {
+    println!(rt; "{kind} {operand}")
 }
 
 // One line a node.
-fn print_nodes(kinds: &[u8], operands: &[u16])
+fn print_nodes(rt: &impl Print, kinds: &[u8], operands: &[u16]) -> io::Result<()>
     requires { length kinds.now ≡ length operands.now }
 {
     for i in 0..kinds.len() {
-        print_node(kinds[i], operands[i]);
+        print_node(rt, kinds[i], operands[i])?;
     }
+    Ok(())
 }
 
 // The line of the plan's profit and of its standing.
-fn print_profit(profit: u64, best: bool) {
-    print_word(b"profit ");
-    print_number(profit);
+fn print_profit(rt: &impl Print, profit: u64, best: bool) -> io::Result<()> {
     if best {
-        print_word(b" best\n");
+        println!(rt; "profit {profit} best")
     } else {
-        print_word(b" relaxed\n");
+        println!(rt; "profit {profit} relaxed")
     }
 }
 
 // The lines of a written plan.
 fn print_report(
+    rt: &impl Print,
     block: &[u8],
     choices: Choices,
     weights: &[u8],
     judged: Judged,
     kinds: &[u8],
     operands: &[u16],
-)
+) -> io::Result<()>
     requires { length kinds.now ≡ length operands.now }
 {
-    print_plate(block, choices);
-    print_weights(weights, judged.report.capacity);
-    print_bound(judged.report.bound);
-    print_nodes(kinds, operands);
-    print_profit(judged.profit, judged.best);
+    print_plate(rt, block, choices)?;
+    print_weights(rt, weights, judged.report.capacity)?;
+    print_bound(rt, judged.report.bound)?;
+    print_nodes(rt, kinds, operands)?;
+    print_profit(rt, judged.profit, judged.best)
 }
 
 // The bound and the plan of a job block and weights, or the refusal.
-fn print_answer(block: &[u8], choices: Choices, weights: &[u8]) {
+fn print_answer(rt: &impl Print, block: &[u8], choices: Choices, weights: &[u8]) -> io::Result<()> {
     let mut lengths = [0u16; 1001];
     let mut widths = [0u16; 1001];
     let mut table = [0u64; 8192];
@@ -222,23 +187,24 @@ fn print_answer(block: &[u8], choices: Choices, weights: &[u8]) {
         &mut operands,
     );
     match answer {
-        Judgement::Refused(r) => print_refusal(r),
+        Judgement::Refused(r) => print_refusal(rt, r),
         Judgement::Plan(judged) => {
             let nodes = judged.report.nodes as usize;
             print_report(
+                rt,
                 block,
                 choices,
                 weights,
                 judged,
                 &kinds[..nodes],
                 &operands[..nodes],
-            );
+            )
         }
     }
 }
 
 // The bound and the plan of an input: an old job block, then its weights. No piece is turned.
-pub fn print_plan(input: &[u8]) {
+pub fn print_plan(rt: &impl Print, input: &[u8]) -> io::Result<()> {
     let end = job_end(input);
     let choices = Choices {
         turning: false,
@@ -246,12 +212,12 @@ pub fn print_plan(input: &[u8]) {
         old_block: true,
         grain: false,
     };
-    print_answer(&input[..end], choices, &input[end..]);
+    print_answer(rt, &input[..end], choices, &input[end..])
 }
 
-// The same of standard input: at most 711 bytes, until these are full or the input ends.
-pub fn print_input() {
-    let mut buffer = [0u8; 711];
-    let n = io::read_full(0, &mut buffer);
-    print_plan(&buffer[..n]);
+// The same of what a reader gives: at most 711 bytes, until these are read or the input ends.
+pub fn print_input(rt: &(impl Print + Alloc), input: &mut impl Read) -> io::Result<()> {
+    let mut bytes = Vec::new(rt.alloc());
+    input.by_ref().take(711).read_to_end(&mut bytes)?;
+    print_plan(rt, &bytes)
 }

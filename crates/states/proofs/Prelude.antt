@@ -2,8 +2,6 @@
 pub use Prim.Native.Nat.{◌%◌, ◌*◌, ◌+◌, ◌-◌, ◌/◌, ◌<◌, ◌≤◌, max, suc, zero, ℕ}
 pub use borrow.Author.Rules.{rules}
 pub use borrow.Author.Tests.{eq-eqb, le-leb, le-ltb, lt-leb, lt-ltb, ne_eqb}
-pub use borrow.Fn.Kinds.{In}
-pub use borrow.Fn.PlainCycle.{Measures, and, falls, is}
 pub use lib.Dec.{T, eqb, eqb→eq, leb, leb→le, le→leb, ltb}
 pub use lib.ListN.{get_or, length, length-set, set}
 pub use lib.Seq.{get_or-set_other, get_or-set_same}

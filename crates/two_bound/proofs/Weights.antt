@@ -15,9 +15,9 @@ too_heavy J ws {x} h e = go (dec_le (capacity J (weight_in ws)) 4095)
 pub light : (J : Job) (ws : List ℕ) {q : ℕ} → weights_answer J ws ≡ answer.Capacity q → (q ≡ capacity J (weight_in ws)) × (capacity J (weight_in ws) ≤ 4095)
 light J ws {q} e = let a = capacity_answered J ws q e in (a.1, (weights_passed J ws a.0).1)
 
--- a refusal is the checks', and no pass
-pub unweighed_said : {A : Type 0} {v u : Checked} {x : Refusal} → v ≡ Refused x → Refused x ≡ u → (v ≡ u) × (v ≡ Passed → A)
-unweighed_said e f = (e ∙ f, λ p. absurd (let z : ◌≡◌ {A = ℕ} 0 1 = cc in omega arith))
+-- a refusal is no pass
+pub no_pass : {A : Type 0} {v : Checked} {x : Refusal} → v ≡ Refused x → v ≡ Passed → A
+no_pass e p = absurd (let z : ◌≡◌ {A = ℕ} 0 1 = cc in omega arith)
 
 module _ (J : Job) (first second : List ℕ) where
   pub first_count : (length first ≡ J.count → ⊥) → Refused refusal.WeightCount ≡ first_refusal (two_checks J first second)

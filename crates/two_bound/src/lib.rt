@@ -1,5 +1,7 @@
 // The bound call of two weights a kind: two capacities, of which each cut shares out both, and a word of the table for each pair of
 // shares. Refusals 1 to 9, 27, 35, 24, 25, 19 and 20.
+#![tactic(auto)]
+
 ghost use Rattle.std.specs.Prelude.{◌≡◌, ◌≤◌};
 ghost use Rattle.cutting.specs.Limits.{most_pairs};
 ghost use Rattle.cutting.specs.Job.{InRange, capacity};

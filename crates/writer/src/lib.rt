@@ -1,4 +1,6 @@
 // The writing call: the plan behind the bound, written from a filled table in preorder into two lent arrays, where its nodes fit them.
+#![tactic(auto)]
+
 mod nodes;
 
 ghost use Rattle.std.specs.Prelude.{◌≡◌, ◌||◌, ltb};

@@ -1,4 +1,4 @@
--- `stage_fill::blocks::fill_block` meets its contract. The loop's invariant: the cells passed are made.
+-- `stage_fill::blocks::fill_block` meets its contract.
 use Rattle.stage_fill.proofs.Prelude.{arith}
 use Rattle.stage_fill.proofs.Numbers.{few_cells}
 use Rattle.stage_fill.proofs.Filling.{block_begins, block_more, block_ends}

@@ -1,3 +1,4 @@
+-- The loop's invariant: the cells passed are made.
 use Rattle.stage_fill.proofs.Prelude.{◌*◌, ◌-◌, listed_weight, job_in}
 use Rattle.stage_fill.proofs.Filling.{InBlock}
 use Rattle.stage_fill.proofs.blocks.fill_block.Given as goal

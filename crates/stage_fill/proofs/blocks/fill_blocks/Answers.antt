@@ -1,4 +1,4 @@
--- `stage_fill::blocks::fill_blocks` meets its contract. The loop's invariant: the blocks before number n are made.
+-- `stage_fill::blocks::fill_blocks` meets its contract.
 use Rattle.stage_fill.proofs.Prelude.{arith, ◌≡◌, ◌∙◌, ap, ℕ, ◌+◌, ◌*◌, ◌≤◌}
 use Rattle.stage_fill.proofs.Filling.{stages_kept, stage_block, made_then}
 use Rattle.stage_fill.proofs.blocks.fill_blocks.Goals as goal

@@ -1,3 +1,4 @@
+-- The loop's invariant: the blocks before number n are made.
 use Rattle.stage_fill.proofs.Prelude.{◌≡◌, ◌+◌, ◌*◌, ◌-◌, ◌≤◌, length, listed_weight, job_in, BlockMade}
 use Rattle.stage_fill.proofs.blocks.fill_blocks.Given as goal
 

@@ -1,4 +1,4 @@
--- `state_cells::cells::finish` meets its contract. The loop's invariant: the flags of the first s words are the first k entries of the list.
+-- `state_cells::cells::finish` meets its contract.
 use Rattle.state_cells.proofs.Prelude.{arith, ◌≡◌, length-set}
 use Rattle.state_cells.proofs.Listing.{listing_passed, listing_left, listing_more, listing_end}
 use Rattle.state_cells.proofs.cells.finish.Goals.{then-note-gt0+then-starts, then-note-gt0+else-starts, else-note-gt0}

@@ -1,3 +1,4 @@
+-- The loop's invariant: the flags of the first s words are the first k entries of the list.
 use Rattle.state_cells.proofs.Prelude.{◌≡◌, ◌-◌, ◌≤◌, length}
 use Rattle.state_cells.proofs.Listing.{Listing}
 use Rattle.state_cells.proofs.cells.finish.Given as goal

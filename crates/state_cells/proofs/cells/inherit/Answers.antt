@@ -1,4 +1,4 @@
--- `state_cells::cells::inherit` meets its contract. The loop's invariant: the first k entries of the list are inherited.
+-- `state_cells::cells::inherit` meets its contract.
 use Rattle.state_cells.proofs.Prelude.{arith, sym, ◌∙◌, ◌-◌, length-set, entry_state, topped_then, topped_set}
 use Rattle.state_cells.proofs.Listing.{inherit_passed, inherit_more}
 use Rattle.state_cells.proofs.cells.inherit.Goals.{then-figure, else-figure}

@@ -1,3 +1,4 @@
+-- The loop's invariant: the first k entries of the list are inherited.
 use Rattle.state_cells.proofs.Prelude.{◌≡◌, ◌-◌, ◌≤◌, length, Topped}
 use Rattle.state_cells.proofs.Listing.{Inherit}
 use Rattle.state_cells.proofs.cells.inherit.Given as goal

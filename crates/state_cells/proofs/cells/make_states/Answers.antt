@@ -1,8 +1,6 @@
 -- `state_cells::cells::make_states` meets its contract: the steps that make the cell, one after the other.
-use Rattle.state_cells.proofs.Prelude.{arith, length-drop, ◌∙◌, outside_chain, growing_kept}
-use Rattle.state_cells.proofs.Making.{room, row_fits, cell_fits, shorter_ready, narrower_ready, startable, sums_there, length_cuttable, inherited_rest, inherited_growing}
-use Rattle.state_cells.proofs.Prelude.{second_floors, topped_then}
-use Rattle.state_cells.proofs.Making.{width_cuts_are, width_cuttable, start_topped, levelled, made, made_rest}
+use Rattle.state_cells.proofs.Prelude.{arith, length-drop, ◌∙◌, outside_chain, growing_kept, second_floors, topped_then}
+use Rattle.state_cells.proofs.Making.{room, row_fits, cell_fits, shorter_ready, narrower_ready, startable, sums_there, length_cuttable, inherited_rest, inherited_growing, width_cuts_are, width_cuttable, start_topped, levelled, made, made_rest}
 use Rattle.state_cells.proofs.cells.make_states.Goals as goal
 
 pub overflow_sub-shorter : goal.overflow_sub-shorter

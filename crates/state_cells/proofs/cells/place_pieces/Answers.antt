@@ -1,4 +1,4 @@
--- `state_cells::cells::place_pieces` meets its contract. The loop's invariant: the pieces below i are taken.
+-- `state_cells::cells::place_pieces` meets its contract.
 use Rattle.state_cells.proofs.Prelude.{arith, ◌≡◌, refl, ◌∙◌, listed_weight, job_in, order_of, topped_then}
 use Rattle.state_cells.proofs.Placing.{placed_other, placed_more}
 use Rattle.state_cells.proofs.cells.place_pieces.Goals.{then-pieces-piece+then-pieces-piece-2, then-pieces-piece+else-pieces-piece-2, else-pieces-piece}

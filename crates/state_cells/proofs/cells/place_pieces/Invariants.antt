@@ -1,3 +1,4 @@
+-- The loop's invariant: the pieces below i are taken.
 use Rattle.state_cells.proofs.Prelude.{◌≡◌, ◌-◌, ◌≤◌, length, listed_weight, under, Topped, Placed, job_in}
 use Rattle.state_cells.proofs.cells.place_pieces.Given as goal
 

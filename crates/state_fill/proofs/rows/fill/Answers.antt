@@ -1,7 +1,6 @@
--- `state_fill::rows::fill` meets its contract. The loop's invariant: the rows passed are made, and no word past the table has changed.
+-- `state_fill::rows::fill` meets its contract.
 use Rattle.state_fill.proofs.Prelude.{arith, refl}
-use Rattle.state_fill.proofs.Filling.{table_cells, table_first, table_start, table_half, table_spot, table_fits, table_more, table_clear}
-use Rattle.state_fill.proofs.Filling.{table_bare, table_end}
+use Rattle.state_fill.proofs.Filling.{table_cells, table_first, table_start, table_half, table_spot, table_fits, table_more, table_clear, table_bare, table_end}
 use Rattle.state_fill.proofs.rows.fill.Goals as goal
 
 pub first_row-requires : goal.first_row-requires

@@ -1,3 +1,4 @@
+-- The loop's invariant: the rows passed are made, and no word past the table has changed.
 use Rattle.state_fill.proofs.Prelude.{◌≡◌, ◌-◌, listed_weight, job_in}
 use Rattle.state_fill.proofs.Filling.{InTable}
 use Rattle.state_fill.proofs.rows.fill.Given as goal

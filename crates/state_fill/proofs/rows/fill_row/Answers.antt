@@ -1,4 +1,4 @@
--- `state_fill::rows::fill_row` meets its contract. The loop's invariant: the rows before and the cells passed are made, and no word outside of
+-- `state_fill::rows::fill_row` meets its contract.
 use Rattle.state_fill.proofs.Prelude.{arith, refl}
 use Rattle.state_fill.proofs.Filling.{row_first, row_start, row_half, row_fits, row_more, row_end}
 use Rattle.state_fill.proofs.rows.fill_row.Goals as goal

@@ -1,3 +1,4 @@
+-- The loop's invariant: the rows before and the cells passed are made, and no word outside of the row has changed.
 use Rattle.state_fill.proofs.Prelude.{◌≡◌, ◌-◌, listed_weight, job_in}
 use Rattle.state_fill.proofs.Filling.{InRow}
 use Rattle.state_fill.proofs.rows.fill_row.Given as goal

@@ -1,3 +1,4 @@
+-- The loop's invariant: the state is past those of the pieces passed.
 use Rattle.state_fill.proofs.Prelude.{◌-◌, ◌≤◌, PastPieces}
 use Rattle.state_fill.proofs.rows.first_flat.Given as goal
 

@@ -1,4 +1,4 @@
--- `state_fill::rows::strip` meets its contract. The loop's invariant: the first k words are figures alone.
+-- `state_fill::rows::strip` meets its contract.
 use Rattle.state_fill.proofs.Prelude.{arith, sym, ◌∙◌}
 use Rattle.state_fill.proofs.Filling.{strip_stop}
 use Rattle.state_fill.proofs.rows.strip.Goals as goal

@@ -1,3 +1,4 @@
+-- The loop's invariant: the first k words are figures alone.
 use Rattle.state_fill.proofs.Prelude.{◌≡◌, ◌-◌, ◌≤◌, length, Run, held}
 use Rattle.state_fill.proofs.rows.strip.Given as goal
 

@@ -1,4 +1,4 @@
--- `state_fill::rows::strip_all` meets its contract. The loop's invariant: the cells passed hold their figures alone.
+-- `state_fill::rows::strip_all` meets its contract.
 use Rattle.state_fill.proofs.Prelude.{arith, ◌∙◌}
 use Rattle.state_fill.proofs.Filling.{plain_more}
 use Rattle.state_fill.proofs.rows.strip_all.Goals as goal

@@ -1,3 +1,4 @@
+-- The loop's invariant: the cells passed hold their figures alone.
 use Rattle.state_fill.proofs.Prelude.{◌≡◌, ◌-◌, ◌*◌, ◌≤◌, length, Plain}
 use Rattle.state_fill.proofs.rows.strip_all.Given as goal
 

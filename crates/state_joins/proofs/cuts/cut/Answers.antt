@@ -1,7 +1,6 @@
--- `state_joins::cuts::cut` meets its contract. The loop's invariant: the cuts before i are taken.
-use Rattle.state_joins.proofs.Prelude.{arith, refl, ◌∙◌, topped_then}
+-- `state_joins::cuts::cut` meets its contract.
+use Rattle.state_joins.proofs.Prelude.{arith, refl, ◌∙◌, topped_then, ◌≡◌}
 use Rattle.state_joins.proofs.Joining.{cut_then}
-use Rattle.state_joins.proofs.Prelude.{◌≡◌}
 use Rattle.state_joins.proofs.cuts.cut.Goals as goal
 
 pub loop-i-preserved : goal.loop-i-preserved

@@ -1,3 +1,4 @@
+-- The loop's invariant: the cuts before i are taken.
 use Rattle.state_joins.proofs.Prelude.{◌≡◌, ◌-◌, ◌≤◌, length, under, Topped, CutAt}
 use Rattle.state_joins.proofs.cuts.cut.Given as goal
 

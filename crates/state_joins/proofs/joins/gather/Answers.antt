@@ -1,4 +1,4 @@
--- `state_joins::joins::gather` meets its contract. The loop's invariant: of the first k entries, those to be read are gathered.
+-- `state_joins::joins::gather` meets its contract.
 use Rattle.state_joins.proofs.Prelude.{arith, sym, ◌∙◌, length-set}
 use Rattle.state_joins.proofs.Joining.{past_end, gather_passed, gather_more, gather_end}
 use Rattle.state_joins.proofs.joins.gather.Goals.{then-mark-skip+else-n-eq512, else-mark-skip}

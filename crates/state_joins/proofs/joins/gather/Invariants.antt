@@ -1,3 +1,4 @@
+-- The loop's invariant: of the first k entries, those to be read are gathered.
 use Rattle.state_joins.proofs.Prelude.{◌≡◌, ◌-◌, ◌≤◌, length}
 use Rattle.state_joins.proofs.Joining.{Gathering}
 use Rattle.state_joins.proofs.joins.gather.Given as goal

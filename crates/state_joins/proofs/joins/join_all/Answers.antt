@@ -1,4 +1,4 @@
--- `state_joins::joins::join_all` meets its contract. The loop's invariant: the first k entries of the first list are joined.
+-- `state_joins::joins::join_all` meets its contract.
 use Rattle.state_joins.proofs.Prelude.{arith, sym, ◌∙◌, ◌-◌, growing_kept, summed_kept, topped_then}
 use Rattle.state_joins.proofs.Joining.{ready_kept, entry_state, join_listed}
 use Rattle.state_joins.proofs.joins.join_all.Goals as goal

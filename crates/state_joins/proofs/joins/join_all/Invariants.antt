@@ -1,3 +1,4 @@
+-- The loop's invariant: the first k entries of the first list are joined.
 use Rattle.state_joins.proofs.Prelude.{◌≡◌, ◌-◌, ◌≤◌, length, under, Topped, Listed}
 use Rattle.state_joins.proofs.Joining.{At, Join}
 use Rattle.state_joins.proofs.joins.join_all.Given as goal

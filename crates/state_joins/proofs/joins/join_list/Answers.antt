@@ -1,4 +1,4 @@
--- `state_joins::joins::join_list` meets its contract. The loop's invariant: the first k numbers of the list are taken.
+-- `state_joins::joins::join_list` meets its contract.
 use Rattle.state_joins.proofs.Prelude.{arith, refl, ◌∙◌, topped_then}
 use Rattle.state_joins.proofs.Joining.{with_number}
 use Rattle.state_joins.proofs.joins.join_list.Goals as goal

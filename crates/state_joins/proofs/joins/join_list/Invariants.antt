@@ -1,3 +1,4 @@
+-- The loop's invariant: the first k numbers of the list are taken.
 use Rattle.state_joins.proofs.Prelude.{◌≡◌, ◌-◌, ◌≤◌, length, under, Topped}
 use Rattle.state_joins.proofs.Joining.{Number, With}
 use Rattle.state_joins.proofs.joins.join_list.Given as goal

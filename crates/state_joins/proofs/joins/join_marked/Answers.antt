@@ -1,4 +1,4 @@
--- `state_joins::joins::join_marked` meets its contract. The loop's invariant: of the first k entries of the first list, those to be read
+-- `state_joins::joins::join_marked` meets its contract.
 use Rattle.state_joins.proofs.Prelude.{arith, sym, ◌∙◌, ◌-◌, growing_kept, summed_kept, topped_then}
 use Rattle.state_joins.proofs.Joining.{note_kept, ready_kept, entry_state, past_end, join_marked, join_unmarked, join_marked_end}
 use Rattle.state_joins.proofs.joins.join_marked.Goals.{then-mark-skip, else-mark-skip}

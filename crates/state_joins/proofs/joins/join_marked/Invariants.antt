@@ -1,3 +1,4 @@
+-- The loop's invariant: of the first k entries of the first list, those to be read are joined with the gathered states.
 use Rattle.state_joins.proofs.Prelude.{◌≡◌, ◌-◌, ◌≤◌, length, under, Topped, Entry, Marked, Gathered}
 use Rattle.state_joins.proofs.Joining.{Join}
 use Rattle.state_joins.proofs.joins.join_marked.Given as goal

@@ -1,4 +1,4 @@
--- `state_joins::joins::join_with` meets its contract. The loop's invariant: the first k entries of the list are taken.
+-- `state_joins::joins::join_with` meets its contract.
 use Rattle.state_joins.proofs.Prelude.{arith, sym, ◌∙◌, topped_then}
 use Rattle.state_joins.proofs.Joining.{entry_state, with_listed}
 use Rattle.state_joins.proofs.joins.join_with.Goals as goal

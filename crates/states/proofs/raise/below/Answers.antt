@@ -1,4 +1,4 @@
--- `states::raise::below` meets its contract. The loop's invariant: the digits above e are passed, and what is left of t and s compares as
+-- `states::raise::below` meets its contract.
 use Rattle.states.proofs.Prelude.{arith, ◌≡◌, sym, ◌∙◌, ap, under}
 use Rattle.states.proofs.Lifting.{below_zero, below_digit, below_not}
 use Rattle.states.proofs.raise.below.Goals as goal

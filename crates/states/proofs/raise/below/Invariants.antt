@@ -1,3 +1,4 @@
+-- The loop's invariant: the digits above e are passed, and what is left of t and s compares as t and s do.
 use Rattle.states.proofs.Prelude.{◌≡◌, ◌≤◌, under}
 use Rattle.states.proofs.raise.below.Given as goal
 

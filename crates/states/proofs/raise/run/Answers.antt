@@ -1,4 +1,4 @@
--- `states::raise::run` meets its contract. The loop's invariant: the words before j are raised, the others as they were.
+-- `states::raise::run` meets its contract.
 use Rattle.states.proofs.Prelude.{arith}
 use Rattle.states.proofs.Lifting.{word_stop}
 use Rattle.states.proofs.raise.run.Goals as goal

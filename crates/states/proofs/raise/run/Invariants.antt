@@ -1,3 +1,4 @@
+-- The loop's invariant: the words before j are raised, the others as they were.
 use Rattle.states.proofs.Prelude.{◌≡◌, ◌-◌, ◌≤◌, leb, length}
 use Rattle.states.proofs.Lifting.{Partly}
 use Rattle.states.proofs.raise.run.Given as goal

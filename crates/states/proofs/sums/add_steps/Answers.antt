@@ -1,4 +1,4 @@
--- `states::sums::add_steps` meets its contract. The loop's invariant: the words below s are written, and each is at most its index.
+-- `states::sums::add_steps` meets its contract.
 use Rattle.states.proofs.Prelude.{arith, length-set}
 use Rattle.states.proofs.Carries.{stepped_more, small_more}
 use Rattle.states.proofs.sums.add_steps.Goals as goal

@@ -1,3 +1,4 @@
+-- The loop's invariant: the words below s are written, and each is at most its index.
 use Rattle.states.proofs.Prelude.{◌≡◌, ℕ, ◌-◌, ◌≤◌, ◌<◌, length, get_or, Stepped}
 use Rattle.states.proofs.sums.add_steps.Given as goal
 

@@ -1,4 +1,4 @@
--- `states::sums::put_sums` meets its contract. The loop's invariant: the sums of the digits up to e stand in the table's first words.
+-- `states::sums::put_sums` meets its contract.
 use Rattle.states.proofs.Prelude.{arith, ◌≡◌, refl, ◌∙◌, ◌+◌, get_or}
 use Rattle.states.proofs.Carries.{blocks_rise, sums_first, sums_more, sums_small, fewer_blocks}
 use Rattle.states.proofs.sums.put_sums.Goals as goal

@@ -1,3 +1,4 @@
+-- The loop's invariant: the sums of the digits up to e stand in the table's first words.
 use Rattle.states.proofs.Prelude.{◌≡◌, ℕ, ◌-◌, ◌≤◌, length, get_or, Sums}
 use Rattle.states.proofs.sums.put_sums.Given as goal
 
