@@ -1,5 +1,7 @@
 // The staged bound call: the bound within a limit on the stages of a plan, the greater of length first and width first at the limit.
 // Refusals 1 to 9, 27, 35, 22, 19 and 20.
+#![tactic(auto)]
+
 ghost use Rattle.std.specs.Prelude.{◌≡◌, length};
 ghost use Rattle.cutting.specs.Sides.{rect_of};
 ghost use Rattle.cutting.specs.Listed.{listed_weight, pieces_job};

@@ -30,4 +30,3 @@ returns c = let e = c.args in
     let t = taken e.block.now e.choices e.weights.now c.accept-accepted.ensures.answers c.in_default.is in
     accepted e.block.now e.choices e.weights.now e.limit _ t.accepted (sym c.limit_outside.ensures ∙ c.if-limit_outside.false) _
     (job_staged e.block.now e.choices e.weights.now t e.limit c.plate_of-plate.ensures c.list_pieces-count.ensures c.bound_of_pieces.ensures)
-
