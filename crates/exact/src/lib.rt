@@ -1,5 +1,7 @@
 // The exact call for short orders: the optimum over the remaining copies of every kind, and the plan that earns it. A state is a number in
 // mixed radix, a digit a kind, kind 0 lowest. Refusals 1 to 7, 27, 35, 30 and 19 to 21.
+#![tactic(auto)]
+
 ghost use Rattle.std.specs.Prelude.{◌≡◌, ◌+◌, ◌-◌, ◌<◌, length};
 ghost use Rattle.cutting.specs.Job.{InRange, widened};
 ghost use Rattle.cutting.specs.Sides.{rect_of};

@@ -1,6 +1,8 @@
 // The staged certificate: a checked plan's profit against the staged bound. "Best" is a statement about every guillotine tree within the
 // limit that keeps the demands (specs/Certificate). The call hands on the first refusal met, 1 to 20, 22, 23, 26, 27, 35 or 36, and leaves
 // lists and table as the staged bound call does.
+#![tactic(auto)]
+
 ghost use Rattle.job.specs.Block.{with_full_demand};
 ghost use Rattle.bound.specs.Bound.{lent};
 ghost use Rattle.staged_certificate.specs.Certificate.{CertifyStagedPromises};
