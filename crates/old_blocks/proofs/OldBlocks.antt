@@ -1,5 +1,5 @@
 -- The statement of specs/OldBlocks: a call reads nothing of a block but its checks and its record, and these are the same.
-use mathlib.Core.Path.{◌≡◌, ◌∙◌, ap, ap₂, subst}
+use mathlib.Core.Path.{◌∙◌, ap, ap₂, subst}
 use mathlib.Core.List.{List, ◌++◌}
 use Prim.Native.Nat.{ℕ}
 use Rattle.cutting.specs.Tree.{Tree}
