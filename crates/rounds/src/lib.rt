@@ -1,5 +1,7 @@
 // The weight rounds: weights found for a job from all weights 0, in at most 18 rounds, each a writing call (specs/Rounds). The steps
 // between the rounds are those of crate `weight_steps`.
+#![tactic(auto)]
+
 mod copies;
 
 ghost use Rattle.std.specs.Prelude.{◌≡◌, ◌||◌, ℕ, ◌+◌, ◌≤◌, ◌<◌, ltb, eqb};
