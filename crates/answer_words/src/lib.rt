@@ -1,6 +1,8 @@
 // Answers in words: a call's values at the front of the answer, or a refusal's place in the first word, and the number returned. Each
 // function asks for the words that it fills; the exported functions compare their number first. Here are the short answers; those with an
 // entry for each kind or plate are in `reports`.
+#![tactic(auto)]
+
 mod reports;
 
 ghost use Rattle.std.specs.Prelude.{◌≡◌, [], ◌∷◌, ◌≤◌, ◌<◌, length};
