@@ -1,6 +1,6 @@
 -- What the instance of the bound call says of answer and memory gives back the inner promise whole: nothing is lost. And what a staged
 -- bound is, of every job in range.
-use Rattle.planner.proofs.Prelude.{◌≡◌, refl, sym, ◌∙◌, ap, ap₂, subst, List, [], ◌∷◌, ◌++◌, ℕ, ◌+◌, ◌*◌, ◌≤◌, max, arith, ltb, length, get_or, Direction, Length, Width, Job, InRange, SolidKinds, widened, at_full_demand, capacity, ordered, members, pieces, by_kind, figure_of, block, staged_bound, capacity_less, staged_finer, stages_finer, range_solid, recursion, normal_listed, figures_most, floor_figures, block_figure, staged_under_most, staged_under_earned, staged_most, staged_holds, staged_ceiling, staged_more, staged_less, Check, by_check, next, first_refusal, Checked, Passed, Refused, Choices, JobRecord, job_of, block_job, weight_in, weight_checks, Accepted, kerf_none_read, accepted_in_range, position_count, position, words_needed, Figures, Kept, BoundReport, BoundAnswer, Memory, accept_verdict, block_report, list_check, bound_held, exact_by, StagedHolds, CertifyStagedPromises, Certificate, one_weight, within_stages, Arrays, storage_checks, Leaves, CheckPromises, BlockPromises, BoundPromises, CertifyPromises, bound_report, none, some, PlanAnswer, plan_answer, ChecksPlan, arrays_answer, arrays_before_idle, arrays_said, block_answer, block_before_idle, block_said, plan_outcome, plan_kinds, plan_operands, JobPasses, BlockPasses, arrays_met, block_met, said_by, plans_judged, compares}
+use Rattle.planner.proofs.Prelude.{◌≡◌, refl, sym, ◌∙◌, ap, ap₂, subst, List, ◌++◌, ℕ, ◌≤◌, arith, get_or, Direction, Length, Width, Job, InRange, SolidKinds, widened, at_full_demand, capacity, ordered, members, pieces, by_kind, figure_of, block, staged_bound, capacity_less, staged_finer, stages_finer, range_solid, recursion, figures_most, floor_figures, block_figure, staged_under_most, staged_under_earned, staged_most, staged_holds, staged_ceiling, staged_more, staged_less, Check, by_check, next, first_refusal, Checked, Passed, Refused, Choices, JobRecord, job_of, block_job, weight_in, weight_checks, kerf_none_read, accepted_in_range, position, words_needed, Figures, BoundReport, BoundAnswer, Memory, accept_verdict, block_report, bound_held, exact_by, StagedHolds, CertifyStagedPromises, Certificate, one_weight, within_stages, Arrays, storage_checks, Leaves, CheckPromises, BlockPromises, BoundPromises, CertifyPromises, none, some, PlanAnswer, ChecksPlan, arrays_answer, arrays_before_idle, arrays_said, block_answer, block_before_idle, block_said, plan_outcome, plan_kinds, plan_operands, JobPasses, BlockPasses, arrays_met, block_met, said_by, plans_judged, compares}
 use Rattle.refusal.specs.Refusals as old
 use Rattle.promises.specs.declared.BoundAnswer.TheVariants as bound_answer
 use Rattle.bound.specs.Bound as bound
@@ -9,7 +9,7 @@ use Rattle.certificate.specs.Certificate as certify
 use Rattle.certificate.specs.Promises as certify_promises
 use Rattle.planner.proofs.Figures.{figure_is}
 use Rattle.planner.proofs.Held.{bound_is}
-use Rattle.planner.proofs.Lent.{refused_is, outcome_is, stored_is, one_words}
+use Rattle.planner.proofs.Lent.{stored_is, one_words}
 use Rattle.planner.proofs.Bounds.{one_stored, one_report}
 use Rattle.planner.proofs.Judged.{check_new, block_new, before_none, certify_answers, staged_certify_new}
 

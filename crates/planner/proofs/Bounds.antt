@@ -1,5 +1,5 @@
 -- The bound call, the staged bound and the bound of two weights: what the inner call promises gives its instance.
-use Rattle.planner.proofs.Prelude.{◌≡◌, refl, sym, ◌∙◌, ap, ap₂, List, [], ◌∷◌, ℕ, suc, ◌≤◌, max, sub-zero, arith, Direction, Length, Width, range, greatest, Shares, Piece, sized, staged_bound, saw, staged, other, Job, widened, capacity, pieces, by_kind, SolidKinds, saw_proper, staged_eq, staged_none, range_solid, normal_listed, by_check, next, first_refusal, Checked, Passed, Refused, Choices, job_checks, block_job, weight_in, Accepted, append_passed, read_in_range, accepted_in_range, limit_check, position_count, words_needed, two_words, staged_words, BoundReport, BoundAnswer, Memory, block_report, accept_verdict, TwoReport, TwoAnswer, single, divided, figure, one_weight, two_weights, within_stages, bound_in, BlockRecursion, Answers, storage_checks, Leaves, Fills, bound_form, two_form, bound_report, accepts_two, BoundPromises, StagedPromises, TwoPromises}
+use Rattle.planner.proofs.Prelude.{◌≡◌, refl, sym, ◌∙◌, ap, ap₂, List, [], ◌∷◌, ℕ, suc, max, Direction, Length, Width, Shares, Piece, staged_bound, saw, staged, other, Job, widened, capacity, pieces, by_kind, SolidKinds, saw_proper, staged_eq, staged_none, range_solid, normal_listed, by_check, next, first_refusal, Checked, Passed, Refused, Choices, job_checks, block_job, weight_in, Accepted, append_passed, read_in_range, accepted_in_range, limit_check, position_count, words_needed, two_words, BoundReport, BoundAnswer, Memory, block_report, accept_verdict, TwoReport, TwoAnswer, figure, one_weight, two_weights, within_stages, bound_in, BlockRecursion, storage_checks, Fills, bound_form, two_form, bound_report, accepts_two, BoundPromises, StagedPromises, TwoPromises}
 use Rattle.cutting.specs.Figure as theory
 use Rattle.promises.specs.declared.BoundAnswer.TheVariants as bound_answer
 use Rattle.bound.specs.Bound as bound

@@ -1,5 +1,5 @@
 -- The check of a plan: verdict and report are the inner check's, and what they mean for trees.
-use Rattle.planner.proofs.Prelude.{◌≡◌, refl, sym, ◌∙◌, ap, ap₂, subst, Bool, true, false, Option, none, some, List, [], ◌∷◌, ◌++◌, append-nil, ℕ, suc, ◌+◌, ◌-◌, ◌*◌, ◌≤◌, ◌<◌, zero-add, arith, ltb, length, take, replicate, take_all, le-ltb, ltb-false, greatest, Rect, Tree, waste, piece, cut, IdleFree, Piece, upright, turned, saw, node_count, kinds_of, operands_of, stages, Job, laid, preorder, areas_sum, stages_paths, by_check, next, first_refusal, Refusal, NodeMissing, NodeLeft, Checked, Passed, Refused, passed_both, next_passed, cons_passed, idle_checks, tree_checks, idle_tree, passed_free, free_passed, passed_within, within_passed, path_checks, Report, PlanAnswer, TreeAnswer, node_of, node_checks, parts, report_after, passed, proceed, tree_stopped, left_check, only_tree, nodes_in, empty_report, plan_checks, walk_answer, plan_answer, tree_in, DrawnAs, PlanOf, Reports, walk_ends, nodes_length, whole_passes, whole_counts, verdict_is, written, written_kinds, written_operands, kinds_length, operands_length, plans_checked, nodes_are, drawn_is, tree_drawn, drawn_tree, WithinLimit, waste_area, trim_area, sawdust_area, tree_report, stage_checks, tree_walk, walked, walk_verdict, plan_verdict, Judges, Checks}
+use Rattle.planner.proofs.Prelude.{◌≡◌, refl, sym, ◌∙◌, ap, ap₂, subst, Option, none, some, List, [], ◌∷◌, ◌++◌, ℕ, ◌+◌, ◌*◌, ◌≤◌, zero-add, arith, ltb, length, take_all, le-ltb, ltb-false, Rect, Tree, waste, piece, cut, IdleFree, Piece, upright, turned, saw, node_count, Job, laid, preorder, areas_sum, stages_paths, by_check, next, first_refusal, NodeLeft, Checked, Passed, Refused, passed_both, next_passed, cons_passed, idle_checks, tree_checks, idle_tree, passed_free, free_passed, passed_within, within_passed, path_checks, Report, PlanAnswer, TreeAnswer, node_of, node_checks, parts, report_after, passed, proceed, tree_stopped, left_check, only_tree, nodes_in, empty_report, plan_checks, walk_answer, plan_answer, tree_in, DrawnAs, walk_ends, nodes_length, whole_passes, whole_counts, verdict_is, written, written_kinds, written_operands, kinds_length, operands_length, plans_checked, nodes_are, drawn_is, tree_drawn, drawn_tree, WithinLimit, waste_area, trim_area, sawdust_area, tree_report, stage_checks, tree_walk, walked, walk_verdict, plan_verdict, Checks}
 use Rattle.cutting.specs.Areas as areas
 use Rattle.plan.specs.Plan as old
 use Rattle.plan.specs.Trees as old_trees
@@ -9,23 +9,23 @@ next_assoc Passed b c = refl
 next_assoc (Refused r) b c = refl
 
 -- the areas
-waste_is : (k : ℕ) (r : Rect) (t : Tree Piece) → waste_area k r t ≡ areas.waste_area (saw k) r t
+waste_is : (k : ℕ) (t : Tree Piece) (r : Rect) → waste_area k r t ≡ areas.waste_area (saw k) r t
 unfolding waste_area areas.waste_area saw
-waste_is k r waste = refl
-waste_is k r (piece p) = refl
-waste_is k r (cut d x a b) = ap₂ ◌+◌ (waste_is k _ a) (waste_is k _ b)
+waste_is k waste r = refl
+waste_is k (piece p) r = refl
+waste_is k (cut d x a b) r = ap₂ ◌+◌ (waste_is k a _) (waste_is k b _)
 
-trim_is : (size : Piece → Rect) (k : ℕ) (r : Rect) (t : Tree Piece) → trim_area size k r t ≡ areas.trim_area size (saw k) r t
+trim_is : (size : Piece → Rect) (k : ℕ) (t : Tree Piece) (r : Rect) → trim_area size k r t ≡ areas.trim_area size (saw k) r t
 unfolding trim_area areas.trim_area saw
-trim_is size k r waste = refl
-trim_is size k r (piece p) = refl
-trim_is size k r (cut d x a b) = ap₂ ◌+◌ (trim_is size k _ a) (trim_is size k _ b)
+trim_is size k waste r = refl
+trim_is size k (piece p) r = refl
+trim_is size k (cut d x a b) r = ap₂ ◌+◌ (trim_is size k a _) (trim_is size k b _)
 
-dust_is : (k : ℕ) (r : Rect) (t : Tree Piece) → sawdust_area k r t ≡ areas.sawdust_area k r t
+dust_is : (k : ℕ) (t : Tree Piece) (r : Rect) → sawdust_area k r t ≡ areas.sawdust_area k r t
 unfolding sawdust_area areas.sawdust_area saw
-dust_is k r waste = refl
-dust_is k r (piece p) = refl
-dust_is k r (cut d x a b) = ap₂ (λ m n. k * areas.breadth d r + (m + n)) (dust_is k _ a) (dust_is k _ b)
+dust_is k waste r = refl
+dust_is k (piece p) r = refl
+dust_is k (cut d x a b) r = ap₂ (λ m n. k * areas.breadth d r + (m + n)) (dust_is k a _) (dust_is k b _)
 
 pub report_is : (J : Job) (t : Tree Piece) → tree_report J t ≡ old_trees.tree_report J t
 unfolding areas.pieces_area
@@ -33,9 +33,9 @@ report_is J t = λ i. record {
   profit = (old_trees.tree_report J t).profit;
   copies = (old_trees.tree_report J t).copies;
   pieces = (old_trees.tree_report J t).pieces;
-  waste = waste_is J.kerf J.plate t i;
-  trim = trim_is (laid J) J.kerf J.plate t i;
-  sawdust = dust_is J.kerf J.plate t i;
+  waste = waste_is J.kerf t J.plate i;
+  trim = trim_is (laid J) J.kerf t J.plate i;
+  sawdust = dust_is J.kerf t J.plate i;
 }
 
 -- the walk over one tree, without its sums

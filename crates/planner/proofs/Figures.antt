@@ -1,5 +1,5 @@
 -- The figure of the promises is that of the theory, and the sentences about figures hold of every sound system.
-use Rattle.planner.proofs.Prelude.{◌≡◌, refl, sym, ◌∙◌, ap, ap₂, ℕ, zero, suc, ◌+◌, ◌-◌, ◌≤◌, max, sub-zero, arith, Direction, Length, Width, range, greatest, Rect, Tree, Shares, Monotone, Within, Piece, sized, saw, Job, GuillotineTree, widened, pieces, SolidKinds, figure_eq, saw_proper, widened_solid, share_figure, floor_under, single, divided, step, after, figure, System, Recursion, Floors, FiguresMost}
+use Rattle.planner.proofs.Prelude.{◌≡◌, refl, sym, ◌∙◌, ap, ℕ, zero, suc, ◌+◌, ◌-◌, max, sub-zero, Direction, Length, Width, range, greatest, Rect, Tree, Shares, Monotone, Within, Piece, sized, saw, Job, GuillotineTree, widened, pieces, SolidKinds, figure_eq, saw_proper, widened_solid, share_figure, floor_under, single, divided, step, after, figure, System, Recursion, Floors, FiguresMost}
 use Rattle.cutting.specs.Figure as old
 
 module _ {S : Type 0} (J : Job) (H : Shares Piece S) where

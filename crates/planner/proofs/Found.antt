@@ -1,5 +1,5 @@
 -- Finding weights: rounds, answer and memory are the inner call's, and what it promises gives the instance.
-use Rattle.planner.proofs.Prelude.{◌≡◌, refl, sym, ◌∙◌, ap, ap₂, subst, Bool, true, false, ◌||◌, none, List, [], ◌∷◌, ℕ, zero, suc, ◌+◌, ◌-◌, ◌≤◌, ◌<◌, arith, ltb, eqb, replicate, only, Tree, Piece, kinds_of, operands_of, Job, InRange, widened, capacity, by_kind, copies_of, profit, by_check, next, first_refusal, Refusal, Checked, Passed, Refused, Choices, entries, job_checks, block_job, passed_both, read_in_range, Report, PlanAnswer, tree_in, arrays_answer, words_needed, memory_checks, factor, distance, pick_number, weight_step, stepped, WeightsFound, IdleFree, one_weight, bound_of, bound_plan, outcome_by, tree_report, plan_verdict, plan_form, reads, limit_checks, Answers, Arrays, storage_checks, nodes_check, Leaves, ArraysLeft, plan_copies, squares, weight_at, bound_at, within, Lent, round_verdict, last_here, last_from, last_round, rounds_run, best_round, answer_of, found_form, found, RoundsLeave, LeastMet, FindPromises, RoundHolds}
+use Rattle.planner.proofs.Prelude.{◌≡◌, refl, sym, ◌∙◌, ap, ap₂, subst, true, false, ◌||◌, none, List, [], ◌∷◌, ℕ, zero, suc, ◌+◌, ◌-◌, arith, ltb, eqb, only, Tree, Piece, kinds_of, operands_of, Job, InRange, widened, capacity, by_kind, copies_of, profit, by_check, next, first_refusal, Checked, Passed, Refused, Choices, entries, job_checks, block_job, passed_both, read_in_range, Report, PlanAnswer, tree_in, arrays_answer, words_needed, factor, distance, pick_number, weight_step, stepped, WeightsFound, IdleFree, one_weight, bound_of, bound_plan, outcome_by, tree_report, plan_verdict, plan_form, reads, limit_checks, Answers, Arrays, nodes_check, Leaves, ArraysLeft, plan_copies, squares, weight_at, bound_at, within, Lent, round_verdict, last_here, last_from, last_round, rounds_run, best_round, answer_of, found_form, found, RoundsLeave, LeastMet, FindPromises, RoundHolds}
 use Rattle.cutting.specs.Job as old_job
 use Rattle.cutting.proofs.Promises as laws
 use Rattle.bound.specs.Bound.{list_after}

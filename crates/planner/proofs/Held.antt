@@ -1,7 +1,6 @@
 -- What a bound is, for each of the four systems: the inner records give the one of the promises.
-use Rattle.planner.proofs.Prelude.{◌≡◌, refl, sym, ◌∙◌, ap, ap₂, Option, none, some, ℕ, suc, ◌+◌, ◌≤◌, ◌<◌, max, arith, Direction, Length, Width, Tree, Piece, kind, saw, staged, Job, OnPlate, KeepsDemands, InRange, widened, at_full_demand, finer, capacity, ordered, members, pieces, by_kind, figure_of, SolidKinds, block, staged_bound, staged_under, NoneStaged, figure_two, two_bound, within_weight, weight_within, by_weight_monotone, paired_within, within_paired, paired_monotone, staged_monotone, staged_within, within_staged, block_figure, stages_paths, plain_guillotine, demands_weight, bound_ceiling, none_finer, staged_finer, range_solid, any_on, ordered_on, BoundHolds, TwoHolds, StagedHolds, OptimumHolds, copies_monotone, copies_within, within_copies, figure, System, one_weight, two_weights, remaining_copies, within_stages, NoneAbove, NoneFiner, bound_in, bound_of, Holds}
+use Rattle.planner.proofs.Prelude.{◌≡◌, refl, sym, ◌∙◌, ap₂, ℕ, max, arith, Direction, Length, Width, kind, saw, staged, Job, InRange, widened, at_full_demand, finer, capacity, ordered, members, pieces, by_kind, figure_of, SolidKinds, block, staged_bound, figure_two, two_bound, within_weight, weight_within, by_weight_monotone, paired_within, within_paired, paired_monotone, staged_monotone, staged_within, within_staged, block_figure, stages_paths, plain_guillotine, demands_weight, bound_ceiling, any_on, ordered_on, BoundHolds, TwoHolds, StagedHolds, OptimumHolds, copies_monotone, copies_within, within_copies, figure, one_weight, two_weights, remaining_copies, within_stages, bound_in, bound_of, Holds}
 use Rattle.cutting.specs.Job as old
-use Rattle.cutting.specs.Promises as old_trees
 use Rattle.cutting.specs.Exact as exact
 use Rattle.planner.proofs.Figures.{figure_is, Sound}
 use Rattle.planner.proofs.Paths.{below_paths}

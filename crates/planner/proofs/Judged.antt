@@ -1,9 +1,7 @@
 -- Reading, the checks of a plan, neat plans and the certificates: what the inner call promises gives its instance.
-use Rattle.planner.proofs.Prelude.{◌≡◌, refl, sym, ◌∙◌, ap, ap₂, subst, Bool, true, false, ◌||◌, Option, none, some, List, [], ◌∷◌, ℕ, ◌+◌, ◌-◌, ◌≤◌, arith, ltb, eqb, length, le-ltb, Tree, Piece, node_count, kinds_of, operands_of, neat_of, Job, widened, capacity, profit, staged_bound, stages_paths, by_check, next, first_refusal, Refusal, PlanLong, Checked, Passed, Refused, Choices, JobAnswer, job_checks, read_of, record_of, block_job, weight_in, Accepted, passed_both, next_passed, read_in_range, accepted_in_range, limit_check, path_checks, Report, PlanAnswer, proceed, empty_report, plan_answer, tree_in, PlanOf, arrays_answer, block_answer, plan_block_answer, block_checks, plan_kinds, plan_operands, plans_checked, drawn_is, StagedAnswer, read_verdict, within_verdict, staged_check_answer, staged_check_verdict, Memory, accept_verdict, bound_held, Certificate, NeatAnswer, refused_as, outcome_by, tree_report, System, one_weight, within_stages, bound_in, bound_of, walk_verdict, plan_verdict, Answers, Arrays, storage_checks, nodes_check, ArraysLeft, Fills, Certifies, list_after, job_form, plan_form, staged_form, neat_form, certificate_form, certificate_outcome, compared, reads, limit_checks, ReadPromises, PlanPromises, CheckPromises, BlockPromises, StagedCheckPromises, NeatPlan, NeatPromises, CertifyPromises, Checks}
-use Rattle.cutting.specs.Shares as shares
+use Rattle.planner.proofs.Prelude.{◌≡◌, refl, sym, ◌∙◌, ap, ap₂, Bool, true, false, ◌||◌, Option, none, some, List, [], ◌∷◌, ℕ, ◌≤◌, arith, ltb, eqb, length, le-ltb, Tree, Piece, node_count, kinds_of, operands_of, neat_of, Job, capacity, profit, staged_bound, stages_paths, by_check, next, first_refusal, Refusal, PlanLong, Checked, Passed, Refused, Choices, JobAnswer, job_checks, read_of, record_of, block_job, weight_in, Accepted, passed_both, next_passed, read_in_range, accepted_in_range, limit_check, path_checks, Report, PlanAnswer, proceed, plan_answer, tree_in, arrays_answer, block_answer, plan_block_answer, block_checks, plan_kinds, plan_operands, plans_checked, StagedAnswer, within_verdict, staged_check_answer, staged_check_verdict, Memory, accept_verdict, bound_held, Certificate, NeatAnswer, refused_as, outcome_by, tree_report, one_weight, within_stages, bound_in, bound_of, plan_verdict, Answers, Arrays, storage_checks, nodes_check, list_after, job_form, plan_form, staged_form, neat_form, certificate_form, certificate_outcome, compared, reads, limit_checks, ReadPromises, PlanPromises, CheckPromises, BlockPromises, StagedCheckPromises, NeatPromises, CertifyPromises}
 use Rattle.cutting.specs.Job as old_job
 use Rattle.refusal.specs.Refusals as old_refusals
-use Rattle.bound.specs.Bound as bound
 use Rattle.staged_bound.specs.Staged as staged_call
 use Rattle.promises.specs.declared.Certificate.TheVariants as certificate
 use Rattle.certificate.specs.Certificate as certify

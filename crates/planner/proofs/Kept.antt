@@ -1,5 +1,5 @@
 -- What the rule of lent memory means, for every system of shares.
-use Rattle.planner.proofs.Prelude.{◌≡◌, sym, ap, Bool, true, false, ◌||◌, List, [], ◌∷◌, ℕ, ◌+◌, arith, ltb, length, Length, Width, over, Job, widened, normal_positions, by_check, next, refuse_when, first_refusal, Refusal, ListShort, TableShort, Checked, Passed, Refused, Memory, line_of, System, table_words, storage_checks, list_after, Leaves}
+use Rattle.planner.proofs.Prelude.{◌≡◌, sym, ap, Bool, true, false, ◌||◌, ℕ, ◌+◌, arith, ltb, length, Length, Width, over, Job, widened, normal_positions, by_check, next, refuse_when, first_refusal, Refusal, ListShort, TableShort, Checked, Passed, Refused, Memory, line_of, System, table_words, storage_checks, list_after, Leaves}
 use Rattle.bound.specs.Bound.{lent}
 
 -- what a refusal leaves

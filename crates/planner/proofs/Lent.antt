@@ -1,5 +1,5 @@
 -- Numbers, places and lent memory: what the inner definitions say is what the promises' say.
-use Rattle.planner.proofs.Prelude.{◌≡◌, refl, sym, ◌∙◌, ap, ap₂, List, [], ◌∷◌, ℕ, ◌+◌, ◌*◌, ◌<◌, ltb, length, get_or, arith, Direction, Length, Width, Job, widened, capacity, by_kind, figure_of, normal_positions, staged, block, figure_two, by_copies, full_state, exact_figure, block_figure, by_check, next, first_refusal, Refusal, Checked, Passed, Refused, position_count, position, words_needed, Figures, two_words, TwoFigures, staged_words, StagedFigures, Memory, memory_checks, refused_as, outcome_by, figure, System, one_weight, two_weights, remaining_copies, within_stages, table_words, Form, Answers, storage_checks, Leaves}
+use Rattle.planner.proofs.Prelude.{◌≡◌, refl, sym, ◌∙◌, ap, List, [], ◌∷◌, ℕ, ltb, length, get_or, arith, Length, Width, Job, widened, capacity, by_kind, figure_of, normal_positions, staged, figure_two, by_copies, full_state, exact_figure, block_figure, by_check, next, first_refusal, Refusal, Checked, Passed, Refused, position, words_needed, two_words, staged_words, Memory, refused_as, outcome_by, System, one_weight, two_weights, remaining_copies, within_stages, table_words, Form, Answers, storage_checks, Leaves}
 use Rattle.refusal.specs.Refusals as old
 use Rattle.promises.specs.declared.Refusal.TheVariants as refusal
 use Rattle.bound.specs.Bound as bound

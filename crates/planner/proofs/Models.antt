@@ -1,9 +1,8 @@
 -- The check of a model and the true plan: what the inner call promises gives its instance.
-use Rattle.planner.proofs.Prelude.{◌≡◌, refl, sym, ◌∙◌, ap, ap₂, Bool, false, ◌||◌, Option, none, some, List, [], ◌∷◌, ◌++◌, ℕ, ◌≤◌, arith, ltb, length, Tree, Piece, ◌⊑◌, kinds_of, operands_of, node_count, Job, profit, used_of, neat_of, ChainsFit, chains_fit, stages_paths, by_check, next, first_refusal, PlanLong, TrueMisfit, Checked, Passed, Refused, Choices, job_checks, record_of, block_job, passed_both, read_in_range, sizes_checks, sizes_of, plan_answer, tree_in, TruePlanAnswer, le-ltb, WithinLimit, NoneAbove, plan_verdict, Arrays, nodes_check, list_after, block_true_job, true_verdict, NoneBetter, StandsFor, ModelPromises, TruePlan, true_form, true_plan_verdict, TruePromises}
+use Rattle.planner.proofs.Prelude.{◌≡◌, refl, sym, ◌∙◌, ap, Bool, false, ◌||◌, Option, none, some, List, [], ◌∷◌, ℕ, ◌≤◌, arith, ltb, length, Tree, Piece, ◌⊑◌, kinds_of, operands_of, node_count, Job, profit, used_of, neat_of, ChainsFit, chains_fit, stages_paths, by_check, next, first_refusal, PlanLong, TrueMisfit, Checked, Passed, Refused, Choices, job_checks, record_of, block_job, passed_both, read_in_range, sizes_checks, sizes_of, plan_answer, tree_in, TruePlanAnswer, le-ltb, WithinLimit, NoneAbove, plan_verdict, Arrays, list_after, block_true_job, true_verdict, NoneBetter, StandsFor, ModelPromises, TruePlan, true_form, true_plan_verdict, TruePromises}
 use Rattle.cutting.specs.Promises as old_trees
 use Rattle.cutting.specs.Staged as old_staged
 use Rattle.model.specs.Model as model
-use Rattle.neat.specs.Neat as neat
 use Rattle.promises.specs.declared.TruePlanAnswer.TheVariants as true_answer
 use Rattle.true_plan.specs.TruePlan as today
 use Rattle.promises.specs.Job.{OnPlate, KeepsDemands}

@@ -1,5 +1,5 @@
 -- The plates that a whole order needs and the bound by multipliers: what the inner call promises gives its instance.
-use Rattle.planner.proofs.Prelude.{◌≡◌, refl, sym, ◌∙◌, ap, ap₂, Bool, true, false, none, List, [], ◌∷◌, ℕ, ◌+◌, ◌-◌, ◌/◌, ◌≤◌, ◌<◌, arith, ltb, eqb, length, Length, Width, only, Rect, Tree, Piece, Job, widened, capacity, by_kind, InRange, range_solid, normal_listed, by_check, next, first_refusal, Checked, Passed, Refused, Choices, block_job, weight_in, Accepted, passed_both, accepted_in_range, position_count, words_needed, fewest, BoundAnswer, Memory, accept_verdict, bound_held, PlatesReport, PlatesAnswer, LagrangianReport, LagrangianAnswer, lowered_range, one_weight, bound_of, storage_checks, BoundPromises, Relaxes, OfPlans, NotHeldBeside, NoFewer, CheaperNotHeld, worth_at, order_worth, plates_for, plates_form, NeededPromises, multiplier_in, lowered_job, multiplied_verdict, AllAccepted, lagrangian_of, lagrangian_form, as_lagrangian, LagrangianPromises, Fewest}
+use Rattle.planner.proofs.Prelude.{◌≡◌, refl, sym, ◌∙◌, ap, ap₂, Bool, true, false, List, ℕ, ◌+◌, ◌-◌, ◌/◌, ltb, eqb, Length, Width, only, Job, widened, capacity, by_kind, InRange, range_solid, normal_listed, by_check, next, first_refusal, Passed, Choices, block_job, weight_in, passed_both, accepted_in_range, position_count, words_needed, fewest, BoundAnswer, Memory, accept_verdict, bound_held, PlatesReport, PlatesAnswer, LagrangianReport, LagrangianAnswer, lowered_range, one_weight, bound_of, storage_checks, Relaxes, NotHeldBeside, NoFewer, CheaperNotHeld, worth_at, order_worth, plates_for, plates_form, NeededPromises, multiplier_in, lowered_job, multiplied_verdict, AllAccepted, lagrangian_form, as_lagrangian, LagrangianPromises, Fewest}
 use Rattle.cutting.specs.Relaxation as relaxation
 use Rattle.cutting.specs.Job as old_job
 use Rattle.orders.specs.Orders as orders
@@ -9,7 +9,6 @@ use Rattle.promises.specs.declared.PlatesAnswer.TheVariants as plates_answer
 use Rattle.plates_needed.specs.Plates as needed
 use Rattle.promises.specs.declared.LagrangianAnswer.TheVariants as lagrangian_answer
 use Rattle.multipliers.specs.Multipliers as multipliers
-use Rattle.promises.specs.Calls as calls
 use Rattle.planner.proofs.Figures.{recursion, figures_most, floors}
 use Rattle.planner.proofs.Held.{one_sound, bound_is, one_held}
 use Rattle.planner.proofs.Lent.{answers_by, stored_is, one_words, one_leaves}

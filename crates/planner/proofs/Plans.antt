@@ -1,5 +1,5 @@
 -- The plan behind a bound: following the order of choice gives the tree that the writer writes.
-use Rattle.planner.proofs.Prelude.{◌≡◌, refl, sym, ◌∙◌, ap, ap₂, Bool, true, false, ◌&&◌, Option, none, some, List, [], ◌∷◌, List-as-Memᴰ, List·Memᴰ·head, List·Memᴰ·tail, ℕ, zero, suc, ◌+◌, ◌-◌, ◌≤◌, ◌<◌, arith, eqb, Direction, Length, Width, range, filter, first, pairs, side, Tree, Shares, Piece, kind, fits_in, Choice, as_waste, as_piece, as_cut, or_waste, or_length, or_piece, or_zero, or_first, cut_remains, Job, laid, widened, members, normal_side, normal_floor, mem_range, mem_filter, mem_pairs, floor_le, figure, first_pair, plan_choice, choice_tree, plan_deep, plan_of, PlanFollows}
+use Rattle.planner.proofs.Prelude.{◌≡◌, refl, sym, ◌∙◌, ap, ap₂, Bool, true, false, ◌&&◌, Option, none, some, List, [], ◌∷◌, List-as-Memᴰ, List·Memᴰ·head, List·Memᴰ·tail, ℕ, zero, suc, ◌+◌, ◌-◌, ◌≤◌, ◌<◌, arith, eqb, Direction, Length, Width, range, filter, first, pairs, side, Tree, Shares, Piece, kind, fits_in, Choice, as_waste, as_piece, as_cut, or_waste, or_length, or_piece, or_zero, or_first, cut_remains, Job, laid, widened, members, normal_side, normal_floor, mem_range, mem_filter, mem_pairs, floor_le, first_pair, plan_choice, choice_tree, plan_deep, plan_of, PlanFollows}
 use Rattle.cutting.specs.Job as old
 use Rattle.cutting.specs.Promises as old_trees
 use Rattle.planner.proofs.Figures.{figure_is}

@@ -1,5 +1,5 @@
 -- The check of a rack: verdict and profits are the inner check's, and what that promises gives the instance.
-use Rattle.planner.proofs.Prelude.{◌≡◌, refl, sym, ◌∙◌, ap, ap₂, subst, List, [], ◌∷◌, ◌++◌, append-nil, ℕ, zero, suc, ◌+◌, ◌-◌, ◌≤◌, ◌<◌, arith, ltb, length, take, drop, get_or, set, replicate, take-append-drop, entries, Rect, Tree, Piece, node_count, Job, profit, copies_of, Check, by_check, next, first_refusal, Refusal, RackDemand, Checked, Passed, Refused, each_kind, entries_in, tree_checks, TreeAnswer, nodes_in, tree_passed, tree_stopped, left_check, trees_in, first_tree, written, trees_tree, tree_drawn, RackAnswer, plated, own_stops, before_passed, Plate, order_few, plates_met, ext_get_or, whole_counts, empty_length, empty_copies, Choices, block_job, passed_both, sum, with_own_length, with_own_in, own_tree, walked, bound_of, Rack, plates, plate_at, rack_checks, total_checks, rack_walk, rack_walked, rack_verdict, PlansOf, RackChecks, rack_form, PlatesPromises, paid, rack_of, RackPromises}
+use Rattle.planner.proofs.Prelude.{◌≡◌, refl, sym, ◌∙◌, ap, ap₂, subst, List, [], ◌∷◌, ◌++◌, append-nil, ℕ, zero, suc, ◌+◌, ◌-◌, ◌≤◌, ◌<◌, arith, ltb, length, take, drop, get_or, set, replicate, take-append-drop, entries, Tree, Piece, node_count, Job, profit, copies_of, Check, by_check, next, first_refusal, Refusal, RackDemand, Checked, Passed, Refused, each_kind, entries_in, tree_checks, TreeAnswer, nodes_in, tree_passed, tree_stopped, left_check, trees_in, first_tree, written, trees_tree, tree_drawn, RackAnswer, plated, own_stops, before_passed, Plate, order_few, plates_met, ext_get_or, whole_counts, empty_length, empty_copies, Choices, block_job, passed_both, sum, with_own_length, with_own_in, own_tree, walked, bound_of, Rack, plates, plate_at, rack_checks, total_checks, rack_walk, rack_walked, rack_verdict, PlansOf, RackChecks, rack_form, PlatesPromises, paid, rack_of, RackPromises}
 use Rattle.plan.specs.Trees as trees
 use Rattle.rack.specs.Check as today
 use Rattle.orders.specs.Racks as racks

@@ -1,13 +1,12 @@
 -- The saw's reading and its check: what the inner call promises gives its instance.
 use denote.Ref.{Bor}
-use Rattle.planner.proofs.Prelude.{◌≡◌, refl, sym, ◌∙◌, ap, ap₂, subst, none, Bool, true, false, List, [], ℕ, ◌+◌, ◌-◌, ◌≤◌, ◌<◌, arith, ltb, length, take, drop, Bor, ltb-true, Tree, Piece, node_count, Job, Outcome, by_check, next, first_refusal, Refusal, Checked, Passed, Refused, Choices, JobAnswer, job_checks, block_job, read_in_range, Report, PlanAnswer, proceed, empty_report, plan_answer, tree_in, PlanOf, arrays_answer, plans_checked, SawAnswer, Part, same_answer, part_tree, saw_range, tree_report, saw_record, saw_job, plan_verdict, Answers, Arrays, job_form, plan_form, Checks, NeverSix, saw_form, without_profit, saw_verdict, SawReadPromises, SawPromises, part_if, node_part, PartPromises, HandsBack}
+use Rattle.planner.proofs.Prelude.{◌≡◌, refl, sym, ◌∙◌, ap, subst, none, Bool, true, false, List, [], ℕ, ◌+◌, ◌-◌, ◌≤◌, ◌<◌, arith, ltb, length, take, drop, Bor, ltb-true, Tree, Piece, node_count, Job, Outcome, by_check, next, first_refusal, Checked, Passed, Refused, Choices, JobAnswer, job_checks, block_job, read_in_range, Report, PlanAnswer, proceed, plan_answer, tree_in, PlanOf, arrays_answer, plans_checked, SawAnswer, Part, same_answer, part_tree, saw_range, tree_report, saw_record, saw_job, plan_verdict, Answers, Arrays, job_form, plan_form, Checks, NeverSix, saw_form, without_profit, saw_verdict, SawReadPromises, SawPromises, part_if, node_part, PartPromises, HandsBack}
 use Rattle.saw.specs.Saw as today
 use Rattle.saw.specs.Prices as prices
 use Rattle.saw.specs.Parts as parts
 use Rattle.promises.specs.Block.{saw_checks}
 use Rattle.planner.proofs.Lent.{answers_by, outcome_is}
 use Rattle.planner.proofs.Checks.{checks_new, verdict_none, reported}
-use Rattle.planner.proofs.Judged.{check_new}
 
 -- no number is 6
 never_six : (v : Checked) → today.NeverSix v → NeverSix v

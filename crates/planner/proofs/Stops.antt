@@ -1,5 +1,5 @@
 -- The scope's rules of the stop over the definitions of the promises: the test of the demands, the last round.
-use Rattle.planner.proofs.Prelude.{◌≡◌, refl, ◌∙◌, ap, Bool, true, false, ◌||◌, not, ℕ, zero, suc, ◌+◌, ◌*◌, ◌≤◌, ◌<◌, ℕ_discrete, arith, ltb-true, ltb-false, le-ltb, eq-eqb, not-true, not-false, ltb, eqb, range, sum, any, Job, capacity, Checked, Passed, Refused, distance, pick_number, by_check, plan_copies, weight_at, Lent, round_verdict, last_here, last_from, last_round, rounds_run, StopRules, any_none, any_more, none_passes}
+use Rattle.planner.proofs.Prelude.{◌≡◌, refl, ◌∙◌, ap, Bool, true, false, ◌||◌, not, ℕ, zero, suc, ◌+◌, ◌*◌, ◌≤◌, ◌<◌, ℕ_discrete, arith, ltb-true, ltb-false, le-ltb, eq-eqb, not-true, not-false, ltb, eqb, range, sum, any, Job, capacity, distance, pick_number, by_check, plan_copies, weight_at, Lent, round_verdict, last_here, last_from, last_round, StopRules, any_none, any_more, none_passes}
 use Rattle.rounds.specs.Rounds.{squares, within}
 
 module _ (J : Job) (copies : ℕ → ℕ) where

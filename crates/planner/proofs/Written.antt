@@ -1,7 +1,6 @@
 -- The writing call and the exact call: what the inner call promises gives its instance.
-use Rattle.planner.proofs.Prelude.{◌≡◌, refl, sym, ◌∙◌, ap, ap₂, none, List, [], ◌∷◌, ℕ, ◌≤◌, arith, Length, Width, Tree, IdleFree, Piece, kinds_of, operands_of, node_count, Job, widened, at_full_demand, capacity, by_kind, SolidKinds, by_copies, full_state, state_count, range_solid, normal_listed, by_check, next, first_refusal, Refusal, Checked, Passed, Refused, Choices, job_checks, block_job, weight_in, Accepted, append_passed, passed_both, read_in_range, accepted_in_range, position_count, words_needed, Memory, accept_verdict, bound_held, WriteReport, WriteAnswer, ExactReport, ExactAnswer, one_weight, two_weights, remaining_copies, bound_in, bound_of, bound_plan, optimum, optimum_plan, Answers, Arrays, storage_checks, nodes_check, ArraysLeft, Writes, Fills, write_form, exact_form, short, WritePromises, ExactPromises, plan_verdict}
+use Rattle.planner.proofs.Prelude.{◌≡◌, refl, sym, ◌∙◌, ap, ap₂, none, List, [], ◌∷◌, ℕ, arith, Length, Width, Tree, Piece, kinds_of, operands_of, node_count, Job, widened, at_full_demand, capacity, by_kind, SolidKinds, by_copies, full_state, state_count, range_solid, by_check, next, first_refusal, Refusal, Checked, Passed, Refused, Choices, job_checks, block_job, weight_in, append_passed, passed_both, read_in_range, accepted_in_range, position_count, words_needed, Memory, accept_verdict, bound_held, WriteReport, WriteAnswer, ExactReport, ExactAnswer, one_weight, remaining_copies, bound_of, bound_plan, optimum, optimum_plan, Arrays, storage_checks, nodes_check, write_form, exact_form, short, WritePromises, ExactPromises, plan_verdict}
 use Rattle.cutting.specs.Job as old
-use Rattle.cutting.specs.Promises as old_trees
 use Rattle.cutting.specs.Exact as old_exact
 use Rattle.bound.specs.Bound.{list_after}
 use Rattle.bound.specs.Bound as bound

@@ -1,5 +1,7 @@
 // The calls of the library. Each hands on to the crate that does its work and promises its instance of crate `promises`, in one line: specs/ there
 // is all that a reader has to believe. proofs/ has the laws from what the inner crates promise to these instances.
+#![tactic(auto)]
+
 ghost use Rattle.std.proofs.Math.Option.{none, some};
 ghost use Rattle.promises.specs.Plan.{kinds_of, operands_of};
 ghost use Rattle.promises.specs.Systems.{one_weight, within_stages};

@@ -12,6 +12,7 @@ use every_unit::{
     compute, draw_job, draw_order, is_fewest, lower_prices, order_sum, restore_prices,
 };
 use promises::Choices;
+use std::io;
 use test_tools::{
     Words, add, clear, copy, larger, minus, plus, print_numbers, print_words, put, text, times,
     word,
@@ -248,35 +249,37 @@ fn compare_jobs(t: &mut Words, n: usize, call: usize) {
 }
 
 // Compares the jobs of the shape in the row by a call.
-pub fn compare_shape(t: &mut Words, call: usize) {
+pub fn compare_shape(rt: &impl Print, t: &mut Words, call: usize) -> io::Result<()> {
     clear(t, AGREED, 11);
     compare_jobs(t, JOBS, call);
-    print_shape(t);
+    print_shape(rt, t)
 }
 
-fn print_shape(t: &Words) {
-    print_numbers(b": # jobs; ", &[JOBS as u64]);
+fn print_shape(rt: &impl Print, t: &Words) -> io::Result<()> {
+    print_numbers(rt, b": # jobs; ", &[JOBS as u64])?;
     print_words(
+        rt,
         b"agreed # upright, # turned, # full demand; table words #, #, #; sums of bounds #, #, #; greatest capacity #, kerf #",
         t,
         AGREED,
-    );
+    )
 }
 
 // The first job that does not agree, its way, and the number of what differs; or none.
-fn print_first(t: &Words) {
+fn print_first(rt: &impl Print, t: &Words) -> io::Result<()> {
     if word(t, FIRST, 0) == 0 {
-        text(b"first difference: none");
+        text(rt, b"first difference: none")
     } else {
-        print_words(b"first difference: job #, way #, #", t, FIRST);
+        print_words(rt, b"first difference: job #, way #, #", t, FIRST)
     }
 }
 
-pub fn print_total(t: &Words) {
+pub fn print_total(rt: &impl Print, t: &Words) -> io::Result<()> {
     print_words(
+        rt,
         b": # jobs; agreed # upright, # turned, # full demand\n",
         t,
         ALL_DRAWN,
-    );
-    print_first(t);
+    )?;
+    print_first(rt, t)
 }

@@ -10,6 +10,7 @@ use every_unit::{
     EXACT, KIND_LENGTH, LENGTH_COUNT, LIMIT, PLATE, PRICE, SECOND_WEIGHT, SECOND_WEIGHTS, TWO,
 };
 use promises::Choices;
+use std::io;
 use test_tools::{ROW, Words, clear, copy, minus, plus, print_words, put, word};
 
 // The five numbers of every kind, which stand 70 words apart.
@@ -46,52 +47,60 @@ fn make_job(t: &mut Words) {
     price_last(t);
 }
 
-fn print_second(t: &Words) {
+fn print_second(rt: &impl Print, t: &Words) -> io::Result<()> {
     if word(t, TWO, 0) == 1 {
-        print_words(b" second capacity #", t, plus(ANSWER, 5));
+        print_words(rt, b" second capacity #", t, plus(ANSWER, 5))?;
     }
+    Ok(())
 }
 
 // The values of a call for an order that stand before the bound's.
-fn print_order(t: &Words) {
+fn print_order(rt: &impl Print, t: &Words) -> io::Result<()> {
     if word(t, ORDER, 0) == PLATES {
-        print_words(b"plates # worth # ", t, ORDER_ANSWER);
+        print_words(rt, b"plates # worth # ", t, ORDER_ANSWER)?;
     }
     if word(t, ORDER, 0) == LAGRANGIAN {
-        print_words(b"lagrangian # ", t, ORDER_ANSWER);
+        print_words(rt, b"lagrangian # ", t, ORDER_ANSWER)?;
     }
+    Ok(())
 }
 
 // The bound, and unless it is that of an order's plates what is answered beside it.
-fn print_bound(t: &Words) {
+fn print_bound(rt: &impl Print, t: &Words) -> io::Result<()> {
     if word(t, ORDER, 0) == PLATES {
-        print_words(b"bound #", t, plus(ANSWER, 1));
+        print_words(rt, b"bound #", t, plus(ANSWER, 1))
     } else {
-        print_words(b"bound # capacity # lengths # widths #", t, plus(ANSWER, 1));
+        print_words(
+            rt,
+            b"bound # capacity # lengths # widths #",
+            t,
+            plus(ANSWER, 1),
+        )
     }
 }
 
 // The values of an answer, by the call.
-fn print_values(t: &Words) {
-    print_order(t);
+fn print_values(rt: &impl Print, t: &Words) -> io::Result<()> {
+    print_order(rt, t)?;
     if word(t, EXACT, 0) == 1 {
         print_words(
+            rt,
             b"optimum # last state # lengths # widths #",
             t,
             plus(ANSWER, 1),
-        );
-        print_words(b" nodes #", t, plus(ANSWER, 6));
+        )?;
+        print_words(rt, b" nodes #", t, plus(ANSWER, 6))
     } else {
-        print_bound(t);
-        print_second(t);
+        print_bound(rt, t)?;
+        print_second(rt, t)
     }
 }
 
-fn print_answer(t: &Words) {
+fn print_answer(rt: &impl Print, t: &Words) -> io::Result<()> {
     if word(t, ANSWER, 0) != 0 {
-        print_words(b"refused # place #", t, ANSWER);
+        print_words(rt, b"refused # place #", t, ANSWER)
     } else {
-        print_values(t);
+        print_values(rt, t)
     }
 }
 
@@ -106,17 +115,17 @@ fn row_choices(t: &Words) -> Choices {
 }
 
 // Runs the call on the job at hand. No length, no width and no word is expected, so that every change differs.
-pub fn run_lent(t: &mut Words, old: bool, c: Choices) {
+pub fn run_lent(rt: &impl Print, t: &mut Words, old: bool, c: Choices) -> io::Result<()> {
     clear(t, LENGTH_COUNT, 4);
     try_bound(t, old, c);
-    print_answer(t);
-    print_words(b"; changed # # #", t, OTHER_LENGTHS);
+    print_answer(rt, t)?;
+    print_words(rt, b"; changed # # #", t, OTHER_LENGTHS)
 }
 
 // Runs the case.
-pub fn run_limit(t: &mut Words) {
+pub fn run_limit(rt: &impl Print, t: &mut Words) -> io::Result<()> {
     make_job(t);
     let old = word(t, ROW, 15) == 1;
     let c = row_choices(t);
-    run_lent(t, old, c);
+    run_lent(rt, t, old, c)
 }

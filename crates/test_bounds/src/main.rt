@@ -10,6 +10,8 @@
 // A command `Limit` runs one job and prints the answer, or the refusal's number and place, and then how many entries of the two lists
 // and how many words of the table the call changed. `job`, `lend`, `choices`, `other` and `multipliers` set a job and what it is lent;
 // `Needed` answers the plates that its order needs, `Multiplied` its bound by multipliers and `Bound` its bound, printed as by `Limit`.
+#![tactic(auto)]
+
 mod call;
 mod compare;
 mod limits;
@@ -20,41 +22,45 @@ use compare::{compare_shape, print_total};
 use every_unit::start_random;
 use limits::run_limit;
 use order_calls::{run_order, set_order};
+use std::io;
+use std::io::Read;
 use test_tools::{Words, next_command};
 
 const COMMANDS: usize = 300;
 
-fn run(t: &mut Words, letter: u8) {
+fn run(rt: &impl Print, t: &mut Words, letter: u8) -> io::Result<()> {
     match letter {
-        b'S' => compare_shape(t, 0),
-        b'W' => compare_shape(t, 1),
-        b'D' => compare_shape(t, 2),
-        b'E' => compare_shape(t, 3),
-        b'G' => compare_shape(t, 4),
-        b'O' => compare_shape(t, 5),
-        b'P' => compare_shape(t, 6),
-        b'T' => print_total(t),
-        b'L' => run_limit(t),
-        b'N' => run_order(t, PLATES),
-        b'M' => run_order(t, LAGRANGIAN),
-        b'B' => run_order(t, 0),
+        b'S' => compare_shape(rt, t, 0)?,
+        b'W' => compare_shape(rt, t, 1)?,
+        b'D' => compare_shape(rt, t, 2)?,
+        b'E' => compare_shape(rt, t, 3)?,
+        b'G' => compare_shape(rt, t, 4)?,
+        b'O' => compare_shape(rt, t, 5)?,
+        b'P' => compare_shape(rt, t, 6)?,
+        b'T' => print_total(rt, t)?,
+        b'L' => run_limit(rt, t)?,
+        b'N' => run_order(rt, t, PLATES)?,
+        b'M' => run_order(rt, t, LAGRANGIAN)?,
+        b'B' => run_order(rt, t, 0)?,
         _ => set_order(t, letter),
     }
+    Ok(())
 }
 
-fn run_next(t: &mut Words) {
-    let letter = next_command(t);
-    run(t, letter);
+fn run_next(rt: &impl Print, input: &mut impl Read, t: &mut Words) -> io::Result<()> {
+    let letter = next_command(rt, input, t)?;
+    run(rt, t, letter)
 }
 
-fn run_commands(t: &mut Words, n: usize) {
+fn run_commands(rt: &impl Print, input: &mut impl Read, t: &mut Words, n: usize) -> io::Result<()> {
     for i in 0..n {
-        run_next(t);
+        run_next(rt, input, t)?;
     }
+    Ok(())
 }
 
-fn main() {
+fn main(rt: HostRuntime) -> io::Result<()> {
     let mut t = [0usize; 65536];
     start_random(&mut t);
-    run_commands(&mut t, COMMANDS);
+    run_commands(&rt, &mut rt.reader(), &mut t, COMMANDS)
 }

@@ -3,6 +3,7 @@ use crate::call::{LENT_LENGTHS, ORDER};
 use crate::limits::run_lent;
 use every_unit::{EXACT, GRAIN, KIND_LENGTH, LIMIT, MULTIPLIERS, OTHER, PLATE, TWO};
 use promises::Choices;
+use std::io;
 use test_tools::{ROW, Words, copy, plus, put, row_to, times, word};
 
 // Whether pieces may be turned, and whether the capacity is that of the full demands: 1, or 0.
@@ -49,9 +50,10 @@ fn order_choices(t: &Words) -> Choices {
 }
 
 // Runs a call for the order, or the bound call, on what is set.
-pub fn run_order(t: &mut Words, order: usize) {
+pub fn run_order(rt: &impl Print, t: &mut Words, order: usize) -> io::Result<()> {
     put(t, ORDER, 0, order);
     let c = order_choices(t);
-    run_lent(t, false, c);
+    run_lent(rt, t, false, c)?;
     put(t, ORDER, 0, 0);
+    Ok(())
 }

@@ -5,29 +5,36 @@ use crate::lent::{
 use certificate::{certify, certify_full_demand};
 use promises::Certificate;
 use staged_certificate::certify_staged;
+use std::io;
 use test_tools::{
     Words, bytes, different_entries, different_words, first_bytes, lend_numbers, lend_words,
     marked_list, marked_table, print_numbers, print_value,
 };
 
-fn print_gap(profit: u64, gap: u64) {
-    print_numbers(b" profit # gap #", &[profit, gap]);
+fn print_gap(rt: &impl Print, profit: u64, gap: u64) -> io::Result<()> {
+    print_numbers(rt, b" profit # gap #", &[profit, gap])
 }
 
-fn print_certificate(c: Certificate) {
+fn print_certificate(rt: &impl Print, c: Certificate) -> io::Result<()> {
     match c {
-        Certificate::Best(profit) => print_value(b" best #", profit),
-        Certificate::Gap(profit, gap) => print_gap(profit, gap),
-        Certificate::Refused(r) => print_refused(r),
+        Certificate::Best(profit) => print_value(rt, b" best #", profit),
+        Certificate::Gap(profit, gap) => print_gap(rt, profit, gap),
+        Certificate::Refused(r) => print_refused(rt, r),
     }
 }
 
 // How many entries of the lists and words of the table were changed.
-pub fn print_changed(t: &Words, lengths: &[u16; 1028], widths: &[u16; 1028], table: &[u64; 36872]) {
+pub fn print_changed(
+    rt: &impl Print,
+    t: &Words,
+    lengths: &[u16; 1028],
+    widths: &[u16; 1028],
+    table: &[u64; 36872],
+) -> io::Result<()> {
     let p = different_entries(lengths, t, 0, 0) as u64;
     let r = different_entries(widths, t, 0, 0) as u64;
     let k = different_words(table, t, 0, 0) as u64;
-    print_numbers(b"; changed # # #", &[p, r, k]);
+    print_numbers(rt, b"; changed # # #", &[p, r, k])
 }
 
 // The certificate within the limit, the one of the full demands, or the one without either.
@@ -55,27 +62,45 @@ fn certify_lent(
 }
 
 // The certificate of a plan, with the parts of marked lists and a marked table that are lent.
-fn certify_plan(t: &Words, staged: bool, block: &[u8], weights: &[u8], ks: &[u8], os: &[u16]) {
+fn certify_plan(
+    rt: &impl Print,
+    t: &Words,
+    staged: bool,
+    block: &[u8],
+    weights: &[u8],
+    ks: &[u8],
+    os: &[u16],
+) -> io::Result<()> {
     let mut lengths = marked_list();
     let mut widths = marked_list();
     let mut table = marked_table();
-    print_certificate(certify_lent(
-        t,
-        staged,
-        block,
-        weights,
-        ks,
-        os,
-        lend_numbers(t, LENT_LENGTHS, &mut lengths),
-        lend_numbers(t, LENT_WIDTHS, &mut widths),
-        lend_words(t, LENT_WORDS, &mut table),
-    ));
-    print_changed(t, &lengths, &widths, &table);
+    print_certificate(
+        rt,
+        certify_lent(
+            t,
+            staged,
+            block,
+            weights,
+            ks,
+            os,
+            lend_numbers(t, LENT_LENGTHS, &mut lengths),
+            lend_numbers(t, LENT_WIDTHS, &mut widths),
+            lend_words(t, LENT_WORDS, &mut table),
+        ),
+    )?;
+    print_changed(rt, t, &lengths, &widths, &table)
 }
 
 // The certificate of the arrays with the weights that are set.
-pub fn run_certify(t: &Words, staged: bool, block: &[u8], kinds: &[u8], operands: &[u16]) {
+pub fn run_certify(
+    rt: &impl Print,
+    t: &Words,
+    staged: bool,
+    block: &[u8],
+    kinds: &[u8],
+    operands: &[u16],
+) -> io::Result<()> {
     let weights = bytes(t, WEIGHTS);
     let ws = first_bytes(t, WEIGHTS, &weights);
-    certify_plan(t, staged, block, ws, kinds, operands);
+    certify_plan(rt, t, staged, block, ws, kinds, operands)
 }

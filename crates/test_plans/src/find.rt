@@ -7,28 +7,34 @@ use crate::lent::{
 use crate::write::print_entries;
 use promises::{Checked, Choices, WeightsFound};
 use rounds::{find_weights, find_weights_full_demand};
+use std::io;
 use test_tools::{
     Words, lend_bytes, lend_numbers, lend_words, marked_list, marked_table, print_numbers,
 };
 
 // The weights of the first five kinds.
-fn print_weights(weights: &[u8; 64]) {
+fn print_weights(rt: &impl Print, weights: &[u8; 64]) -> io::Result<()> {
     for i in 0..5 {
-        print_byte(weights[i]);
+        print_byte(rt, weights[i])?;
     }
+    Ok(())
 }
 
-fn print_found(a: WeightsFound) {
-    print_numbers(b" bound # rounds # weights", &[a.bound, widen(a.rounds)]);
+fn print_found(rt: &impl Print, a: WeightsFound) -> io::Result<()> {
+    print_numbers(
+        rt,
+        b" bound # rounds # weights",
+        &[a.bound, widen(a.rounds)],
+    )?;
     let weights = a.weights;
-    print_weights(&weights);
+    print_weights(rt, &weights)
 }
 
-fn print_answer(a: WeightsFound) {
+fn print_answer(rt: &impl Print, a: WeightsFound) -> io::Result<()> {
     let verdict = a.verdict;
     match verdict {
-        Checked::Passed => print_found(a),
-        Checked::Refused(r) => print_refused(r),
+        Checked::Passed => print_found(rt, a),
+        Checked::Refused(r) => print_refused(rt, r),
     }
 }
 
@@ -53,41 +59,52 @@ fn find(
 
 // The call with the parts of marked lists and a marked table that are lent.
 fn find_into(
+    rt: &impl Print,
     t: &Words,
     block: &[u8],
     kinds: &[u8],
     operands: &[u16],
     ks: &mut [u8],
     os: &mut [u16],
-) {
+) -> io::Result<()> {
     let mut lengths = marked_list();
     let mut widths = marked_list();
     let mut table = marked_table();
-    print_answer(find(
-        choices(t),
-        block,
-        kinds,
-        operands,
-        lend_numbers(t, LENT_LENGTHS, &mut lengths),
-        lend_numbers(t, LENT_WIDTHS, &mut widths),
-        lend_words(t, LENT_WORDS, &mut table),
-        ks,
-        os,
-    ));
-    print_changed(t, &lengths, &widths, &table);
+    print_answer(
+        rt,
+        find(
+            choices(t),
+            block,
+            kinds,
+            operands,
+            lend_numbers(t, LENT_LENGTHS, &mut lengths),
+            lend_numbers(t, LENT_WIDTHS, &mut widths),
+            lend_words(t, LENT_WORDS, &mut table),
+            ks,
+            os,
+        ),
+    )?;
+    print_changed(rt, t, &lengths, &widths, &table)
 }
 
 // The rounds with the arrays as the lent plan, and seven entries of the last round's plan over those before it.
-pub fn run_find(t: &Words, block: &[u8], kinds: &[u8], operands: &[u16]) {
+pub fn run_find(
+    rt: &impl Print,
+    t: &Words,
+    block: &[u8],
+    kinds: &[u8],
+    operands: &[u16],
+) -> io::Result<()> {
     let mut last_kinds = [9u8; 5000];
     let mut last_operands = [9u16; 5000];
     find_into(
+        rt,
         t,
         block,
         kinds,
         operands,
         lend_bytes(t, OUTPUT_KINDS, &mut last_kinds),
         lend_numbers(t, OUTPUT_OPERANDS, &mut last_operands),
-    );
-    print_entries(&last_kinds, &last_operands);
+    )?;
+    print_entries(rt, &last_kinds, &last_operands)
 }

@@ -1,5 +1,6 @@
 // Where the words stand that a call runs on: how many there are, and then each. The choices of a call. How a refusal is printed.
 use promises::{Choices, Refusal};
+use std::io;
 use test_tools::{Words, print_numbers, print_value, word};
 
 pub const JOB: usize = 9000;
@@ -92,20 +93,20 @@ pub fn widen(n: u16) -> u64 {
     n as u64
 }
 
-pub fn print_byte(n: u8) {
-    print_value(b" #", n as u64);
+pub fn print_byte(rt: &impl Print, n: u8) -> io::Result<()> {
+    print_value(rt, b" #", n as u64)
 }
 
-fn print_refusal(form: &[u8], r: Refusal) {
-    print_numbers(form, &[widen(refusal::number(r)), refusal::place(r)]);
+fn print_refusal(rt: &impl Print, form: &[u8], r: Refusal) -> io::Result<()> {
+    print_numbers(rt, form, &[widen(refusal::number(r)), refusal::place(r)])
 }
 
 // The refusal of a call that bounds, writes or certifies.
-pub fn print_refused(r: Refusal) {
-    print_refusal(b" refused # at #", r);
+pub fn print_refused(rt: &impl Print, r: Refusal) -> io::Result<()> {
+    print_refusal(rt, b" refused # at #", r)
 }
 
 // The refusal of a check.
-pub fn print_fault(r: Refusal) {
-    print_refusal(b" # at #;", r);
+pub fn print_fault(rt: &impl Print, r: Refusal) -> io::Result<()> {
+    print_refusal(rt, b" # at #;", r)
 }

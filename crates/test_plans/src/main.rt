@@ -17,6 +17,8 @@
 // for old ones. An answer is printed as its values, a refusal as number and place. `Give` and the bytes of an input, job block and
 // weights, run the bound printer on them; the last command, `Input`, runs it on what follows the script in standard input, read as the
 // bound printer reads it: more than 711 bytes, of which only the first 711 count.
+#![tactic(auto)]
+
 mod call;
 mod certify;
 mod check;
@@ -37,6 +39,8 @@ use lent::{
 };
 use printed::print_bytes;
 use printer::print_input;
+use std::io;
+use std::io::Read;
 use test_tools::{Words, next_command, row_to};
 use true_sizes::set_sizes;
 
@@ -65,37 +69,49 @@ fn place(letter: u8) -> usize {
 }
 
 // Sets the bytes of a command, and runs the printer on them.
-fn print_row(t: &mut Words) {
+fn print_row(rt: &impl Print, t: &mut Words) -> io::Result<()> {
     row_to(t, INPUT);
-    print_bytes(t);
+    print_bytes(rt, t)
 }
 
 // Runs the command of a letter: a capital one is a call, a small one sets numbers.
-fn run(t: &mut Words, letter: u8) {
+fn run(
+    rt: &(impl Print + Alloc),
+    input: &mut impl Read,
+    t: &mut Words,
+    letter: u8,
+) -> io::Result<()> {
     match letter {
-        b'J' => run_truncations(t, JOB, b'A'),
-        b'P' => run_truncations(t, PLAN, b'B'),
-        b'U' => run_truncations(t, SIZES, b'M'),
-        b'G' => print_row(t),
-        b'I' => print_input(),
+        b'J' => run_truncations(rt, t, JOB, b'A')?,
+        b'P' => run_truncations(rt, t, PLAN, b'B')?,
+        b'U' => run_truncations(rt, t, SIZES, b'M')?,
+        b'G' => print_row(rt, t)?,
+        b'I' => print_input(rt, input)?,
         b's' => set_sizes(t),
-        b'A'..=b'Z' => run_call(t, letter),
+        b'A'..=b'Z' => run_call(rt, t, letter)?,
         _ => row_to(t, place(letter)),
     }
+    Ok(())
 }
 
-fn run_next(t: &mut Words) {
-    let letter = next_command(t);
-    run(t, letter);
+fn run_next(rt: &(impl Print + Alloc), input: &mut impl Read, t: &mut Words) -> io::Result<()> {
+    let letter = next_command(rt, input, t)?;
+    run(rt, input, t, letter)
 }
 
-fn run_commands(t: &mut Words, n: usize) {
+fn run_commands(
+    rt: &(impl Print + Alloc),
+    input: &mut impl Read,
+    t: &mut Words,
+    n: usize,
+) -> io::Result<()> {
     for i in 0..n {
-        run_next(t);
+        run_next(rt, input, t)?;
     }
+    Ok(())
 }
 
-fn main() {
+fn main(rt: HostRuntime) -> io::Result<()> {
     let mut t = [0usize; 65536];
-    run_commands(&mut t, COMMANDS);
+    run_commands(&rt, &mut rt.reader(), &mut t, COMMANDS)
 }

@@ -2,10 +2,12 @@
 use crate::lent::{print_fault, widen};
 use job::read_old_job;
 use promises::{Checked, Choices, JobRecord};
+use std::io;
 use test_tools::print_numbers;
 
-fn print_job(job: JobRecord) {
+fn print_job(rt: &impl Print, job: JobRecord) -> io::Result<()> {
     print_numbers(
+        rt,
         b" plate # # pieces # kerf #;",
         &[
             widen(job.length),
@@ -13,11 +15,11 @@ fn print_job(job: JobRecord) {
             widen(job.count),
             widen(job.kerf),
         ],
-    );
+    )
 }
 
 // The job of the block, or the refusal.
-pub fn run_old_job(block: &[u8]) {
+pub fn run_old_job(rt: &impl Print, block: &[u8]) -> io::Result<()> {
     let none = Choices {
         turning: false,
         full_demand: false,
@@ -28,7 +30,7 @@ pub fn run_old_job(block: &[u8]) {
     let verdict = read.verdict;
     let job = read.job;
     match verdict {
-        Checked::Passed => print_job(job),
-        Checked::Refused(r) => print_fault(r),
+        Checked::Passed => print_job(rt, job),
+        Checked::Refused(r) => print_fault(rt, r),
     }
 }

@@ -5,6 +5,7 @@ use crate::lent::{
 use crate::write::print_entry;
 use model::check_model;
 use promises::{Checked, TruePlanAnswer};
+use std::io;
 use test_tools::{
     Words, bytes, first_bytes, lend_bytes, lend_u32s, plus, print_numbers, put, row_to, text,
     times, word,
@@ -35,25 +36,28 @@ pub fn set_sizes(t: &mut Words) {
     put(t, SIZES, 0, times(4, n));
 }
 
-fn print_verdict(verdict: Checked) {
+fn print_verdict(rt: &impl Print, verdict: Checked) -> io::Result<()> {
     match verdict {
-        Checked::Passed => text(b" stands;"),
-        Checked::Refused(r) => print_fault(r),
+        Checked::Passed => text(rt, b" stands;"),
+        Checked::Refused(r) => print_fault(rt, r),
     }
 }
 
 // The check of the job block as a model of the sizes block.
-pub fn run_model(t: &Words, block: &[u8]) {
+pub fn run_model(rt: &impl Print, t: &Words, block: &[u8]) -> io::Result<()> {
     let sizes = bytes(t, SIZES);
-    print_verdict(check_model(block, choices(t), first_bytes(t, SIZES, &sizes)));
+    print_verdict(
+        rt,
+        check_model(block, choices(t), first_bytes(t, SIZES, &sizes)),
+    )
 }
 
-fn print_answer(a: TruePlanAnswer) {
+fn print_answer(rt: &impl Print, a: TruePlanAnswer) -> io::Result<()> {
     match a {
         TruePlanAnswer::Written(nodes, length, width) => {
-            print_numbers(b" nodes # used # #", &[nodes, length, width])
+            print_numbers(rt, b" nodes # used # #", &[nodes, length, width])
         }
-        TruePlanAnswer::Refused(r) => print_refused(r),
+        TruePlanAnswer::Refused(r) => print_refused(rt, r),
     }
 }
 
@@ -62,26 +66,36 @@ fn wide(position: u32) -> u64 {
 }
 
 // Seven entries of both output arrays.
-fn print_positions(kinds: &[u8; 5000], positions: &[u32; 5000]) {
-    text(b":");
+fn print_positions(rt: &impl Print, kinds: &[u8; 5000], positions: &[u32; 5000]) -> io::Result<()> {
+    text(rt, b":")?;
     for i in 0..7 {
-        print_entry(kinds[i], wide(positions[i]));
+        print_entry(rt, kinds[i], wide(positions[i]))?;
     }
+    Ok(())
 }
 
 // The true plan in the parts of the output arrays that are lent, and seven entries of them.
-pub fn run_true(t: &Words, block: &[u8], kinds: &[u8], operands: &[u16]) {
+pub fn run_true(
+    rt: &impl Print,
+    t: &Words,
+    block: &[u8],
+    kinds: &[u8],
+    operands: &[u16],
+) -> io::Result<()> {
     let sizes = bytes(t, SIZES);
     let mut true_kinds = [9u8; 5000];
     let mut positions = [9u32; 5000];
-    print_answer(true_plan(
-        block,
-        choices(t),
-        first_bytes(t, SIZES, &sizes),
-        kinds,
-        operands,
-        lend_bytes(t, OUTPUT_KINDS, &mut true_kinds),
-        lend_u32s(t, OUTPUT_OPERANDS, &mut positions),
-    ));
-    print_positions(&true_kinds, &positions);
+    print_answer(
+        rt,
+        true_plan(
+            block,
+            choices(t),
+            first_bytes(t, SIZES, &sizes),
+            kinds,
+            operands,
+            lend_bytes(t, OUTPUT_KINDS, &mut true_kinds),
+            lend_u32s(t, OUTPUT_OPERANDS, &mut positions),
+        ),
+    )?;
+    print_positions(rt, &true_kinds, &positions)
 }

@@ -1,13 +1,15 @@
 // The writing of plans.
 use crate::lent::{KINDS, OPERANDS, WEIGHTS, choices, count, other_choices, print_refused, widen};
 use promises::{Choices, WriteAnswer, WriteReport};
+use std::io;
 use test_tools::{
     Words, bytes, first_bytes, lend_bytes, lend_numbers, numbers, print_numbers, text,
 };
 use writer::{write_plan, write_plan_full_demand};
 
-fn print_report(r: WriteReport) {
+fn print_report(rt: &impl Print, r: WriteReport) -> io::Result<()> {
     print_numbers(
+        rt,
         b" bound # capacity # lengths # widths # nodes #",
         &[
             r.bound,
@@ -16,26 +18,31 @@ fn print_report(r: WriteReport) {
             widen(r.columns),
             r.nodes,
         ],
-    );
+    )
 }
 
-fn print_answer(a: WriteAnswer) {
+fn print_answer(rt: &impl Print, a: WriteAnswer) -> io::Result<()> {
     match a {
-        WriteAnswer::Written(report) => print_report(report),
-        WriteAnswer::Refused(r) => print_refused(r),
+        WriteAnswer::Written(report) => print_report(rt, report),
+        WriteAnswer::Refused(r) => print_refused(rt, r),
     }
 }
 
-pub fn print_entry(kind: u8, operand: u64) {
-    print_numbers(b" #.#", &[kind as u64, operand]);
+pub fn print_entry(rt: &impl Print, kind: u8, operand: u64) -> io::Result<()> {
+    print_numbers(rt, b" #.#", &[kind as u64, operand])
 }
 
 // Seven entries of both arrays.
-pub fn print_entries(kinds: &[u8; 5000], operands: &[u16; 5000]) {
-    text(b":");
+pub fn print_entries(
+    rt: &impl Print,
+    kinds: &[u8; 5000],
+    operands: &[u16; 5000],
+) -> io::Result<()> {
+    text(rt, b":")?;
     for i in 0..7 {
-        print_entry(kinds[i], widen(operands[i]));
+        print_entry(rt, kinds[i], widen(operands[i]))?;
     }
+    Ok(())
 }
 
 // The call, or the one of the full demands, with lists of 1,001 entries and a table of 4,096 words.
@@ -51,18 +58,22 @@ fn write(c: Choices, block: &[u8], weights: &[u8], ks: &mut [u8], os: &mut [u16]
 }
 
 // A plan written into the arrays, and their entries where there are seven.
-pub fn run_write(t: &Words, block: &[u8]) {
+pub fn run_write(rt: &impl Print, t: &Words, block: &[u8]) -> io::Result<()> {
     let weights = bytes(t, WEIGHTS);
     let mut kinds = bytes(t, KINDS);
     let mut operands = numbers(t, OPERANDS);
-    print_answer(write(
-        choices(t),
-        block,
-        first_bytes(t, WEIGHTS, &weights),
-        lend_bytes(t, KINDS, &mut kinds),
-        lend_numbers(t, OPERANDS, &mut operands),
-    ));
+    print_answer(
+        rt,
+        write(
+            choices(t),
+            block,
+            first_bytes(t, WEIGHTS, &weights),
+            lend_bytes(t, KINDS, &mut kinds),
+            lend_numbers(t, OPERANDS, &mut operands),
+        ),
+    )?;
     if count(t, KINDS) == 7 {
-        print_entries(&kinds, &operands);
+        print_entries(rt, &kinds, &operands)?;
     }
+    Ok(())
 }

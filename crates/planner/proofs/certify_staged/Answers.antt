@@ -1,0 +1,7 @@
+-- `planner::certify_staged` meets its contract: what the inner call promises gives the instance.
+use Rattle.planner.proofs.Prelude.{lent}
+use Rattle.planner.proofs.Back.{staged_certified}
+use Rattle.planner.proofs.certify_staged.Goals as goal
+
+pub returns : goal.returns
+returns c = let a = c.args in staged_certified a.block.now a.choices a.weights.now (a.kinds.now, a.operands.now) (lent a.lengths.now a.widths.now a.table.now) _ _ a.limit c.certify_staged.ensures
