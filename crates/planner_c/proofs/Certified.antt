@@ -1,5 +1,5 @@
 -- A certificate's profit and gap sum to no more than the bound's ceiling.
-use Rattle.planner_c.proofs.Prelude.{◌≡◌, refl, sym, ◌∙◌, Option, List, [], ℕ, arith, Checked, Passed, Refused, Choices, Certificate, by_check, next, first_refusal, Job, System, block_job, plan_verdict, Memory, Arrays, storage_checks, certificate_form, limit_checks, accepts, CertifyPromises, passed_both, GapWithin}
+use Rattle.planner_c.proofs.Prelude.{◌≡◌, refl, sym, ◌∙◌, Option, List, ℕ, arith, Checked, Passed, Refused, Choices, Certificate, by_check, next, first_refusal, Job, System, block_job, plan_verdict, Memory, Arrays, storage_checks, limit_checks, accepts, CertifyPromises, passed_both, GapWithin}
 use Rattle.promises.specs.declared.Certificate.TheVariants as certificate
 
 -- a gap is answered only where the checks pass

@@ -1,5 +1,5 @@
 -- The check of a rack over three slices: what it promises, by whether there are as many profits as plates.
-use Rattle.planner_c.proofs.Prelude.{◌≡◌, refl, sym, ◌∙◌, ap, Bool, not, List, [], ◌∷◌, ℕ, ◌≤◌, arith, eqb, length, take, eq-eqb, ne_eqb, Checked, Passed, Refused, RackSize, Choices, RackAnswer, by_check, next, first_refusal, Rack, rack_verdict, rack_walked, rack_form, PlatesPromises, RackSlices, before_passed, size_passed, before_is, walked_checks}
+use Rattle.planner_c.proofs.Prelude.{◌≡◌, refl, sym, ◌∙◌, ap, Bool, not, List, [], ◌∷◌, ℕ, ◌≤◌, arith, length, take, eq-eqb, ne_eqb, Checked, Passed, Refused, RackSize, Choices, RackAnswer, by_check, next, first_refusal, Rack, rack_verdict, rack_walked, rack_form, PlatesPromises, RackSlices, before_passed, size_passed, before_is, walked_checks}
 
 module _ (s : List ℕ) (choices : Choices) (k : Rack) (old : List ℕ) where
   abbrev by_slices : Bool → Checked

@@ -2,6 +2,8 @@
 // answer words, or returns the refusal's number and puts its place in the first word. Where the answer has fewer words than the
 // function states it returns 100, where the word of choices has a bit that is no choice 101, and changes nothing. Here are the checks of
 // a plan and the neat plan.
+#![tactic(auto)]
+
 mod bounds;
 mod choices;
 mod found;
