@@ -1,2 +1,3 @@
 mod Prelude
+pub mod Demands
 pub mod Judging

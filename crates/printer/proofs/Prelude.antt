@@ -2,7 +2,7 @@
 pub use Prim.Native.Nat.{◌≤◌, ℕ}
 pub use lib.ListN.{drop, length, length-append, take}
 pub use lib.Seq.{length-take-le, take-append_seam}
-pub use mathlib.Core.Bool.{Bool}
+pub use mathlib.Core.Bool.{Bool, false, true}
 pub use mathlib.Core.List.{List, [], append-nil}
 pub use mathlib.Core.Path.{◌∙◌, ◌≡◌, ap, ap₂, refl, subst, sym}
 pub use native.Mathlib.Omega.{arith}
@@ -17,7 +17,7 @@ pub use Rattle.job.specs.Weights.{block_job}
 pub use Rattle.plan.proofs.Drawn.{drawn_is, trees_tree}
 pub use Rattle.plan.proofs.Preorder.{arrays_written, kinds_length, operands_length, written}
 pub use Rattle.plan.specs.Calls.{JobPasses}
-pub use Rattle.plan.specs.Trees.{PlanOf, first_tree, tree_in, trees_in}
+pub use Rattle.plan.specs.Trees.{ChecksPlan, PlanOf, first_tree, tree_in, trees_in}
 pub use Rattle.promises.specs.declared.Choices.{Choices}
 pub use Rattle.promises.specs.declared.Refusal.{Refusal}
 pub use Rattle.promises.specs.declared.WriteAnswer.{WriteAnswer}
@@ -27,3 +27,6 @@ pub use Rattle.writer.specs.Write.{WritePromises, block_plan, write_answer}
 pub use Rattle.printer.specs.Printer.{DemandsKept, JudgesPlan, SaysOf}
 pub use Rattle.printer.specs.declared.Judged.{Judged}
 pub use Rattle.printer.specs.declared.Judgement.{Judgement}
+pub use Rattle.promises.specs.declared.Checked.{Checked}
+pub use Rattle.promises.specs.declared.Checked.TheVariants.{Passed, Refused}
+pub use Rattle.promises.specs.declared.PlanAnswer.{PlanAnswer}

@@ -19,6 +19,10 @@ light J ws {q} e = let a = capacity_answered J ws q e in (a.1, (weights_passed J
 pub no_pass : {A : Type 0} {v : Checked} {x : Refusal} → v ≡ Refused x → v ≡ Passed → A
 no_pass e p = absurd (let z : ◌≡◌ {A = ℕ} 0 1 = cc in omega arith)
 
+-- a refusal is the checks', and no pass
+pub unweighed_said : {A : Type 0} {v u : Checked} {x : Refusal} → v ≡ Refused x → Refused x ≡ u → (v ≡ u) × (v ≡ Passed → A)
+unweighed_said e f = (e ∙ f, no_pass e)
+
 module _ (J : Job) (first second : List ℕ) where
   pub first_count : (length first ≡ J.count → ⊥) → Refused refusal.WeightCount ≡ first_refusal (two_checks J first second)
   unfolding first_refusal
