@@ -36,8 +36,6 @@ pub struct Board {
     pub filled: i64,
     /// The most that any node may grow along the length and along the width.
     free: [i32; 2],
-    /// Kinds, of the first 128, that have no place here until something is taken out.
-    unfit: u128,
 }
 
 /// A place for a panel: beside a node, in a direction. The least score is best.
@@ -86,7 +84,7 @@ impl Score {
 impl Board {
     pub fn new(stock: usize, room: [i32; 2], limit: Option<u32>) -> Board {
         let limit = limit.map(|limit| limit as u8);
-        Board { stock, room, limit, nodes: Vec::new(), root: NONE, filled: 0, free: [0; 2], unfit: 0 }
+        Board { stock, room, limit, nodes: Vec::new(), root: NONE, filled: 0, free: [0; 2] }
     }
 
     pub fn is_empty(&self) -> bool {
@@ -141,30 +139,12 @@ impl Board {
         }
     }
 
-    /// Whether a kind is known to have no place. What is put beside others takes room and gives none.
-    pub fn is_unfit(&self, kind: usize) -> bool {
-        kind < 128 && self.unfit >> kind & 1 == 1
-    }
-
-    pub fn set_unfit(&mut self, kind: usize) {
-        self.unfit |= if kind < 128 { 1 << kind } else { 0 };
-    }
-
-    /// Looks for a place for a panel that scores less than the best so far. Now and then one is overlooked. `fits` is set
-    /// where there is any.
-    pub fn place(
-        &self,
-        panel: [i32; 2],
-        score: Score,
-        dice: &mut Dice,
-        best: &mut Place,
-        fits: &mut bool,
-    ) -> bool {
+    /// Looks for a place for a panel that scores less than the best so far. Now and then one is overlooked.
+    pub fn place(&self, panel: [i32; 2], score: Score, dice: &mut Dice, best: &mut Place) -> bool {
         let mut found = false;
         if self.is_empty() && panel[0] <= self.room[0] && panel[1] <= self.room[1] {
             let scores = [0, 1].map(|cut| score.of(self.room, panel, cut, [0; 2]));
             let score = scores[0].min(scores[1]);
-            *fits = true;
             if score < best.score && self.single_stages(panel) <= self.most_stages() {
                 *best = Place { score, beside: 0, cut: 0 };
                 found = true;
@@ -183,7 +163,6 @@ impl Board {
                 {
                     continue;
                 }
-                *fits = true;
                 let score = score.of(node.room, panel, cut, node.used);
                 if score < best.score && dice.next() & 127 != 0 && self.keeps_stages(node, panel, cut) {
                     *best = Place { score, beside: index as u32, cut: cut as u8 };
@@ -225,8 +204,8 @@ impl Board {
         self.rebuild(NONE, Some((place, leaf(kind, turned, used))), spare);
     }
 
-    /// An empty board with the panels of a plan of its model, whether they fit or not; none where it is no plan. `panel`
-    /// gives the kind and the sides of a panel of the plan, and none where it is to be left out.
+    /// An empty board with the panels of a plan of its model; none where they do not fit or pass the limit on stages.
+    /// `panel` gives the kind and the sides of a panel of the plan, and none where it is to be left out.
     pub fn with_plan(
         &self,
         plan: &Plan,
@@ -247,36 +226,9 @@ impl Board {
         }
         let mut board = Board { nodes, root: waiting.pop()?, ..self.clone() };
         board.settle();
-        Some(board)
-    }
-
-    /// Whether its panels fit and pass no limit on stages.
-    pub fn fits(&self) -> bool {
-        self.excess() == 0 && self.stages() <= self.most_stages()
-    }
-
-    /// The area by which its panels pass its room.
-    fn excess(&self) -> i64 {
-        let over = |axis: usize| i64::from((self.used()[axis] - self.room[axis]).max(0));
-        over(0) * i64::from(self.room[1]) + over(1) * i64::from(self.room[0])
-    }
-
-    /// Takes panels out until the others fit, each time the one after which the least is too much, of equal ones the
-    /// smallest; gives their kinds.
-    pub fn shrink(&mut self) -> Vec<usize> {
-        let (mut taken, mut spare) = (Vec::new(), Vec::new());
-        while !self.fits() {
-            let without = |node: u32| {
-                let mut board = self.clone();
-                board.take(node, &mut Vec::new());
-                (board.excess(), self.filled - board.filled)
-            };
-            let panels = (0..self.nodes.len() as u32).filter(|node| self.nodes[*node as usize].cut == PANEL);
-            let Some(node) = panels.min_by_key(|node| without(*node)) else { break };
-            taken.extend(self.kinds_at(node));
-            self.take(node, &mut spare);
-        }
-        taken
+        let used = board.used();
+        let fits = used[0] <= board.room[0] && used[1] <= board.room[1];
+        (fits && board.stages() <= board.most_stages()).then_some(board)
     }
 
     /// The stages of sawing, where they are limited.
@@ -286,7 +238,6 @@ impl Board {
 
     /// Takes a node out; its sibling takes their parent's place.
     pub fn take(&mut self, node: u32, spare: &mut Vec<Node>) {
-        self.unfit = 0;
         self.rebuild(node, None, spare);
     }
 

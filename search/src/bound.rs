@@ -5,18 +5,16 @@ use super::model::Model;
 use super::proof::{Answer, Priced, MOST_PRICE};
 use super::simplex::{Column, Simplex};
 use super::task::{Stock, Task};
-use planner::Plan;
 
 /// Multipliers and the Lagrangian bound that they give.
-#[derive(Debug)]
+#[derive(Clone, Debug)]
 pub struct Lagrange {
     pub bound: u64,
     pub multipliers: Vec<u32>,
 }
 
-/// The share of the best multipliers so far in those that are tried first, and of the best prices.
+/// The share of the best multipliers so far in those that are tried first.
 const STEADY: f64 = 0.6;
-const STEADY_PRICES: f64 = 0.85;
 
 /// A board whose prices are lowered by multipliers.
 struct Lowered<'a> {
@@ -25,7 +23,6 @@ struct Lowered<'a> {
     best: Option<Lagrange>,
     /// The best multipliers, before they were rounded.
     steady: Vec<f64>,
-    plans: Vec<Plan>,
     calls: usize,
 }
 
@@ -36,7 +33,7 @@ impl Lowered<'_> {
         let multipliers: Vec<u32> = at.iter().zip(self.prices).map(whole).collect();
         let left: Vec<u32> = self.prices.iter().zip(&multipliers).map(|(price, less)| price - less).collect();
         self.board.set_prices(&left);
-        let Answer { bound, plan } = self.board.price(self.prices.len(), work)?;
+        let Answer { bound, copies } = self.board.price(self.prices.len(), work)?;
         self.calls += 1;
         let charge = |(kind, copies): &(usize, u16)| u64::from(multipliers[*kind]) * u64::from(*copies);
         let bound = bound + self.board.entries.entries.iter().map(charge).sum::<u64>();
@@ -44,23 +41,17 @@ impl Lowered<'_> {
             self.best = Some(Lagrange { bound, multipliers });
             self.steady = at;
         }
-        Some(plan.map(|(plan, mut column)| {
-            self.plans.push(plan);
+        Some(copies.map(|mut column| {
             let earned = column.iter().zip(self.prices).map(|(copies, price)| copies * f64::from(*price));
             let cost = -earned.sum::<f64>();
             column.push(1.0);
             (column, cost)
         }))
     }
-
-    fn done(self) -> Option<(Lagrange, Vec<Plan>)> {
-        Some((self.best?, self.plans))
-    }
 }
 
 /// The least Lagrangian bound of a board under its prices: for all multipliers m, no plan within the order earns more
-/// than the bound at prices less m, and m for every copy ordered. It starts from multipliers of another model, and gives
-/// the plans that it met.
+/// than the bound at prices less m, and m for every copy ordered. It starts from multipliers of another model.
 pub fn lagrange(
     counts: &[u32],
     board: &Priced,
@@ -68,27 +59,26 @@ pub fn lagrange(
     start: &[u32],
     most_calls: usize,
     work: &mut Work,
-) -> Option<(Lagrange, Vec<Plan>)> {
+) -> Option<Lagrange> {
     let kinds = prices.len();
     let mut right: Vec<f64> = counts.iter().map(|count| f64::from(*count)).collect();
     right.push(1.0);
     let mut simplex = Simplex::new(&vec![1.0; kinds + 1], &vec![0.0; kinds + 1], &right);
-    let (steady, plans) = (vec![0.0; kinds], Vec::new());
-    let mut lowered = Lowered { board: board.clone(), prices, best: None, steady, plans, calls: 0 };
+    let mut lowered =
+        Lowered { board: board.clone(), prices, best: None, steady: vec![0.0; kinds], calls: 0 };
     let mut columns: Vec<Column> = Vec::new();
     if start.len() == kinds {
         let start = start.iter().map(|at| f64::from(*at)).collect();
         columns.extend(lowered.try_out(start, work)?);
     }
     loop {
-        let before = work.left();
         simplex.solve(&columns, 1.0, work);
         let value = -simplex.value();
         let duals: Vec<f64> = simplex.duals().iter().map(|dual| -dual).collect();
         let mut gained = false;
         for share in [STEADY, 0.0] {
             let Some((column, cost)) = lowered.try_out(mixed(share, &lowered.steady, &duals), work)? else {
-                return lowered.done();
+                return lowered.best;
             };
             if cost + column.iter().zip(&duals).map(|(copies, dual)| copies * dual).sum::<f64>() < -0.5 {
                 gained = true;
@@ -97,9 +87,8 @@ pub fn lagrange(
             }
         }
         let reached = lowered.best.as_ref().is_some_and(|best| (best.bound as f64) < value + 1.0);
-        let ended = lowered.calls >= most_calls || !work.has_another(before - work.left());
-        if !gained || reached || ended {
-            return lowered.done();
+        if !gained || reached || lowered.calls >= most_calls || work.is_over() {
+            return lowered.best;
         }
     }
 }
@@ -121,7 +110,7 @@ pub struct Floor {
     pub cost: u64,
 }
 
-/// A board of the stock with its model: what it costs, and how many there are, if not as many as are needed.
+/// A board of the stock with its model: what it costs, and how many there are, if that limits it.
 pub struct Offer {
     pub priced: Priced,
     pub cost: u64,
@@ -134,104 +123,59 @@ impl Offer {
     pub fn new(task: &Task, stock: usize, model: &Model, memory: u64) -> Option<Offer> {
         let Stock { sides, count, cost } = task.stock[stock];
         let priced = Priced::new(task, &task.bounded_counts(), sides, model, memory)?;
-        Some(Offer { priced, cost, count, sides })
-    }
-
-    /// How many there are of a board that costs nothing, an offcut.
-    fn free(&self) -> Option<u32> {
-        self.count.filter(|_| self.cost == 0)
+        Some(Offer { priced, cost, count: if cost == 0 { count } else { None }, sides })
     }
 }
 
-/// The best floor that is found, up to what a plan costs. It starts from prices such as those of other models.
+/// The best floor that is found, up to what a plan costs. It starts from prices of other models.
 pub fn floor(
     task: &Task,
     offers: &mut [Offer],
-    starts: &[Vec<u32>],
+    start: &[u32],
     enough: u64,
     most_calls: usize,
     work: &mut Work,
 ) -> Option<Floor> {
-    let mut rising = Rising { master: Master::new(task, offers), offers, best: None, call: 0 };
-    for prices in starts {
-        if !rising.has_time(work) {
-            break;
-        }
-        rising.try_out(prices.clone(), None, work)?;
+    let kinds = task.kinds.len();
+    let mut master = Master::new(task, offers);
+    let mut best: Option<Floor> = None;
+    let mut steady: Option<Vec<f64>> = None;
+    if start.len() == kinds {
+        let (floor, plans) = priced(offers, start.to_vec(), work)?;
+        plans.into_iter().enumerate().for_each(|(index, plan)| master.add(index, offers[index].cost, plan));
+        steady = Some(floor.duals(offers));
+        best = Some(floor);
     }
     for _ in 0..most_calls {
-        rising.master.simplex.solve(&rising.master.columns, -1.0, work);
-        let (duals, value) = (rising.master.simplex.duals(), rising.master.simplex.value());
-        let mut tried = Tried::default();
-        for share in [STEADY_PRICES, 0.0] {
-            if !rising.has_time(work) {
-                return rising.floor();
+        master.simplex.solve(&master.columns, -1.0, work);
+        let duals = master.simplex.duals();
+        let value = master.simplex.value();
+        let (mut gained, mut long) = (false, false);
+        for share in [STEADY, 0.0] {
+            let at = steady.as_ref().map_or(duals[..kinds].to_vec(), |steady| mixed(share, steady, &duals));
+            let (floor, plans) = priced(offers, whole_prices(&at), work)?;
+            for (index, plan) in plans.into_iter().enumerate() {
+                long |= plan.is_empty();
+                if master.gains(index, offers[index].cost, &plan, &duals) {
+                    gained = true;
+                    master.add(index, offers[index].cost, plan);
+                }
             }
-            tried = rising.try_out(rising.prices(task, share, &duals), Some(&duals), work)?;
-            if tried.gained || tried.long {
+            if best.as_ref().is_none_or(|best| floor.ratio(offers) > best.ratio(offers)) {
+                steady = Some(floor.duals(offers));
+                best = Some(floor);
+            }
+            if gained || long {
                 break;
             }
         }
-        let cost = rising.best.as_ref().map_or(0, |(floor, _)| floor.cost);
+        let cost = best.as_ref().map_or(0, |best| best.cost);
         let closed = enough < u64::MAX && cost >= (value - 1e-6).ceil() as u64;
-        if !tried.gained || tried.long || cost >= enough || closed || work.is_over() {
+        if !gained || long || cost >= enough || closed || work.is_over() {
             break;
         }
     }
-    rising.floor()
-}
-
-/// A floor that rises: the plans met so far, the best floor with its prices as duals, and the work of a call.
-struct Rising<'a> {
-    master: Master,
-    offers: &'a mut [Offer],
-    best: Option<(Floor, Vec<f64>)>,
-    call: i64,
-}
-
-/// Whether prices gave a plan that lowers the cost, and whether one is too long to be written.
-#[derive(Clone, Copy, Default)]
-struct Tried {
-    gained: bool,
-    long: bool,
-}
-
-impl Rising<'_> {
-    /// Whether there is time for one more call; always for the first.
-    fn has_time(&self, work: &Work) -> bool {
-        self.best.is_none() || work.has_another(self.call)
-    }
-
-    fn floor(self) -> Option<Floor> {
-        self.best.map(|(floor, _)| floor)
-    }
-
-    /// So large a share of the best prices, and the rest of these duals.
-    fn prices(&self, task: &Task, share: f64, duals: &[f64]) -> Vec<u32> {
-        let kinds = &duals[..task.kinds.len()];
-        whole_prices(&self.best.as_ref().map_or(kinds.to_vec(), |(_, steady)| mixed(share, steady, kinds)))
-    }
-
-    /// Tries prices, keeps the best floor and the plans that gain under these duals, or all.
-    fn try_out(&mut self, prices: Vec<u32>, duals: Option<&[f64]>, work: &mut Work) -> Option<Tried> {
-        let (before, mut tried) = (work.left(), Tried::default());
-        let (floor, plans) = priced(self.offers, prices, work)?;
-        self.call = before - work.left();
-        for (index, plan) in plans.into_iter().enumerate() {
-            let cost = self.offers[index].cost;
-            tried.long |= plan.is_empty();
-            if duals.is_none_or(|duals| self.master.gains(index, cost, &plan, duals)) {
-                tried.gained = true;
-                self.master.add(index, cost, plan);
-            }
-        }
-        let ratio = floor.ratio(self.offers);
-        if self.best.as_ref().is_none_or(|(best, _)| ratio > best.ratio(self.offers)) {
-            let duals = floor.duals(self.offers);
-            self.best = Some((floor, duals));
-        }
-        Some(tried)
-    }
+    best
 }
 
 /// The floor under prices, and for each board the plan behind its bound, empty where that is too long.
@@ -239,15 +183,14 @@ fn priced(offers: &mut [Offer], prices: Vec<u32>, work: &mut Work) -> Option<(Fl
     let (mut bounds, mut plans) = (Vec::new(), Vec::new());
     for offer in offers.iter_mut() {
         offer.priced.set_prices(&prices);
-        let Answer { bound, plan } = offer.priced.price(prices.len(), work)?;
+        let Answer { bound, copies } = offer.priced.price(prices.len(), work)?;
         bounds.push(bound);
-        plans.push(plan.map(|(_, copies)| copies).unwrap_or_default());
+        plans.push(copies.unwrap_or_default());
     }
     Some((Floor::new(prices, bounds, offers), plans))
 }
 
-/// Prices in step with these, the greatest the most that a price may be.
-pub fn whole_prices(duals: &[f64]) -> Vec<u32> {
+fn whole_prices(duals: &[f64]) -> Vec<u32> {
     let scale = MOST_PRICE as f64 / duals.iter().copied().fold(1e-9, f64::max);
     duals.iter().map(|dual| (dual * scale).clamp(0.0, MOST_PRICE as f64) as u32).collect()
 }
@@ -266,7 +209,7 @@ impl Floor {
         let free = offers
             .iter()
             .zip(&self.bounds)
-            .filter_map(|(offer, bound)| Some(u64::from(offer.free()?) * bound));
+            .filter_map(|(offer, bound)| Some(u64::from(offer.count?) * bound));
         free.sum()
     }
 
@@ -280,16 +223,11 @@ impl Floor {
         self.least(offers, |_| 1)
     }
 
-    /// Boards whose bounds add up to less than the order is worth do not hold it: that is the theorem `CheaperNotHeld`.
     fn least(&self, offers: &[Offer], cost: impl Fn(&Offer) -> u64) -> u64 {
         let need = self.worth.saturating_sub(self.other(offers));
-        let bought = offers.iter().zip(&self.bounds).filter(|(offer, _)| offer.free().is_none());
-        let size = |(offer, holds): (&Offer, &u64)| Size {
-            cost: cost(offer),
-            holds: *holds,
-            count: offer.count.map_or(u64::MAX, u64::from),
-        };
-        least_cost(bought.map(size).collect(), need)
+        let bought = offers.iter().zip(&self.bounds).filter(|(offer, _)| offer.count.is_none());
+        let boards: Vec<(u64, u64)> = bought.map(|(offer, bound)| (cost(offer), *bound)).collect();
+        least_cost(&boards, need)
     }
 
     /// The prices as duals: scaled so that no board that is bought holds more than it costs.
@@ -300,7 +238,7 @@ impl Floor {
 
     /// The most that a board that is bought holds for its cost.
     fn each(&self, offers: &[Offer]) -> f64 {
-        let bought = offers.iter().zip(&self.bounds).filter(|(offer, _)| offer.free().is_none());
+        let bought = offers.iter().zip(&self.bounds).filter(|(offer, _)| offer.count.is_none());
         bought.map(|(offer, bound)| *bound as f64 / (offer.cost as f64).max(1e-9)).fold(0.0, f64::max)
     }
 
@@ -315,49 +253,24 @@ impl Floor {
     }
 }
 
-/// Boards of one size: what one costs and what it holds at most, and how many there are.
-#[derive(Clone, Copy, Debug)]
-struct Size {
-    cost: u64,
-    holds: u64,
-    count: u64,
-}
-
-/// Sets of boards that are looked at.
-const MOST_SETS: usize = 100_000;
-
-/// The least cost of boards that hold so much together, those of the least cost for what they hold first.
-fn least_cost(mut sizes: Vec<Size>, need: u64) -> u64 {
-    sizes.retain(|size| size.holds > 0);
-    let each = |size: &Size, other: &Size| u128::from(size.cost) * u128::from(other.holds);
-    sizes.sort_by(|one, other| each(one, other).cmp(&each(other, one)));
-    least_within(&sizes, need, u64::MAX, &mut MOST_SETS.clone())
-}
-
-/// The least cost, where it is below `most`. Where too many sets are looked at, no more than it.
-fn least_within(sizes: &[Size], need: u64, most: u64, sets: &mut usize) -> u64 {
-    let [size, others @ ..] = sizes else { return if need == 0 { 0 } else { u64::MAX } };
-    let at_least = size.for_all(need);
-    if at_least >= most || *sets == 0 || need == 0 {
-        return at_least;
-    }
-    *sets -= 1;
-    let mut least = most;
-    for number in (0..=need.div_ceil(size.holds).min(size.count)).rev() {
-        let (own, left) =
-            (number.saturating_mul(size.cost), need.saturating_sub(number.saturating_mul(size.holds)));
-        if own < least {
-            least = least.min(own.saturating_add(least_within(others, left, least - own, sets)));
+/// The least cost of boards, each with its cost and what it holds at most, that hold so much together. Of more than
+/// three sizes the best ratio is taken for all.
+fn least_cost(boards: &[(u64, u64)], need: u64) -> u64 {
+    let holding: Vec<(u64, u64)> = boards.iter().copied().filter(|(_, bound)| *bound > 0).collect();
+    match holding[..] {
+        _ if need == 0 => 0,
+        [] => u64::MAX,
+        [(cost, bound)] => cost * need.div_ceil(bound),
+        [(cost, bound), ref rest @ ..] if rest.len() < 3 => {
+            let most = need.div_ceil(bound);
+            let with = |number: u64| cost * number + least_cost(rest, need.saturating_sub(number * bound));
+            (0..=most).map(with).min().unwrap_or(0)
         }
-    }
-    least
-}
-
-impl Size {
-    /// What boards of this size cost that hold so much, where parts of boards may be bought.
-    fn for_all(&self, need: u64) -> u64 {
-        let cost = (u128::from(self.cost) * u128::from(need)).div_ceil(u128::from(self.holds));
-        u64::try_from(cost).unwrap_or(u64::MAX)
+        _ => holding
+            .iter()
+            .map(|(cost, bound)| (u128::from(*cost) * u128::from(need) / u128::from(*bound)) as u64)
+            .min()
+            .unwrap_or(0),
     }
 }
 
@@ -380,7 +293,7 @@ impl Master {
         let kinds = task.kinds.len();
         let mut right: Vec<f64> = task.counts().iter().map(|count| f64::from(*count)).collect();
         let (mut diagonal, mut costs) = (vec![1.0; kinds], vec![DEAR; kinds]);
-        for offer in offers.iter().filter(|offer| offer.free().is_none()) {
+        for offer in offers.iter().filter(|offer| offer.count.is_none()) {
             for kind in 0..kinds {
                 for turned in task.ways(kind, offer.sides) {
                     let (panel, room) = (task.wide(kind, turned), task.room(offer.sides));
@@ -394,8 +307,8 @@ impl Master {
         }
         let mut rows = Vec::new();
         for offer in offers {
-            rows.push(offer.free().map(|_| right.len()));
-            if let Some(count) = offer.free() {
+            rows.push(offer.count.map(|_| right.len()));
+            if let Some(count) = offer.count {
                 right.push(-f64::from(count));
                 diagonal.push(-1.0);
                 costs.push(0.0);
@@ -429,46 +342,5 @@ impl Master {
 
     fn add(&mut self, offer: usize, cost: u64, plan: Vec<f64>) {
         self.columns.push((self.column(offer, &plan), cost as f64));
-    }
-}
-
-#[cfg(test)]
-mod tests {
-    use super::*;
-    use crate::dice::Dice;
-
-    /// The least cost of boards that hold so much, by trying one board after another.
-    fn tried(sizes: &[Size], need: u64) -> u64 {
-        if need == 0 {
-            return 0;
-        }
-        let with = |index: usize| {
-            let mut left = sizes.to_vec();
-            left[index].count -= 1;
-            sizes[index].cost.saturating_add(tried(&left, need.saturating_sub(sizes[index].holds)))
-        };
-        (0..sizes.len()).filter(|index| sizes[*index].count > 0).map(with).min().unwrap_or(u64::MAX)
-    }
-
-    #[test]
-    fn costs_of_several_sizes_are_least() {
-        let mut dice = Dice::new(3);
-        for _ in 0..300 {
-            let mut from = |low: usize, high: usize| (low + dice.below(high - low + 1)) as u64;
-            let sizes: Vec<Size> = (0..from(1, 5))
-                .map(|_| Size { cost: from(1, 30), holds: from(3, 20), count: from(0, 3) })
-                .collect();
-            let need = from(0, 30);
-            assert_eq!(least_cost(sizes.clone(), need), tried(&sizes, need), "{sizes:?} {need}");
-        }
-    }
-
-    #[test]
-    fn too_many_sets_give_no_more_than_the_least_cost() {
-        let sizes: Vec<Size> =
-            (0..12).map(|at| Size { cost: 1_000 + at, holds: 997, count: u64::MAX }).collect();
-        assert_eq!(least_cost(sizes.clone(), 997 * 3_000), 3_000_000);
-        let least = least_within(&sizes, 997 * 3_000, u64::MAX, &mut 5);
-        assert!((2_900_000..=3_000_000).contains(&least), "{least}");
     }
 }

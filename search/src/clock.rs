@@ -81,15 +81,10 @@ impl Work {
         done
     }
 
-    /// Whether there is the work and the time for a call of so much, and it is not too long. The verdict makes it again.
+    /// Whether there is the work and the time for a call of so much, and it is not too long.
     pub fn has_call(&self, work: u64) -> bool {
         let most = LONGEST_CALL.min(self.left.max(0) as u64);
-        work <= most && self.clock.has(Duration::from_nanos(2 * work))
-    }
-
-    /// Whether there is the time for a call like one that took so much, and for the same in the verdict.
-    pub fn has_another(&self, work: i64) -> bool {
-        !self.is_over() && self.clock.has(Duration::from_nanos(2 * work.max(0) as u64))
+        work <= most && self.clock.has(Duration::from_nanos(work))
     }
 
     pub fn is_over(&self) -> bool {

@@ -4,7 +4,7 @@ use super::bound::lagrange;
 use super::clock::{Clock, Work, SECOND};
 use super::dice::Dice;
 use super::model::Problem;
-use super::pack::{first, Packer, Packing, Run, HOT, WARM};
+use super::pack::{first, Packer, Packing, Run};
 use super::proof::{Modelled, Priced, MOST_PRICE};
 use super::short::is_short;
 use super::task::Task;
@@ -26,14 +26,8 @@ const RUNGS: [Rung; 3] = [
     Rung { side: 999, calls: 150, finding: SECOND / 2 },
 ];
 
-/// The work of the rounds on each of two threads. With a time, rounds go on until it is up, each with a quarter more.
-const ROUNDS: [i64; 5] = [SECOND / 4, SECOND / 2, 6 * SECOND, 6 * SECOND, 6 * SECOND];
-
-/// Packings from written plans that are kept to start from; the plans that are looked at, the last ones, and the panels of
-/// one at most.
-const STARTS: usize = 6;
-const MOST_PLANS: usize = 60;
-const MOST_PANELS: usize = 200;
+/// The work of the rounds on each of two threads. With a time, rounds go on until it is up, each with half as much again.
+const ROUNDS: [i64; 4] = [SECOND / 4, SECOND / 2, 6 * SECOND, 8 * SECOND];
 
 /// Packing with less work than this does not pay.
 const LEAST_RUN: i64 = SECOND / 100;
@@ -101,8 +95,6 @@ struct Search<'a> {
     memory: u64,
     empty: Packing,
     best: Packing,
-    /// Packings from plans behind bounds, the best first: the second thread starts from them.
-    starts: Vec<Packing>,
     ceiling: Option<Ceiling>,
     /// The rungs that are left, none where the last model is exact, and that model.
     rungs: &'static [Rung],
@@ -117,7 +109,6 @@ struct Search<'a> {
 struct Found {
     ceiling: Option<Ceiling>,
     packings: Vec<Packing>,
-    starts: Vec<Packing>,
     modelled: Option<Priced>,
     is_exact: bool,
     is_weighed: bool,
@@ -128,7 +119,7 @@ pub fn one(task: &Task, board: usize, clock: Clock, memory: u64, progress: &Prog
     let (mut rounds, mut work) = (ROUNDS.iter(), 0);
     search.call_exact();
     while !search.is_done() && (rounds.len() > 0 || clock.is_timed()) {
-        work = rounds.next().copied().unwrap_or(work + work / 4);
+        work = rounds.next().copied().unwrap_or(work + work / 2);
         search.round(work);
         let (worth, most) = (search.worth(&search.best), search.most());
         progress.show(Seen::Worth { worth, most }, clock);
@@ -156,7 +147,6 @@ impl Search<'_> {
             memory,
             empty,
             best,
-            starts: Vec::new(),
             ceiling: None,
             rungs,
             modelled: None,
@@ -180,22 +170,17 @@ impl Search<'_> {
             work.spend(estimate as usize);
             let Some((bound, plan)) = priced.exact() else { return };
             let ceiling = Some(Ceiling { bound, modelled: self.evidence(&priced) });
-            let packings = self.packed(&priced, &plan).filter(fits).into_iter().collect();
-            let (modelled, is_weighed) = (Some(priced), is_exact);
-            self.keep(Found { ceiling, packings, modelled, is_exact, is_weighed, ..Found::default() });
+            let packings = self.packed(&priced, &plan).into_iter().collect();
+            self.keep(Found { ceiling, packings, modelled: Some(priced), is_exact, is_weighed: is_exact });
             if self.is_done() {
                 return;
             }
         }
     }
 
-    /// The worth of what a packing leaves out.
-    fn missing(&self, packing: &Packing) -> i64 {
-        packing.left.iter().zip(&self.values).map(|(left, value)| i64::from(*left) * value).sum()
-    }
-
     fn worth(&self, packing: &Packing) -> i64 {
-        self.all - self.missing(packing)
+        let left = packing.left.iter().zip(&self.values).map(|(left, value)| i64::from(*left) * value);
+        self.all - left.sum::<i64>()
     }
 
     /// The most that a packing can be worth, as far as that is proved.
@@ -203,15 +188,13 @@ impl Search<'_> {
         self.ceiling.as_ref().map_or(self.all, |ceiling| self.all.min(ceiling.bound as i64))
     }
 
-    /// Packs on two threads. The second looks for a bound first and packs with the work left, from a written plan.
+    /// Packs on two threads. The second looks for a bound first and packs with the work left.
     fn round(&mut self, work: i64) {
         let won = AtomicU64::new(u64::MAX);
         let enough = self.all - self.most();
         let pack = |work: i64, seed: u64| {
-            let start = self.starts.get(self.seed as usize / 2 % STARTS).filter(|_| seed == 1);
-            let (from, heat) = start.map_or((&self.empty, HOT), |start| (start, WARM));
-            let run = Run { work: work as u64, heat, enough, clock: self.clock, won: &won };
-            Packer::new(self.task, &self.values, self.seed + seed).improve(from, &run)
+            let run = Run { work: work as u64, enough, clock: self.clock, won: &won };
+            Packer::new(self.task, &self.values, self.seed + seed).improve(&self.empty, &run)
         };
         let (packings, found) = thread::scope(|scope| {
             let beside = scope.spawn(|| {
@@ -247,11 +230,6 @@ impl Search<'_> {
             self.rungs = &[];
         }
         self.is_weighed |= found.is_weighed;
-        let mut starts = std::mem::take(&mut self.starts);
-        starts.extend(found.starts);
-        starts.sort_by_key(|packing| self.missing(packing));
-        starts.truncate(STARTS);
-        self.starts = starts;
         found.packings.into_iter().for_each(|packing| self.offer(packing));
     }
 
@@ -280,40 +258,11 @@ impl Search<'_> {
         let (priced, is_exact) = self.model(rung.side, rung.finding, work)?;
         let counts = held(self.task, self.task.stock[self.board].sides);
         let start = self.ceiling.as_ref().map_or(&[][..], |before| &before.modelled.multipliers);
-        let (made, plans) = lagrange(&counts, &priced, &self.prices.prices, start, rung.calls, work)?;
+        let made = lagrange(&counts, &priced, &self.prices.prices, start, rung.calls, work)?;
         let bound = priced.lagrangian(&made.multipliers)?;
         let modelled = Modelled { multipliers: made.multipliers, ..self.evidence(&priced) };
         let ceiling = Some(Ceiling { bound, modelled });
-        let starts = self.filled_up(&priced, &plans, work);
-        Some(Found {
-            ceiling,
-            packings: starts.clone(),
-            starts,
-            modelled: Some(priced),
-            is_exact,
-            ..Found::default()
-        })
-    }
-
-    /// Packings of plans, without what is not ordered or does not fit truly, and filled up: the best of them.
-    fn filled_up(&self, priced: &Priced, plans: &[Plan], work: &mut Work) -> Vec<Packing> {
-        let mut packer = Packer::new(self.task, &self.values, 0);
-        let mut made: Vec<Packing> = Vec::new();
-        for plan in plans.iter().rev().take(MOST_PLANS).take_while(|_| !work.is_over()) {
-            let Some(mut packing) = self.packed(priced, plan) else { continue };
-            if packing.boards[0].kinds().len() > MOST_PANELS {
-                continue;
-            }
-            packing.boards[0].shrink().into_iter().for_each(|kind| packing.left[kind] += 1);
-            packer.fill(&mut packing, &mut |_| None);
-            if made.iter().all(|other| other.left != packing.left) {
-                made.push(packing);
-            }
-        }
-        work.spend(packer.work as usize);
-        made.sort_by_key(|packing| self.missing(packing));
-        made.truncate(STARTS);
-        made
+        Some(Found { ceiling, modelled: Some(priced), is_exact, ..Found::default() })
     }
 
     /// The bound under weights on a model, where every kind is one of the block.
@@ -325,7 +274,7 @@ impl Search<'_> {
         let worth = self.worth(&self.best);
         let mut best = worth;
         let mut judge = |plan: &Plan| {
-            let packing = self.packed(priced, plan).filter(fits);
+            let packing = self.packed(priced, plan);
             let worth = packing.as_ref().map_or(0, |packing| self.worth(packing));
             if worth > best {
                 best = worth;
@@ -346,7 +295,7 @@ impl Search<'_> {
         Modelled { stock: self.board, model, prices, ..Modelled::default() }
     }
 
-    /// The board with the panels of a plan of its model, as many as are ordered, whether they fit truly or not.
+    /// The board with the panels of a plan of its model, as many as are ordered; none where they do not fit truly.
     fn packed(&self, priced: &Priced, plan: &Plan) -> Option<Packing> {
         let mut left = self.empty.left.clone();
         let mut panel = |entry: u16, turned: bool| {
@@ -357,10 +306,6 @@ impl Search<'_> {
         let board = self.empty.boards[0].with_plan(plan, &mut panel)?;
         Some(Packing { boards: vec![board], left })
     }
-}
-
-fn fits(packing: &Packing) -> bool {
-    packing.boards.iter().all(Board::fits)
 }
 
 fn better(old: Option<Ceiling>, new: Option<Ceiling>) -> Option<Ceiling> {

@@ -13,11 +13,9 @@ pub struct Packing {
     pub left: Vec<u32>,
 }
 
-/// The heat of a run from nothing at its start, of one from a good packing, and of all at the end, in values of a mean
-/// panel.
-pub const HOT: f64 = 0.3;
-pub const WARM: f64 = 0.06;
-const COLD: f64 = 0.003;
+/// The heat at the start of a run, in values of a mean panel, and its share that is left at the end.
+const HEAT: f64 = 0.3;
+const COOLING: f64 = 0.01;
 
 /// One step in so many empties a whole board.
 const WHOLE: usize = 24;
@@ -25,11 +23,10 @@ const WHOLE: usize = 24;
 /// Work between two looks at the clock.
 const GLANCE: u64 = 200_000;
 
-/// The work of a step, of a kind in its queue, of a board that is passed over, of one and of a node of it that is looked
-/// at for a place, and of a node that is copied.
+/// The work of a step, of a kind in its queue, of a board and of a node of it that is looked at for a place, and of a
+/// node that is copied.
 const STEP: u64 = 600;
 const QUEUED: u64 = 40;
-const SKIP: u64 = 2;
 const BOARD: u64 = 8;
 const LOOK: u64 = 6;
 const COPY: u64 = 24;
@@ -44,11 +41,10 @@ pub struct Packer<'a> {
     pub work: u64,
 }
 
-/// A run: its work at most, its heat at the start, what may be missing at its end, and the least work in which a run beside
-/// it has come so far.
+/// A run: its work at most, what may be missing at its end, and the least work in which a run beside it has come so
+/// far.
 pub struct Run<'a> {
     pub work: u64,
-    pub heat: f64,
     pub enough: i64,
     pub clock: Clock,
     pub won: &'a AtomicU64,
@@ -92,7 +88,7 @@ impl<'a> Packer<'a> {
                 if spent > run.work || run.clock.is_over() || spent > run.won.load(Ordering::Relaxed) {
                     return (best, None);
                 }
-                heat = mean * run.heat * (COLD / run.heat).powf(spent as f64 / run.work as f64);
+                heat = mean * HEAT * COOLING.powf(spent as f64 / run.work as f64);
                 glance = self.work + GLANCE;
             }
             self.work += STEP;
@@ -160,7 +156,7 @@ impl<'a> Packer<'a> {
             [Score::LeastSlack, Score::LeastSlack, Score::LeastVoid, Score::EqualWidth][self.dice.below(4)];
         for kind in queue {
             while packing.left[kind] > 0 {
-                if let Some((board, turned, place)) = self.best_place(&mut packing.boards, kind, score) {
+                if let Some((board, turned, place)) = self.best_place(&packing.boards, kind, score) {
                     keep(touched, board, &packing.boards[board]);
                     let used = self.task.wide(kind, turned);
                     self.work += COPY * packing.boards[board].len() as u64;
@@ -175,31 +171,21 @@ impl<'a> Packer<'a> {
         }
     }
 
-    fn best_place(
-        &mut self,
-        boards: &mut [Board],
-        kind: usize,
-        score: Score,
-    ) -> Option<(usize, bool, Place)> {
+    fn best_place(&mut self, boards: &[Board], kind: usize, score: Score) -> Option<(usize, bool, Place)> {
         let [upright, turned] = [false, true].map(|turned| self.task.wide(kind, turned));
         let area = i64::from(upright[0]) * i64::from(upright[1]);
-        let ways = [(false, upright), (true, turned)];
-        let ways = if self.task.kinds[kind].turns { &ways[..] } else { &ways[..1] };
         let (mut best, mut found) = (Place::NOWHERE, None);
-        self.work += SKIP * boards.len() as u64;
-        for (index, board) in boards.iter_mut().enumerate() {
-            if board.filled + area > board.area() || board.is_unfit(kind) {
-                continue;
-            }
-            let mut fits = false;
-            for (turned, sides) in ways {
-                self.work += BOARD + LOOK * board.looks(*sides);
-                if board.place(*sides, score, &mut self.dice, &mut best, &mut fits) {
-                    found = Some((index, *turned));
+        for (index, board) in
+            boards.iter().enumerate().filter(|(_, board)| board.filled + area <= board.area())
+        {
+            for (turned, sides) in [(false, upright), (true, turned)] {
+                if turned && !self.task.kinds[kind].turns {
+                    continue;
                 }
-            }
-            if !fits {
-                board.set_unfit(kind);
+                self.work += BOARD + LOOK * board.looks(sides);
+                if board.place(sides, score, &mut self.dice, &mut best) {
+                    found = Some((index, turned));
+                }
             }
         }
         found.map(|(index, turned)| (index, turned, best))
@@ -243,92 +229,5 @@ pub fn first(packings: Vec<(Packing, Option<u64>)>) -> Vec<Packing> {
 fn keep(touched: &mut Touched, index: usize, board: &Board) {
     if !touched.iter().any(|(kept, _)| *kept == index) {
         touched.push((index, board.clone()));
-    }
-}
-
-#[cfg(test)]
-mod tests {
-    use super::*;
-    use crate::clock::SECOND;
-    use crate::{Millimetres, Order, Panel, Plate};
-    use planner::Plan;
-
-    fn generated(dice: &mut Dice) -> Task {
-        let mut from = |low: usize, high: usize| (low + dice.below(high - low + 1)) as u32;
-        let mm = |length: u32| Millimetres::of_thousandths(1_000 * length);
-        let panels = (0..from(2, 8)).map(|_| Panel {
-            turns: from(0, 1) == 1,
-            ..Panel::new("panel", mm(from(5, 40)), mm(from(5, 40)), from(1, 5))
-        });
-        let panels = panels.collect();
-        let stages = [None, Some(3)][from(0, 1) as usize];
-        let order = Order {
-            plates: vec![Plate::new(mm(90), mm(60))],
-            kerf: mm(1),
-            stages,
-            panels,
-            ..Order::default()
-        };
-        Task::new(&order)
-    }
-
-    fn board(task: &Task) -> Board {
-        Board::new(0, task.room(task.stock[0].sides), task.stages)
-    }
-
-    #[test]
-    fn kinds_that_are_passed_over_have_no_place() {
-        let mut dice = Dice::new(1);
-        let mut passed_over = 0;
-        for seed in 0..60 {
-            let task = generated(&mut dice);
-            let values: Vec<i64> = task.kinds.iter().map(|kind| i64::from(kind.sides[0])).collect();
-            let start = Packing { boards: vec![board(&task), board(&task)], left: task.counts() };
-            let (clock, won) = (Clock::new(None), &AtomicU64::new(u64::MAX));
-            let run = Run { work: SECOND as u64 / 500, heat: HOT, enough: -1, clock, won };
-            let (packing, _) = Packer::new(&task, &values, seed).improve(&start, &run);
-            for board in &packing.boards {
-                for kind in (0..task.kinds.len()).filter(|kind| board.is_unfit(*kind)) {
-                    passed_over += 1;
-                    for turned in task.ways(kind, task.stock[0].sides) {
-                        let (mut best, mut fits) = (Place::NOWHERE, false);
-                        let sides = task.wide(kind, turned);
-                        board.place(sides, Score::LeastSlack, &mut dice, &mut best, &mut fits);
-                        assert!(!fits, "{kind} {board:?}");
-                    }
-                }
-            }
-        }
-        assert!(passed_over > 20, "{passed_over}");
-    }
-
-    /// A plan of cuts and panels that follows no rule.
-    fn grown(plan: &mut Plan, kinds: usize, depth: usize, dice: &mut Dice) {
-        let is_cut = depth > 0 && dice.below(4) > 0;
-        plan.kinds.push(if is_cut { 2 + dice.below(2) as u8 } else { 1 });
-        plan.operands.push(if is_cut { 1 } else { dice.below(kinds) as u16 });
-        for _ in 0..if is_cut { 2 } else { 0 } {
-            grown(plan, kinds, depth - 1, dice);
-        }
-    }
-
-    #[test]
-    fn panels_are_taken_out_until_the_others_fit() {
-        let mut dice = Dice::new(2);
-        for _ in 0..200 {
-            let task = generated(&mut dice);
-            let mut plan = Plan::default();
-            grown(&mut plan, task.kinds.len(), 4, &mut dice);
-            let panel =
-                &mut |kind: u16, turned| Some((usize::from(kind), task.wide(usize::from(kind), turned)));
-            let mut board = board(&task).with_plan(&plan, panel).expect("a plan");
-            let (fitted, mut before) = (board.fits(), board.kinds());
-            let taken = board.shrink();
-            let mut after = [board.kinds(), taken.clone()].concat();
-            before.sort_unstable();
-            after.sort_unstable();
-            assert!(board.fits() && before == after, "{plan:?}");
-            assert_eq!(fitted, taken.is_empty(), "{plan:?}");
-        }
     }
 }

@@ -84,11 +84,11 @@ pub struct Priced {
     pub memory: u64,
 }
 
-/// What a call of the bound gives: the bound, and where the plan behind it is not too long that plan, with the copies of
-/// each kind of the task.
+/// What a call of the bound gives: the bound, and the copies of each kind of the task in the plan behind it, where
+/// that plan is not too long.
 pub struct Answer {
     pub bound: u64,
-    pub plan: Option<(Plan, Vec<f64>)>,
+    pub copies: Option<Vec<f64>>,
 }
 
 impl Priced {
@@ -130,12 +130,12 @@ impl Priced {
                 let mut copies = vec![0.0; kinds];
                 let entries = self.entries.entries.iter().zip(self.copies(&plan));
                 entries.for_each(|((kind, _), of)| copies[*kind] += f64::from(of));
-                Some(Answer { bound: bound.bound, plan: Some((plan, copies)) })
+                Some(Answer { bound: bound.bound, copies: Some(copies) })
             }
             Err(_) => {
                 let bound = planner.bound(&weights).ok()?;
                 work.spend(2 * fill_work(bound.lengths, bound.widths));
-                Some(Answer { bound: bound.bound, plan: None })
+                Some(Answer { bound: bound.bound, copies: None })
             }
         }
     }

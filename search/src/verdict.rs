@@ -159,19 +159,65 @@ fn bounded(task: &Task, evidence: &[Modelled], memory: u64) -> Option<(Vec<Offer
     Some((offers, floor))
 }
 
-/// The least cost and the fewest boards that any plan has, by the bounds of all boards of the stock. Of one size the proved
-/// call says how many are needed beside the offcuts. Of several it is the least sum of bounds that reaches the worth of the
-/// order: boards whose bounds add up to less do not hold it, by the theorem `CheaperNotHeld`.
+/// Other sizes beside the cheapest, up to which the proved call is made for sets of their boards, and how many sets.
+const MOST_OTHERS: usize = 2;
+const MOST_SETS: usize = 40;
+
+/// Boards of all sizes but one: what they cost, how many they are, and the most that they hold.
+#[derive(Clone, Copy, Debug, Default, PartialEq, Eq, PartialOrd, Ord)]
+struct Others {
+    cost: u64,
+    boards: u64,
+    holds: u64,
+}
+
+/// The least cost and the fewest boards that any plan has, by the bounds of all boards of the stock. Of the cheapest
+/// size the proved call says how many are needed beside each set of others; sets that are not tried count alone. Of very
+/// many sizes the sum of bounds says it.
 fn least(task: &Task, evidence: &[Modelled], memory: u64) -> Option<(u64, u64)> {
     let (offers, floor) = bounded(task, evidence, memory)?;
-    let mut bought = offers.iter().filter(|offer| offer.cost > 0);
-    match (bought.next(), bought.next()) {
-        (Some(only), None) => {
-            let (plates, _) = only.priced.plates_needed(floor.other(&offers))?;
-            Some((plates.saturating_mul(only.cost), plates))
-        }
-        _ => Some((floor.cost, floor.least_boards(&offers))),
+    let bought = || (0..offers.len()).filter(|index| offers[*index].count.is_none());
+    let cheapest = &offers[bought().min_by_key(|index| offers[*index].cost)?];
+    let sizes: Vec<(u64, u64)> = bought()
+        .filter(|index| !std::ptr::eq(&offers[*index], cheapest))
+        .map(|index| (offers[index].cost, floor.bounds[index]))
+        .collect();
+    let (mut cost, mut boards) = (floor.cost, floor.least_boards(&offers));
+    if sizes.len() > MOST_OTHERS {
+        return Some((cost, boards));
     }
+    let holds = floor.other(&offers);
+    let sets = sets(&sizes, Others { holds, ..Others::default() }, cost, boards);
+    for others in sets.iter().take(MOST_SETS) {
+        let (plates, _) = cheapest.priced.plates_needed(others.holds)?;
+        cost = cost.min(others.cost.saturating_add(plates.saturating_mul(cheapest.cost)));
+        boards = boards.min(others.boards.saturating_add(plates));
+    }
+    for others in sets.iter().skip(MOST_SETS) {
+        (cost, boards) = (cost.min(others.cost), boards.min(others.boards));
+    }
+    Some((cost, boards))
+}
+
+/// Sets of boards of these sizes, each with its cost and what it holds at most, beside others: all that cost less or
+/// are fewer than this, the cheapest first. Of one size there are so many at most that the last of them is not tried.
+fn sets(sizes: &[(u64, u64)], others: Others, most_cost: u64, most_boards: u64) -> Vec<Others> {
+    let mut sets = vec![others];
+    for (cost, bound) in sizes {
+        let with = |others: &Others| {
+            let Others { cost: before, boards, holds } = *others;
+            let more = (0..=MOST_SETS as u64).map(move |number| Others {
+                cost: before + number * cost,
+                boards: boards + number,
+                holds: holds + number * bound,
+            });
+            let counts = |others: &Others| others.cost < most_cost || others.boards < most_boards;
+            more.take_while(counts).collect::<Vec<_>>()
+        };
+        sets = sets.iter().flat_map(with).collect();
+    }
+    sets.sort();
+    sets
 }
 
 /// Where there are no offcuts, something needs a board: the cheapest.

@@ -1,11 +1,11 @@
 // Whole orders: every panel on boards that cost as little as possible, and what any plan must at least cost. Then the
 // last board is packed closer, so that its rest is as large as possible.
 use super::board::Board;
-use super::bound::{floor, whole_prices, Floor, Offer};
+use super::bound::{floor, Floor, Offer};
 use super::clock::{Clock, Work, SECOND};
 use super::dice::Dice;
 use super::model::Problem;
-use super::pack::{first, Packer, Packing, Run, HOT};
+use super::pack::{first, Packer, Packing, Run};
 use super::proof::Modelled;
 use super::task::{Stock, Task};
 use super::{Progress, Seen};
@@ -22,13 +22,13 @@ const RUNGS: [Rung; 4] = [
     Rung { side: 100, calls: 400, finding: SECOND / 20, work: SECOND / 2 },
     Rung { side: 250, calls: 300, finding: SECOND / 7, work: SECOND },
     Rung { side: 500, calls: 200, finding: SECOND / 3, work: 3 * SECOND },
-    Rung { side: 999, calls: 300, finding: SECOND / 3, work: 12 * SECOND },
+    Rung { side: 999, calls: 200, finding: SECOND / 3, work: 8 * SECOND },
 ];
 
 /// Work of the rounds of packing after the bounds, on each of two threads, and of all rounds. Where there is a time,
 /// rounds go on until it is up, each with half as much again.
-const ROUNDS: [i64; 2] = [6 * SECOND, 24 * SECOND];
-const ALL_ROUNDS: i64 = 30 * SECOND;
+const ROUNDS: [i64; 3] = [3 * SECOND, 6 * SECOND, 9 * SECOND];
+const ALL_ROUNDS: i64 = 24 * SECOND;
 
 /// Work of each try to pack the last board closer, and how often its length and its width are halved towards the
 /// least.
@@ -77,7 +77,7 @@ struct Search<'a> {
     best: Packing,
     proof: Option<Proof>,
     /// Prices of the last floor, from which the next starts.
-    prices: Option<Vec<u32>>,
+    prices: Vec<u32>,
     seed: u64,
 }
 
@@ -87,7 +87,7 @@ pub fn whole(task: &Task, clock: Clock, memory: u64, progress: &Progress) -> Who
     if task.kinds.is_empty() {
         return Whole { packing: best, proof: None };
     }
-    let (proof, prices, seed) = (None, None, 0);
+    let (proof, prices, seed) = (None, Vec::new(), 0);
     let before = clock.share(LAST_BOARD);
     let mut search = Search { task, values, clock: before, memory, progress, best, proof, prices, seed };
     search.fill();
@@ -209,7 +209,7 @@ impl Search<'_> {
     /// Bounds on finer and finer models, while boards are packed beside; at least one, even where the time is up.
     fn climb(&mut self) {
         for rung in self.rungs() {
-            if self.is_best() || self.clock.is_over() && self.prices.is_some() {
+            if self.is_best() || self.clock.is_over() && !self.prices.is_empty() {
                 return;
             }
             let cost = if self.missing(&self.best) == 0 { self.cost(&self.best) } else { u64::MAX - 1 };
@@ -242,7 +242,7 @@ impl Search<'_> {
     fn keep(&mut self, proof: Option<Proof>) {
         let cost = |proof: &Option<Proof>| proof.as_ref().map(|proof| proof.floor.cost);
         if let Some(proof) = &proof {
-            self.prices = Some(proof.floor.prices.clone());
+            self.prices.clone_from(&proof.floor.prices);
         }
         if cost(&proof) > cost(&self.proof) {
             self.proof = proof;
@@ -280,7 +280,7 @@ impl Search<'_> {
 
     /// A packing of so much work from a start.
     fn packed(&self, start: &Packing, work: i64, seed: u64, won: &AtomicU64) -> (Packing, Option<u64>) {
-        let run = Run { work: work as u64, heat: HOT, enough: 0, clock: self.clock, won };
+        let run = Run { work: work as u64, enough: 0, clock: self.clock, won };
         let (mut packing, taken) = Packer::new(self.task, &self.values, seed).improve(start, &run);
         packing.boards.retain(|board| !board.is_empty());
         (packing, taken)
@@ -362,9 +362,7 @@ impl Search<'_> {
             offers.push(Offer::new(self.task, index, &model, self.memory)?);
             modelled.push(Modelled { stock: index, model, ..Modelled::default() });
         }
-        let areas: Vec<f64> = self.values.iter().map(|value| *value as f64).collect();
-        let starts: Vec<Vec<u32>> = [whole_prices(&areas)].into_iter().chain(self.prices.clone()).collect();
-        let floor = floor(self.task, &mut offers, &starts, enough, rung.calls, work)?;
+        let floor = floor(self.task, &mut offers, &self.prices, enough, rung.calls, work)?;
         modelled.iter_mut().for_each(|part| part.prices.clone_from(&floor.prices));
         Some(Proof { modelled, floor })
     }
@@ -412,8 +410,7 @@ impl Search<'_> {
             let middle = most - (most - least) / 2;
             next.boards[last].room[axis] = middle;
             let (work, won) = (CLOSER as u64, &AtomicU64::new(u64::MAX));
-            let (next, _) =
-                packer.improve(&next, &Run { work, heat: HOT, enough: 0, clock: self.clock, won });
+            let (next, _) = packer.improve(&next, &Run { work, enough: 0, clock: self.clock, won });
             if self.missing(&next) == 0 {
                 now = next;
             } else {
@@ -429,7 +426,7 @@ pub fn bounds_of_order(task: &Task, clock: Clock, memory: u64) -> Vec<Modelled> 
     let best = Packing { boards: Vec::new(), left: task.counts() };
     let progress = &Progress::none();
     let values = areas(task);
-    let (proof, prices, seed) = (None, None, 0);
+    let (proof, prices, seed) = (None, Vec::new(), 0);
     let mut search = Search { task, values, clock, memory, progress, best, proof, prices, seed };
     for rung in search.rungs() {
         search.keep(search.prove(rung, u64::MAX - 1, &mut Work::new(rung.work, clock)));

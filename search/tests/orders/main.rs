@@ -1,7 +1,6 @@
 // The library's calls on small orders: plans in one call, faults of an order, and plans that somebody has drawn.
 mod drawn;
 mod faults;
-mod measured;
 mod planned;
 
 use planner_search::{Limits, Millimetres, Order, Panel, Plate};
