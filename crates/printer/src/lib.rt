@@ -2,7 +2,7 @@
 // What decides is proved here or in the crates below: where the job ends, the plan with its profit, whether it is best.
 #![tactic(auto)]
 
-ghost use Rattle.std.specs.Prelude.{◌≡◌, ◌≤◌, length};
+ghost use Rattle.std.specs.Prelude.{◌≡◌, ◌≤◌, length, IfOk};
 ghost use Rattle.job.specs.Weights.{block_job};
 ghost use Rattle.plan.specs.Calls.{JobPasses};
 ghost use Rattle.bound.specs.Bound.{lent};
@@ -215,9 +215,24 @@ pub fn print_plan(rt: &impl Print, input: &[u8]) -> io::Result<()> {
     print_answer(rt, &input[..end], choices, &input[end..])
 }
 
-// The same of what a reader gives: at most 711 bytes, until these are read or the input ends.
-pub fn print_input(rt: &(impl Print + Alloc), input: &mut impl Read) -> io::Result<()> {
-    let mut bytes = Vec::new(rt.alloc());
-    input.by_ref().take(711).read_to_end(&mut bytes)?;
-    print_plan(rt, &bytes)
+// Fills the bytes from a reader, until they are full or the input ends, and answers how many there are.
+fn read_full(input: &mut impl Read, bytes: &mut [u8; 711]) -> io::Result<usize>
+    ensures { IfOk result (λ n. n ≤ 711) }
+{
+    let mut n: usize = 0;
+    while n < 711 {
+        let got = input.read(&mut bytes[n..])?;
+        if got == 0 {
+            return Ok(n);
+        }
+        n += got;
+    }
+    Ok(n)
+}
+
+// The same of what a reader gives: at most 711 bytes, until these are full or the input ends.
+pub fn print_input(rt: &impl Print, input: &mut impl Read) -> io::Result<()> {
+    let mut buffer = [0u8; 711];
+    let n = read_full(input, &mut buffer)?;
+    print_plan(rt, &buffer[..n])
 }

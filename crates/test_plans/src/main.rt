@@ -75,12 +75,7 @@ fn print_row(rt: &impl Print, t: &mut Words) -> io::Result<()> {
 }
 
 // Runs the command of a letter: a capital one is a call, a small one sets numbers.
-fn run(
-    rt: &(impl Print + Alloc),
-    input: &mut impl Read,
-    t: &mut Words,
-    letter: u8,
-) -> io::Result<()> {
+fn run(rt: &impl Print, input: &mut impl Read, t: &mut Words, letter: u8) -> io::Result<()> {
     match letter {
         b'J' => run_truncations(rt, t, JOB, b'A')?,
         b'P' => run_truncations(rt, t, PLAN, b'B')?,
@@ -94,17 +89,12 @@ fn run(
     Ok(())
 }
 
-fn run_next(rt: &(impl Print + Alloc), input: &mut impl Read, t: &mut Words) -> io::Result<()> {
+fn run_next(rt: &impl Print, input: &mut impl Read, t: &mut Words) -> io::Result<()> {
     let letter = next_command(rt, input, t)?;
     run(rt, input, t, letter)
 }
 
-fn run_commands(
-    rt: &(impl Print + Alloc),
-    input: &mut impl Read,
-    t: &mut Words,
-    n: usize,
-) -> io::Result<()> {
+fn run_commands(rt: &impl Print, input: &mut impl Read, t: &mut Words, n: usize) -> io::Result<()> {
     for i in 0..n {
         run_next(rt, input, t)?;
     }
