@@ -87,10 +87,10 @@ fn code() -> Cases {
     text(CODE).lines().filter_map(line).collect()
 }
 
-/// The equations `line-of (Price k) = (6, k)`.
+/// The equations `line_of (Price k) = (6, k)`.
 fn definitions() -> Cases {
     let equation = |line: &str| {
-        let (case, told) = line.strip_prefix("line-of ")?.split_once(" = (")?;
+        let (case, told) = line.strip_prefix("line_of ")?.split_once(" = (")?;
         let (number, place) = told.strip_suffix(')')?.split_once(", ")?;
         let (name, carried) = split_case(case);
         Some((name, (number.parse().expect("a number"), is_carried(place, &carried))))
