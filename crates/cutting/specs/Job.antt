@@ -27,7 +27,7 @@ pieces J = sized (members J) (λ p. J.price (kind p)) (laid J)
 abbrev pub figure_under : {S : Type 0} → Job → Shares Piece S → ℕ → ℕ → S → ℕ
 figure_under J H l w s = figure (pieces J) (saw 0) H (l, w) s
 
--- the figure under shares by the weights of the kinds (figure-recursion of proofs/Job)
+-- the figure under shares by the weights of the kinds (figure_recursion of proofs/Job)
 unfoldable pub figure_of : Job → (ℕ → ℕ) → ℕ → ℕ → ℕ → ℕ
 figure_of J weight l w c = figure_under J (by_kind weight) l w c
 
@@ -35,7 +35,7 @@ figure_of J weight l w c = figure_under J (by_kind weight) l w c
 abbrev pub bound_of : Job → (ℕ → ℕ) → ℕ
 bound_of J weight = figure_of (widened J) weight (widened J).plate.0 (widened J).plate.1 (capacity J weight)
 
--- The plan under any shares H: what follows reads J as a job cut without loss, up to lossless-plan.
+-- The plan under any shares H: what follows reads J as a job cut without loss, up to lossless_plan.
 module _ {S : Type 0} (J : Job) (H : Shares Piece S) where
   -- whether a piece fits, is admitted by the share, and has the figure as its price
   abbrev pub laid_earns : ℕ → ℕ → S → Piece → Bool
@@ -65,7 +65,7 @@ module _ {S : Type 0} (J : Job) (H : Shares Piece S) where
   plan_of l w s = sawn J.kerf (l, w) (lossless_plan (widened J) H (l, w) s)
 
   -- the plan's tree after a choice of the widened job: a cut stands at its position less the kerf, with the true remainder beyond it, and
-  -- where that would be below 1 the plan goes on with the first part's size and share (plan-recursion of proofs/Plan)
+  -- where that would be below 1 the plan goes on with the first part's size and share (plan_recursion of proofs/Plan)
   abbrev pub plan_after : ℕ → ℕ → Choice Piece S → Tree Piece
   plan_after l w as_waste = waste
   plan_after l w (as_piece p) = piece p

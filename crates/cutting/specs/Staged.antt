@@ -28,7 +28,7 @@ along d P zero l w c = P l w c
 along d P (suc n) l w c = max (P l w c) (cuts_between d (along d P n) l w c)
 
 -- the figure of direction d at stage k, for a job cut without loss: no cut without a stage; then the greatest of the other direction's with
--- one stage fewer and of cuts in direction d between figures of its own block (block-eq of proofs/Staged)
+-- one stage fewer and of cuts in direction d between figures of its own block (block_eq of proofs/Staged)
 unfoldable pub block : Job → (ℕ → ℕ) → ℕ → Direction → ℕ → ℕ → ℕ → ℕ
 block J weight zero d l w c = no_cut J weight l w c
 block J weight (suc k) d l w c = along d (block J weight k (other d)) (side d (l, w)) l w c

@@ -16,7 +16,7 @@ use Rattle.cutting.specs.Promises.{MostAmong}
 abbrev pub by_two : (ℕ → ℕ) → (ℕ → ℕ) → Shares Piece (ℕ × ℕ)
 by_two first second = paired (by_kind first) (by_kind second)
 
--- the figure of a rectangle and a pair of shares, for a job cut without loss: a cut at every whole unit (two-recursion of proofs/Two)
+-- the figure of a rectangle and a pair of shares, for a job cut without loss: a cut at every whole unit (two_recursion of proofs/Two)
 unfoldable pub figure_two : Job → (ℕ → ℕ) → (ℕ → ℕ) → ℕ → ℕ → ℕ → ℕ → ℕ
 figure_two J first second l w c c' = figure (pieces J) (saw 0) (by_two first second) (l, w) (c, c')
 

@@ -76,7 +76,7 @@ tree_walk J k (n ∷ ns) (r ∷ rs) s =
     (tree_walk J (k + 1) ns (parts J.kerf (node_of n.0 n.1) r ++ rs) (report_after J (node_of n.0 n.1) r s))
     (λ x. tree_stopped (Refused x))
 
--- the walk over a plan's only tree, of n nodes, as that of the plan (walk-ends of proofs/Ends)
+-- the walk over a plan's only tree, of n nodes, as that of the plan (walk_ends of proofs/Ends)
 abbrev pub only_tree : ℕ → TreeAnswer → PlanAnswer
 only_tree n a = proceed (next a.verdict (first_refusal (left_check n a.past ∷ []))) (passed a.report)
 

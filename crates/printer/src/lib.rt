@@ -90,45 +90,84 @@ pub fn judge_plan(
     }
 }
 
+// A word of a line.
+fn print_word(rt: &impl Print, word: &[u8]) -> io::Result<()> {
+    rt.write_all(word)
+}
+
+// A number in decimal.
+fn print_number(rt: &impl Print, n: u64) -> io::Result<()> {
+    rt.print(n)
+}
+
+// A number of 16 bits.
+fn print_small(rt: &impl Print, n: u16) -> io::Result<()> {
+    print_number(rt, n as u64)
+}
+
+// A number of 8 bits.
+fn print_byte(rt: &impl Print, n: u8) -> io::Result<()> {
+    print_number(rt, n as u64)
+}
+
 // The line of a refusal.
 fn print_refusal(rt: &impl Print, r: Refusal) -> io::Result<()> {
-    println!(rt;
-        "refused {} place {}",
-        refusal::number(r),
-        refusal::place(r)
-    )
+    print_word(rt, b"refused ")?;
+    print_small(rt, refusal::number(r))?;
+    print_word(rt, b" place ")?;
+    print_number(rt, refusal::place(r))?;
+    print_word(rt, b"\n")
 }
 
 // The line of the plate's sides and the number of kinds.
 fn print_plate(rt: &impl Print, block: &[u8], choices: Choices) -> io::Result<()> {
     let read = read_job(block, choices);
     let job = read.job;
-    println!(rt; "plate {} {} pieces {}", job.length, job.width, job.count)
+    print_word(rt, b"plate ")?;
+    print_small(rt, job.length)?;
+    print_word(rt, b" ")?;
+    print_small(rt, job.width)?;
+    print_word(rt, b" pieces ")?;
+    print_small(rt, job.count)?;
+    print_word(rt, b"\n")
+}
+
+// A weight after a space.
+fn print_weight(rt: &impl Print, weight: u8) -> io::Result<()> {
+    print_word(rt, b" ")?;
+    print_byte(rt, weight)
 }
 
 // The weights, one after another.
 fn print_each(rt: &impl Print, weights: &[u8]) -> io::Result<()> {
-    for weight in weights {
-        print!(rt; " {weight}")?;
+    for i in 0..weights.len() {
+        print_weight(rt, weights[i])?;
     }
     Ok(())
 }
 
 // The line of the weights and the capacity.
 fn print_weights(rt: &impl Print, weights: &[u8], capacity: u16) -> io::Result<()> {
-    print!(rt; "weights")?;
+    print_word(rt, b"weights")?;
     print_each(rt, weights)?;
-    println!(rt; " capacity {capacity}")
+    print_word(rt, b" capacity ")?;
+    print_small(rt, capacity)?;
+    print_word(rt, b"\n")
 }
 
 // The line of the bound.
 fn print_bound(rt: &impl Print, bound: u64) -> io::Result<()> {
-    println!(rt; "bound {bound}")
+    print_word(rt, b"bound ")?;
+    print_number(rt, bound)?;
+    print_word(rt, b"\n")
 }
 
 // The line of a node: kind, operand.
 fn print_node(rt: &impl Print, kind: u8, operand: u16) -> io::Result<()> {
-    println!(rt; "{kind} {operand}")
+    print_byte(rt, kind)?;
+    print_word(rt, b" ")?;
+    print_small(rt, operand)?;
+    print_word(rt, b"\n")
 }
 
 // One line a node.
@@ -143,10 +182,12 @@ fn print_nodes(rt: &impl Print, kinds: &[u8], operands: &[u16]) -> io::Result<()
 
 // The line of the plan's profit and of its standing.
 fn print_profit(rt: &impl Print, profit: u64, best: bool) -> io::Result<()> {
+    print_word(rt, b"profit ")?;
+    print_number(rt, profit)?;
     if best {
-        println!(rt; "profit {profit} best")
+        print_word(rt, b" best\n")
     } else {
-        println!(rt; "profit {profit} relaxed")
+        print_word(rt, b" relaxed\n")
     }
 }
 

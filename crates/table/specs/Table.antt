@@ -1,5 +1,5 @@
 -- The table of a job, its weights and a capacity: one word for each normal length, normal width and share. What public contracts say of it;
--- what the steps of a fill ask stands in Contracts.
+-- what the steps of a fill ask stands in Clauses.
 -- docs/SCOPE.md: Lent memory.
 use Rattle.std.specs.Prelude.{◌≡◌, List, ℕ, ◌+◌, ◌*◌, ◌<◌, get_or}
 use Rattle.promises.specs.declared.Direction.TheVariants.{Length, Width}

@@ -1,6 +1,6 @@
 // What the fills of the table share: what a table is made for, reading a list of positions, the half of a side, the greater of two
 // figures, and runs of words. The definitions of the table's contents stand in specs/Table, what a fill asks and leaves in
-// specs/Contracts; which cuts can give a cell more, and what makes a cell complete, is proved in proofs/Covered and proofs/Complete.
+// specs/Clauses; which cuts can give a cell more, and what makes a cell complete, is proved in proofs/Covered and proofs/Complete.
 #![tactic(auto)]
 
 ghost use Rattle.std.specs.Prelude.{◌≡◌, ◌+◌, ◌-◌, ◌*◌, ◌≤◌, ◌<◌, max, length, get_or};
